@@ -1,0 +1,56 @@
+-- What is known of a folder, and what its calls do.
+use Rattle.std.specs.Prelude.{◌≡◌, ℕ, ◌≤◌, List, [], None, Bool, false, IsTrue}
+use Rattle.std.specs.FinMap as map
+use Rattle.disk_model.specs.Cause.{Grows}
+use Rattle.disk_model.specs.Tree.{Tree, file_of, IsTree}
+use Rattle.disk_model.specs.declared.meta.Stamp.{Stamp}
+
+-- a call with its arguments
+pub data FolderCall : Type 0 where
+  ListFiles : FolderCall
+  Look : (path : List ℕ) (lost : Bool) → FolderCall
+  ReadAt : (path : List ℕ) (lost : Bool) (at n : ℕ) → FolderCall
+  Make : (path : List ℕ) → FolderCall
+  WriteAt : (path : List ℕ) (at : ℕ) (bytes : List ℕ) → FolderCall
+  SetSize : (path : List ℕ) (size : ℕ) → FolderCall
+  SetStamp : (path : List ℕ) (stamp : Stamp) → FolderCall
+  Rename : (path : List ℕ) (lost : Bool) → FolderCall
+
+-- a call that was made, and whether it answered `Failed`
+pub record FolderDone : Type 0 where
+  pub call : FolderCall
+  pub failed : Bool
+
+-- Its count of faults, whether it keeps stamps and whether it is closed are always told. Where `tells` is true, tree is what it holds;
+-- where `tells_calls` is, calls are all calls so far.
+pub record FolderView : Type 0 where
+  pub faults : ℕ
+  pub keeps_stamps : Bool
+  pub closed : Bool
+  pub tells : Bool
+  pub tree : Tree
+  pub tells_calls : Bool
+  pub calls : List FolderDone
+
+-- what it tells is a tree, and a closed one is empty
+pub record IsFolder (v : FolderView) : Type 0 where
+  pub tree : IsTrue v.tells → IsTree v.tree
+  pub closed : IsTrue v.closed → (path : List ℕ) → file_of v.tree path ≡ None
+
+-- what stays over any number of calls, and what only grows
+pub record FolderGoesOn (old new : FolderView) (done : List FolderDone) : Type 0 where
+  pub later : old.faults ≤ new.faults
+  pub keeps_stamps : new.keeps_stamps ≡ old.keeps_stamps
+  pub closed : new.closed ≡ old.closed
+  pub tells : new.tells ≡ old.tells
+  pub calls : Grows old.tells_calls old.calls new.tells_calls new.calls done
+
+-- one that tells only what is always told, and is open
+abbrev pub quiet_folder : ℕ → Bool → FolderView
+quiet_folder faults keeps_stamps = record { faults = faults; keeps_stamps = keeps_stamps; closed = false; tells = false; tree = map.empty; tells_calls = false; calls = [] }
+
+pub quiet_folder-is_folder : (faults : ℕ) (keeps_stamps : Bool) → IsFolder (quiet_folder faults keeps_stamps)
+quiet_folder-is_folder faults keeps_stamps = record { tree = λ told. absurd (false_told told); closed = λ told. absurd (false_told told) }
+  where
+    false_told : IsTrue false → ⊥
+    false_told told = cc

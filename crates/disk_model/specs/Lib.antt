@@ -1,0 +1,10 @@
+pub mod Bytes
+pub mod Cause
+pub mod Files
+pub mod Folder
+pub mod Moments
+pub mod Opener
+pub mod Path
+pub mod Sink
+pub mod Tree
+pub mod Vault

@@ -1,0 +1,79 @@
+-- What is known of an opener, and what its calls do.
+use Rattle.std.specs.Prelude.{◌≡◌, ℕ, ◌≤◌, List, [], ◌∷◌, replicate, get_or, Bool, true, false, IsTrue, Result, Ok, Err}
+use Rattle.disk_model.specs.Cause.{Rose, Grows}
+use Rattle.disk_model.specs.Folder.{FolderView, quiet_folder}
+use Rattle.disk_model.specs.Vault.{VaultView, IsSettled}
+use Rattle.disk_model.specs.declared.draft.Draft.TheVariants.{Absent}
+use Rattle.disk_model.specs.declared.fault.OpenFault.{OpenFault}
+use Rattle.disk_model.specs.declared.fault.OpenFault.TheVariants.{Failed, Memory}
+
+-- a call with its arguments
+pub data OpenerCall : Type 0 where
+  Config : (name : List ℕ) → OpenerCall
+  Open : (dirs parities contents : List (List ℕ)) → OpenerCall
+
+-- a call that was made, and whether it answered `Failed`
+pub record OpenerDone : Type 0 where
+  pub call : OpenerCall
+  pub failed : Bool
+
+-- An opener. Its count is always told, and the counts that its folders and its vault will begin with; where `tells` is true, config
+-- is what a configuration holds and folders and vault are what it will open; where `tells_calls` is, calls are all calls so far.
+pub record OpenerView : Type 1 where
+  pub faults : ℕ
+  pub tells : Bool
+  pub config : List ℕ
+  pub folders : List FolderView
+  pub vault : VaultView
+  pub tells_calls : Bool
+  pub calls : List OpenerDone
+
+-- the answer is `Failed`
+abbrev pub has_failed : {T : Type 0} → Result T OpenFault → Bool
+has_failed (Ok _) = false
+has_failed (Err Failed) = true
+has_failed (Err Memory) = false
+
+-- what stays of an opener over any number of calls
+pub record OpenerGoesOn (old new : OpenerView) (done : List OpenerDone) : Type 0 where
+  pub later : old.faults ≤ new.faults
+  pub tells : new.tells ≡ old.tells
+  pub calls : Grows old.tells_calls old.calls new.tells_calls new.calls done
+
+-- one call, with its cause where it failed
+pub record IsOpenerCall {T : Type 0} (call : OpenerCall) (result : Result T OpenFault) (old new : OpenerView) : Type 0 where
+  pub goes_on : OpenerGoesOn old new (record { call = call; failed = has_failed result } ∷ [])
+  pub cause : IsTrue (has_failed result) → Rose old.faults new.faults
+
+-- the folder of a column that it holds, of one that tells none a new one
+abbrev pub folder_held : OpenerView → ℕ → FolderView
+folder_held v column = get_or v.folders column (quiet_folder 0 false)
+
+-- a folder is given as it was held
+pub record FolderIsGiven (is_told : Bool) (held given : FolderView) : Type 0 where
+  pub faults : given.faults ≡ held.faults
+  pub is_open : given.closed ≡ false
+  pub whole : IsTrue is_told → given ≡ held
+
+-- another vault that has as much behind it and holds the same, where that is told
+pub record SameVault (is_told : Bool) (held other : VaultView) : Type 0 where
+  pub faults : other.faults ≡ held.faults
+  pub tells : IsTrue is_told → other.tells ≡ held.tells
+  pub files : IsTrue is_told → other.files ≡ held.files
+  pub tells_calls : IsTrue is_told → other.tells_calls ≡ held.tells_calls
+  pub calls : IsTrue is_told → other.calls ≡ held.calls
+  pub tells_images : IsTrue is_told → other.images.told ≡ held.images.told
+
+-- the vault is given as it was held, with nothing unsynced and no draft
+pub record VaultIsGiven (is_told : Bool) (parities contents : ℕ) (held given : VaultView) : Type 0 where
+  pub same : SameVault is_told held given
+  pub levels : given.levels ≡ parities
+  pub drafts : given.drafts ≡ replicate contents Absent
+  pub settled : IsSettled given
+
+-- it holds the same to give
+pub record HoldsSame (old new : OpenerView) : Type 0 where
+  pub config : IsTrue old.tells → new.config ≡ old.config
+  pub folders : IsTrue old.tells → new.folders ≡ old.folders
+  pub folder_counts : (column : ℕ) → (folder_held new column).faults ≡ (folder_held old column).faults
+  pub vault : SameVault old.tells old.vault new.vault
