@@ -2,7 +2,8 @@
 use Rattle.std.specs.Prelude.{◌≡◌, ℕ, ◌≤◌, List, [], None, Bool, false, IsTrue}
 use Rattle.std.specs.FinMap as map
 use Rattle.disk_model.specs.Cause.{Grows}
-use Rattle.disk_model.specs.Tree.{Tree, file_of, IsTree}
+use Rattle.disk_model.specs.Tree.{Tree, file_of, IsTree, IsApart}
+use Rattle.disk_model.specs.Path.{IsValidPath}
 use Rattle.disk_model.specs.declared.meta.Stamp.{Stamp}
 
 -- a call with its arguments
@@ -36,6 +37,12 @@ pub record FolderView : Type 0 where
 pub record IsFolder (v : FolderView) : Type 0 where
   pub tree : IsTrue v.tells → IsTree v.tree
   pub closed : IsTrue v.closed → (path : List ℕ) → file_of v.tree path ≡ None
+
+-- where it tells its tree, it takes a file under this path: it is open, and no file stands in the way
+pub record Allows (v : FolderView) (path : List ℕ) : Type 0 where
+  pub is_open : v.closed ≡ false
+  pub valid : IsValidPath path
+  pub apart : IsApart v.tree path
 
 -- what stays over any number of calls, and what only grows
 pub record FolderGoesOn (old new : FolderView) (done : List FolderDone) : Type 0 where

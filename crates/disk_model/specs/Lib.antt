@@ -6,5 +6,6 @@ pub mod Moments
 pub mod Opener
 pub mod Path
 pub mod Sink
+pub mod Stamp
 pub mod Tree
 pub mod Vault

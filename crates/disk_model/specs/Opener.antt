@@ -55,14 +55,17 @@ pub record FolderIsGiven (is_told : Bool) (held given : FolderView) : Type 0 whe
   pub is_open : given.closed ≡ false
   pub whole : IsTrue is_told → given ≡ held
 
--- another vault that has as much behind it and holds the same, where that is told
+-- another vault with the same count of faults that holds the same, where that is told
 pub record SameVault (is_told : Bool) (held other : VaultView) : Type 0 where
   pub faults : other.faults ≡ held.faults
+  pub levels : IsTrue is_told → other.levels ≡ held.levels
+  pub drafts : IsTrue is_told → other.drafts ≡ held.drafts
   pub tells : IsTrue is_told → other.tells ≡ held.tells
   pub files : IsTrue is_told → other.files ≡ held.files
   pub tells_calls : IsTrue is_told → other.tells_calls ≡ held.tells_calls
   pub calls : IsTrue is_told → other.calls ≡ held.calls
   pub tells_images : IsTrue is_told → other.images.told ≡ held.images.told
+  pub moment : IsTrue is_told → other.images.moment ≡ held.images.moment
 
 -- the vault is given as it was held, with nothing unsynced and no draft
 pub record VaultIsGiven (is_told : Bool) (parities contents : ℕ) (held given : VaultView) : Type 0 where

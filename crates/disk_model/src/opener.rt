@@ -1,5 +1,5 @@
 // What opens the configuration, the folders and the vault.
-ghost use Rattle.std.specs.Prelude.{◌≡◌, ℕ, ◌<◌, length, map, take, IfOk, IsTrue, vec_len, false, get_or};
+ghost use Rattle.std.specs.Prelude.{◌≡◌, ℕ, ◌<◌, length, map, take, IfOk, OnErr, IsTrue, vec_len, false, get_or};
 ghost use Rattle.disk_model.specs.Folder.{quiet_folder};
 ghost use Rattle.disk_model.specs.Opener.{OpenerView, Config, Open, IsOpenerCall, HoldsSame, FolderIsGiven, VaultIsGiven, folder_held};
 
@@ -49,8 +49,10 @@ pub trait Opener {
     ) -> Result<Opened<Self::Folder, Self::Vault>, OpenFault>
         ensures call { IsOpenerCall (Open places.now.dirs.items places.now.parities.items places.now.contents.items) result (view self.old) (view self.new) }
         ensures columns { IfOk result (λ opened. vec_len opened.folders ≡ vec_len places.now.dirs) }
+        ensures just { IsTrue (view self.old).tells → IfOk result (λ opened. vec_len opened.folders ≡ length (view self.old).folders) }
         ensures folders { IfOk result (λ opened. (column : ℕ) → column < vec_len opened.folders →
             FolderIsGiven (view self.old).tells (folder_held (view self.old) column) (get_or (map Self.Folder.view opened.folders.items) column (quiet_folder 0 false))) }
         ensures vault { IfOk result (λ opened.
-            VaultIsGiven (view self.old).tells (vec_len places.now.parities) (vec_len places.now.contents) (view self.old).vault (Self.Vault.view opened.vault)) };
+            VaultIsGiven (view self.old).tells (vec_len places.now.parities) (vec_len places.now.contents) (view self.old).vault (Self.Vault.view opened.vault)) }
+        ensures kept { OnErr result (HoldsSame (view self.old) (view self.new)) };
 }
