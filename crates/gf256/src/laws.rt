@@ -34,7 +34,8 @@ pub fn inverses()
 
 /// Powers of 2 multiply by adding exponents, and 2 has order 255.
 pub fn powers()
-    ensures element { (n : ℕ) → power n < 256 }
+    ensures element { (n : ℕ) → (0 < power n) × (power n < 256) }
+    ensures apart { (m n : ℕ) → m < 255 → n < 255 → power m ≡ power n → m ≡ n }
     ensures added { (m n : ℕ) → product (power m) (power n) ≡ power (m + n) }
     ensures order { (n : ℕ) → (power n ≡ 1) ↔ (n % 255 ≡ 0) }
 {}
