@@ -107,34 +107,36 @@ inverse_positive a some within =
 pub power_positive : (n : ℕ) → 0 < power n
 power_positive n =
     elim (cases_lt 0 (power n)) [
-      inl positive ↦ positive
-    | inr none ↦
-        let whole : n % 255 + (255 - n % 255) ≡ 255 = omega arith in
-        let one : product (power n) (power (255 - n % 255)) ≡ 1 =
+      | inl positive ↦ positive
+      | inr none ↦
+          let whole : n % 255 + (255 - n % 255) ≡ 255 = omega arith in
+          let one : product (power n) (power (255 - n % 255)) ≡ 1 =
           ap (λ (x : ℕ). product x (power (255 - n % 255))) (sym (power_mod n)) ∙ product_of_powers (n % 255) (255 - n % 255)
           ∙ ap power whole ∙ power_of_order in
-        let zero : power n ≡ 0 = omega arith in
-        let nothing : product (power n) (power (255 - n % 255)) ≡ 0 =
+          let zero : power n ≡ 0 = omega arith in
+          let nothing : product (power n) (power (255 - n % 255)) ≡ 0 =
           ap (λ (x : ℕ). product x (power (255 - n % 255))) zero ∙ zero_times (power (255 - n % 255)) in
-        omega arith ]
+          omega arith
+    ]
 
 -- a power that comes again within 255 steps
 gap_is_none : (m k : ℕ) → k < 255 → power (m + k) ≡ power m → k ≡ 0
 gap_is_none m k within same =
     let one : power k ≡ 1 =
-      cancel_left (power m) (power k) 1 (power_positive m) (power_lt m) (power_lt k) (omega arith)
-        (product_of_powers m k ∙ same ∙ sym (times_one (power m) (power_lt m))) in
+    cancel_left (power m) (power k) 1 (power_positive m) (power_lt m) (power_lt k) (omega arith)
+    (product_of_powers m k ∙ same ∙ sym (times_one (power m) (power_lt m))) in
     let whole : k % 255 ≡ 0 = (order_of_two k).0 one in
     omega arith
 
 pub powers_apart : (m n : ℕ) → m < 255 → n < 255 → power m ≡ power n → m ≡ n
 powers_apart m n hm hn same =
     elim (cases_lt m n) [
-      inl less ↦
-        let up : m + (n - m) ≡ n = omega arith in
-        let none : n - m ≡ 0 = gap_is_none m (n - m) (omega arith) (ap power up ∙ sym same) in
-        omega arith
-    | inr more ↦
-        let up : n + (m - n) ≡ m = omega arith in
-        let none : m - n ≡ 0 = gap_is_none n (m - n) (omega arith) (ap power up ∙ same) in
-        omega arith ]
+      | inl less ↦
+          let up : m + (n - m) ≡ n = omega arith in
+          let none : n - m ≡ 0 = gap_is_none m (n - m) (omega arith) (ap power up ∙ sym same) in
+          omega arith
+      | inr more ↦
+          let up : n + (m - n) ≡ m = omega arith in
+          let none : m - n ≡ 0 = gap_is_none n (m - n) (omega arith) (ap power up ∙ same) in
+          omega arith
+    ]
