@@ -1,0 +1,3 @@
+pub use Rattle.gf256.specs.Field
+pub mod Matrix
+pub mod System

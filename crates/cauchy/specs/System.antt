@@ -1,0 +1,23 @@
+-- The equations that lost blocks satisfy: of the chosen levels, in the chosen columns.
+use Rattle.std.specs.Prelude.{◌≡◌, ◌≢◌, ℕ, ◌<◌, ◌≤◌, List, length, slice_index}
+use Rattle.gf256.specs.Field.{sum_below, product}
+use Rattle.cauchy.specs.Matrix.{entry_of}
+
+-- as many columns as levels, from 1 to 6, each within the matrix and none twice
+pub record IsChoice (columns levels : List ℕ) : Type 0 where
+  pub same_count : length columns ≡ length levels
+  pub some : 1 ≤ length levels
+  pub at_most_six : length levels ≤ 6
+  pub column_range : (j : ℕ) → j < length columns → slice_index columns j < 251
+  pub level_range : (i : ℕ) → i < length levels → slice_index levels i < 6
+  pub columns_distinct : (j k : ℕ) → j < k → k < length columns → slice_index columns j ≢ slice_index columns k
+  pub levels_distinct : (i k : ℕ) → i < k → k < length levels → slice_index levels i ≢ slice_index levels k
+
+-- the sum over the chosen columns of A(level,column) times the byte for it
+abbrev pub chosen_sum : ℕ → List ℕ → (ℕ → ℕ) → ℕ
+chosen_sum level columns bytes = sum_below (λ j. product (entry_of level (slice_index columns j)) (bytes j)) (length columns)
+
+-- the bytes for the columns have the given sums at the levels
+pub record IsSolution (columns levels : List ℕ) (given bytes : ℕ → ℕ) : Type 0 where
+  pub are_bytes : (j : ℕ) → j < length columns → bytes j < 256
+  pub sums : (i : ℕ) → i < length levels → chosen_sum (slice_index levels i) columns bytes ≡ given i
