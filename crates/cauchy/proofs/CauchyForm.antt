@@ -10,7 +10,8 @@ use Rattle.gf256.specs.Field.{product, inverse}
 use Rattle.gf256.proofs.Theorems.{product_lt, product_comm, product_of_sum, sum_times, times_one, product_positive, inverse_lt, inverse_positive, inverse_times, xor_exchange}
 use Rattle.cauchy.proofs.Factors.{AreElements, same_factors, value_lt, product_left_comm}
 use Rattle.cauchy.proofs.Factors.Factors.{element, times}
-use Rattle.cauchy.proofs.Elimination.{IsEliminable, reduced, move}
+use Rattle.cauchy.specs.Elimination.{IsEliminable, reduced}
+use Rattle.cauchy.proofs.EliminationLemmas.{move}
 
 -- ---- sums
 

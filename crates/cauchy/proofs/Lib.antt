@@ -1,5 +1,5 @@
 mod CauchyForm
-mod Elimination
+mod EliminationLemmas
 mod Factors
 mod MatrixLemmas
 mod ParityLemmas

@@ -7,7 +7,8 @@ use Rattle.gf256.proofs.Theorems.{product_lt, one_times, zero_times, times_one, 
 use Rattle.cauchy.specs.Matrix.{entry_of}
 use Rattle.cauchy.proofs.CauchyForm.{IsCauchy, denominator, cross, xor_positive, denominator_lt, IsEliminable-cauchy}
 use Rattle.cauchy.specs.System.{IsChoice, IsSolution}
-use Rattle.cauchy.proofs.Elimination.{IsMatrix, IsVector, IsEliminable, Solves, some_solution, only_solution}
+use Rattle.cauchy.specs.Elimination.{IsMatrix, IsVector, IsEliminable, Solves}
+use Rattle.cauchy.proofs.EliminationLemmas.{some_solution, only_solution}
 
 -- what holds at each level
 pub at_levels : (P : ℕ → Type 0) → P 0 → P 1 → P 2 → P 3 → P 4 → P 5 → (r : ℕ) → r < 6 → P r

@@ -1,3 +1,4 @@
 pub use Rattle.gf256.specs.Field
+pub mod Elimination
 pub mod Matrix
 pub mod System

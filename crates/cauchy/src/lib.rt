@@ -6,6 +6,7 @@
 //! blocks of the columns are determined by the levels (module `laws`).
 #![tactic(auto)]
 
+mod elimination;
 pub mod laws;
 mod matrix;
 

@@ -1,42 +1,14 @@
--- Systems of linear equations over the field. The last unknown is eliminated with the last equation, again and again; where
--- no pivot on the way is 0, there is exactly one solution.
+-- Where no pivot of the elimination is 0, a system has exactly one solution.
 use Rattle.std.proofs.Common.{◌≡◌, ◌≢◌, ℕ, zero, suc, ◌<◌, Bool, true, false, cond, eqb, refl, sym, ap, ◌∙◌, inl, inr, arith}
 use Rattle.std.specs.Int.Bits.{bit_xor, xor_assoc, xor_zero_r, xor_self}
 use Rattle.std.proofs.lemmas.Nat.{xor_comm, xor_lt}
 use Rattle.std.proofs.lemmas.Bool.{cases_lt, eq-eqb, eqb-false}
 use Rattle.std.proofs.lemmas.Bool.Decides.{eqb_tells}
 use Rattle.gf256.specs.Field.{sum_below, product, quotient}
+use Rattle.cauchy.specs.Elimination.{reduced, reduced_given, IsEliminable, IsMatrix, IsVector, row_sum, Solves}
 use Rattle.gf256.proofs.Theorems.{product_lt, product_comm, product_assoc, product_of_sum, sum_times, cancel_left, quotient_lt, quotient_times, xor_exchange}
 use Rattle.cauchy.proofs.Factors.{product_left_comm}
 use Rattle.cauchy.proofs.Sums.{sum_below-same, sum_below-xor, sum_below-product, sum_below-lt}
-
--- the equation i less the last one, so that the unknown n is gone: p times equation i plus M(i,n) times equation n, with
--- the pivot p = M(n,n)
-abbrev pub reduced : (ℕ → ℕ → ℕ) → ℕ → ℕ → ℕ → ℕ
-reduced m n i j = bit_xor (product (m n n) (m i j)) (product (m i n) (m n j))
-
-abbrev pub reduced_given : (ℕ → ℕ → ℕ) → ℕ → (ℕ → ℕ) → ℕ → ℕ
-reduced_given m n b i = bit_xor (product (m n n) (b i)) (product (m i n) (b n))
-
--- no pivot is 0
-abbrev pub IsEliminable : ℕ → (ℕ → ℕ → ℕ) → Type 0
-IsEliminable zero m = Unit {0}
-IsEliminable (suc n) m = (0 < m n n) × IsEliminable n (reduced m n)
-
--- a matrix of elements
-abbrev pub IsMatrix : ℕ → (ℕ → ℕ → ℕ) → Type 0
-IsMatrix n m = (i j : ℕ) → i < n → j < n → m i j < 256
-
--- one side of equation i
-abbrev pub row_sum : (ℕ → ℕ → ℕ) → ℕ → (ℕ → ℕ) → ℕ → ℕ
-row_sum m n z i = sum_below (λ j. product (m i j) (z j)) n
-
--- each equation holds
-abbrev pub Solves : ℕ → (ℕ → ℕ → ℕ) → (ℕ → ℕ) → (ℕ → ℕ) → Type 0
-Solves n m b z = (i : ℕ) → i < n → row_sum m n z i ≡ b i
-
-abbrev pub IsVector : ℕ → (ℕ → ℕ) → Type 0
-IsVector n z = (j : ℕ) → j < n → z j < 256
 
 pub IsMatrix-reduced : (n : ℕ) (m : ℕ → ℕ → ℕ) → IsMatrix (suc n) m → IsMatrix n (reduced m n)
 IsMatrix-reduced n m hm i j hi hj =
@@ -184,3 +156,50 @@ some_solution (suc n) m b hm pivots hb =
     let last : product (m n n) x ≡ bit_xor (b n) (row_sum m n z n) =
     product_comm (m n n) x pivot_lt x_lt ∙ quotient_times (bit_xor (b n) (row_sum m n z n)) (m n n) side pivots.0 pivot_lt in
     (with_value n x z, (IsVector-with_value n x z x_lt rest.1.0, Solves-back n m b z hm pivots.0 hb rest.1.0 rest.1.1 x x_lt last))
+
+-- ---- from a matrix and its reduced matrix, as the program holds them
+
+IsEliminable-same : (n : ℕ) (m m' : ℕ → ℕ → ℕ) → ((i j : ℕ) → i < n → j < n → m' i j ≡ m i j) → IsEliminable n m → IsEliminable n m'
+IsEliminable-same zero m m' same pivots = tt
+IsEliminable-same (suc n) m m' same pivots =
+    let here : m' n n ≡ m n n = same n n (omega arith) (omega arith) in
+    (omega (arith, pivots.0),
+      IsEliminable-same n (reduced m n) (reduced m' n)
+        (λ i j hi hj.
+          ap (λ (x : ℕ). bit_xor (product x (m' i j)) (product (m' i n) (m' n j))) here
+          ∙ ap (λ (x : ℕ). bit_xor (product (m n n) x) (product (m' i n) (m' n j))) (same i j (omega arith) (omega arith))
+          ∙ ap (λ (x : ℕ). bit_xor (product (m n n) (m i j)) (product x (m' n j))) (same i n (omega arith) (omega arith))
+          ∙ ap (λ (x : ℕ). bit_xor (product (m n n) (m i j)) (product (m i n) x)) (same n j (omega arith) (omega arith)))
+        pivots.1)
+
+-- the reduced matrix can be eliminated further
+pub rest_eliminable : (n : ℕ) (m m' : ℕ → ℕ → ℕ) → IsMatrix (suc n) m → IsEliminable (suc n) m → ((i j : ℕ) → i < n → j < n → m' i j ≡ reduced m n i j)
+    → IsMatrix n m' × IsEliminable n m'
+rest_eliminable n m m' hm pivots same =
+    (λ i j hi hj. omega (arith, same i j hi hj, IsMatrix-reduced n m hm i j hi hj), IsEliminable-same n (reduced m n) m' same pivots.1)
+
+pub rest_given : (n : ℕ) (m : ℕ → ℕ → ℕ) (b b' : ℕ → ℕ) → IsMatrix (suc n) m → IsVector (suc n) b → ((i : ℕ) → i < n → b' i ≡ reduced_given m n b i) → IsVector n b'
+rest_given n m b b' hm hb same i hi = omega (arith, same i hi, IsVector-reduced n m b hm hb i hi)
+
+-- the solution of the reduced system, with the last unknown
+pub solved_step : (n : ℕ) (m m' : ℕ → ℕ → ℕ) (b b' z y : ℕ → ℕ) (x : ℕ) → IsMatrix (suc n) m → 0 < m n n → IsVector (suc n) b → IsVector n z
+    → ((i j : ℕ) → i < n → j < n → m' i j ≡ reduced m n i j) → ((i : ℕ) → i < n → b' i ≡ reduced_given m n b i) → Solves n m' b' z
+    → x < 256 → product x (m n n) ≡ bit_xor (b n) (row_sum m n z n) → ((j : ℕ) → j < n → y j ≡ z j) → y n ≡ x → Solves (suc n) m b y
+solved_step n m m' b b' z y x hm pivot hb hz same_m same_b solved hx last before here i hi =
+    sum_below-same (λ j. product (m i j) (y j)) (λ j. product (m i j) (with_value n x z j)) (suc n)
+      (λ j hj. ap (product (m i j))
+        (elim (cases_lt j n) [
+          inl earlier ↦ before j earlier ∙ sym (with_value-other n x z j earlier)
+        | inr later ↦ let at_n : j ≡ n = omega arith in ap y at_n ∙ here ∙ sym (with_value-same n x z) ∙ ap (with_value n x z) (sym at_n) ]))
+    ∙ Solves-back n m b z hm pivot hb hz
+        (λ k hk.
+          sum_below-same (λ j. product (reduced m n k j) (z j)) (λ j. product (m' k j) (z j)) n (λ j hj. ap (λ (a : ℕ). product a (z j)) (sym (same_m k j hk hj)))
+          ∙ solved k hk ∙ same_b k hk)
+        x hx (product_comm (m n n) x (hm n n (omega arith) (omega arith)) hx ∙ last) i hi
+
+-- one more element
+pub IsVector-more : (n : ℕ) (z y : ℕ → ℕ) (x : ℕ) → IsVector n z → ((j : ℕ) → j < n → y j ≡ z j) → y n ≡ x → x < 256 → IsVector (suc n) y
+IsVector-more n z y x hz before here hx j hj =
+    elim (cases_lt j n) [
+      inl earlier ↦ omega (arith, before j earlier, hz j earlier)
+    | inr later ↦ let at_n : j ≡ n = omega arith in let same : y j ≡ x = ap y at_n ∙ here in omega arith ]
