@@ -1,14 +1,14 @@
 -- Where no pivot of the elimination is 0, a system has exactly one solution.
-use Rattle.std.proofs.Common.{◌≡◌, ◌≢◌, ℕ, zero, suc, ◌<◌, Bool, true, false, cond, eqb, refl, sym, ap, ◌∙◌, inl, inr, arith}
-use Rattle.std.specs.Int.Bits.{bit_xor, xor_assoc, xor_zero_r, xor_self}
+use Rattle.std.proofs.Common.{◌≡◌, ◌≢◌, ℕ, zero, suc, ◌<◌, ◌≤◌, Bool, true, false, cond, eqb, refl, sym, ap, ◌∙◌, inl, inr, arith}
+use Rattle.std.specs.Int.Bits.{bit_xor, xor_assoc, xor_zero_l, xor_zero_r, xor_self}
 use Rattle.std.proofs.lemmas.Nat.{xor_comm, xor_lt}
 use Rattle.std.proofs.lemmas.Bool.{cases_lt, eq-eqb, eqb-false}
 use Rattle.std.proofs.lemmas.Bool.Decides.{eqb_tells}
 use Rattle.gf256.specs.Field.{sum_below, product, quotient}
-use Rattle.cauchy.specs.Elimination.{reduced, reduced_given, IsEliminable, IsMatrix, IsVector, row_sum, Solves}
-use Rattle.gf256.proofs.Theorems.{product_lt, product_comm, product_assoc, product_of_sum, sum_times, cancel_left, quotient_lt, quotient_times, xor_exchange}
+use Rattle.cauchy.specs.Elimination.{reduced, reduced_given, IsEliminable, IsMatrix, IsVector, row_sum, Solves, unit}
+use Rattle.gf256.proofs.Theorems.{product_lt, product_comm, product_assoc, product_of_sum, sum_times, cancel_left, quotient_lt, quotient_times, xor_exchange, product-zero, times_one}
 use Rattle.cauchy.proofs.Factors.{product_left_comm}
-use Rattle.cauchy.proofs.Sums.{sum_below-same, sum_below-xor, sum_below-product, sum_below-lt}
+use Rattle.cauchy.proofs.Sums.{sum_below-same, sum_below-xor, sum_below-product, sum_below-lt, sum_below-swap}
 
 pub IsMatrix-reduced : (n : ℕ) (m : ℕ → ℕ → ℕ) → IsMatrix (suc n) m → IsMatrix n (reduced m n)
 IsMatrix-reduced n m hm i j hi hj =
@@ -159,7 +159,7 @@ some_solution (suc n) m b hm pivots hb =
 
 -- ---- from a matrix and its reduced matrix, as the program holds them
 
-IsEliminable-same : (n : ℕ) (m m' : ℕ → ℕ → ℕ) → ((i j : ℕ) → i < n → j < n → m' i j ≡ m i j) → IsEliminable n m → IsEliminable n m'
+pub IsEliminable-same : (n : ℕ) (m m' : ℕ → ℕ → ℕ) → ((i j : ℕ) → i < n → j < n → m' i j ≡ m i j) → IsEliminable n m → IsEliminable n m'
 IsEliminable-same zero m m' same pivots = tt
 IsEliminable-same (suc n) m m' same pivots =
     let here : m' n n ≡ m n n = same n n (omega arith) (omega arith) in
@@ -203,3 +203,55 @@ IsVector-more n z y x hz before here hx j hj =
     elim (cases_lt j n) [
       inl earlier ↦ omega (arith, before j earlier, hz j earlier)
     | inr later ↦ let at_n : j ≡ n = omega arith in let same : y j ≡ x = ap y at_n ∙ here in omega arith ]
+
+-- ---- the solutions at the units make every solution
+
+unit-same : (i : ℕ) → unit i i ≡ 1
+unit-same i = ap (λ (b : Bool). cond b 1 0) (eq-eqb i i refl)
+
+unit-other : (i k : ℕ) → k ≢ i → unit i k ≡ 0
+unit-other i k apart =
+    elim (eqb_tells k i) [
+      inl same ↦ absurd (apart same.1)
+    | inr other ↦ ap (λ (b : Bool). cond b 1 0) other.0 ]
+
+sum_below-unit-past : (n k : ℕ) (b : ℕ → ℕ) → n ≤ k → sum_below (λ i. product (b i) (unit i k)) n ≡ 0
+sum_below-unit-past zero k b h = refl
+sum_below-unit-past (suc n) k b h =
+    ap (λ (x : ℕ). bit_xor x (product (b n) (unit n k))) (sum_below-unit-past n k b (omega arith))
+    ∙ ap (λ (x : ℕ). bit_xor 0 (product (b n) x)) (unit-other n k (omega arith)) ∙ ap (bit_xor 0) (product-zero (b n))
+
+sum_below-unit : (n k : ℕ) (b : ℕ → ℕ) → IsVector n b → k < n → sum_below (λ i. product (b i) (unit i k)) n ≡ b k
+sum_below-unit zero k b hb h = absurd (omega arith)
+sum_below-unit (suc n) k b hb h =
+    elim (cases_lt k n) [
+      inl earlier ↦
+        ap (λ (x : ℕ). bit_xor x (product (b n) (unit n k))) (sum_below-unit n k b (λ j hj. hb j (omega arith)) earlier)
+        ∙ ap (λ (x : ℕ). bit_xor (b k) (product (b n) x)) (unit-other n k (omega arith)) ∙ ap (bit_xor (b k)) (product-zero (b n)) ∙ xor_zero_r (b k)
+    | inr later ↦
+        let at_n : k ≡ n = omega arith in
+        ap (λ (x : ℕ). bit_xor x (product (b n) (unit n k))) (sum_below-unit-past n k b later)
+        ∙ xor_zero_l (product (b n) (unit n k)) ∙ ap (λ (i : ℕ). product (b n) (unit n i)) at_n ∙ ap (product (b n)) (unit-same n)
+        ∙ times_one (b n) (hb n (omega arith)) ∙ ap b (sym at_n) ]
+
+pub superposed : (n : ℕ) (m z : ℕ → ℕ → ℕ) (b : ℕ → ℕ) → IsMatrix n m → IsMatrix n z → IsVector n b → ((i : ℕ) → i < n → Solves n m (unit i) (z i))
+    → Solves n m b (λ j. sum_below (λ i. product (b i) (z i j)) n)
+superposed n m z b hm hz hb units k hk =
+    sum_below-same (λ j. product (m k j) (sum_below (λ i. product (b i) (z i j)) n)) (λ j. sum_below (λ i. product (b i) (product (m k j) (z i j))) n) n
+      (λ j hj.
+        sym (sum_below-product (m k j) (λ i. product (b i) (z i j)) n)
+        ∙ sum_below-same (λ i. product (m k j) (product (b i) (z i j))) (λ i. product (b i) (product (m k j) (z i j))) n
+            (λ i hi. product_left_comm (m k j) (b i) (z i j) (hm k j hk hj) (hb i hi) (hz i j hi hj)))
+    ∙ sum_below-swap (λ j i. product (b i) (product (m k j) (z i j))) n n
+    ∙ sum_below-same (λ i. sum_below (λ j. product (b i) (product (m k j) (z i j))) n) (λ i. product (b i) (unit i k)) n
+        (λ i hi. sum_below-product (b i) (λ j. product (m k j) (z i j)) n ∙ ap (product (b i)) (units i hi k hk))
+    ∙ sum_below-unit n k b hb hk
+
+pub superposed_lt : (n : ℕ) (z : ℕ → ℕ → ℕ) (b : ℕ → ℕ) → IsMatrix n z → IsVector n b → IsVector n (λ j. sum_below (λ i. product (b i) (z i j)) n)
+superposed_lt n z b hz hb j hj = sum_below-lt (λ i. product (b i) (z i j)) n (λ i hi. product_lt (b i) (z i j) (hb i hi) (hz i j hi hj))
+
+-- equal systems have the same solutions
+pub Solves-same : (n : ℕ) (m m' : ℕ → ℕ → ℕ) (b b' z : ℕ → ℕ) → ((i j : ℕ) → i < n → j < n → m' i j ≡ m i j) → ((i : ℕ) → i < n → b' i ≡ b i) → Solves n m' b' z → Solves n m b z
+Solves-same n m m' b b' z same_m same_b solved i hi =
+    sum_below-same (λ j. product (m i j) (z j)) (λ j. product (m' i j) (z j)) n (λ j hj. ap (λ (x : ℕ). product x (z j)) (sym (same_m i j hi hj)))
+    ∙ solved i hi ∙ same_b i hi

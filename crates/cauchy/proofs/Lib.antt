@@ -3,5 +3,6 @@ mod EliminationLemmas
 mod Factors
 mod MatrixLemmas
 mod ParityLemmas
+mod PlaceLemmas
 mod Sums
 mod WorkedExamples

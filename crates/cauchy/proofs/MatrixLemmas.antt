@@ -6,9 +6,10 @@ use Rattle.gf256.specs.Field.{sum_below, product, power, inverse, quotient, rema
 use Rattle.gf256.proofs.Theorems.{product_lt, one_times, zero_times, times_one, product_inverse, inverse_times, inverse_unique, inverse_lt, inverse_positive, power_lt, power_positive, powers_apart, product_of_powers, order_of_two}
 use Rattle.cauchy.specs.Matrix.{entry_of}
 use Rattle.cauchy.proofs.CauchyForm.{IsCauchy, denominator, cross, xor_positive, denominator_lt, IsEliminable-cauchy}
-use Rattle.cauchy.specs.System.{IsChoice, IsSolution}
-use Rattle.cauchy.specs.Elimination.{IsMatrix, IsVector, IsEliminable, Solves}
-use Rattle.cauchy.proofs.EliminationLemmas.{some_solution, only_solution}
+use Rattle.cauchy.specs.System.{IsChoice, chosen, IsSolution}
+use Rattle.cauchy.specs.Elimination.{IsMatrix, IsVector, IsEliminable, Solves, unit}
+use Rattle.cauchy.proofs.Sums.{sum_below-same}
+use Rattle.cauchy.proofs.EliminationLemmas.{some_solution, only_solution, superposed, superposed_lt}
 
 -- what holds at each level
 pub at_levels : (P : ℕ → Type 0) → P 0 → P 1 → P 2 → P 3 → P 4 → P 5 → (r : ℕ) → r < 6 → P r
@@ -161,10 +162,6 @@ levels_apart =
 
 -- ---- every choice of levels and columns
 
--- the entries at the chosen levels and columns
-abbrev pub chosen : List ℕ → List ℕ → ℕ → ℕ → ℕ
-chosen columns levels i j = entry_of (get_or levels i 0) (get_or columns j 0)
-
 pub chosen_form : (columns levels : List ℕ) → IsChoice columns levels
     → IsCauchy (length levels) (chosen columns levels) (λ i. factor_of (get_or levels i 0)) (λ j. 1)
     (λ i. slope_of (get_or levels i 0)) (λ i. shift_of (get_or levels i 0)) (λ j. place_of (get_or columns j 0))
@@ -232,3 +229,20 @@ unfolding entry_of
 entry_quotient c =
     at_levels (λ r. 2 ≤ r → entry_of r c ≡ quotient (bit_xor 1 (power (r - 1))) (bit_xor (inverse (power c)) (power (r - 1))))
     (λ low. absurd (omega arith)) (λ low. absurd (omega arith)) (λ low. refl) (λ low. refl) (λ low. refl) (λ low. refl)
+
+-- what the inverse makes of the levels is the solution
+pub recovered_solution : (columns levels : List ℕ) → IsChoice columns levels → (z : ℕ → ℕ → ℕ) → IsMatrix (length levels) z
+    → ((i : ℕ) → i < length levels → Solves (length levels) (chosen columns levels) (unit i) (z i))
+    → (given bytes : ℕ → ℕ) → ((i : ℕ) → i < length columns → given i < 256)
+    → ((j : ℕ) → j < length columns → bytes j ≡ sum_below (λ i. product (given i) (z i j)) (length columns)) → IsSolution columns levels given bytes
+recovered_solution columns levels choice z hz units given bytes hg made =
+    let same = choice.same_count in
+    let given_lt : IsVector (length levels) given = λ i hi. hg i (omega arith) in
+    let is : (j : ℕ) → j < length levels → bytes j ≡ sum_below (λ i. product (given i) (z i j)) (length levels) =
+      λ j hj. made j (omega arith) ∙ ap (sum_below (λ i. product (given i) (z i j))) same in
+    solution_of columns levels given bytes same
+      (λ j hj. omega (arith, is j hj, superposed_lt (length levels) z given hz given_lt j hj))
+      (λ i hi.
+        sum_below-same (λ j. product (chosen columns levels i j) (bytes j)) (λ j. product (chosen columns levels i j) (sum_below (λ k. product (given k) (z k j)) (length levels))) (length levels)
+          (λ j hj. ap (product (chosen columns levels i j)) (is j hj))
+        ∙ superposed (length levels) (chosen columns levels) z given (chosen_lt columns levels choice) hz given_lt units i hi)

@@ -7,7 +7,10 @@
 #![tactic(auto)]
 
 mod elimination;
+mod inverse;
 pub mod laws;
 mod matrix;
+mod recovery;
 
 pub use matrix::{add_column, entry};
+pub use recovery::solve;
