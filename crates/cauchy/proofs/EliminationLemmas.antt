@@ -162,15 +162,16 @@ some_solution (suc n) m b hm pivots hb =
 pub IsEliminable-same : (n : ℕ) (m m' : ℕ → ℕ → ℕ) → ((i j : ℕ) → i < n → j < n → m' i j ≡ m i j) → IsEliminable n m → IsEliminable n m'
 IsEliminable-same zero m m' same pivots = tt
 IsEliminable-same (suc n) m m' same pivots =
-    let here : m' n n ≡ m n n = same n n (omega arith) (omega arith) in
-    (omega (arith, pivots.0),
+    let here : m' n n ≡ m n n = same n n (omega arith) (omega arith) in (
+      omega (arith, pivots.0),
       IsEliminable-same n (reduced m n) (reduced m' n)
-        (λ i j hi hj.
+          (λ i j hi hj.
           ap (λ (x : ℕ). bit_xor (product x (m' i j)) (product (m' i n) (m' n j))) here
           ∙ ap (λ (x : ℕ). bit_xor (product (m n n) x) (product (m' i n) (m' n j))) (same i j (omega arith) (omega arith))
           ∙ ap (λ (x : ℕ). bit_xor (product (m n n) (m i j)) (product x (m' n j))) (same i n (omega arith) (omega arith))
           ∙ ap (λ (x : ℕ). bit_xor (product (m n n) (m i j)) (product (m i n) x)) (same n j (omega arith) (omega arith)))
-        pivots.1)
+          pivots.1,
+    )
 
 -- the reduced matrix can be eliminated further
 pub rest_eliminable : (n : ℕ) (m m' : ℕ → ℕ → ℕ) → IsMatrix (suc n) m → IsEliminable (suc n) m → ((i j : ℕ) → i < n → j < n → m' i j ≡ reduced m n i j)
@@ -187,22 +188,24 @@ pub solved_step : (n : ℕ) (m m' : ℕ → ℕ → ℕ) (b b' z y : ℕ → ℕ
     → x < 256 → product x (m n n) ≡ bit_xor (b n) (row_sum m n z n) → ((j : ℕ) → j < n → y j ≡ z j) → y n ≡ x → Solves (suc n) m b y
 solved_step n m m' b b' z y x hm pivot hb hz same_m same_b solved hx last before here i hi =
     sum_below-same (λ j. product (m i j) (y j)) (λ j. product (m i j) (with_value n x z j)) (suc n)
-      (λ j hj. ap (product (m i j))
-        (elim (cases_lt j n) [
-          inl earlier ↦ before j earlier ∙ sym (with_value-other n x z j earlier)
-        | inr later ↦ let at_n : j ≡ n = omega arith in ap y at_n ∙ here ∙ sym (with_value-same n x z) ∙ ap (with_value n x z) (sym at_n) ]))
+    (λ j hj. ap (product (m i j))
+    (elim (cases_lt j n) [
+      | inl earlier ↦ before j earlier ∙ sym (with_value-other n x z j earlier)
+      | inr later ↦ let at_n : j ≡ n = omega arith in ap y at_n ∙ here ∙ sym (with_value-same n x z) ∙ ap (with_value n x z) (sym at_n)
+    ]))
     ∙ Solves-back n m b z hm pivot hb hz
-        (λ k hk.
-          sum_below-same (λ j. product (reduced m n k j) (z j)) (λ j. product (m' k j) (z j)) n (λ j hj. ap (λ (a : ℕ). product a (z j)) (sym (same_m k j hk hj)))
-          ∙ solved k hk ∙ same_b k hk)
-        x hx (product_comm (m n n) x (hm n n (omega arith) (omega arith)) hx ∙ last) i hi
+    (λ k hk.
+    sum_below-same (λ j. product (reduced m n k j) (z j)) (λ j. product (m' k j) (z j)) n (λ j hj. ap (λ (a : ℕ). product a (z j)) (sym (same_m k j hk hj)))
+    ∙ solved k hk ∙ same_b k hk)
+    x hx (product_comm (m n n) x (hm n n (omega arith) (omega arith)) hx ∙ last) i hi
 
 -- one more element
 pub IsVector-more : (n : ℕ) (z y : ℕ → ℕ) (x : ℕ) → IsVector n z → ((j : ℕ) → j < n → y j ≡ z j) → y n ≡ x → x < 256 → IsVector (suc n) y
 IsVector-more n z y x hz before here hx j hj =
     elim (cases_lt j n) [
-      inl earlier ↦ omega (arith, before j earlier, hz j earlier)
-    | inr later ↦ let at_n : j ≡ n = omega arith in let same : y j ≡ x = ap y at_n ∙ here in omega arith ]
+      | inl earlier ↦ omega (arith, before j earlier, hz j earlier)
+      | inr later ↦ let at_n : j ≡ n = omega arith in let same : y j ≡ x = ap y at_n ∙ here in omega arith
+    ]
 
 -- ---- the solutions at the units make every solution
 
@@ -212,8 +215,9 @@ unit-same i = ap (λ (b : Bool). cond b 1 0) (eq-eqb i i refl)
 unit-other : (i k : ℕ) → k ≢ i → unit i k ≡ 0
 unit-other i k apart =
     elim (eqb_tells k i) [
-      inl same ↦ absurd (apart same.1)
-    | inr other ↦ ap (λ (b : Bool). cond b 1 0) other.0 ]
+      | inl same ↦ absurd (apart same.1)
+      | inr other ↦ ap (λ (b : Bool). cond b 1 0) other.0
+    ]
 
 sum_below-unit-past : (n k : ℕ) (b : ℕ → ℕ) → n ≤ k → sum_below (λ i. product (b i) (unit i k)) n ≡ 0
 sum_below-unit-past zero k b h = refl
@@ -225,26 +229,27 @@ sum_below-unit : (n k : ℕ) (b : ℕ → ℕ) → IsVector n b → k < n → su
 sum_below-unit zero k b hb h = absurd (omega arith)
 sum_below-unit (suc n) k b hb h =
     elim (cases_lt k n) [
-      inl earlier ↦
-        ap (λ (x : ℕ). bit_xor x (product (b n) (unit n k))) (sum_below-unit n k b (λ j hj. hb j (omega arith)) earlier)
-        ∙ ap (λ (x : ℕ). bit_xor (b k) (product (b n) x)) (unit-other n k (omega arith)) ∙ ap (bit_xor (b k)) (product-zero (b n)) ∙ xor_zero_r (b k)
-    | inr later ↦
-        let at_n : k ≡ n = omega arith in
-        ap (λ (x : ℕ). bit_xor x (product (b n) (unit n k))) (sum_below-unit-past n k b later)
-        ∙ xor_zero_l (product (b n) (unit n k)) ∙ ap (λ (i : ℕ). product (b n) (unit n i)) at_n ∙ ap (product (b n)) (unit-same n)
-        ∙ times_one (b n) (hb n (omega arith)) ∙ ap b (sym at_n) ]
+      | inl earlier ↦
+          ap (λ (x : ℕ). bit_xor x (product (b n) (unit n k))) (sum_below-unit n k b (λ j hj. hb j (omega arith)) earlier)
+          ∙ ap (λ (x : ℕ). bit_xor (b k) (product (b n) x)) (unit-other n k (omega arith)) ∙ ap (bit_xor (b k)) (product-zero (b n)) ∙ xor_zero_r (b k)
+      | inr later ↦
+          let at_n : k ≡ n = omega arith in
+          ap (λ (x : ℕ). bit_xor x (product (b n) (unit n k))) (sum_below-unit-past n k b later)
+          ∙ xor_zero_l (product (b n) (unit n k)) ∙ ap (λ (i : ℕ). product (b n) (unit n i)) at_n ∙ ap (product (b n)) (unit-same n)
+          ∙ times_one (b n) (hb n (omega arith)) ∙ ap b (sym at_n)
+    ]
 
 pub superposed : (n : ℕ) (m z : ℕ → ℕ → ℕ) (b : ℕ → ℕ) → IsMatrix n m → IsMatrix n z → IsVector n b → ((i : ℕ) → i < n → Solves n m (unit i) (z i))
     → Solves n m b (λ j. sum_below (λ i. product (b i) (z i j)) n)
 superposed n m z b hm hz hb units k hk =
     sum_below-same (λ j. product (m k j) (sum_below (λ i. product (b i) (z i j)) n)) (λ j. sum_below (λ i. product (b i) (product (m k j) (z i j))) n) n
-      (λ j hj.
-        sym (sum_below-product (m k j) (λ i. product (b i) (z i j)) n)
-        ∙ sum_below-same (λ i. product (m k j) (product (b i) (z i j))) (λ i. product (b i) (product (m k j) (z i j))) n
-            (λ i hi. product_left_comm (m k j) (b i) (z i j) (hm k j hk hj) (hb i hi) (hz i j hi hj)))
+    (λ j hj.
+    sym (sum_below-product (m k j) (λ i. product (b i) (z i j)) n)
+    ∙ sum_below-same (λ i. product (m k j) (product (b i) (z i j))) (λ i. product (b i) (product (m k j) (z i j))) n
+    (λ i hi. product_left_comm (m k j) (b i) (z i j) (hm k j hk hj) (hb i hi) (hz i j hi hj)))
     ∙ sum_below-swap (λ j i. product (b i) (product (m k j) (z i j))) n n
     ∙ sum_below-same (λ i. sum_below (λ j. product (b i) (product (m k j) (z i j))) n) (λ i. product (b i) (unit i k)) n
-        (λ i hi. sum_below-product (b i) (λ j. product (m k j) (z i j)) n ∙ ap (product (b i)) (units i hi k hk))
+    (λ i hi. sum_below-product (b i) (λ j. product (m k j) (z i j)) n ∙ ap (product (b i)) (units i hi k hk))
     ∙ sum_below-unit n k b hb hk
 
 pub superposed_lt : (n : ℕ) (z : ℕ → ℕ → ℕ) (b : ℕ → ℕ) → IsMatrix n z → IsVector n b → IsVector n (λ j. sum_below (λ i. product (b i) (z i j)) n)

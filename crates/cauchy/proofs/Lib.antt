@@ -4,5 +4,7 @@ mod Factors
 mod MatrixLemmas
 mod ParityLemmas
 mod PlaceLemmas
+mod RecoveryLemmas
+mod RowLemmas
 mod Sums
 mod WorkedExamples

@@ -239,10 +239,18 @@ recovered_solution columns levels choice z hz units given bytes hg made =
     let same = choice.same_count in
     let given_lt : IsVector (length levels) given = λ i hi. hg i (omega arith) in
     let is : (j : ℕ) → j < length levels → bytes j ≡ sum_below (λ i. product (given i) (z i j)) (length levels) =
-      λ j hj. made j (omega arith) ∙ ap (sum_below (λ i. product (given i) (z i j))) same in
+    λ j hj. made j (omega arith) ∙ ap (sum_below (λ i. product (given i) (z i j))) same in
     solution_of columns levels given bytes same
-      (λ j hj. omega (arith, is j hj, superposed_lt (length levels) z given hz given_lt j hj))
-      (λ i hi.
-        sum_below-same (λ j. product (chosen columns levels i j) (bytes j)) (λ j. product (chosen columns levels i j) (sum_below (λ k. product (given k) (z k j)) (length levels))) (length levels)
-          (λ j hj. ap (product (chosen columns levels i j)) (is j hj))
-        ∙ superposed (length levels) (chosen columns levels) z given (chosen_lt columns levels choice) hz given_lt units i hi)
+    (λ j hj. omega (arith, is j hj, superposed_lt (length levels) z given hz given_lt j hj))
+    (λ i hi.
+    sum_below-same (λ j. product (chosen columns levels i j) (bytes j)) (λ j. product (chosen columns levels i j) (sum_below (λ k. product (given k) (z k j)) (length levels))) (length levels)
+    (λ j hj. ap (product (chosen columns levels i j)) (is j hj))
+    ∙ superposed (length levels) (chosen columns levels) z given (chosen_lt columns levels choice) hz given_lt units i hi)
+
+-- an entry is an element
+pub entry_lt : (r c : ℕ) → r < 6 → c < 251 → entry_of r c < 256
+entry_lt r c hr hc =
+    let d = denominator_lt (slope_of r) (shift_of r) (place_of c) (slope_lt r hr) (shift_lt r hr) (place_lt c) in
+    let value_lt = product_lt (product (factor_of r) 1) (inverse (denominator (slope_of r) (shift_of r) (place_of c)))
+    (product_lt (factor_of r) 1 (factor_lt r hr) (omega arith)) (inverse_lt _ (form_denominator_positive c hc r hr) d) in
+    omega (arith, entry_form c r hr, value_lt)

@@ -25,9 +25,7 @@ fn level_entries(level: u32, columns: &[u32]) -> [u8; MOST]
 /// The entries at the chosen levels and columns.
 fn chosen_entries(columns: &[u32], levels: &[u32]) -> Matrix
     requires { IsChoice columns.now levels.now }
-    ensures {
-        (i j : ℕ) → i < length levels.now → j < length levels.now → cell result i j ≡ chosen columns.now levels.now i j
-    }
+    ensures { (i j : ℕ) → i < length levels.now → j < length levels.now → cell result i j ≡ chosen columns.now levels.now i j }
 {
     let mut rows = [[0; MOST]; MOST];
     for i in 0..levels.len() {
@@ -51,11 +49,8 @@ fn unit_vector(i: usize) -> [u8; MOST]
 pub fn inverse_columns(columns: &[u32], levels: &[u32]) -> Matrix
     requires { IsChoice columns.now levels.now }
     ensures elements { IsMatrix (length levels.now) (cell result) }
-    ensures units
-    {
-        (i : ℕ) → i < length levels.now →
-            Solves (length levels.now) (chosen columns.now levels.now) (unit i) (cell result i)
-    }
+    ensures units { (i : ℕ) → i < length levels.now →
+        Solves (length levels.now) (chosen columns.now levels.now) (unit i) (cell result i) }
 {
     let matrix = chosen_entries(columns, levels);
     let mut rows = [[0; MOST]; MOST];

@@ -3,6 +3,7 @@
 ghost use Rattle.std.specs.Prelude.{◌≡◌, ℕ, ◌+◌, ◌-◌, ◌<◌, ◌≤◌, List, [], ◌∷◌, ◌++◌, length};
 ghost use Rattle.gf256.specs.Field.{field_sum, power, inverse};
 ghost use Rattle.cauchy.specs.Matrix.{parity_of};
+ghost use Rattle.cauchy.specs.Recovery.{IsRow, IsPart, IsRecovered};
 ghost use Rattle.cauchy.specs.System.{IsChoice, IsSolution};
 
 /// No entry of the matrix is divided by 0. Column 251 would be, in row 5.
@@ -24,4 +25,16 @@ pub fn one_solution()
     ensures only { (columns levels : List ℕ) → IsChoice columns levels →
         (given one other : ℕ → ℕ) → IsSolution columns levels given one → IsSolution columns levels given other →
         (j : ℕ) → j < length columns → one j ≡ other j }
+{}
+
+/// Where some columns of a row are missing, and a block is given for each of as many levels, there is exactly one row that
+/// has these levels and agrees with the row in all other columns.
+pub fn one_recovered_row()
+    ensures exists { (size : ℕ) (row : List (List ℕ)) (missing levels : List ℕ) (given : List (List ℕ)) →
+        IsChoice missing levels → IsPart missing row → IsRow size row → IsRow size given → length given ≡ length levels →
+        (recovered : List (List ℕ)) × IsRecovered size row missing levels given recovered }
+    ensures only { (size : ℕ) (row : List (List ℕ)) (missing levels : List ℕ) (given : List (List ℕ)) →
+        IsChoice missing levels → IsPart missing row → IsRow size row → IsRow size given → length given ≡ length levels →
+        (one other : List (List ℕ)) → IsRecovered size row missing levels given one →
+        IsRecovered size row missing levels given other → one ≡ other }
 {}

@@ -1,8 +1,9 @@
 //! The blocks of lost columns, from the levels.
 
-ghost use Rattle.std.specs.Prelude.{◌≡◌, ◌≢◌, ◌+◌, ◌*◌, ◌<◌, ◌≤◌, ℕ, length, slice_index};
+ghost use Rattle.std.specs.Prelude.{◌≡◌, ◌≢◌, ◌+◌, ◌*◌, ◌<◌, ◌≤◌, ℕ, List, length, slice_index};
 ghost use Rattle.gf256.specs.Field.{sum_below, product};
 ghost use Rattle.cauchy.specs.Elimination.{cell};
+ghost use Rattle.cauchy.specs.Recovery.{IsRow, IsPart, HoldsRemainders, HoldsColumns};
 ghost use Rattle.cauchy.specs.System.{byte_in, IsChoice, SolvesBlocks};
 
 use crate::elimination::{MOST, Matrix};
@@ -41,15 +42,9 @@ fn recover_at(inverse: &Matrix, block: usize, p: usize, count: usize, work: &mut
     requires count { count ≤ 6 }
     requires size { length work.old ≡ count * block }
     requires place { p < block }
-    ensures recovered
-    {
-        (j : ℕ) → j < count →
-            byte_in block work.new p j ≡ sum_below (λ i. product (byte_in block work.old p i) (cell inverse.now i j)) count
-    }
-    ensures others
-    {
-        (q j : ℕ) → q < block → q ≢ p → j < count → byte_in block work.new q j ≡ byte_in block work.old q j
-    }
+    ensures recovered { (j : ℕ) → j < count →
+        byte_in block work.new p j ≡ sum_below (λ i. product (byte_in block work.old p i) (cell inverse.now i j)) count }
+    ensures others { (q j : ℕ) → q < block → q ≢ p → j < count → byte_in block work.new q j ≡ byte_in block work.old q j }
 {
     let given = bytes_at(work, block, p, count);
     for j in 0..count {
@@ -63,7 +58,10 @@ pub fn solve(missing: &[u32], levels: &[u32], block: usize, work: &mut [u8])
     requires choice { IsChoice missing.now levels.now }
     requires block { 0 < block }
     requires size { length work.old ≡ length missing.now * block }
-    ensures { SolvesBlocks missing.now levels.now block work.old work.new }
+    ensures solution { SolvesBlocks missing.now levels.now block work.old work.new }
+    // So the blocks of a row come back from what its levels hold of them.
+    ensures columns { (row : List (List ℕ)) → IsRow block row → IsPart missing.now row →
+        HoldsRemainders row missing.now levels.now block work.old → HoldsColumns row missing.now block work.new }
 {
     let inverse = inverse_columns(missing, levels);
     for p in 0..block {

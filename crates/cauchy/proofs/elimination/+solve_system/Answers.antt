@@ -35,11 +35,11 @@ returns t c =
     let before : (j : ℕ) → j < c.args.n - 1 → y j ≡ z j = λ j hj. let other : j ≢ c.args.n - 1 = omega arith in rw get_or-set_other refl in
     let here : y (c.args.n - 1) ≡ c.div.result = rw get_or-set_same refl in
     let last : product c.div.result (m k k) ≡ bit_xor (b k) (row_sum m k z k) =
-      c.div.ensures.product_is ∙ ap (bit_xor (b k)) c.sum_of_products-others.ensures in
+    c.div.ensures.product_is ∙ ap (bit_xor (b k)) c.sum_of_products-others.ensures in
     record {
       long = simp length-set c.solve_system-values.ensures.long;
       elements = subst (λ (n : ℕ). IsVector n y) (sym size) (IsVector-more k z y c.div.result c.solve_system-values.ensures.elements before here c.div.type_inv);
       solves = subst (λ (n : ℕ). Solves n m b y) (sym size)
-        (solved_step k m (cell c.reduced_matrix-rest.result) b (λ i. get_or c.reduced_sums-rest_given.result i 0) z y c.div.result elements pivots.0 sums
-          c.solve_system-values.ensures.elements c.reduced_matrix-rest.ensures c.reduced_sums-rest_given.ensures c.solve_system-values.ensures.solves c.div.type_inv last before here)
+          (solved_step k m (cell c.reduced_matrix-rest.result) b (λ i. get_or c.reduced_sums-rest_given.result i 0) z y c.div.result elements pivots.0 sums
+          c.solve_system-values.ensures.elements c.reduced_matrix-rest.ensures c.reduced_sums-rest_given.ensures c.solve_system-values.ensures.solves c.div.type_inv last before here);
     }

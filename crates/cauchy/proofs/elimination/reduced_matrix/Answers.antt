@@ -6,6 +6,6 @@ loop-i-preserved c =
     record {
       long = simp length-set c.loop-i.invariant.long;
       made = below_more _ _
-        (λ i h j hj. let other : i ≢ c.loop-i.i = omega arith in rw get_or-set_other (c.loop-i.invariant.made i h j hj))
-        (λ j hj. let within : c.loop-i.i < length c.loop-i.rows = omega arith in rw get_or-set_same (c.reduced_row.ensures j hj))
+          (λ i h j hj. let other : i ≢ c.loop-i.i = omega arith in rw get_or-set_other (c.loop-i.invariant.made i h j hj))
+          (λ j hj. let within : c.loop-i.i < length c.loop-i.rows = omega arith in rw get_or-set_same (c.reduced_row.ensures j hj));
     }

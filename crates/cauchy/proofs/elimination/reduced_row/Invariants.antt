@@ -6,5 +6,5 @@ abbrev pub invariant-loop-j : goal.invariant-loop-j
 invariant-loop-j l =
     record {
       long : length l.row ≡ 6;
-      made : (k : ℕ) → k < l.j → get_or l.row k 0 ≡ reduced (cell l.matrix) l.n l.i k
+      made : (k : ℕ) → k < l.j → get_or l.row k 0 ≡ reduced (cell l.matrix) l.n l.i k;
     }

@@ -7,5 +7,5 @@ abbrev pub invariant-loop-i : goal.invariant-loop-i
 invariant-loop-i l =
     record {
       long : length l.rows ≡ 6;
-      made : (i : ℕ) → i < l.i → (j : ℕ) → j < length l.levels → cell l.rows i j ≡ chosen l.columns l.levels i j
+      made : (i : ℕ) → i < l.i → (j : ℕ) → j < length l.levels → cell l.rows i j ≡ chosen l.columns l.levels i j;
     }

@@ -12,7 +12,7 @@ solve_system-requires-clause-elements c =
 pub solve_system-requires-clause-pivots : goal.solve_system-requires-clause-pivots
 solve_system-requires-clause-pivots c =
     IsEliminable-same (length c.args.levels.now) (chosen c.args.columns.now c.args.levels.now) (cell c.chosen_entries-matrix.result)
-      c.chosen_entries-matrix.ensures (chosen_pivots c.args.columns.now c.args.levels.now c.requires)
+    c.chosen_entries-matrix.ensures (chosen_pivots c.args.columns.now c.args.levels.now c.requires)
 
 pub loop-i-preserved : goal.loop-i-preserved
 loop-i-preserved c =
@@ -20,12 +20,12 @@ loop-i-preserved c =
     record {
       long = simp length-set c.loop-i.invariant.long;
       elements = below_more _ _
-        (λ i h j hj. let other : i ≢ c.loop-i.i = omega arith in rw get_or-set_other (c.loop-i.invariant.elements i h j hj))
-        (λ j hj. rw get_or-set_same (c.solve_system.ensures.elements j hj));
+          (λ i h j hj. let other : i ≢ c.loop-i.i = omega arith in rw get_or-set_other (c.loop-i.invariant.elements i h j hj))
+          (λ j hj. rw get_or-set_same (c.solve_system.ensures.elements j hj));
       units = below_more _ _
-        (λ i h k hk. let other : i ≢ c.loop-i.i = omega arith in rw get_or-set_other (c.loop-i.invariant.units i h k hk))
-        (rw get_or-set_same
+          (λ i h k hk. let other : i ≢ c.loop-i.i = omega arith in rw get_or-set_other (c.loop-i.invariant.units i h k hk))
+          (rw get_or-set_same
           (Solves-same (length c.args.levels.now) (chosen c.args.columns.now c.args.levels.now) (cell c.chosen_entries-matrix.result)
-            (unit c.loop-i.i) (λ k. get_or c.unit_vector.result k 0) (λ j. get_or c.solve_system.result j 0)
-            c.chosen_entries-matrix.ensures (λ k hk. c.unit_vector.ensures k (omega (arith, c.requires.at_most_six))) c.solve_system.ensures.solves))
+          (unit c.loop-i.i) (λ k. get_or c.unit_vector.result k 0) (λ j. get_or c.solve_system.result j 0)
+          c.chosen_entries-matrix.ensures (λ k hk. c.unit_vector.ensures k (omega (arith, c.requires.at_most_six))) c.solve_system.ensures.solves));
     }

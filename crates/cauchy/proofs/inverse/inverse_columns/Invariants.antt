@@ -8,5 +8,5 @@ invariant-loop-i l =
     record {
       long : length l.rows ≡ 6;
       elements : (i : ℕ) → i < l.i → IsVector (length l.levels) (cell l.rows i);
-      units : (i : ℕ) → i < l.i → Solves (length l.levels) (chosen l.columns l.levels) (unit i) (cell l.rows i)
+      units : (i : ℕ) → i < l.i → Solves (length l.levels) (chosen l.columns l.levels) (unit i) (cell l.rows i);
     }

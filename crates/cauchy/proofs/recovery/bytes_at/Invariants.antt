@@ -6,5 +6,5 @@ abbrev pub invariant-loop-i : goal.invariant-loop-i
 invariant-loop-i l =
     record {
       long : length l.bytes ≡ 6;
-      made : (k : ℕ) → k < l.i → get_or l.bytes k 0 ≡ byte_in l.block l.work l.p k
+      made : (k : ℕ) → k < l.i → get_or l.bytes k 0 ≡ byte_in l.block l.work l.p k;
     }

@@ -9,5 +9,5 @@ abbrev pub invariant-loop-j : goal.invariant-loop-j
 invariant-loop-j l =
     record {
       recovered : (k : ℕ) → k < l.j → byte_in l.block l.work l.p k ≡ sum_below (λ i. product (get_or l.given i 0) (cell l.inverse i k)) l.count;
-      others : (q k : ℕ) → q < l.block → q ≢ l.p → k < l.count → byte_in l.block l.work q k ≡ byte_in l.block l.initial.work q k
+      others : (q k : ℕ) → q < l.block → q ≢ l.p → k < l.count → byte_in l.block l.work q k ≡ byte_in l.block l.initial.work q k;
     }

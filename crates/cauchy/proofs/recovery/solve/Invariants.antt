@@ -10,6 +10,6 @@ invariant-loop-p l =
     record {
       given : (q i : ℕ) → byte_in l.block l.initial.work q i < 256;
       recovered : (q j : ℕ) → q < l.p → j < length l.missing
-        → byte_in l.block l.work q j ≡ sum_below (λ i. product (byte_in l.block l.initial.work q i) (cell l.inverse i j)) (length l.missing);
-      rest : (q j : ℕ) → l.p ≤ q → q < l.block → j < length l.missing → byte_in l.block l.work q j ≡ byte_in l.block l.initial.work q j
+          → byte_in l.block l.work q j ≡ sum_below (λ i. product (byte_in l.block l.initial.work q i) (cell l.inverse i j)) (length l.missing);
+      rest : (q j : ℕ) → l.p ≤ q → q < l.block → j < length l.missing → byte_in l.block l.work q j ≡ byte_in l.block l.initial.work q j;
     }
