@@ -168,19 +168,19 @@ pub chosen_form : (columns levels : List ℕ) → IsChoice columns levels
 chosen_form columns levels choice =
     let same = choice.same_count in
     record {
-      row_factor = λ i hi. (factor_positive (get_or levels i 0) (choice.level_range i hi), factor_lt (get_or levels i 0) (choice.level_range i hi));
+      row_factor = λ i hi. (factor_positive (get_or levels i 0) (choice.each_level.below i hi), factor_lt (get_or levels i 0) (choice.each_level.below i hi));
       column_factor = λ j hj. (omega arith, omega arith);
-      slope = λ i hi. slope_lt (get_or levels i 0) (choice.level_range i hi);
-      shift = λ i hi. shift_lt (get_or levels i 0) (choice.level_range i hi);
+      slope = λ i hi. slope_lt (get_or levels i 0) (choice.each_level.below i hi);
+      shift = λ i hi. shift_lt (get_or levels i 0) (choice.each_level.below i hi);
       place = λ j hj. place_lt (get_or columns j 0);
       denominators = λ i j hi hj.
-          form_denominator_positive (get_or columns j 0) (choice.column_range j (omega arith)) (get_or levels i 0) (choice.level_range i hi);
+          form_denominator_positive (get_or columns j 0) (choice.each_column.below j (omega arith)) (get_or levels i 0) (choice.each_level.below i hi);
       rows = λ i k less hk.
-          levels_apart (get_or levels i 0) (choice.level_range i (omega arith)) (get_or levels k 0) (choice.level_range k hk) (choice.levels_distinct i k less hk);
+          levels_apart (get_or levels i 0) (choice.each_level.below i (omega arith)) (get_or levels k 0) (choice.each_level.below k hk) (choice.each_level.distinct i k less hk);
       columns = λ j k less hk.
           xor_positive (place_of (get_or columns j 0)) (place_of (get_or columns k 0))
-          (places_apart (get_or columns j 0) (get_or columns k 0) (choice.column_range j (omega arith)) (choice.column_range k (omega arith)) (choice.columns_distinct j k less (omega arith)));
-      entries = λ i j hi hj. entry_form (get_or columns j 0) (get_or levels i 0) (choice.level_range i hi);
+          (places_apart (get_or columns j 0) (get_or columns k 0) (choice.each_column.below j (omega arith)) (choice.each_column.below k (omega arith)) (choice.each_column.distinct j k less (omega arith)));
+      entries = λ i j hi hj. entry_form (get_or columns j 0) (get_or levels i 0) (choice.each_level.below i hi);
     }
 
 pub chosen_lt : (columns levels : List ℕ) → IsChoice columns levels → IsMatrix (length levels) (chosen columns levels)

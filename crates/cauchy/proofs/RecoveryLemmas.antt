@@ -56,7 +56,7 @@ columns_hold row missing levels block old new choice part rows solved remainders
       sums = λ i hi.
           sym (remainders i p hi hp
           ∙ ap (λ (x : ℕ). bit_xor x (others_sum (get_or levels i 0) missing row p))
-          (parity_byte-split (get_or levels i 0) missing row p choice.columns_distinct part.within)
+          (parity_byte-split (get_or levels i 0) missing row p choice.each_column.distinct part.within)
           ∙ added_twice (chosen_sum (get_or levels i 0) missing (λ k. byte_of row (get_or missing k 0) p)) (others_sum (get_or levels i 0) missing row p));
     } j hj
 
@@ -72,7 +72,7 @@ module _ (size : ℕ) (row : List (List ℕ)) (missing levels : List ℕ) (given
   unfolding target
   target_lt p i hi =
       xor_lt 8 (byte_of given i p) (others_sum (get_or levels i 0) missing row p) (blocks.are_bytes i p)
-      (others_sum-lt (get_or levels i 0) missing row p (choice.level_range i hi) part.at_most (λ c. rows.are_bytes c p))
+      (others_sum-lt (get_or levels i 0) missing row p (choice.each_level.below i hi) part.at_most (λ c. rows.are_bytes c p))
 
   -- the missing columns of a recovered row are a solution
   columns_solve : (recovered : List (List ℕ)) → IsRecovered size row missing levels given recovered → (p : ℕ) → p < size
@@ -84,7 +84,7 @@ module _ (size : ℕ) (row : List (List ℕ)) (missing levels : List ℕ) (given
         sums = λ i hi.
             let level = get_or levels i 0 in
             move (chosen_sum level missing (λ j. byte_of recovered (get_or missing j 0) p)) (others_sum level missing recovered p) (byte_of given i p)
-            (sym (parity_byte-split level missing recovered p choice.columns_distinct (λ j hj. omega (arith, is.same_count, part.within j hj)))
+            (sym (parity_byte-split level missing recovered p choice.each_column.distinct (λ j hj. omega (arith, is.same_count, part.within j hj)))
             ∙ sym (get_or-parity_of level size recovered p hp) ∙ ap (λ (xs : List ℕ). get_or xs p 0) (is.given_levels i hi))
             ∙ ap (bit_xor (byte_of given i p)) (others_sum-same level missing recovered row p is.same_count is.others);
       }
@@ -186,7 +186,7 @@ module _ (size : ℕ) (row : List (List ℕ)) (missing levels : List ℕ) (given
       let there : is_among missing c ≡ true = among_at missing j hj in
       ap (λ (xs : List ℕ). get_or xs p 0) (made_at c (part.within j hj) ∙ block_at-found c there)
       ∙ get_or-map-range_with_len (λ q. found_bytes q (index_of missing c)) 0 size p p 0 hp (zero-add p)
-      ∙ ap (found_bytes p) (index_at missing choice.columns_distinct j hj)
+      ∙ ap (found_bytes p) (index_at missing choice.each_column.distinct j hj)
 
   made_others : (c : ℕ) → c < length row → is_among missing c ≡ false → get_or made c [] ≡ get_or row c []
   made_others c hc absent = made_at c hc ∙ block_at-kept c absent
@@ -197,7 +197,7 @@ module _ (size : ℕ) (row : List (List ℕ)) (missing levels : List ℕ) (given
       let level = get_or levels i 0 in
       sym (parity_of-bytes level size made (get_or given i []) (blocks.sizes i (omega (arith, count)))
       (λ p hp.
-      sym (parity_byte-split level missing made p choice.columns_distinct (λ j hj. omega (arith, length-made, part.within j hj))
+      sym (parity_byte-split level missing made p choice.each_column.distinct (λ j hj. omega (arith, length-made, part.within j hj))
       ∙ ap (λ (x : ℕ). bit_xor x (others_sum level missing made p))
       (sum_below-same (λ j. product (entry_of level (get_or missing j 0)) (byte_of made (get_or missing j 0) p)) (λ j. product (entry_of level (get_or missing j 0)) (found_bytes p j)) (length missing)
       (λ j hj. ap (product (entry_of level (get_or missing j 0))) (made_column p j hp hj))

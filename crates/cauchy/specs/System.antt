@@ -3,15 +3,18 @@ use Rattle.std.specs.Prelude.{◌≡◌, ◌≢◌, ℕ, ◌+◌, ◌*◌, ◌<�
 use Rattle.gf256.specs.Field.{sum_below, product}
 use Rattle.cauchy.specs.Matrix.{entry_of}
 
+-- numbers below a bound, none of them twice
+pub record AreDistinctBelow (bound : ℕ) (numbers : List ℕ) : Type 0 where
+  pub below : (k : ℕ) → k < length numbers → slice_index numbers k < bound
+  pub distinct : (j k : ℕ) → j < k → k < length numbers → slice_index numbers j ≢ slice_index numbers k
+
 -- as many columns as levels, from 1 to 6, each within the matrix and none twice
 pub record IsChoice (columns levels : List ℕ) : Type 0 where
   pub same_count : length columns ≡ length levels
   pub some : 1 ≤ length levels
   pub at_most_six : length levels ≤ 6
-  pub column_range : (j : ℕ) → j < length columns → slice_index columns j < 251
-  pub level_range : (i : ℕ) → i < length levels → slice_index levels i < 6
-  pub columns_distinct : (j k : ℕ) → j < k → k < length columns → slice_index columns j ≢ slice_index columns k
-  pub levels_distinct : (i k : ℕ) → i < k → k < length levels → slice_index levels i ≢ slice_index levels k
+  pub each_column : AreDistinctBelow 251 columns
+  pub each_level : AreDistinctBelow 6 levels
 
 -- the entries at the chosen levels and columns
 abbrev pub chosen : List ℕ → List ℕ → ℕ → ℕ → ℕ

@@ -11,11 +11,13 @@
 //! as many levels; for every choice of these the solution exists and is the only one (module `laws`).
 #![tactic(auto)]
 
+mod choice;
 mod elimination;
 mod inverse;
 pub mod laws;
 mod matrix;
 mod recovery;
 
+pub use choice::is_choice;
 pub use matrix::{add_column, entry};
 pub use recovery::solve;
