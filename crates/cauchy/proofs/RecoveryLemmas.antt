@@ -1,8 +1,8 @@
 -- Exactly one row agrees with a row outside the missing columns and has the given levels.
-use Rattle.std.proofs.Common.{◌≡◌, ◌≢◌, ℕ, zero, suc, ◌+◌, ◌<◌, ◌≤◌, Bool, true, false, cond, List, [], ◌∷◌, length, get_or, map, refl, sym, ap, ◌∙◌, inl, inr, zero-add, arith}
+use Rattle.std.proofs.Common.{◌≡◌, ℕ, ◌<◌, ◌≤◌, Bool, true, false, cond, List, [], length, get_or, map, refl, sym, ap, ◌∙◌, inl, inr, zero-add, arith}
 use Rattle.std.specs.List.{range_with_len}
 use Rattle.std.specs.Int.Bits.{bit_xor, xor_assoc, xor_self, xor_zero_r}
-use Rattle.std.proofs.lemmas.Nat.{xor_comm, xor_lt}
+use Rattle.std.proofs.lemmas.Nat.{xor_lt}
 use Rattle.std.proofs.lemmas.Bool.{cases_lt}
 use Rattle.std.proofs.lemmas.List.{same_lists, get_or_default}
 use Rattle.std.proofs.lemmas.Grind.{same_number_lists}
@@ -10,7 +10,7 @@ use Rattle.std.proofs.Math.ListN.{get_or-eq_default}
 use Rattle.std.proofs.lemmas.List.FromFn.{length-map-range_with_len, get_or-map-range_with_len}
 use Rattle.gf256.specs.Field.{sum_below, product}
 use Rattle.gf256.proofs.Theorems.{product_lt}
-use Rattle.cauchy.specs.Matrix.{entry_of, byte_of, parity_byte, parity_of}
+use Rattle.cauchy.specs.Matrix.{entry_of, byte_of, parity_of}
 use Rattle.cauchy.specs.System.{IsChoice, IsSolution, SolvesBlocks, chosen_sum, byte_in}
 use Rattle.cauchy.specs.Recovery.{IsRow, IsPart, IsRecovered, HoldsRemainders, HoldsColumns, is_among, others_sum}
 use Rattle.cauchy.proofs.Sums.{sum_below-same, sum_below-lt}

@@ -1,11 +1,11 @@
 -- The sum over the columns of a row is the sum over the missing ones and the sum over all others.
-use Rattle.std.proofs.Common.{◌≡◌, ◌≢◌, ℕ, zero, suc, ◌+◌, ◌<◌, ◌≤◌, Bool, true, false, cond, eqb, List, [], ◌∷◌, length, get_or, refl, sym, ap, ◌∙◌, inl, inr, arith}
+use Rattle.std.proofs.Common.{◌≡◌, ◌≢◌, ℕ, zero, suc, ◌<◌, ◌≤◌, Bool, true, false, cond, eqb, List, [], ◌∷◌, length, get_or, refl, sym, ap, ◌∙◌, inl, inr, arith}
 use Rattle.std.specs.Int.Bits.{bit_xor, xor_zero_l, xor_zero_r}
 use Rattle.std.proofs.lemmas.Bool.{cases_lt, eq-eqb, eqb-true, eqb-false}
 use Rattle.std.proofs.lemmas.Bool.Decides.{eqb_tells}
 use Rattle.gf256.specs.Field.{sum_below, product}
 use Rattle.cauchy.specs.Matrix.{entry_of, byte_of, parity_byte}
-use Rattle.cauchy.specs.System.{IsChoice, chosen_sum}
+use Rattle.cauchy.specs.System.{chosen_sum}
 use Rattle.cauchy.specs.Recovery.{is_among, others_sum}
 use Rattle.cauchy.proofs.Sums.{sum_below-same, sum_below-xor, sum_below-zeros, sum_below-swap}
 

@@ -6,9 +6,7 @@ ghost use Rattle.cauchy.specs.System.{AreDistinctBelow, IsChoice};
 /// Whether number `k` differs from each before it.
 fn is_new(numbers: &[u32], k: usize) -> bool
     requires { k < length numbers.now }
-    ensures {
-        IsTrue result ↔ ((j : ℕ) → j < k → slice_index numbers.now j ≢ slice_index numbers.now k)
-    }
+    ensures { IsTrue result ↔ ((j : ℕ) → j < k → slice_index numbers.now j ≢ slice_index numbers.now k) }
 {
     for j in 0..k {
         if numbers[j] == numbers[k] {

@@ -21,3 +21,6 @@ mod recovery;
 pub use choice::is_choice;
 pub use matrix::{add_column, entry};
 pub use recovery::solve;
+
+#[cfg(test)]
+mod tests;

@@ -5,5 +5,5 @@ abbrev pub invariant-loop-k : goal.invariant-loop-k
 invariant-loop-k l =
     record {
       below : (i : ℕ) → i < l.k → get_or l.numbers i 0 < l.bound;
-      distinct : (j i : ℕ) → j < i → i < l.k → get_or l.numbers j 0 ≢ get_or l.numbers i 0
+      distinct : (j i : ℕ) → j < i → i < l.k → get_or l.numbers j 0 ≢ get_or l.numbers i 0;
     }

@@ -1,4 +1,4 @@
-use Rattle.std.proofs.Common.{◌≡◌, ◌≢◌, ◌+◌, ◌-◌, ◌<◌, ℕ, suc, length, get_or, set, refl, ap, sym, subst, ◌∙◌, arith, add-one, length-set, get_or-set_other, get_or-set_same}
+use Rattle.std.proofs.Common.{◌≡◌, ◌≢◌, ◌-◌, ◌<◌, ℕ, suc, length, get_or, set, refl, ap, sym, subst, ◌∙◌, arith, length-set, get_or-set_other, get_or-set_same}
 use Rattle.std.specs.Int.Bits.{bit_xor}
 use Rattle.gf256.specs.Field.{product}
 use Rattle.cauchy.specs.Elimination.{cell, IsMatrix, IsVector, IsEliminable, Solves, row_sum}

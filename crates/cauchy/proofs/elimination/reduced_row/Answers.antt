@@ -1,4 +1,4 @@
-use Rattle.std.proofs.Common.{◌≡◌, ◌≢◌, ◌<◌, length, arith, length-set, get_or-set_other, get_or-set_same, below_more}
+use Rattle.std.proofs.Common.{◌≢◌, ◌<◌, length, arith, length-set, get_or-set_other, get_or-set_same, below_more}
 use Rattle.cauchy.proofs.elimination.reduced_row.Goals as goal
 
 pub loop-j-preserved : goal.loop-j-preserved

@@ -1,4 +1,4 @@
-use Rattle.std.proofs.Common.{◌≡◌, ◌≢◌, ◌<◌, length, get_or, arith, length-set, get_or-set_other, get_or-set_same, below_more}
+use Rattle.std.proofs.Common.{◌≢◌, ◌<◌, length, get_or, arith, length-set, get_or-set_other, get_or-set_same, below_more}
 use Rattle.cauchy.specs.Elimination.{cell, unit}
 use Rattle.cauchy.specs.System.{chosen}
 use Rattle.cauchy.proofs.EliminationLemmas.{IsEliminable-same, Solves-same}

@@ -1,4 +1,4 @@
-use Rattle.std.proofs.Common.{◌≡◌, ◌≢◌, ℕ, ap, ◌∙◌, get_or, arith, below_more}
+use Rattle.std.proofs.Common.{◌≢◌, ℕ, ap, ◌∙◌, get_or, arith, below_more}
 use Rattle.gf256.specs.Field.{product}
 use Rattle.cauchy.specs.Elimination.{cell}
 use Rattle.cauchy.specs.System.{byte_in}
