@@ -1,1 +1,3 @@
+pub mod MomentsLemmas
 pub mod PathLemmas
+pub mod VaultLemmas

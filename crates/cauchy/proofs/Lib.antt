@@ -1,0 +1,10 @@
+mod CauchyForm
+mod EliminationLemmas
+mod Factors
+mod MatrixLemmas
+mod ParityLemmas
+mod PlaceLemmas
+mod RecoveryLemmas
+mod RowLemmas
+mod Sums
+mod WorkedExamples

@@ -1,0 +1,4 @@
+use Rattle.cauchy.proofs.elimination.+solve_system.Given as goal
+
+abbrev pub decreases-solve_system : goal.decreases-solve_system
+decreases-solve_system l = l.n

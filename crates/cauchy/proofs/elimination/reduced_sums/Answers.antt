@@ -1,0 +1,11 @@
+use Rattle.std.proofs.Common.{◌≢◌, ◌<◌, length, arith, length-set, get_or-set_other, get_or-set_same, below_more}
+use Rattle.cauchy.proofs.elimination.reduced_sums.Goals as goal
+
+pub loop-i-preserved : goal.loop-i-preserved
+loop-i-preserved c =
+    record {
+      long = simp length-set c.loop-i.invariant.long;
+      made = below_more _ _
+          (λ k h. let other : k ≢ c.loop-i.i = omega arith in rw get_or-set_other (c.loop-i.invariant.made k h))
+          (let within : c.loop-i.i < length c.loop-i.sums = omega arith in rw get_or-set_same (cc));
+    }

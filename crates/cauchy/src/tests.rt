@@ -1,0 +1,131 @@
+//! Values of the published code, and every choice of levels at a handful of columns.
+
+ghost use Rattle.std.specs.Prelude.{◌≤◌};
+ghost use Rattle.cauchy.specs.System.{IsChoice};
+
+use crate::{add_column, entry, is_choice, solve};
+use std::test::Fail;
+
+/// Columns at both ends of the matrix.
+const COLUMNS: [u32; 6] = [0, 1, 2, 100, 249, 250];
+
+#[test]
+fn entries_of_the_published_code(rt: HostRuntime) -> Result<(), Fail> {
+    let second = [
+        entry(0, 1),
+        entry(1, 1),
+        entry(2, 1),
+        entry(3, 1),
+        entry(4, 1),
+        entry(5, 1),
+    ];
+    assert_eq!(rt; second, [0x01, 0x02, 0xf5, 0xbb, 0x97, 0x2b]);
+    let third = [
+        entry(0, 2),
+        entry(1, 2),
+        entry(2, 2),
+        entry(3, 2),
+        entry(4, 2),
+        entry(5, 2),
+    ];
+    assert_eq!(rt; third, [0x01, 0x04, 0xd2, 0xa6, 0x7f, 0x3f]);
+    assert_eq!(rt; [entry(5, 0), entry(1, 250)], [0x01, 0x6c]);
+    Ok(())
+}
+
+#[test]
+fn six_levels_of_three_bytes(rt: HostRuntime) -> Result<(), Fail> {
+    let sums = [0x07, 0x15, 0x99, 0xc8, 0xd3, 0xab];
+    for level in 0..6usize {
+        let mut sum = [0];
+        for column in 0..3u32 {
+            add_column(level as u32, column, &[1 << column], &mut sum);
+        }
+        assert_eq!(rt; sum[0], sums[level]);
+    }
+    Ok(())
+}
+
+#[test]
+fn two_lost_columns_from_levels_one_and_two(rt: HostRuntime) -> Result<(), Fail> {
+    let mut work = [0x05, 0xf6];
+    assert!(rt; is_choice(&[0, 1], &[1, 2]));
+    solve(&[0, 1], &[1, 2], 1, &mut work);
+    assert_eq!(rt; work, [0x01, 0x02]);
+    assert!(rt; !is_choice(&[0, 251], &[1, 2]));
+    assert!(rt; !is_choice(&[0, 1], &[1, 1]));
+    Ok(())
+}
+
+/// The numbers at the places of the mask's ones, and how many there are.
+fn picked(numbers: &[u32; 6], mask: u32) -> ([u32; 6], usize)
+    ensures { result.1 ≤ 6 }
+{
+    let mut picks = [0; 6];
+    let mut count = 0;
+    for i in 0..6usize {
+        if mask >> i as u32 & 1 == 1 {
+            picks[count] = numbers[i];
+            count += 1;
+        }
+    }
+    (picks, count)
+}
+
+/// Three bytes of a column.
+fn block_of(column: u32) -> [u8; 3] {
+    [
+        (column % 251) as u8,
+        (column % 7 * 36) as u8,
+        255 - (column % 256) as u8,
+    ]
+}
+
+/// The chosen levels of the chosen columns' blocks, each of three bytes.
+fn levels_of(columns: &[u32], levels: &[u32]) -> [u8; 18]
+    requires { IsChoice columns.now levels.now }
+{
+    let mut work = [0; 18];
+    for i in 0..levels.len() {
+        for column in columns {
+            add_column(
+                levels[i],
+                *column,
+                &block_of(*column),
+                &mut work[3 * i..3 * i + 3],
+            );
+        }
+    }
+    work
+}
+
+/// Whether the columns come back from the levels.
+fn come_back(columns: &[u32], levels: &[u32]) -> bool
+    requires { IsChoice columns.now levels.now }
+{
+    let mut work = levels_of(columns, levels);
+    solve(columns, levels, 3, &mut work[..3 * columns.len()]);
+    for j in 0..columns.len() {
+        if work[3 * j..3 * j + 3] != block_of(columns[j])[..] {
+            return false;
+        }
+    }
+    true
+}
+
+#[test]
+fn every_choice_of_levels_comes_back(rt: HostRuntime) -> Result<(), Fail> {
+    let mut choices = 0u32;
+    for lost in 1..64 {
+        let (columns, count) = picked(&COLUMNS, lost);
+        for kept in 1..64 {
+            let (levels, level_count) = picked(&[0, 1, 2, 3, 4, 5], kept);
+            if is_choice(&columns[..count], &levels[..level_count]) {
+                assert!(rt; come_back(&columns[..count], &levels[..level_count]));
+                choices = choices.wrapping_add(1);
+            }
+        }
+    }
+    assert_eq!(rt; choices, 923);
+    Ok(())
+}
