@@ -1,0 +1,18 @@
+use Rattle.std.proofs.Common.{◌≡◌, ◌<◌, length, Some, IfSome, sym, ◌∙◌, subst, arith}
+use Rattle.disk_model.specs.declared.opener.Opened.{Opened}
+use Rattle.disk_memory.specs.Given.{CanGive}
+use Rattle.disk_memory.proofs.OpenerLemmas.{given_as_held}
+use Rattle.disk_memory.proofs.opener.MemOpenerOpener.open.Goals as goal
+use Rattle.disk_memory.proofs.opener.MemOpenerOpener.open.Goals.{in-Some+then-levels-len, in-Some+else-levels-len, in-None}
+
+pub returns-in-Some-take-clause-folders : goal.returns-in-Some-take-clause-folders
+returns-in-Some-take-clause-folders g c = λ column below.
+    let opened = c.in-Some-take.opened in
+    let is : c.args.self.now.held ≡ Some opened = elim c.match-self.branch [
+      | in-Some+then-levels-len w ↦ sym (rw w.self-is at c.take.ensures.value) ∙ c.in-Some-take.is
+      | in-Some+else-levels-len w ↦ sym (rw w.self-is at c.take.ensures.value) ∙ c.in-Some-take.is
+      | in-None w ↦ sym (rw w.self-is at c.take.ensures.value) ∙ c.in-Some-take.is
+    ] in
+    let can : CanGive g.F.Folder.view opened.folders.items (g.V.Vault.view opened.vault) = subst (λ h. IfSome h (λ o. CanGive g.F.Folder.view o.folders.items (g.V.Vault.view o.vault))) is c.args.self.now.can_give in
+    let within : column < length opened.folders.items = omega (arith, below, opened.folders.ok.0) in
+    given_as_held g.F.Folder.view (λ (o : Opened g.row.F.Denot g.row.V.Denot). o.folders.items) c.args.self.now.held opened is can.are_open column within

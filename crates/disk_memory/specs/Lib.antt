@@ -1,0 +1,9 @@
+pub mod Calls
+pub mod Folder
+pub mod Given
+pub mod Opener
+pub mod Past
+pub mod Schedule
+pub mod Sink
+pub mod Vault
+pub mod VaultLaws

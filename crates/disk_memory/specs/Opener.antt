@@ -1,0 +1,28 @@
+-- Openers in memory.
+use Rattle.std.specs.Prelude.{ℕ, List, [], true, Bool, not}
+use Rattle.std.specs.Prelude.{Option, None, Some}
+use Rattle.disk_model.specs.Folder.{FolderView}
+use Rattle.disk_model.specs.Vault.{VaultView, quiet_vault}
+use Rattle.disk_model.specs.Opener.{OpenerView, OpenerDone}
+
+-- the folders that are left to give
+abbrev pub folders_left : {A : Type 0} → (A → List FolderView) → Option A → List FolderView
+folders_left view None = []
+folders_left view (Some held) = view held
+
+-- the vault that is left to give
+abbrev pub vault_left : {A : Type 0} → (A → VaultView) → Option A → VaultView
+vault_left view None = quiet_vault 0 0 []
+vault_left view (Some held) = view held
+
+-- an opener that tells what it gives, and its calls until memory refuses an entry
+abbrev pub opener_view : ℕ → List ℕ → List FolderView → VaultView → Bool → List OpenerDone → OpenerView
+opener_view faults config folders vault lost calls = record {
+  faults = faults;
+  tells = true;
+  config = config;
+  folders = folders;
+  vault = vault;
+  tells_calls = not lost;
+  calls = calls;
+}

@@ -1,0 +1,22 @@
+-- The record of an object's calls.
+use Rattle.std.specs.Prelude.{◌≡◌, List, [], ◌∷◌, ◌++◌, Bool, true, false}
+use Rattle.disk_memory.specs.declared.past.Made.{Made}
+use Rattle.disk_memory.specs.declared.past.Past.{Past}
+
+-- a call and whether it failed
+abbrev pub made : {C : Type 0} → C → Bool → Made C
+made call failed = record { call = call; failed = failed }
+
+-- a call was written down at the end, or the record is lost
+pub record Notes {C : Type 0} (call : C) (failed : Bool) (old new : Past C) : Type 0 where
+  pub told : new.lost ≡ false → old.lost ≡ false
+  pub entry : new.lost ≡ false → new.made.items ≡ old.made.items ++ made call failed ∷ []
+
+-- the record is lost
+pub record Loses {C : Type 0} (old new : Past C) : Type 0 where
+  pub lost : new.lost ≡ true
+
+-- the last call of the record did not fail
+pub record Corrects {C : Type 0} (old new : Past C) : Type 0 where
+  pub lost : new.lost ≡ old.lost
+  pub last : new.lost ≡ false → (before : List (Made C)) (call : C) → old.made.items ≡ before ++ made call true ∷ [] → new.made.items ≡ before ++ made call false ∷ []

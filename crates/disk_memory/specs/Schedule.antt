@@ -1,0 +1,24 @@
+-- When the calls of an object in memory fail.
+use Rattle.std.specs.Prelude.{◌⊎◌, ℕ, ◌+◌, ◌-◌, ◌^◌, ◌<◌, min, List, [], Contains}
+use Rattle.disk_memory.specs.declared.schedule.Schedule.{Schedule}
+
+-- how many calls there were, the numbers of those that are to fail, and after how many every call fails
+pub record Plan : Type 0 where
+  pub calls : ℕ
+  pub failing : List ℕ
+  pub stop : ℕ
+
+abbrev pub plan_of : Schedule → Plan
+plan_of s = record { calls = s.calls; failing = s.failing.items; stop = s.stop }
+
+-- no call yet, and none is to fail
+abbrev pub fresh_plan : Plan
+fresh_plan = record { calls = 0; failing = []; stop = 2 ^ 64 - 1 }
+
+-- a call more. Its number stays at the greatest u64
+abbrev pub counted : Plan → Plan
+counted plan = record plan { calls = min (plan.calls + 1) (2 ^ 64 - 1) }
+
+-- the call of the last number is to fail
+abbrev pub IsDue : Plan → Type 0
+IsDue plan = (plan.stop < plan.calls) ⊎ Contains plan.failing plan.calls

@@ -1,0 +1,130 @@
+// An opener in memory.
+ghost use Rattle.std.specs.Prelude.{◌≡◌, take, IfSome, IfOk, OnErr};
+ghost use Rattle.std.proofs.Props.{props};
+ghost use Rattle.disk_memory.specs.Given.{CanGive};
+
+use crate::calls::{OpenerEntry, config_entry, open_entry};
+use crate::past::{Past, begin};
+use crate::schedule::Schedule;
+use disk_model::{Folder, NoMemory, OpenFault, Opened, Opener, Places, Vault};
+use std::alloc::Global;
+
+/// Gives its folders and its vault once.
+#[derive(Drop)]
+pub struct MemOpener<F: Folder, V: Vault> {
+    schedule: Schedule,
+    past: Past<OpenerEntry>,
+    /// What its configuration file holds.
+    pub config: Vec<u8>,
+    /// What it has still to give; nothing after an `open` that succeeded.
+    pub held: Option<Opened<F, V>>,
+    ghost can_give: { IfSome held (λ o. CanGive F.view o.folders.items (V.view o.vault)) } by { Prim.hlevel props },
+}
+
+impl<F: Folder, V: Vault> MemOpener<F, V> {
+    ghost use Rattle.std.specs.Prelude.{◌≡◌, [], ◌∷◌, ◌++◌, OnOk, OnErr};
+    ghost use Rattle.disk_memory.specs.Schedule.{fresh_plan};
+    ghost use Rattle.disk_memory.specs.Schedule.{plan_of};
+
+    /// An opener that holds these. No folder is closed, and the vault has no draft and nothing unsynced.
+    pub fn new(alloc: Global, config: Vec<u8>, folders: Vec<F>, vault: V) -> Self
+        requires { CanGive F.view folders.items (V.view vault) }
+        ensures config { result.config.items ≡ config.items }
+        ensures held { result.held ≡ Some (record { folders = folders; vault = vault }) }
+        ensures faults { result.schedule.faults ≡ 0 }
+        ensures plan { plan_of result.schedule ≡ fresh_plan }
+    {
+        MemOpener {
+            schedule: Schedule::new(alloc),
+            past: Past::new(alloc),
+            config,
+            held: Some(Opened { folders, vault }),
+        }
+    }
+
+    /// Adds a number to the list of failing calls.
+    pub fn fail_at(&mut self, call: u64) -> Result<(), NoMemory>
+        ensures added { OnOk result (plan_of self.new.schedule ≡ record (plan_of self.old.schedule) { failing = (plan_of self.old.schedule).failing ++ call ∷ [] }) }
+        ensures err { OnErr result (plan_of self.new.schedule ≡ plan_of self.old.schedule) }
+    {
+        self.schedule.fail_at(call)
+    }
+
+    /// Every call after so many fails; the greatest u64 means none.
+    pub fn stop_after(&mut self, calls: u64)
+        ensures plan { plan_of self.new.schedule ≡ record (plan_of self.old.schedule) { stop = calls } }
+    {
+        self.schedule.stop_after(calls);
+    }
+}
+
+impl<F: Folder, V: Vault> Opener for MemOpener<F, V> {
+    type Folder = F;
+
+    type Vault = V;
+
+    ghost use Rattle.std.specs.Prelude.{map};
+    ghost use Rattle.disk_memory.specs.Calls.{opener_calls};
+    ghost use Rattle.disk_memory.specs.Opener.{opener_view, folders_left, vault_left};
+
+    ghost view = { λ s. opener_view s.schedule.faults s.config.items
+        (folders_left (λ o. map F.view o.folders.items) s.held)
+        (vault_left (λ o. V.view o.vault) s.held)
+        s.past.lost (opener_calls s.past.made.items) };
+
+    fn faults(&self) -> u64 {
+        self.schedule.faults
+    }
+
+    fn config(&mut self, alloc: Global, name: &str) -> Result<Vec<u8>, OpenFault> {
+        let entry = config_entry(alloc, name);
+        if !begin(&mut self.schedule, &mut self.past, entry) {
+            self.schedule.fail();
+            return Err(OpenFault::Failed);
+        }
+        self.past.succeed();
+        front_of(alloc, self.config.as_slice())
+    }
+
+    fn open(&mut self, alloc: Global, places: &Places) -> Result<Opened<F, V>, OpenFault> {
+        let entry = open_entry(alloc, places);
+        let may = begin(&mut self.schedule, &mut self.past, entry);
+        let fits = match &self.held {
+            Some(held) => {
+                held.folders.len() == places.dirs.len()
+                    && held.vault.levels() as usize == places.parities.len()
+                    && held.vault.copies() as usize == places.contents.len()
+            }
+            None => false,
+        };
+        if !may || !fits {
+            self.schedule.fail();
+            return Err(OpenFault::Failed);
+        }
+        match self.held.take() {
+            Some(opened) => {
+                self.past.succeed();
+                Ok(opened)
+            }
+            None => {
+                self.schedule.fail();
+                Err(OpenFault::Failed)
+            }
+        }
+    }
+}
+
+const LONGEST_CONFIG: usize = 1_048_577;
+
+// As many of the configuration's bytes as are given.
+#[tactic(auto, using(std::proofs::lemmas::List::take_min))]
+fn front_of(alloc: Global, bytes: &[u8]) -> Result<Vec<u8>, OpenFault>
+    ensures copied { IfOk result (λ front. front.items ≡ take LONGEST_CONFIG bytes.now) }
+    ensures memory { OnErr result (result ≡ Err OpenFault.Memory) }
+{
+    let (front, _) = bytes.split_at(LONGEST_CONFIG.min(bytes.len()));
+    match Vec::from_slice(alloc, front) {
+        Ok(front) => Ok(front),
+        Err(_) => Err(OpenFault::Memory),
+    }
+}

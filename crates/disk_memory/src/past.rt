@@ -1,0 +1,76 @@
+// The record of an object's calls.
+ghost use Rattle.std.specs.Prelude.{◌≡◌, [], IsTrue, IfSome, IfNone, true, false};
+ghost use Rattle.std.specs.Bool.{OnTrue};
+ghost use Rattle.disk_memory.specs.Past.{Notes, Loses, Corrects};
+ghost use Rattle.disk_memory.specs.Schedule.{plan_of, IsDue, counted};
+
+use crate::schedule::Schedule;
+use std::alloc::Global;
+
+/// A call that was made, and whether it answered `Failed`.
+#[derive(Drop)]
+pub struct Made<C> {
+    pub call: C,
+    pub failed: bool,
+}
+
+/// All calls so far, or those until memory refused an entry.
+#[derive(Drop)]
+pub struct Past<C> {
+    pub made: Vec<Made<C>>,
+    pub lost: bool,
+}
+
+impl<C> Past<C> {
+    pub fn new(alloc: Global) -> Past<C>
+        ensures made { result.made.items ≡ [] }
+        ensures told { result.lost ≡ false }
+    {
+        Past {
+            made: Vec::new(alloc),
+            lost: false,
+        }
+    }
+
+    // The call of the last entry didn't fail.
+    pub fn succeed(&mut self)
+        ensures { Corrects self.old self.new }
+    {
+        let count = self.made.len();
+        if !self.lost && count > 0 {
+            self.made[count - 1].failed = false;
+        }
+    }
+}
+
+impl<C: Drop> Past<C> {
+    // Writes a call down, as one that failed. None stands for one that memory refused already. Is it written?
+    pub fn note(&mut self, call: Option<C>) -> bool
+        ensures noted { IfSome call (λ c. Notes c true self.old self.new) }
+        ensures refused { IfNone call (Loses self.old self.new) }
+    {
+        if self.lost {
+            return true;
+        }
+        if let Some(call) = call {
+            if self.made.push(Made { call, failed: true }).is_ok() {
+                return true;
+            }
+        }
+        self.lost = true;
+        false
+    }
+}
+
+// Counts a call and writes it down. May it do its work? If so, it has to `succeed`, or else to `fail`.
+pub fn begin<C: Drop>(schedule: &mut Schedule, past: &mut Past<C>, call: Option<C>) -> bool
+    ensures faults { schedule.new.faults ≡ schedule.old.faults }
+    ensures counts { plan_of schedule.new ≡ counted (plan_of schedule.old) }
+    ensures due { OnTrue result (¬ (IsDue (plan_of schedule.new))) }
+    ensures noted { IfSome call (λ c. Notes c true past.old past.new) }
+    ensures refused { IfNone call (Loses past.old past.new) }
+{
+    let fails = schedule.next_call();
+    let noted = past.note(call);
+    noted && !fails
+}

@@ -1,0 +1,68 @@
+// A sink in memory.
+use crate::schedule::Schedule;
+use disk_model::{Failed, NoMemory, Sink};
+use std::alloc::Global;
+
+/// Keeps all that is written to it.
+#[derive(Drop)]
+pub struct MemSink {
+    schedule: Schedule,
+    written: Vec<u8>,
+}
+
+impl MemSink {
+    ghost use Rattle.std.specs.Prelude.{◌≡◌, [], ◌∷◌, ◌++◌, true, OnOk, OnErr};
+    ghost use Rattle.disk_memory.specs.Schedule.{fresh_plan};
+    ghost use Rattle.disk_memory.specs.Sink.{sink_view, sink_plan, fresh_sink};
+
+    pub fn new(alloc: Global) -> MemSink
+        ensures view { sink_view result ≡ fresh_sink }
+        ensures plan { sink_plan result ≡ fresh_plan }
+    {
+        MemSink {
+            schedule: Schedule::new(alloc),
+            written: Vec::new(alloc),
+        }
+    }
+
+    /// All bytes so far.
+    pub fn bytes(&self) -> &[u8]
+        ensures { result.now ≡ (sink_view self.now).written }
+    {
+        self.written.as_slice()
+    }
+
+    /// Adds a number to the list of failing calls.
+    pub fn fail_at(&mut self, call: u64) -> Result<(), NoMemory>
+        ensures same { sink_view self.new ≡ sink_view self.old }
+        ensures added { OnOk result (sink_plan self.new ≡ record (sink_plan self.old) { failing = (sink_plan self.old).failing ++ call ∷ [] }) }
+        ensures err { OnErr result (sink_plan self.new ≡ sink_plan self.old) }
+    {
+        self.schedule.fail_at(call)
+    }
+
+    /// Every call after so many fails; the greatest u64 means none.
+    pub fn stop_after(&mut self, calls: u64)
+        ensures same { sink_view self.new ≡ sink_view self.old }
+        ensures plan { sink_plan self.new ≡ record (sink_plan self.old) { stop = calls } }
+    {
+        self.schedule.stop_after(calls);
+    }
+}
+
+impl Sink for MemSink {
+    ghost use Rattle.disk_memory.specs.Sink.{sink_view};
+
+    ghost view = { sink_view };
+
+    fn faults(&self) -> u64 {
+        self.schedule.faults
+    }
+
+    fn write(&mut self, bytes: &[u8]) -> Result<(), Failed> {
+        if !self.schedule.next_call() && self.written.extend_from_slice(bytes).is_ok() {
+            return Ok(());
+        }
+        Err(self.schedule.fail())
+    }
+}
