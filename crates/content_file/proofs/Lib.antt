@@ -1,0 +1,16 @@
+pub mod Apart
+pub mod Columns
+pub mod Damage
+pub mod Fitting
+pub mod Fields
+pub mod Fronts
+pub mod Heads
+pub mod LoadLemmas
+pub mod LoadLoop
+pub mod OneSpelling
+pub mod Parts
+pub mod Pushed
+pub mod Refused
+pub mod Stops
+pub mod Undone
+pub mod Whole

@@ -1,0 +1,68 @@
+-- The calls that loading makes, one after another.
+use Rattle.std.proofs.Common.{◌≡◌, ℕ, ◌<◌, List, [], ◌∷◌, ◌++◌, Bool, true, false, IsTrue, arith, sym, ◌∙◌, ap, subst, append_assoc}
+use Rattle.std.proofs.lemmas.List.{append-nil}
+use Rattle.std.specs.List.{AllByRecursion}
+use Rattle.disk_model.specs.Cause.{Rose}
+use Rattle.disk_model.specs.Vault.{VaultView, VaultCall, VaultDone, GoesOn, SomeCalls, copies_of}
+use Rattle.content_file.specs.Load.{IsReadOf, HasFailed, NoneFailed}
+
+-- a call that failed, as the last of some
+pub failed_last : (old mid new : VaultView) (call : VaultCall) (copy : ℕ) → SomeCalls old mid → GoesOn mid new (record { call = call; failed = true } ∷ []) → Rose mid.faults new.faults
+    → copy < copies_of old → IsReadOf copy call → HasFailed old new copy
+failed_last old mid new call copy one two rose within read = record {
+  within = within;
+  rose = omega (arith, one.goes_on.later, rose);
+  earlier = one.done;
+  call = call;
+  later = [];
+  read = read;
+  made = λ told. two.calls.more told ∙ ap (λ cs. cs ++ record { call = call; failed = true } ∷ []) (one.goes_on.calls.more (two.calls.told told));
+}
+
+-- one that failed earlier
+pub failed_before : (old mid new : VaultView) (copy : ℕ) → HasFailed old mid copy → SomeCalls mid new → HasFailed old new copy
+failed_before old mid new copy one two = record {
+  within = one.within;
+  rose = omega (arith, one.rose, two.goes_on.later);
+  earlier = one.earlier;
+  call = one.call;
+  later = one.later ++ two.done;
+  read = one.read;
+  made = λ told. two.goes_on.calls.more told ∙ ap (λ cs. cs ++ two.done) (one.made (two.goes_on.calls.told told))
+      ∙ append_assoc (old.calls ++ one.earlier) (record { call = one.call; failed = true } ∷ one.later) two.done;
+}
+
+-- one that failed after others
+pub failed_after : (old mid new : VaultView) (copy : ℕ) → SomeCalls old mid → HasFailed mid new copy → (IsTrue new.tells_calls → IsTrue mid.tells_calls) → HasFailed old new copy
+failed_after old mid new copy one two still = record {
+  within = subst (λ n. copy < n) one.goes_on.copies two.within;
+  rose = omega (arith, one.goes_on.later, two.rose);
+  earlier = one.done ++ two.earlier;
+  call = two.call;
+  later = two.later;
+  read = two.read;
+  made = λ told. two.made told ∙ ap (λ cs. cs ++ record { call = two.call; failed = true } ∷ two.later)
+      (ap (λ cs. cs ++ two.earlier) (one.goes_on.calls.more (still told)) ∙ append_assoc old.calls one.done two.earlier);
+}
+
+-- no call
+pub none_failed_yet : (v : VaultView) → NoneFailed v v
+none_failed_yet v = record { done = []; grown = record { told = λ t. t; more = λ t. sym (append-nil v.calls) }; each = tt }
+
+all_then : (first second : List VaultDone) → AllByRecursion (λ (d : VaultDone). d.failed ≡ false) first → AllByRecursion (λ (d : VaultDone). d.failed ≡ false) second → AllByRecursion (λ (d : VaultDone). d.failed ≡ false) (first ++ second)
+all_then [] second one two = two
+all_then (d ∷ first) second one two = (one.0, all_then first second one.1 two)
+
+pub none_failed_then : (old mid new : VaultView) → NoneFailed old mid → NoneFailed mid new → NoneFailed old new
+none_failed_then old mid new one two = record {
+  done = one.done ++ two.done;
+  grown = record {
+    told = λ t. one.grown.told (two.grown.told t);
+    more = λ t. two.grown.more t ∙ ap (λ cs. cs ++ two.done) (one.grown.more (two.grown.told t)) ∙ append_assoc old.calls one.done two.done;
+  };
+  each = all_then one.done two.done one.each two.each;
+}
+
+-- one call that did not fail
+pub one_not_failed : (old new : VaultView) (call : VaultCall) (failed : Bool) → failed ≡ false → GoesOn old new (record { call = call; failed = failed } ∷ []) → NoneFailed old new
+one_not_failed old new call failed not goes_on = record { done = record { call = call; failed = failed } ∷ []; grown = goes_on.calls; each = (not, tt) }

@@ -1,0 +1,175 @@
+-- The builder refuses nothing that may stand in a table.
+use Rattle.std.proofs.Common.{◌≡◌, ◌≢◌, ℕ, ◌-◌, ◌<◌, ◌≤◌, List, [], ◌∷◌, ◌++◌, length, refl, sym, ap, subst, ◌∙◌, append_assoc, arith, All, IsTrue}
+use Rattle.std.specs.Prelude.{AllPairs}
+use Rattle.std.proofs.lemmas.List.{length-append, map-append, get_or_at}
+use Rattle.disk_model.specs.Path.{IsRecordPath, IsDirectoryOf}
+use Rattle.disk_model.specs.declared.meta.Meta.{Meta}
+use Rattle.file_table.specs.declared.block.Block.{Block}
+use Rattle.file_table.specs.declared.info.Info.{Info}
+use Rattle.file_table.specs.declared.info.Mark.TheVariants.{Synced}
+use Rattle.file_table.specs.declared.fault.BuildFault.{BuildFault}
+use Rattle.file_table.specs.declared.fault.BuildFault.TheVariants.{Name, Order, Nested, Range, Repeated, Blocks, Full, Length, Hash, State, Memory}
+use Rattle.file_table.specs.Table.{Record, Column, no_record, records_of, column_blocks, positions_of, blocks_due, info_at}
+use Rattle.file_table.specs.Valid.{AreInfos, IsColumn, IsRecord, ComesBefore, IsInfo, IsState, IsHashedAt}
+use Rattle.file_table.specs.Building.{BuildingValue, LacksBlock, IsNewName, IsGreatest, IsNested, HasRoom, Uses, IsLength, last_column, newest_record, with_block, is_disk_fault, is_record_fault, is_block_fault, is_info_fault, is_finish_fault}
+use Rattle.content_file.specs.declared.fault.DecodeFault.TheVariants.{Damaged}
+use Rattle.content_file.specs.Fault.{of_build_fault}
+use Rattle.content_file.specs.Pushing.{with_records, AreWhole, MayStand}
+use Rattle.content_file.proofs.Columns.{record_of, front_of, front_and_last, records_of-with_records}
+use Rattle.content_file.proofs.Fronts.{AllPairs-last, last_is, positions_in, positions_in-push, records_last, blocks_last, due-append}
+
+pub whole_lacks_none : (building : BuildingValue) → AreWhole building (records_of building.columns) → ¬ (LacksBlock building)
+whole_lacks_none building whole lacks =
+    let last = length (records_of building.columns) - 1 in
+    let within : last < length (records_of building.columns) = omega (arith, lacks.some) in
+    let full = whole last no_record within in
+    omega (arith, full, lacks.fewer)
+
+-- ---- a block
+
+-- the positions of the column, when the block is there
+positions_with : (columns : List Column) (block : Block) → 0 < length (last_column columns).records
+    → positions_in (front_of (last_column columns).records ++ record_of (newest_record columns).path (newest_record columns).meta ((newest_record columns).blocks ++ block ∷ []) ∷ [])
+    ≡ positions_of (column_blocks (last_column columns)) ++ block.position ∷ []
+positions_with columns block some =
+    let records = front_of (last_column columns).records in
+    let last = newest_record columns in
+    positions_in-push records (record_of last.path last.meta (last.blocks ++ block ∷ []))
+    ∙ ap (λ (ps : List ℕ). positions_in records ++ ps) (map-append (λ (b : Block). b.position) last.blocks (block ∷ []))
+    ∙ sym (append_assoc (positions_in records) (positions_of last.blocks) (block.position ∷ []))
+    ∙ ap (λ (ps : List ℕ). ps ++ block.position ∷ []) (sym (positions_in-push records last))
+    ∙ ap (λ (rs : List Record). positions_in rs ++ block.position ∷ []) (front_and_last no_record (last_column columns).records some)
+
+pub block_refused : (fault : BuildFault) (mid : BuildingValue) (block : Block)
+    → (fault ≡ Blocks → ¬ (LacksBlock mid)) → (fault ≡ Range → LacksBlock mid × (mid.length ≤ block.position))
+    → (fault ≡ Repeated → LacksBlock mid × (block.position < mid.length) × Uses (last_column mid.columns) block.position)
+    → IsTrue (is_block_fault fault) → of_build_fault fault ≡ Damaged
+    → LacksBlock mid → 0 < length (last_column mid.columns).records → MayStand mid (with_block mid.columns block) → ⊥
+block_refused fault mid block blocks range repeated only damaged lacks some may =
+    let column = blocks_last mid.length mid.shape.block_size mid.columns (block ∷ []) may in
+    let positions = positions_with mid.columns block some in
+    let used = positions_of (column_blocks (last_column mid.columns)) in
+    let below : block.position < mid.length = last_is (λ p. p < mid.length) used block.position (subst (All (λ p. p < mid.length)) positions column.below) in
+    let once : AllPairs (λ a b. a ≢ b) (used ++ block.position ∷ []) = subst (AllPairs (λ a b. a ≢ b)) positions column.once in
+    let unused : ¬ (Uses (last_column mid.columns) block.position) = λ uses. AllPairs-last (λ a b. a ≢ b) used block.position once uses.0 block.position uses.1 uses.2 in
+    by_cases fault blocks range repeated only damaged below unused
+  where
+    by_cases : (fault : BuildFault) → (fault ≡ Blocks → ¬ (LacksBlock mid)) → (fault ≡ Range → LacksBlock mid × (mid.length ≤ block.position))
+        → (fault ≡ Repeated → LacksBlock mid × (block.position < mid.length) × Uses (last_column mid.columns) block.position)
+        → IsTrue (is_block_fault fault) → of_build_fault fault ≡ Damaged → block.position < mid.length → ¬ (Uses (last_column mid.columns) block.position) → ⊥
+    by_cases Blocks blocks range repeated only damaged below unused = blocks refl lacks
+    by_cases Range blocks range repeated only damaged below unused = omega (arith, (range refl).1)
+    by_cases Repeated blocks range repeated only damaged below unused = unused (repeated refl).2
+    by_cases Memory blocks range repeated only damaged below unused = cc
+    by_cases _ blocks range repeated only damaged below unused = cc
+
+-- ---- a record
+
+pub record_refused : (fault : BuildFault) (mid : BuildingValue) (path : List ℕ) (meta : Meta) (blocks : List Block)
+    → (fault ≡ Blocks → LacksBlock mid) → (fault ≡ Name → ¬ (LacksBlock mid) × ¬ (IsRecordPath path))
+    → (fault ≡ Order → ¬ (LacksBlock mid) × IsRecordPath path × ¬ (IsGreatest (last_column mid.columns) path))
+    → (fault ≡ Nested → ¬ (LacksBlock mid) × IsRecordPath path × IsGreatest (last_column mid.columns) path × IsNested (last_column mid.columns) path)
+    → (fault ≡ Full → ¬ (LacksBlock mid) × IsRecordPath path × IsGreatest (last_column mid.columns) path × ¬ (IsNested (last_column mid.columns) path) × ¬ (HasRoom mid meta.size))
+    → IsTrue (is_record_fault fault) → of_build_fault fault ≡ Damaged
+    → 0 < length mid.columns → AreWhole mid (records_of mid.columns) → MayStand mid (with_records mid.columns (record_of path meta blocks ∷ [])) → ⊥
+record_refused fault mid path meta blocks lacks name order nested full only damaged some whole may =
+    let kept = record_of path meta blocks in
+    let records = (last_column mid.columns).records in
+    let size = mid.shape.block_size in
+    let column = records_last mid.length size mid.columns (kept ∷ []) may in
+    let is_path : IsRecordPath path = (last_is IsRecord records kept column.records).path in
+    let before = λ (k : ℕ) (d : Record). AllPairs-last ComesBefore records kept column.order k d in
+    let greatest : IsGreatest (last_column mid.columns) path = λ some_record. (before (length records - 1) no_record (omega (arith, some_record))).less in
+    let not_nested : ¬ (IsNested (last_column mid.columns) path) =
+    λ found. (before found.0 found.1 found.2).not_nested (subst (λ (r : Record). IsDirectoryOf r.path path) (sym found.3) found.4) in
+    let all = records_of-with_records mid.columns (kept ∷ []) some in
+    let count = length-append (records_of mid.columns) (kept ∷ []) in
+    let due = due-append size (records_of mid.columns) (kept ∷ []) in
+    let room : HasRoom mid meta.size = record {
+      records = omega (arith, may.few_records, ap length all, count);
+      blocks = omega (arith, may.few_blocks, ap (blocks_due size) all, due);
+    } in
+    by_cases fault lacks name order nested full only damaged (whole_lacks_none mid whole) is_path greatest not_nested room
+  where
+    by_cases : (fault : BuildFault) → (fault ≡ Blocks → LacksBlock mid) → (fault ≡ Name → ¬ (LacksBlock mid) × ¬ (IsRecordPath path))
+        → (fault ≡ Order → ¬ (LacksBlock mid) × IsRecordPath path × ¬ (IsGreatest (last_column mid.columns) path))
+        → (fault ≡ Nested → ¬ (LacksBlock mid) × IsRecordPath path × IsGreatest (last_column mid.columns) path × IsNested (last_column mid.columns) path)
+        → (fault ≡ Full → ¬ (LacksBlock mid) × IsRecordPath path × IsGreatest (last_column mid.columns) path × ¬ (IsNested (last_column mid.columns) path) × ¬ (HasRoom mid meta.size))
+        → IsTrue (is_record_fault fault) → of_build_fault fault ≡ Damaged
+        → ¬ (LacksBlock mid) → IsRecordPath path → IsGreatest (last_column mid.columns) path → ¬ (IsNested (last_column mid.columns) path) → HasRoom mid meta.size → ⊥
+    by_cases Blocks lacks name order nested full only damaged none is_path greatest not_nested room = none (lacks refl)
+    by_cases Name lacks name order nested full only damaged none is_path greatest not_nested room = (name refl).1 is_path
+    by_cases Order lacks name order nested full only damaged none is_path greatest not_nested room = (order refl).2 greatest
+    by_cases Nested lacks name order nested full only damaged none is_path greatest not_nested room = not_nested (nested refl).3
+    by_cases Full lacks name order nested full only damaged none is_path greatest not_nested room = (full refl).4 room
+    by_cases Memory lacks name order nested full only damaged none is_path greatest not_nested room = cc
+    by_cases _ lacks name order nested full only damaged none is_path greatest not_nested room = cc
+
+-- ---- a column
+
+pub disk_refused : (fault : BuildFault) (mid : BuildingValue) (column : Column)
+    → (fault ≡ Blocks → LacksBlock mid) → (fault ≡ Name → ¬ (LacksBlock mid) × ¬ (IsNewName mid.columns column.name))
+    → IsTrue (is_disk_fault fault) → of_build_fault fault ≡ Damaged
+    → AreWhole mid (records_of mid.columns) → MayStand mid (mid.columns ++ column ∷ []) → ⊥
+disk_refused fault mid column lacks name only damaged whole may =
+    let new : IsNewName mid.columns column.name = record {
+      allowed = (last_is (IsColumn mid.length) mid.columns column may.each).name;
+      new = AllPairs-last (λ (a b : Column). a.name ≢ b.name) mid.columns column may.names;
+      room = omega (arith, may.few, length-append mid.columns (column ∷ []));
+    } in
+    by_cases fault lacks name only damaged (whole_lacks_none mid whole) new
+  where
+    by_cases : (fault : BuildFault) → (fault ≡ Blocks → LacksBlock mid) → (fault ≡ Name → ¬ (LacksBlock mid) × ¬ (IsNewName mid.columns column.name))
+        → IsTrue (is_disk_fault fault) → of_build_fault fault ≡ Damaged → ¬ (LacksBlock mid) → IsNewName mid.columns column.name → ⊥
+    by_cases Blocks lacks name only damaged none new = none (lacks refl)
+    by_cases Name lacks name only damaged none new = (name refl).1 new
+    by_cases Memory lacks name only damaged none new = cc
+    by_cases _ lacks name only damaged none new = cc
+
+-- ---- the information on a stripe
+
+pub info_refused : (fault : BuildFault) (mid : BuildingValue) (info : Info)
+    → (fault ≡ Blocks → LacksBlock mid) → (fault ≡ State → ¬ (LacksBlock mid) × ¬ (IsState info))
+    → (fault ≡ Length → ¬ (LacksBlock mid) × IsState info × (length mid.infos ≡ mid.length))
+    → (fault ≡ Hash → ¬ (LacksBlock mid) × IsState info × (length mid.infos < mid.length) × (info.mark ≡ Synced) × ¬ (IsHashedAt mid.columns (length mid.infos)))
+    → IsTrue (is_info_fault fault) → of_build_fault fault ≡ Damaged
+    → AreWhole mid (records_of mid.columns) → length mid.infos < mid.length → AreInfos mid.columns (mid.infos ++ info ∷ []) → ⊥
+info_refused fault mid info lacks state size hash only damaged whole room may =
+    let is : IsInfo info = last_is IsInfo mid.infos info may.each in
+    let within : length mid.infos < length (mid.infos ++ info ∷ []) = omega (arith, length-append mid.infos (info ∷ [])) in
+    let here : info_at (mid.infos ++ info ∷ []) (length mid.infos) ≡ info = get_or_at mid.infos info [] _ (length mid.infos) refl in
+    let hashed : info.mark ≡ Synced → IsHashedAt mid.columns (length mid.infos) = λ synced. may.hashed (length mid.infos) within (ap (λ (i : Info). i.mark) here ∙ synced) in
+    by_cases fault lacks state size hash only damaged (whole_lacks_none mid whole) is.state room hashed
+  where
+    by_cases : (fault : BuildFault) → (fault ≡ Blocks → LacksBlock mid) → (fault ≡ State → ¬ (LacksBlock mid) × ¬ (IsState info))
+        → (fault ≡ Length → ¬ (LacksBlock mid) × IsState info × (length mid.infos ≡ mid.length))
+        → (fault ≡ Hash → ¬ (LacksBlock mid) × IsState info × (length mid.infos < mid.length) × (info.mark ≡ Synced) × ¬ (IsHashedAt mid.columns (length mid.infos)))
+        → IsTrue (is_info_fault fault) → of_build_fault fault ≡ Damaged
+        → ¬ (LacksBlock mid) → IsState info → length mid.infos < mid.length → (info.mark ≡ Synced → IsHashedAt mid.columns (length mid.infos)) → ⊥
+    by_cases Blocks lacks state size hash only damaged none is room hashed = none (lacks refl)
+    by_cases State lacks state size hash only damaged none is room hashed = (state refl).1 is
+    by_cases Length lacks state size hash only damaged none is room hashed = let e = (size refl).2 in omega (arith, e)
+    by_cases Hash lacks state size hash only damaged none is room hashed = (hash refl).4 (hashed (hash refl).3)
+    by_cases Memory lacks state size hash only damaged none is room hashed = cc
+    by_cases _ lacks state size hash only damaged none is room hashed = cc
+
+-- ---- the whole
+
+pub finish_refused : (fault : BuildFault) (mid : BuildingValue)
+    → (fault ≡ Name → mid.columns ≡ []) → (fault ≡ Blocks → (0 < length mid.columns) × LacksBlock mid)
+    → (fault ≡ State → (0 < length mid.columns) × ¬ (LacksBlock mid) × (length mid.infos < mid.length))
+    → (fault ≡ Length → (0 < length mid.columns) × ¬ (LacksBlock mid) × (length mid.infos ≡ mid.length) × ¬ (IsLength mid))
+    → IsTrue (is_finish_fault fault) → of_build_fault fault ≡ Damaged
+    → 0 < length mid.columns → AreWhole mid (records_of mid.columns) → length mid.infos ≡ mid.length → IsLength mid → ⊥
+finish_refused fault mid name lacks state size only damaged some whole full is_length = by_cases fault name lacks state size only damaged (whole_lacks_none mid whole)
+  where
+    by_cases : (fault : BuildFault) → (fault ≡ Name → mid.columns ≡ []) → (fault ≡ Blocks → (0 < length mid.columns) × LacksBlock mid)
+        → (fault ≡ State → (0 < length mid.columns) × ¬ (LacksBlock mid) × (length mid.infos < mid.length))
+        → (fault ≡ Length → (0 < length mid.columns) × ¬ (LacksBlock mid) × (length mid.infos ≡ mid.length) × ¬ (IsLength mid))
+        → IsTrue (is_finish_fault fault) → of_build_fault fault ≡ Damaged → ¬ (LacksBlock mid) → ⊥
+    by_cases Name name lacks state size only damaged none = omega (arith, ap length (name refl))
+    by_cases Blocks name lacks state size only damaged none = none (lacks refl).1
+    by_cases State name lacks state size only damaged none = let fewer = (state refl).2 in omega (arith, fewer)
+    by_cases Length name lacks state size only damaged none = (size refl).3 is_length
+    by_cases Memory name lacks state size only damaged none = cc
+    by_cases _ name lacks state size only damaged none = cc

@@ -1,0 +1,21 @@
+use Rattle.std.proofs.Common.{refl, inl, inr}
+use Rattle.disk_model.proofs.VaultLemmas.{no_calls, more_calls, one_call}
+use Rattle.content_file.proofs.LoadLemmas.{failed_last, one_not_failed, none_failed_then}
+use Rattle.content_file.proofs.loading.read_copy.Goals as goal
+
+pub returns-in_default-clause-failed : goal.returns-in_default-clause-failed
+returns-in_default-clause-failed g c = λ _. failed_last _ _ _ _ c.args.copy (no_calls _) c.in_default.ensures.call.called.goes_on c.in_default.ensures.call.called.cause c.requires (inl refl)
+
+pub returns-in_default-content_read-clause-calls : goal.returns-in_default-content_read-clause-calls
+returns-in_default-content_read-clause-calls g c = more_calls _ _ _ _ (one_call _ _ _ c.content_size.ensures.call.called.goes_on) c.content_read.ensures.call.called.goes_on
+
+pub returns-in_default-content_read-clause-failed : goal.returns-in_default-content_read-clause-failed
+returns-in_default-content_read-clause-failed g c =
+    let read = c.in_default-content_read.ensures.call.called in
+    λ _. failed_last _ _ _ _ c.args.copy (one_call _ _ _ c.content_size.ensures.call.called.goes_on) read.goes_on read.cause c.requires (inr (_, _, refl))
+
+pub returns-clause-calls : goal.returns-clause-calls
+returns-clause-calls g c = more_calls _ _ _ _ (one_call _ _ _ c.content_size.ensures.call.called.goes_on) c.content_read.ensures.call.called.goes_on
+
+pub returns-clause-none_failed : goal.returns-clause-none_failed
+returns-clause-none_failed g c = none_failed_then _ _ _ (one_not_failed _ _ _ _ refl c.in-Ok.ensures.call.called.goes_on) (one_not_failed _ _ _ _ refl c.in-Ok-content_read.ensures.call.called.goes_on)

@@ -1,0 +1,145 @@
+-- What the code of the builder reads and tests, in the words of its contracts.
+use Rattle.std.proofs.Common.{◌≡◌, ◌≢◌, ◌↔◌, ℕ, ◌+◌, ◌-◌, ◌<◌, ◌≤◌, List, [], ◌∷◌, ◌++◌, length, get_or, set, sym, ap, ◌∙◌, subst, arith, Bool, true, false, IsTrue, length-append}
+use Rattle.std.specs.List.{All}
+use Rattle.std.proofs.lemmas.List.{get_or_default, set-get_or}
+use Rattle.disk_model.specs.Path.{IsRecordPath}
+use Rattle.disk_model.specs.declared.meta.Meta.{Meta}
+use Rattle.file_table.specs.declared.block.Block.{Block}
+use Rattle.file_table.specs.Table.{Record, Column, block_count, records_of, column_blocks, blocks_of, blocks_due, no_column, no_record}
+use Rattle.file_table.specs.Valid.{IsColumn, IsWhole, most_records, most_blocks}
+use Rattle.file_table.specs.Building.{BuildingValue, LacksBlock, IsGreatest, IsNested, HasRoom, Uses, last_column, last_record, with_last_column, with_record, with_block, records_with_block}
+use Rattle.file_table.specs.Counted.{IsCounted}
+use Rattle.file_table.proofs.ListFacts.{split_last, set_last}
+use Rattle.file_table.proofs.BuildingLemmas.{front_columns, split_columns, flat_map-push, blocks_in, blocks_in-push}
+use Rattle.file_table.proofs.CountLemmas.{Lacks, front_records, lacks_none, blocks_due-push, blocks_of-records, length-whole}
+
+-- what is read at the number of the last column, and what a write there gives
+module _ (columns : List Column) (n : ℕ) (column : Column) (last : n ≡ length columns - 1) (some : 0 < length columns) (is : column ≡ get_or columns n column) where
+  pub read_last : column ≡ last_column columns
+  read_last =
+      let below : length columns - 1 < length columns = omega arith in
+      is ∙ ap (λ (k : ℕ). get_or columns k column) last ∙ get_or_default columns (length columns - 1) column no_column below
+
+  pub put_last : (new : Column) → set columns n new ≡ with_last_column columns new
+  put_last new = ap (λ (k : ℕ). set columns k new) last ∙ set_last columns new some
+
+  pub put_back : (new : Column) → new ≡ column → set columns n new ≡ columns
+  put_back new same = ap (λ (c : Column). set columns n c) (same ∙ is) ∙ set-get_or columns n column
+
+  pub read_column : (the_length : ℕ) → All (IsColumn the_length) columns → IsColumn the_length column
+  read_column the_length each = let below : length columns - 1 < length columns = omega arith in subst (IsColumn the_length) (sym read_last) (each (length columns - 1) no_column below)
+
+-- the last column's records and blocks are among all
+pub records_in_all : (columns : List Column) → 0 < length columns → length (last_column columns).records ≤ length (records_of columns)
+records_in_all columns some =
+    let whole : records_of columns ≡ records_of (front_columns columns) ++ (last_column columns).records =
+    ap records_of (split_columns columns some) ∙ flat_map-push (λ (c : Column). c.records) (front_columns columns) (last_column columns) in
+    omega (arith, ap length whole, length-append (records_of (front_columns columns)) (last_column columns).records)
+
+pub blocks_in_all : (columns : List Column) → 0 < length columns → length (column_blocks (last_column columns)) ≤ length (blocks_of columns)
+blocks_in_all columns some =
+    let whole : blocks_of columns ≡ blocks_of (front_columns columns) ++ column_blocks (last_column columns) =
+    ap blocks_of (split_columns columns some) ∙ flat_map-push column_blocks (front_columns columns) (last_column columns) in
+    omega (arith, ap length whole, length-append (blocks_of (front_columns columns)) (column_blocks (last_column columns)))
+
+-- what is there and what the last record lacks is what is due
+pub blocks_and_lacking : (block_size lacking : ℕ) (columns : List Column) → 0 < length (records_of columns) → All (IsWhole block_size) (front_records (records_of columns)) → Lacks block_size lacking (records_of columns)
+    → length (blocks_of columns) + lacking ≡ blocks_due block_size (records_of columns)
+blocks_and_lacking block_size lacking columns some whole lacks =
+    let rs : List Record = records_of columns in
+    let front : List Record = front_records rs in
+    let last : Record = last_record rs in
+    let split : rs ≡ front ++ last ∷ [] = split_last rs no_record some in
+    let blocks : blocks_of columns ≡ blocks_in front ++ last.blocks = blocks_of-records columns ∙ ap blocks_in split ∙ blocks_in-push front last in
+    let long : length (blocks_of columns) ≡ length (blocks_in front) + length last.blocks = ap length blocks ∙ length-append (blocks_in front) last.blocks in
+    let front_long : length (blocks_in front) ≡ blocks_due block_size front = length-whole block_size front whole in
+    let due : blocks_due block_size rs ≡ blocks_due block_size front + block_count block_size last.meta.size = ap (blocks_due block_size) split ∙ blocks_due-push block_size front last in
+    omega arith
+
+-- the tests of a record by themselves
+pub record PassesPath (built : BuildingValue) (path : List ℕ) : Type 0 where
+  pub whole : ¬ (LacksBlock built)
+  pub record_path : IsRecordPath path
+  pub order : IsGreatest (last_column built.columns) path
+  pub not_nested : ¬ (IsNested (last_column built.columns) path)
+
+pub passes_path : (built : BuildingValue) (used : List ℕ) (unhashed : List Bool) (records due lacking end : ℕ) (path : List ℕ) (first second : Column) (nested : Bool)
+    → IsCounted built used unhashed records due lacking end → lacking ≤ 0 → first ≡ last_column built.columns → second ≡ last_column built.columns
+    → IsRecordPath path → IsGreatest first path → (IsTrue nested ↔ IsNested second path) → nested ≡ false → PassesPath built path
+passes_path built used unhashed records due lacking end path first second nested is none first_is second_is path_is greatest nested_is no_nest =
+    let zero_left : lacking ≡ 0 = omega arith in
+    record {
+      whole = lacks_none built (subst (λ (n : ℕ). Lacks built.shape.block_size n (records_of built.columns)) zero_left is.last_lacks);
+      record_path = path_is;
+      order = subst (λ (c : Column). IsGreatest c path) first_is greatest;
+      not_nested = λ held. let there : nested ≡ true = nested_is.1 (subst (λ (c : Column). IsNested c path) (sym second_is) held) in apart nested no_nest there;
+    }
+  where
+    apart : (b : Bool) → b ≡ false → b ≡ true → ⊥
+    apart b off on = cc
+
+-- the test of room
+pub has_room : (built : BuildingValue) (used : List ℕ) (unhashed : List Bool) (records due lacking end blocks size : ℕ) → IsCounted built used unhashed records due lacking end → blocks ≡ block_count built.shape.block_size size
+    → (records < most_records) × (due + blocks ≤ most_blocks) → HasRoom built size
+has_room built used unhashed records due lacking end blocks size is count room =
+    record {
+      records = omega (arith, is.record_count, room.0);
+      blocks = omega (arith, is.due_count, room.1);
+    }
+
+pub no_room : (built : BuildingValue) (used : List ℕ) (unhashed : List Bool) (records due lacking end blocks size : ℕ) (test : Bool) → IsCounted built used unhashed records due lacking end → blocks ≡ block_count built.shape.block_size size
+    → (IsTrue test ↔ ((records < most_records) × (due + blocks ≤ most_blocks))) → test ≡ false → ¬ (HasRoom built size)
+no_room built used unhashed records due lacking end blocks size test is count says off room =
+    let few : records < most_records = omega (arith, is.record_count, room.records) in
+    let short : due + blocks ≤ most_blocks = omega (arith, is.due_count, room.blocks) in
+    let on : test ≡ true = says.1 (few, short) in
+    apart test off on
+  where
+    apart : (b : Bool) → b ≡ false → b ≡ true → ⊥
+    apart b no_one one = cc
+
+-- a record that the code appends to the last column
+pub put_record : (columns : List Column) (n : ℕ) (column new : Column) (path : List ℕ) (meta : Meta) → n ≡ length columns - 1 → 0 < length columns → column ≡ get_or columns n column
+    → new ≡ record column { records = column.records ++ record { path = path; meta = meta; blocks = [] } ∷ [] } → set columns n new ≡ with_record columns path meta
+put_record columns n column new path meta last some is grown =
+    put_last columns n column last some is new
+    ∙ ap (λ (c : Column). with_last_column columns c)
+    (grown ∙ ap (λ (c : Column). let grown_column : Column = record { name = c.name; records = c.records ++ record { path = path; meta = meta; blocks = [] } ∷ [] } in grown_column) (read_last columns n column last some is))
+
+-- a block that the code appends to the last record of the last column
+pub put_block : (columns : List Column) (n : ℕ) (column new : Column) (block : Block) → n ≡ length columns - 1 → 0 < length columns → column ≡ get_or columns n column
+    → new ≡ record column { records = records_with_block column.records block } → set columns n new ≡ with_block columns block
+put_block columns n column new block last some is grown =
+    put_last columns n column last some is new
+    ∙ ap (λ (c : Column). with_last_column columns c)
+    (grown ∙ ap (λ (c : Column). let grown_column : Column = record { name = c.name; records = records_with_block c.records block } in grown_column) (read_last columns n column last some is))
+
+-- a column with a record is there, and its record is among all
+pub column_there : (columns : List Column) → 0 < length (last_column columns).records → 0 < length columns
+column_there [] has = absurd (omega (arith, has))
+column_there (c ∷ columns) has = omega arith
+
+pub record_there : (columns : List Column) → 0 < length (last_column columns).records → 0 < length (records_of columns)
+record_there columns has = omega (arith, has, records_in_all columns (column_there columns has))
+
+-- whether a position is marked as the last column's
+module _ (built : BuildingValue) (used : List ℕ) (unhashed : List Bool) (records due lacking end : ℕ) (is : IsCounted built used unhashed records due lacking end) (position mark : ℕ) (below : position < built.length) (read : mark ≡ get_or used position mark) (some : 0 < length built.columns) where
+  mark_is : get_or used position 0 ≡ mark
+  mark_is = let there : position < length used = omega (arith, is.users.long) in get_or_default used position 0 mark there ∙ sym read
+
+  pub marked : mark ≡ length built.columns → Uses (last_column built.columns) position
+  marked same = is.users.here position some (mark_is ∙ same)
+
+  pub unmarked : mark ≢ length built.columns → ¬ (Uses (last_column built.columns) position)
+  unmarked other uses = other (sym mark_is ∙ is.users.nowhere_else position some below uses)
+
+-- the last column has room for a block
+pub block_room : (built : BuildingValue) (used : List ℕ) (unhashed : List Bool) (records due lacking end : ℕ) (column : Column) → IsCounted built used unhashed records due lacking end → 0 < lacking → 0 < length (last_column built.columns).records
+    → column ≡ last_column built.columns → length (column_blocks column) < most_blocks
+block_room built used unhashed records due lacking end column is more has last =
+    let some : 0 < length built.columns = column_there built.columns has in
+    let all : length (blocks_of built.columns) + lacking ≡ blocks_due built.shape.block_size (records_of built.columns) =
+    blocks_and_lacking built.shape.block_size lacking built.columns (record_there built.columns has) is.building.earlier_whole is.last_lacks in
+    let few : blocks_due built.shape.block_size (records_of built.columns) ≤ most_blocks = is.building.columns.few_blocks in
+    let within : length (column_blocks (last_column built.columns)) ≤ length (blocks_of built.columns) = blocks_in_all built.columns some in
+    subst (λ (c : Column). length (column_blocks c) < most_blocks) (sym last) (omega (arith, all, few, within))

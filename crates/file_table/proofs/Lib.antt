@@ -1,0 +1,16 @@
+pub mod ListFacts
+pub mod DiskLemmas
+pub mod NameLemmas
+pub mod RecordPathLemmas
+pub mod BuildingLemmas
+pub mod ColumnLemmas
+pub mod CountLemmas
+pub mod MarkLemmas
+pub mod FindLemmas
+pub mod NestedLemmas
+pub mod CountedLemmas
+pub mod CallLemmas
+pub mod CellLemmas
+pub mod SetLemmas
+pub mod HashLemmas
+pub mod DiskHashLemmas

@@ -1,0 +1,9 @@
+pub mod Table
+pub mod Valid
+pub mod Building
+pub mod Disk
+pub mod Kept
+pub mod RecordPath
+pub mod Marks
+pub mod Counted
+pub mod Builder
