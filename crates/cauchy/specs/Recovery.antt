@@ -4,10 +4,14 @@ use Rattle.gf256.specs.Field.{field_sum, sum_below, product}
 use Rattle.cauchy.specs.Matrix.{entry_of, byte_of, parity_byte, parity_of}
 use Rattle.cauchy.specs.System.{byte_in}
 
--- blocks of so many bytes each; what lies past their end counts as zeros
+-- what stands in the blocks of a row is bytes
+abbrev pub AreBytes : List (List ℕ) → Type 0
+AreBytes row = (c p : ℕ) → byte_of row c p < 256
+
+-- blocks of so many bytes each
 pub record IsRow (size : ℕ) (row : List (List ℕ)) : Type 0 where
   pub sizes : (c : ℕ) → c < length row → length (slice_index_or row c []) ≡ size
-  pub are_bytes : (c p : ℕ) → byte_of row c p < 256
+  pub are_bytes : AreBytes row
 
 -- whether a column is among the chosen ones
 abbrev pub is_among : List ℕ → ℕ → Bool

@@ -3,7 +3,7 @@
 ghost use Rattle.std.specs.Prelude.{◌≡◌, ◌≢◌, ◌+◌, ◌*◌, ◌<◌, ◌≤◌, ℕ, List, length, slice_index};
 ghost use Rattle.gf256.specs.Field.{sum_below, product};
 ghost use Rattle.cauchy.specs.Elimination.{cell, table_cell};
-ghost use Rattle.cauchy.specs.Recovery.{IsRow, IsPart, HoldsRemainders, HoldsColumns};
+ghost use Rattle.cauchy.specs.Recovery.{AreBytes, IsPart, HoldsRemainders, HoldsColumns};
 ghost use Rattle.cauchy.specs.System.{byte_in, IsChoice, SolvesBlocks};
 
 use crate::elimination::{MOST, Matrix};
@@ -83,8 +83,8 @@ pub fn solve(missing: &[u32], levels: &[u32], block: usize, work: &mut [u8])
     requires block { 0 < block }
     requires size { length work.old ≡ length missing.now * block }
     ensures solution { SolvesBlocks missing.now levels.now block work.old work.new }
-    // So the blocks of a row come back from what its levels hold of them.
-    ensures columns { (row : List (List ℕ)) → IsRow block row → IsPart missing.now row →
+    // So the blocks of a row come back from what its levels hold of them. A column without a block comes back as zeros.
+    ensures columns { (row : List (List ℕ)) → AreBytes row → IsPart missing.now row →
         HoldsRemainders row missing.now levels.now block work.old → HoldsColumns row missing.now block work.new }
 {
     let tables = tables_of(&inverse_columns(missing, levels));
