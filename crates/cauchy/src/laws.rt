@@ -1,9 +1,9 @@
 //! The laws of the matrix, each the contract of a function that does nothing.
 
-ghost use Rattle.std.specs.Prelude.{◌≡◌, ℕ, ◌+◌, ◌-◌, ◌<◌, ◌≤◌, List, [], ◌∷◌, ◌++◌, true, false, length, slice_index};
-ghost use Rattle.gf256.specs.Field.{field_sum, product, power, inverse};
-ghost use Rattle.cauchy.specs.Matrix.{entry_of, parity_of};
-ghost use Rattle.cauchy.specs.Recovery.{IsRow, IsPart, IsRecovered, is_among, others_sum};
+ghost use Rattle.std.specs.Prelude.{◌≡◌, ℕ, ◌+◌, ◌-◌, ◌<◌, ◌≤◌, List, [], ◌∷◌, ◌++◌, length};
+ghost use Rattle.gf256.specs.Field.{field_sum, power, inverse};
+ghost use Rattle.cauchy.specs.Matrix.{parity_of};
+ghost use Rattle.cauchy.specs.Recovery.{CanRecover, IsRecovered, GrowsByColumn};
 ghost use Rattle.cauchy.specs.System.{IsChoice, IsSolution};
 
 /// No entry of the matrix is divided by 0. Column 251 would be, in row 5.
@@ -18,11 +18,8 @@ pub fn no_block()
 
 /// The sum over all columns but the missing ones grows by a column's term, or stays where the column is missing.
 pub fn next_column()
-    ensures missing { (level : ℕ) (missing : List ℕ) (row : List (List ℕ)) (block : List ℕ) (p : ℕ) → is_among missing (length row) ≡ true →
-        others_sum level missing (row ++ block ∷ []) p ≡ others_sum level missing row p }
-    ensures other { (level : ℕ) (missing : List ℕ) (row : List (List ℕ)) (block : List ℕ) (p : ℕ) → is_among missing (length row) ≡ false →
-        others_sum level missing (row ++ block ∷ []) p
-        ≡ field_sum (others_sum level missing row p) (product (entry_of level (length row)) (slice_index block p)) }
+    ensures { (level : ℕ) (missing : List ℕ) (row : List (List ℕ)) (block : List ℕ) (p : ℕ) →
+        GrowsByColumn level missing row block p }
 {}
 
 /// Whichever levels and as many columns are chosen, the bytes of these columns are determined by the levels: for any sums
@@ -40,10 +37,10 @@ pub fn one_solution()
 /// has these levels and agrees with the row in all other columns.
 pub fn one_recovered_row()
     ensures exists { (size : ℕ) (row : List (List ℕ)) (missing levels : List ℕ) (given : List (List ℕ)) →
-        IsChoice missing levels → IsPart missing row → IsRow size row → IsRow size given → length given ≡ length levels →
+        CanRecover size row missing levels given →
         (recovered : List (List ℕ)) × IsRecovered size row missing levels given recovered }
-    ensures only { (size : ℕ) (row : List (List ℕ)) (missing levels : List ℕ) (given : List (List ℕ)) →
-        IsChoice missing levels → IsPart missing row → IsRow size row → IsRow size given → length given ≡ length levels →
-        (one other : List (List ℕ)) → IsRecovered size row missing levels given one →
-        IsRecovered size row missing levels given other → one ≡ other }
+    ensures only { (size : ℕ) (row : List (List ℕ)) (missing levels : List ℕ) (given one other : List (List ℕ)) →
+        CanRecover size row missing levels given →
+        IsRecovered size row missing levels given one → IsRecovered size row missing levels given other →
+        one ≡ other }
 {}
