@@ -1,14 +1,26 @@
 //! The laws of the matrix, each the contract of a function that does nothing.
 
-ghost use Rattle.std.specs.Prelude.{◌≡◌, ℕ, ◌+◌, ◌-◌, ◌<◌, ◌≤◌, List, [], ◌∷◌, ◌++◌, length};
+ghost use Rattle.std.specs.Prelude.{◌≡◌, ℕ, ◌+◌, ◌-◌, ◌<◌, ◌≤◌, List, [], ◌∷◌, ◌++◌, length, replicate};
 ghost use Rattle.gf256.specs.Field.{field_sum, power, inverse};
-ghost use Rattle.cauchy.specs.Matrix.{parity_of};
+ghost use Rattle.cauchy.specs.Matrix.{byte_of, parity_of};
 ghost use Rattle.cauchy.specs.Recovery.{CanRecover, IsRecovered, GrowsByColumn};
 ghost use Rattle.cauchy.specs.System.{IsChoice, IsSolution};
 
 /// No entry of the matrix is divided by 0. Column 251 would be, in row 5.
 pub fn denominators()
     ensures { (r c : ℕ) → 2 ≤ r → r < 6 → c < 251 → 0 < field_sum (inverse (power c)) (power (r - 1)) }
+{}
+
+/// The levels of a row without columns are zeros.
+pub fn empty_row()
+    ensures { (level size : ℕ) → parity_of level size [] ≡ replicate size 0 }
+{}
+
+/// Rows of the same bytes have the same levels, so a block may be padded with zeros.
+pub fn same_bytes()
+    ensures { (level size : ℕ) (one other : List (List ℕ)) → length one ≡ length other →
+        ((c p : ℕ) → c < length one → p < size → byte_of one c p ≡ byte_of other c p) →
+        parity_of level size one ≡ parity_of level size other }
 {}
 
 /// A column without a block leaves the levels of a row as they are.
