@@ -89,7 +89,12 @@ fn main(rt: HostRuntime) -> io::Result<()> {
     let start = Instant::now(&rt)?;
     solve_rounds(rounds, 6, &mut work);
     let solved = start.elapsed(&rt)?;
-    println!(rt; "solve six columns {} ms, last bytes {} {}", solved.as_millis(), out[0], work[0])?;
+    println!(rt;
+        "solve six columns {} ms, last bytes {} {}",
+        solved.as_millis(),
+        out[0],
+        work[0]
+    )?;
     Ok(())
 }
 PROGRAM

@@ -1,7 +1,7 @@
 -- The parity of a row, byte by byte.
-use Rattle.std.proofs.Common.{◌≡◌, ℕ, suc, ◌<◌, List, [], ◌∷◌, ◌++◌, length, get_or, sym, ap, ◌∙◌, zero-add, add-one, length-append}
+use Rattle.std.proofs.Common.{◌≡◌, ℕ, suc, ◌<◌, List, [], ◌∷◌, ◌++◌, length, get_or, sym, ap, ◌∙◌, zero-add, add-one, replicate, length-append}
 use Rattle.std.specs.Int.Bits.{bit_xor, xor_zero_r}
-use Rattle.std.proofs.lemmas.List.{get_or_append_left}
+use Rattle.std.proofs.lemmas.List.{get_or_append_left, get_or-replicate, length-replicate}
 use Rattle.std.proofs.Math.Seq.{get_or-append_seam}
 use Rattle.std.proofs.lemmas.List.FromFn.{fill_by_all, length-map-range_with_len, get_or-map-range_with_len}
 use Rattle.gf256.specs.Field.{sum_below, product}
@@ -53,3 +53,24 @@ no_block level size row =
     (λ i hi.
     get_or-parity_of level size (row ++ [] ∷ []) i hi ∙ parity_byte-push level row [] i
     ∙ ap (bit_xor (parity_byte level row i)) (product-zero (entry_of level (length row))) ∙ xor_zero_r (parity_byte level row i))
+
+-- a row without columns
+pub empty_row : (level size : ℕ) → parity_of level size [] ≡ replicate size 0
+unfolding parity_byte
+empty_row level size =
+    sym (parity_of-bytes level size [] (replicate size 0) (length-replicate size 0) (λ i hi. get_or-replicate size i 0 0 hi))
+
+same_byte : (level : ℕ) (one other : List (List ℕ)) (p : ℕ) → length one ≡ length other → ((c : ℕ) → c < length one → byte_of one c p ≡ byte_of other c p)
+    → parity_byte level one p ≡ parity_byte level other p
+unfolding parity_byte
+same_byte level one other p long same =
+    sum_below-same (λ c. product (entry_of level c) (byte_of one c p)) (λ c. product (entry_of level c) (byte_of other c p)) (length one)
+    (λ c hc. ap (product (entry_of level c)) (same c hc))
+    ∙ ap (sum_below (λ c. product (entry_of level c) (byte_of other c p))) long
+
+-- rows of the same bytes have the same levels
+pub same_bytes : (level size : ℕ) (one other : List (List ℕ)) → length one ≡ length other
+    → ((c p : ℕ) → c < length one → p < size → byte_of one c p ≡ byte_of other c p) → parity_of level size one ≡ parity_of level size other
+same_bytes level size one other long same =
+    parity_of-bytes level size other (parity_of level size one) (length-parity_of level size one)
+    (λ p hp. get_or-parity_of level size one p hp ∙ same_byte level one other p long (λ c hc. same c p hc hp))

@@ -1,10 +1,11 @@
 -- Exactly one row agrees with a row outside the missing columns and has the given levels.
-use Rattle.std.proofs.Common.{◌≡◌, ℕ, ◌<◌, ◌≤◌, Bool, true, false, cond, List, [], length, get_or, map, refl, sym, ap, ◌∙◌, inl, inr, zero-add, arith}
+use Rattle.std.proofs.Common.{◌≡◌, ℕ, ◌<◌, ◌≤◌, Bool, true, false, cond, List, [], length, get_or, map, refl, sym, ap, ◌∙◌, inl, inr, zero-add, add-one, length-append, suc, ◌∷◌, ◌++◌, arith}
 use Rattle.std.specs.List.{range_with_len}
 use Rattle.std.specs.Int.Bits.{bit_xor, xor_assoc, xor_self, xor_zero_r}
 use Rattle.std.proofs.lemmas.Nat.{xor_lt}
 use Rattle.std.proofs.lemmas.Bool.{cases_lt}
-use Rattle.std.proofs.lemmas.List.{same_lists, get_or_default}
+use Rattle.std.proofs.lemmas.List.{same_lists, get_or_default, get_or_append_left}
+use Rattle.std.proofs.Math.Seq.{get_or-append_seam}
 use Rattle.std.proofs.lemmas.Grind.{same_number_lists}
 use Rattle.std.proofs.Math.ListN.{get_or-eq_default}
 use Rattle.std.proofs.lemmas.List.FromFn.{length-map-range_with_len, get_or-map-range_with_len}
@@ -12,7 +13,7 @@ use Rattle.gf256.specs.Field.{sum_below, product}
 use Rattle.gf256.proofs.Theorems.{product_lt}
 use Rattle.cauchy.specs.Matrix.{entry_of, byte_of, parity_of}
 use Rattle.cauchy.specs.System.{IsChoice, IsSolution, SolvesBlocks, chosen_sum, byte_in}
-use Rattle.cauchy.specs.Recovery.{IsRow, IsPart, IsRecovered, HoldsRemainders, HoldsColumns, is_among, others_sum}
+use Rattle.cauchy.specs.Recovery.{AreBytes, IsRow, IsPart, IsRecovered, HoldsRemainders, HoldsColumns, is_among, others_sum}
 use Rattle.cauchy.proofs.Sums.{sum_below-same, sum_below-lt}
 use Rattle.cauchy.proofs.EliminationLemmas.{move}
 use Rattle.cauchy.proofs.MatrixLemmas.{solution_exists, solution_only, entry_lt}
@@ -45,14 +46,42 @@ others_sum-lt level missing row p hl most bytes =
       | false ↦ product_lt (entry_of level c) (byte_of row c p) (entry_lt level c hl (omega arith)) (bytes c)
     ])
 
+-- one more column
+others_sum-push : (level : ℕ) (missing : List ℕ) (row : List (List ℕ)) (block : List ℕ) (p : ℕ)
+    → others_sum level missing (row ++ block ∷ []) p
+    ≡ bit_xor (others_sum level missing row p) (cond (is_among missing (length row)) 0 (product (entry_of level (length row)) (get_or block p 0)))
+others_sum-push level missing row block p =
+    let term = λ (longer : List (List ℕ)) (c : ℕ). cond (is_among missing c) 0 (product (entry_of level c) (byte_of longer c p)) in
+    let longer : length (row ++ block ∷ []) ≡ suc (length row) = length-append row (block ∷ []) ∙ add-one (length row) in
+    ap (sum_below (term (row ++ block ∷ []))) longer
+    ∙ ap (λ (x : ℕ). bit_xor x (term (row ++ block ∷ []) (length row)))
+    (sum_below-same (term (row ++ block ∷ [])) (term row) (length row)
+    (λ c hc. ap (λ (b : List ℕ). cond (is_among missing c) 0 (product (entry_of level c) (get_or b p 0))) (get_or_append_left row (block ∷ []) [] c hc)))
+    ∙ ap (λ (b : List ℕ). bit_xor (others_sum level missing row p) (cond (is_among missing (length row)) 0 (product (entry_of level (length row)) (get_or b p 0))))
+    (get_or-append_seam row block [] [])
+
+-- a missing column adds nothing to it, and another column its term
+pub missing_column : (level : ℕ) (missing : List ℕ) (row : List (List ℕ)) (block : List ℕ) (p : ℕ) → is_among missing (length row) ≡ true
+    → others_sum level missing (row ++ block ∷ []) p ≡ others_sum level missing row p
+missing_column level missing row block p there =
+    others_sum-push level missing row block p
+    ∙ ap (λ (b : Bool). bit_xor (others_sum level missing row p) (cond b 0 (product (entry_of level (length row)) (get_or block p 0)))) there
+    ∙ xor_zero_r (others_sum level missing row p)
+
+pub other_column : (level : ℕ) (missing : List ℕ) (row : List (List ℕ)) (block : List ℕ) (p : ℕ) → is_among missing (length row) ≡ false
+    → others_sum level missing (row ++ block ∷ []) p ≡ bit_xor (others_sum level missing row p) (product (entry_of level (length row)) (get_or block p 0))
+other_column level missing row block p absent =
+    others_sum-push level missing row block p
+    ∙ ap (λ (b : Bool). bit_xor (others_sum level missing row p) (cond b 0 (product (entry_of level (length row)) (get_or block p 0)))) absent
+
 -- ---- the columns of a row are the solution of its remainders
 
-pub columns_hold : (row : List (List ℕ)) (missing levels : List ℕ) (block : ℕ) (old new : List ℕ) → IsChoice missing levels → IsPart missing row → IsRow block row
+pub columns_hold : (row : List (List ℕ)) (missing levels : List ℕ) (block : ℕ) (old new : List ℕ) → IsChoice missing levels → IsPart missing row → AreBytes row
     → SolvesBlocks missing levels block old new → HoldsRemainders row missing levels block old → HoldsColumns row missing block new
 columns_hold row missing levels block old new choice part rows solved remainders j p hj hp =
     solution_only missing levels choice (byte_in block old p) (byte_in block new p) (λ k. byte_of row (get_or missing k 0) p) (solved.every_byte p hp)
     record {
-      are_bytes = λ k hk. rows.are_bytes (get_or missing k 0) p;
+      are_bytes = λ k hk. rows (get_or missing k 0) p;
       sums = λ i hi.
           sym (remainders i p hi hp
           ∙ ap (λ (x : ℕ). bit_xor x (others_sum (get_or levels i 0) missing row p))

@@ -6,6 +6,10 @@ use Rattle.gf256.specs.Field.{field_sum, sum_below, product}
 abbrev pub cell : List (List ℕ) → ℕ → ℕ → ℕ
 cell matrix i j = slice_index (slice_index_or matrix i []) j
 
+-- the entry of a table of tables
+abbrev pub table_cell : List (List (List ℕ)) → ℕ → ℕ → ℕ → ℕ
+table_cell tables i j b = cell (slice_index_or tables i []) j b
+
 -- what equation i becomes, so that the unknown n is gone: M(n,n) times equation i plus M(i,n) times equation n
 abbrev pub reduced : (ℕ → ℕ → ℕ) → ℕ → ℕ → ℕ → ℕ
 reduced m n i j = field_sum (product (m n n) (m i j)) (product (m i n) (m n j))

@@ -20,7 +20,7 @@ pub fn entry(r: u32, c: u32) -> u8
 }
 
 /// The products of `coefficient` with each byte.
-fn products_of(coefficient: u8) -> [u8; 256]
+pub fn products_of(coefficient: u8) -> [u8; 256]
     ensures { (k : ℕ) → k < 256 → slice_index result k ≡ product coefficient k }
 {
     let mut products = [0; 256];

@@ -2,6 +2,7 @@ mod Additive
 mod InverseLemmas
 mod PowerLemmas
 mod ProductLemmas
+mod ShiftLemmas
 mod TableLemmas
 mod Tests
 pub mod Theorems

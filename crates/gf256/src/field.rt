@@ -64,20 +64,33 @@ mod tests {
     use super::*;
     use std::test::Fail;
 
+    /// Twice an element.
+    fn doubled(a: u8) -> u8
+        ensures { result ≡ product 2 a }
+    {
+        let twice = a as u16 * 2;
+        if twice < 256 {
+            twice as u8
+        } else {
+            (twice ^ 0x11d) as u8
+        }
+    }
+
     /// The product by shifts and sums, without a table.
-    fn product_by_shifts(a: u8, b: u8) -> u8 {
-        let mut sum = 0u16;
-        let mut shifted = a as u16;
-        for bit in 0..8u32 {
-            if b >> bit & 1 == 1 {
+    fn product_by_shifts(a: u8, b: u8) -> u8
+        ensures { result ≡ product a b }
+    {
+        let mut sum = 0;
+        let mut shifted = a;
+        let mut rest = b;
+        while rest != 0 {
+            if rest % 2 == 1 {
                 sum ^= shifted;
             }
-            shifted = shifted << 1 & 0x1ff;
-            if shifted > 255 {
-                shifted ^= 0x11d;
-            }
+            shifted = doubled(shifted);
+            rest /= 2;
         }
-        (sum & 255) as u8
+        sum
     }
 
     #[test]

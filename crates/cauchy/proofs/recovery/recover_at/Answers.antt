@@ -1,6 +1,5 @@
-use Rattle.std.proofs.Common.{◌≢◌, ℕ, ap, ◌∙◌, get_or, arith, below_more}
-use Rattle.gf256.specs.Field.{product}
-use Rattle.cauchy.specs.Elimination.{cell}
+use Rattle.std.proofs.Common.{◌≢◌, ap, ◌∙◌, get_or, arith, below_more}
+use Rattle.cauchy.specs.Elimination.{table_cell}
 use Rattle.cauchy.specs.System.{byte_in}
 use Rattle.cauchy.proofs.Sums.{sum_below-same}
 use Rattle.cauchy.proofs.PlaceLemmas.{byte_in-set_same, byte_in-set_block, byte_in-set_place}
@@ -23,5 +22,5 @@ pub returns-clause-recovered : goal.returns-clause-recovered
 returns-clause-recovered c =
     λ j hj.
     c.loop-j.invariant.recovered j (omega arith)
-    ∙ sum_below-same (λ i. product (get_or c.bytes_at-given.result i 0) (cell c.args.inverse.now i j)) (λ i. product (byte_in c.args.block c.args.work.now c.args.p i) (cell c.args.inverse.now i j)) c.args.count
-    (λ i hi. ap (λ (x : ℕ). product x (cell c.args.inverse.now i j)) (c.bytes_at-given.ensures i hi))
+    ∙ sum_below-same (λ i. table_cell c.args.tables.now i j (get_or c.bytes_at-given.result i 0)) (λ i. table_cell c.args.tables.now i j (byte_in c.args.block c.args.work.now c.args.p i)) c.args.count
+    (λ i hi. ap (table_cell c.args.tables.now i j) (c.bytes_at-given.ensures i hi))
