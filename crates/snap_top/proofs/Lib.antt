@@ -1,0 +1,14 @@
+pub mod DiskLemmas
+pub mod EndLemmas
+pub mod FaultLemmas
+pub mod LineLemmas
+pub mod ListingLemmas
+pub mod LoadedLemmas
+pub mod OpeningLemmas
+pub mod PrintLemmas
+pub mod RefusedDisks
+pub mod RunLemmas
+pub mod SaysLemmas
+pub mod TotalsLemmas
+pub mod WordsLemmas
+pub mod WorkedExamples

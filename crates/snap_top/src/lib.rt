@@ -1,0 +1,22 @@
+//! One run of the tool, from its words to its status.
+//!
+//! Start at `run` in `running.rt`; what it leaves and why is `specs/Run.antt`, what it prints `specs/ListText.antt`,
+//! and what its configuration says `specs/FirstForm.antt`.
+//! Proved: the status, the line on `err` and what is printed are those of the one cause by which the run ended; the
+//! opener is asked for what the words and the configuration name, and for nothing else; all that was opened goes back
+//! as it was.
+//! Not here: real files. They are the program's.
+#![tactic(auto)]
+
+mod first_form;
+mod list;
+mod opening;
+mod printing;
+mod running;
+mod totals;
+mod why;
+mod words;
+
+pub use list::Cut;
+pub use running::{Outcome, run};
+pub use why::Why;
