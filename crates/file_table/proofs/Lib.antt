@@ -14,3 +14,4 @@ pub mod CellLemmas
 pub mod SetLemmas
 pub mod HashLemmas
 pub mod DiskHashLemmas
+pub mod WorkedExamples

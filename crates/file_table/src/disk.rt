@@ -14,6 +14,7 @@ use block_hash::Digest16;
 use disk_model::{Meta, NoMemory, Path, Text};
 use std::alloc::Global;
 use std::marker::Model;
+use std::mem::size_of;
 
 const SLASH: u8 = b'/';
 
@@ -25,6 +26,11 @@ struct File {
     first: u32,
     count: u32,
 }
+
+// What a file and a block cost at most, in bytes.
+const _: () = prove!(size_of::<File>() <= 96);
+
+const _: () = prove!(size_of::<Block>() <= 32);
 
 /// A column, seen as its name and its records.
 #[derive(Drop)]

@@ -1,9 +1,9 @@
-//! What is kept of an array between runs: the files of each column with the positions and hashes of their
-//! blocks, and what is known of each stripe.
+//! What is kept of an array between runs: the files of each column with the positions and hashes
+//! of their blocks, and what is known of each stripe.
 //!
 //! Start at `Table` in `table.rt`, and at `Builder` in `builder.rt`, the only way to make one.
-//! Proved: a table is valid (`specs/Valid.antt`), the builder refuses exactly what would break that, and each
-//! query reads what was pushed.
+//! Proved: a table is valid (`specs/Valid.antt`), the builder refuses exactly what would break
+//! that (`specs/Building.antt`), and each query reads what was pushed.
 //! Not here: how a table is spelled in a content file.
 #![tactic(auto)]
 
@@ -17,6 +17,8 @@ mod name;
 mod record_path;
 mod shape;
 mod table;
+#[cfg(test)]
+mod tests;
 
 pub use block::{Block, Cell};
 pub use builder::Builder;
@@ -25,6 +27,3 @@ pub use info::{Info, Mark};
 pub use name::is_name;
 pub use shape::Shape;
 pub use table::Table;
-
-#[cfg(test)]
-mod tests;
