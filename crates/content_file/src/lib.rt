@@ -19,3 +19,6 @@ mod texts;
 pub use decoding::decode;
 pub use fault::DecodeFault;
 pub use loading::{LoadFault, load};
+
+#[cfg(test)]
+mod tests;

@@ -20,3 +20,6 @@ mod words;
 pub use list::Cut;
 pub use running::{Outcome, run};
 pub use why::Why;
+
+#[cfg(test)]
+mod tests;

@@ -1,0 +1,5 @@
+// Whole runs over objects in memory.
+mod array;
+mod damage;
+mod faults;
+mod list;
