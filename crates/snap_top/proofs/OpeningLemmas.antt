@@ -1,34 +1,28 @@
 -- The calls of an opener, one after another, and what a configuration's bytes say of the whole file.
-use Rattle.std.proofs.Common.{◌≡◌, ℕ, zero, suc, ◌<◌, List, [], ◌∷◌, ◌++◌, length, map, take, get_or, min, Bool, false, IsTrue, Result, Err, arith, refl, sym, ◌∙◌, ap, subst, append_assoc}
+use Rattle.std.proofs.Common.{lit<, ◌≡◌, ℕ, zero, suc, ◌<◌, List, [], ◌∷◌, ◌++◌, length, map, take, get_or, min, Bool, true, false, IsTrue, Result, Err, arith, refl, sym, ◌∙◌, ap, subst, append_assoc}
 use Rattle.std.proofs.lemmas.List.{append-nil, length-take}
 use Rattle.disk_model.specs.Cause.{Rose}
 use Rattle.disk_model.specs.Folder.{FolderView, quiet_folder}
-use Rattle.disk_model.specs.Opener.{OpenerView, OpenerCall, OpenerDone, OpenerGoesOn, IsOpenerCall, HoldsSame, has_failed, Config, Open, folder_held, FolderIsGiven, VaultIsGiven}
+use Rattle.disk_model.specs.Opener.{OpenerView, OpenerCall, OpenerDone, OpenerGoesOn, IsOpenerCall, HoldsSame, has_failed, Config, Open, folder_held, FolderIsGiven, VaultIsGiven, SameVault}
 use Rattle.disk_model.specs.Vault.{VaultView}
 use Rattle.disk_model.specs.declared.fault.OpenFault.{OpenFault}
-use Rattle.disk_model.specs.declared.fault.OpenFault.TheVariants.{Failed}
-use Rattle.snap_top.specs.Words.{Asks, AsksNothing}
+use Rattle.disk_model.specs.declared.fault.OpenFault.TheVariants.{Failed, Memory}
+use Rattle.snap_top.specs.Words.{Asks}
 use Rattle.snap_top.specs.FirstForm.{FormDisk, FormValue, Says, SaysNothing}
 use Rattle.snap_top.specs.FormSetup.{Holds}
-use Rattle.snap_top.specs.Opening.{IsOpened, asks_nothing, asks_config, asks_both, OpenerAsked, opens, reads_config}
+use Rattle.snap_top.specs.Opening.{IsConfigured, IsOpened, opens, reads_config}
 use Rattle.snap_top.specs.declared.first_form.Setup.{Setup}
 
 -- no call
-pub asked_nothing : (words : List (List ℕ)) (opener : OpenerView) → AsksNothing words → OpenerAsked words opener opener
-asked_nothing words opener none = record {
-  calls = [];
-  goes_on = record { later = omega arith; tells = refl; calls = record { told = λ t. t; more = λ t. sym (append-nil opener.calls) } };
-  in_order = asks_nothing none;
-}
+pub no_calls_yet : (opener : OpenerView) → OpenerGoesOn opener opener []
+no_calls_yet opener = record { later = omega arith; tells = refl; calls = record { told = λ t. t; more = λ t. sym (append-nil opener.calls) } }
 
 -- one call, for the file that is named
-pub asked_config : {T : Type 0} (words : List (List ℕ)) (file name : List ℕ) (result : Result T OpenFault) (old new : OpenerView) → name ≡ file → Asks words file
-    → IsOpenerCall (Config name) result old new → OpenerAsked words old new
-asked_config words file name result old new same asked one = record {
-  calls = reads_config name (has_failed result) ∷ [];
-  goes_on = one.goes_on;
-  in_order = asks_config name (has_failed result) (subst (Asks words) (sym same) asked);
-}
+pub one_asked : {T : Type 0} (file name : List ℕ) (result : Result T OpenFault) (failed : Bool) (old new : OpenerView) → name ≡ file → has_failed result ≡ failed
+    → IsOpenerCall (Config name) result old new → OpenerGoesOn old new (reads_config file failed ∷ [])
+one_asked file name result failed old new same ok one =
+    let is : record { call = Config name; failed = has_failed result } ≡ reads_config file failed = rw (same, ok) refl in
+    subst (λ d. OpenerGoesOn old new (d ∷ [])) is one.goes_on
 
 goes_on_then : (old mid new : OpenerView) (first second : List OpenerDone) → OpenerGoesOn old mid first → OpenerGoesOn mid new second → OpenerGoesOn old new (first ++ second)
 goes_on_then old mid new first second one two = record {
@@ -41,20 +35,62 @@ goes_on_then old mid new first second one two = record {
 }
 
 -- two calls, the second for what the configuration names
-pub asked_both : {T U : Type 0} (words : List (List ℕ)) (file name : List ℕ) (form : FormValue) (setup : Setup) (first : Result T OpenFault) (second : Result U OpenFault) (old mid new : OpenerView)
-    → name ≡ file → Asks words file → has_failed first ≡ false → Holds setup form → (IsTrue old.tells → Says old.config form)
-    → IsOpenerCall (Config name) first old mid → IsOpenerCall (Open setup.places.dirs.items setup.places.parities.items setup.places.contents.items) second mid new → OpenerAsked words old new
-asked_both words file name form setup first second old mid new same asked ok holds says one two =
-    let failed = has_failed second in
-    let second_is : record { call = Open setup.places.dirs.items setup.places.parities.items setup.places.contents.items; failed = failed } ≡ opens form failed
-    = rw (holds.dirs, holds.parity, holds.content) refl in
-    let first_is : record { call = Config name; failed = has_failed first } ≡ reads_config name false = rw ok refl in
-    record {
-      calls = reads_config name false ∷ opens form failed ∷ [];
-      goes_on = goes_on_then old mid new (reads_config name false ∷ []) (opens form failed ∷ [])
-          (subst (λ d. OpenerGoesOn old mid (d ∷ [])) first_is one.goes_on) (subst (λ d. OpenerGoesOn mid new (d ∷ [])) second_is two.goes_on);
-      in_order = asks_both name form failed (subst (Asks words) (sym same) asked) says;
-    }
+pub both_asked : {T U : Type 0} (file name : List ℕ) (form : FormValue) (setup : Setup) (first : Result T OpenFault) (second : Result U OpenFault) (failed : Bool) (old mid new : OpenerView)
+    → name ≡ file → has_failed first ≡ false → has_failed second ≡ failed → Holds setup form
+    → IsOpenerCall (Config name) first old mid → IsOpenerCall (Open setup.places.dirs.items setup.places.parities.items setup.places.contents.items) second mid new
+    → OpenerGoesOn old new (reads_config file false ∷ opens form failed ∷ [])
+both_asked file name form setup first second failed old mid new same ok second_ok holds one two =
+    let second_is : record { call = Open setup.places.dirs.items setup.places.parities.items setup.places.contents.items; failed = has_failed second } ≡ opens form failed
+    = rw (holds.dirs, holds.parity, holds.content, second_ok) refl in
+    goes_on_then old mid new (reads_config file false ∷ []) (opens form failed ∷ []) (one_asked file name first false old mid same ok one)
+    (subst (λ d. OpenerGoesOn mid new (d ∷ [])) second_is two.goes_on)
+
+-- an opener holds what it held
+pub holds_start : (opener : OpenerView) → HoldsSame opener opener
+holds_start opener = record {
+  config = λ told. refl;
+  folders = λ told. refl;
+  folder_counts = λ column. refl;
+  vault = record {
+    faults = refl;
+    levels = λ told. refl;
+    drafts = λ told. refl;
+    tells = λ told. refl;
+    files = λ told. refl;
+    tells_calls = λ told. refl;
+    calls = λ told. refl;
+    tells_images = λ told. refl;
+    moment = λ told. refl;
+  };
+}
+
+same_vault_then : (told_old told_mid : Bool) (old mid new : VaultView) → told_mid ≡ told_old → SameVault told_old old mid → SameVault told_mid mid new → SameVault told_old old new
+same_vault_then told_old told_mid old mid new tells one two = record {
+  faults = two.faults ∙ one.faults;
+  levels = λ told. two.levels (tells ∙ told) ∙ one.levels told;
+  drafts = λ told. two.drafts (tells ∙ told) ∙ one.drafts told;
+  tells = λ told. two.tells (tells ∙ told) ∙ one.tells told;
+  files = λ told. two.files (tells ∙ told) ∙ one.files told;
+  tells_calls = λ told. two.tells_calls (tells ∙ told) ∙ one.tells_calls told;
+  calls = λ told. two.calls (tells ∙ told) ∙ one.calls told;
+  tells_images = λ told. two.tells_images (tells ∙ told) ∙ one.tells_images told;
+  moment = λ told. two.moment (tells ∙ told) ∙ one.moment told;
+}
+
+pub holds_then : (old mid new : OpenerView) → mid.tells ≡ old.tells → HoldsSame old mid → HoldsSame mid new → HoldsSame old new
+holds_then old mid new tells one two = record {
+  config = λ told. two.config (tells ∙ told) ∙ one.config told;
+  folders = λ told. two.folders (tells ∙ told) ∙ one.folders told;
+  folder_counts = λ column. two.folder_counts column ∙ one.folder_counts column;
+  vault = same_vault_then old.tells mid.tells old.vault mid.vault new.vault tells one.vault two.vault;
+}
+
+-- an answer by its fault
+pub has_failed-failed : {T : Type 0} (call : OpenerCall) (fault : OpenFault) (old new : OpenerView) → fault ≡ Failed → IsOpenerCall {T = T} call (Err fault) old new → has_failed {T = T} (Err fault) ≡ true
+has_failed-failed {T} call fault old new is done = ap (λ f. has_failed {T = T} (Err f)) is
+
+pub has_failed-memory : {T : Type 0} (call : OpenerCall) (fault : OpenFault) (old new : OpenerView) → fault ≡ Memory → IsOpenerCall {T = T} call (Err fault) old new → has_failed {T = T} (Err fault) ≡ false
+has_failed-memory {T} call fault old new is done = ap (λ f. has_failed {T = T} (Err f)) is
 
 pub failed_rose : {T : Type 0} (call : OpenerCall) (fault : OpenFault) (old new : OpenerView) → fault ≡ Failed → IsOpenerCall {T = T} call (Err fault) old new → Rose old.faults new.faults
 failed_rose {T} call fault old new is done = let P : OpenFault → Type 0 = λ f. IsOpenerCall {T = T} call (Err f) old new in (subst P is done).cause refl
@@ -90,33 +126,34 @@ folder_given old mid column given same tells is = record {
 pub vault_given : (old mid : OpenerView) (given : VaultView) → HoldsSame old mid → mid.tells ≡ old.tells
     → VaultIsGiven mid.tells 1 1 mid.vault given → VaultIsGiven old.tells 1 1 old.vault given
 vault_given old mid given same tells is = record {
-  same = let one = same.vault in let two = is.same in record {
-    faults = two.faults ∙ one.faults;
-    levels = λ told. two.levels (tells ∙ told) ∙ one.levels told;
-    drafts = λ told. two.drafts (tells ∙ told) ∙ one.drafts told;
-    tells = λ told. two.tells (tells ∙ told) ∙ one.tells told;
-    files = λ told. two.files (tells ∙ told) ∙ one.files told;
-    tells_calls = λ told. two.tells_calls (tells ∙ told) ∙ one.tells_calls told;
-    calls = λ told. two.calls (tells ∙ told) ∙ one.calls told;
-    tells_images = λ told. two.tells_images (tells ∙ told) ∙ one.tells_images told;
-    moment = λ told. two.moment (tells ∙ told) ∙ one.moment told;
-  };
+  same = same_vault_then old.tells mid.tells old.vault mid.vault given tells same.vault is.same;
   levels = is.levels;
   drafts = is.drafts;
   settled = is.settled;
+}
+
+-- what a setup was read from, the words and the file say
+abbrev pub is_configured : (words : List (List ℕ)) (file front : List ℕ) (form : FormValue) (old : OpenerView) → Asks words file → (IsTrue old.tells → front ≡ take 1048577 old.config) → Says front form
+    → IsConfigured words old form
+is_configured words file front form old asked is says = record {
+  file = file;
+  asked = asked;
+  valid = says.valid;
+  says = λ told. says_whole 1048577 old.config front form (lit< tt) (is told) says;
 }
 
 as_many : {A B : Type 0} (f : A → B) (xs : List A) → length (map f xs) ≡ length xs
 as_many f [] = refl
 as_many f (x ∷ xs) = ap (λ n. suc n) (as_many f xs)
 
-pub opened_as_named : {F : Type 0} (view : F → FolderView) (fs : List F) (words : List (List ℕ)) (file : List ℕ) (form : FormValue) (setup : Setup) (old mid : OpenerView) → Asks words file
-    → (IsTrue old.tells → Says old.config form) → HoldsSame old mid → mid.tells ≡ old.tells → Holds setup form → length fs ≡ length setup.places.dirs.items
+pub opened_as_named : {F : Type 0} (view : F → FolderView) (fs : List F) (words : List (List ℕ)) (form : FormValue) (setup : Setup) (old mid new : OpenerView) (configured : IsConfigured words old form)
+    → OpenerGoesOn old new (reads_config configured.file false ∷ opens form false ∷ []) → HoldsSame old mid → mid.tells ≡ old.tells → Holds setup form → length fs ≡ length setup.places.dirs.items
     → ((column : ℕ) → column < length fs → FolderIsGiven mid.tells (folder_held mid column) (get_or (map view fs) column (quiet_folder 0 false)))
-    → IsOpened words old (map view fs)
-opened_as_named view fs words file form setup old mid asked says same tells holds columns given = record {
+    → IsOpened words old new (map view fs)
+opened_as_named view fs words form setup old mid new configured calls same tells holds columns given = record {
   form = form;
-  configured = record { file = file; asked = asked; says = says };
+  configured = configured;
+  calls = calls;
   columns = as_many view fs ∙ columns ∙ ap length holds.dirs ∙ as_many (λ (disk : FormDisk). disk.dir) form.disks;
   folders_given = λ column below. folder_given old mid column _ same tells (given column (let same_many = as_many view fs in omega (arith, below, same_many)));
 }

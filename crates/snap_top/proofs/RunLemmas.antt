@@ -34,6 +34,8 @@ read_only held given now same settled calls changes =
           more = λ told. calls.goes_on.calls.more told ∙ ap (λ cs. cs ++ calls.done) (same.calls told_now);
         };
       };
+      told = λ told. sym (same.tells_images told_now) ∙ changes.leaves.told told;
+      later = λ told. omega (arith, moment, changes.leaves.later told);
       stops = λ told left since.
           image_is_held given held.images.moment left (sym moment) settled (changes.leaves.told told) (changes.leaves.within told held.images.moment left (omega (arith, moment)) since) ∙ files;
     }

@@ -5,7 +5,7 @@ use Rattle.disk_model.specs.Cause.{Rose, Grows}
 use Rattle.disk_model.specs.Files.{Files}
 use Rattle.disk_model.specs.declared.draft.Draft.TheVariants.{Absent}
 use Rattle.disk_model.specs.Folder.{FolderView}
-use Rattle.disk_model.specs.Opener.{OpenerView}
+use Rattle.disk_model.specs.Opener.{OpenerView, HoldsSame}
 use Rattle.disk_model.specs.Sink.{SinkView, SinkGoesOn, AppendsPart}
 use Rattle.disk_model.specs.Vault.{VaultView, VaultDone}
 use Rattle.file_table.specs.Table.{TableValue}
@@ -56,6 +56,8 @@ pub record IsReadOnly (held now : VaultView) : Type 0 where
   pub tells : now.tells ≡ held.tells
   pub files : IsTrue held.tells → now.files ≡ held.files
   pub calls : SomeAdded held now
+  pub told : IsTrue now.images.told → IsTrue held.images.told
+  pub later : IsTrue now.images.told → held.images.moment ≤ now.images.moment
   pub stops : IsTrue now.images.told → (files : Files) → now.images.since held.images.moment files → files ≡ held.files
 
 -- the same of a vault that an opener held, which may tell that or not
@@ -78,7 +80,7 @@ pub data Lists (is_told : Bool) (held now : VaultView) (out out_new : SinkView) 
   lists_failed : Rose held.faults now.faults → (IsTrue is_told → LoadFails held now) → out_new ≡ out → Lists is_told held now out out_new VaultFailed
   lists_damaged : (IsTrue is_told → LoadIsDamaged held now) → out_new ≡ out → Lists is_told held now out out_new Damaged
 
--- What a run began with, and what it left: all that it touched but `err`. Where nothing was opened, the vault is the one that the opener holds.
+-- What a run began with, and what it left: all that it touched but `err`. Where nothing was opened, the vault is the one that the opener still holds.
 pub record Entry : Type 1 where
   pub opener : OpenerView
   pub out : SinkView
@@ -100,12 +102,12 @@ vault_in view held (Some vault) = view vault
 abbrev pub at_exit : OpenerView → List FolderView → Bool → VaultView → SinkView → Exit
 at_exit opener folders has_vault vault out = record { opener = opener; folders = folders; has_vault = has_vault; vault = vault; out = out }
 
--- Why a run ended so. Either nothing was opened or printed; or all that was opened goes back, the folders as they were given and the
+-- Why a run ended so. Either nothing was opened or printed, and the opener holds what it held; or all that was opened goes back, the folders as they were given and the
 -- vault with its content read and nothing changed.
 pub data Ends (words : List (List ℕ)) (before : Entry) (after : Exit) (why : Why) : Type 0 where
-  ends_refused : Refuses words before.opener after.opener why → after.folders ≡ [] → after.has_vault ≡ false → after.out ≡ before.out
+  ends_refused : Refuses words before.opener after.opener why → HoldsSame before.opener after.opener → after.folders ≡ [] → after.has_vault ≡ false → after.out ≡ before.out
       → Ends words before after why
-  ends_opened : IsOpened words before.opener after.folders → after.has_vault ≡ true
+  ends_opened : IsOpened words before.opener after.opener after.folders → after.has_vault ≡ true
       → IsReadWhereTold before.opener.tells before.opener.vault after.vault
       → Lists before.opener.tells before.opener.vault after.vault before.out after.out why → Ends words before after why
 

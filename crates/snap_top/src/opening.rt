@@ -1,7 +1,7 @@
 // All that a run opens.
-ghost use Rattle.std.specs.Prelude.{map, string_bytes, IfOk, IfErr};
-ghost use Rattle.disk_model.specs.Opener.{VaultIsGiven};
-ghost use Rattle.snap_top.specs.Opening.{IsOpened, Refuses, OpenerAsked};
+ghost use Rattle.std.specs.Prelude.{map, string_bytes, IfOk, IfErr, OnErr};
+ghost use Rattle.disk_model.specs.Opener.{VaultIsGiven, HoldsSame};
+ghost use Rattle.snap_top.specs.Opening.{IsOpened, Refuses};
 
 use crate::Why;
 use crate::first_form::{FormFault, read_form};
@@ -15,10 +15,10 @@ pub(crate) fn open_all<O: Opener>(
     words: &[String],
     opener: &mut O,
 ) -> Result<Opened<O::Folder, O::Vault>, Why>
-    ensures opened { IfOk result (λ opened. IsOpened (map string_bytes words.now) (O.view opener.old) (map O.Folder.view opened.folders.items)) }
+    ensures opened { IfOk result (λ opened. IsOpened (map string_bytes words.now) (O.view opener.old) (O.view opener.new) (map O.Folder.view opened.folders.items)) }
     ensures vault { IfOk result (λ opened. VaultIsGiven (O.view opener.old).tells 1 1 (O.view opener.old).vault (O.Vault.view opened.vault)) }
     ensures refused { IfErr result (λ why. Refuses (map string_bytes words.now) (O.view opener.old) (O.view opener.new) why) }
-    ensures calls { OpenerAsked (map string_bytes words.now) (O.view opener.old) (O.view opener.new) }
+    ensures kept { OnErr result (HoldsSame (O.view opener.old) (O.view opener.new)) }
 {
     let Some(file) = asked_file(words) else {
         return Err(Why::Usage);

@@ -2,7 +2,6 @@
 ghost use Rattle.std.specs.Prelude.{◌≡◌, ◌⊎◌, [], true, IfOk, map, is_some, string_bytes};
 ghost use Rattle.disk_model.specs.Files.{Stays};
 ghost use Rattle.disk_model.specs.Vault.{SomeCalls, ChangesBy, DraftsStay};
-ghost use Rattle.snap_top.specs.Opening.{OpenerAsked};
 ghost use Rattle.snap_top.specs.Print.{Prints};
 ghost use Rattle.snap_top.specs.Run.{IsSaid, IsWithoutLine, Ends, EndsWith, Lists, at_entry, at_exit, vault_in, line_of, text_of};
 
@@ -70,8 +69,7 @@ fn work<O: Opener, W: Sink>(
     out: &mut W,
 ) -> Ended<O::Folder, O::Vault>
     ensures ended { Ends (map string_bytes words.now) (at_entry (O.view opener.old) (W.view out.old))
-        (at_exit (O.view opener.new) (map O.Folder.view result.folders.items) (is_some result.vault) (vault_in O.Vault.view (O.view opener.old).vault result.vault) (W.view out.new)) result.why }
-    ensures calls { OpenerAsked (map string_bytes words.now) (O.view opener.old) (O.view opener.new) }
+        (at_exit (O.view opener.new) (map O.Folder.view result.folders.items) (is_some result.vault) (vault_in O.Vault.view (O.view opener.new).vault result.vault) (W.view out.new)) result.why }
 {
     match open_all(alloc, words, opener) {
         Ok(opened) => {
@@ -143,9 +141,8 @@ pub fn run<O: Opener, W: Sink, E: Sink>(
     err: &mut E,
 ) -> Outcome<O::Folder, O::Vault>
     ensures ended { EndsWith (map string_bytes words.now) result.status (at_entry (O.view opener.old) (W.view out.old))
-        (at_exit (O.view opener.new) (map O.Folder.view result.folders.items) (is_some result.vault) (vault_in O.Vault.view (O.view opener.old).vault result.vault) (W.view out.new))
+        (at_exit (O.view opener.new) (map O.Folder.view result.folders.items) (is_some result.vault) (vault_in O.Vault.view (O.view opener.new).vault result.vault) (W.view out.new))
         (E.view err.old) (E.view err.new) }
-    ensures calls { OpenerAsked (map string_bytes words.now) (O.view opener.old) (O.view opener.new) }
 {
     let Ended {
         why,
