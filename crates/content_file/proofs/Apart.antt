@@ -92,7 +92,7 @@ pub record FitsColumn (size : ℕ) (column : Column) : Type 0 where
   pub count : length column.records < 2 ^ 32
   pub records : AllByRecursion (FitsRecord size) column.records
 
-regroup : (a b c rest : List ℕ) → ((a ++ b) ++ c) ++ rest ≡ a ++ (b ++ (c ++ rest))
+pub regroup : (a b c rest : List ℕ) → ((a ++ b) ++ c) ++ rest ≡ a ++ (b ++ (c ++ rest))
 regroup a b c rest = simp append_assoc
 
 record_is : (x y : Record) → x.path ≡ y.path → x.meta ≡ y.meta → x.blocks ≡ y.blocks → x ≡ y

@@ -71,7 +71,7 @@ positions_in-more records path meta blocks more =
 
 -- ---- one column, cut short
 
-records_cut : (the_length : ℕ) (name : List ℕ) (records more : List Record) → IsColumn the_length (column_of name (records ++ more)) → IsColumn the_length (column_of name records)
+pub records_cut : (the_length : ℕ) (name : List ℕ) (records more : List Record) → IsColumn the_length (column_of name (records ++ more)) → IsColumn the_length (column_of name records)
 records_cut the_length name records more is = record {
   name = is.name;
   records = All-left IsRecord records more is.records;
@@ -83,7 +83,7 @@ records_cut the_length name records more is = record {
 pub last_is : {X : Type 0} (P : X → Type 0) (xs : List X) (y : X) → All P (xs ++ y ∷ []) → P y
 last_is P xs y all = All-right P xs (y ∷ []) all 0 y (omega arith)
 
-blocks_cut : (the_length : ℕ) (name : List ℕ) (records : List Record) (path : List ℕ) (meta : Meta) (blocks more : List Block)
+pub blocks_cut : (the_length : ℕ) (name : List ℕ) (records : List Record) (path : List ℕ) (meta : Meta) (blocks more : List Block)
     → IsColumn the_length (column_of name (records ++ record_of path meta (blocks ++ more) ∷ [])) → IsColumn the_length (column_of name (records ++ record_of path meta blocks ∷ []))
 blocks_cut the_length name records path meta blocks more is =
     let long = record_of path meta (blocks ++ more) in

@@ -15,13 +15,13 @@ use Rattle.content_file.specs.Reading.{◌>>=◌, byte_at, number_at, piece_at, 
 use Rattle.content_file.proofs.Fields.{IsBytes, from_some, bind_some, guard_false, some_is, Takes, takes_then, byte_takes, wide32, wide64, number_takes, number_again, piece_takes, piece_again}
 
 -- a choice whose answer is known
-chosen : {A : Type 0} (b : Bool) (x y z : A) → cond b x y ≡ z → ((b ≡ true) × (x ≡ z)) ⊎ ((b ≡ false) × (y ≡ z))
+pub chosen : {A : Type 0} (b : Bool) (x y z : A) → cond b x y ≡ z → ((b ≡ true) × (x ≡ z)) ⊎ ((b ≡ false) × (y ≡ z))
 chosen true x y z e = inl (refl, e)
 chosen false x y z e = inr (refl, e)
 
 -- ---- the information on a stripe
 
-info_is : (code last : ℕ) (info : Info) → info_of code last ≡ Some info → (flags info ≡ code) × (info.last ≡ last)
+pub info_is : (code last : ℕ) (info : Info) → info_of code last ≡ Some info → (flags info ≡ code) × (info.last ≡ last)
 info_is code last info e =
     elim (chosen (eqb code 0) _ _ _ e) [
       | inl p ↦ subst (λ (i : Info). (flags i ≡ code) × (i.last ≡ last)) (some_is _ info p.1) (sym (eqb-true code 0 p.0), refl)
@@ -40,7 +40,7 @@ info_is code last info e =
       ]
     ]
 
-info_again_of : (mark : Mark) (last : ℕ) (bad fresh : Bool) → IsState (record { mark = mark; last = last; bad = bad; fresh = fresh })
+pub info_again_of : (mark : Mark) (last : ℕ) (bad fresh : Bool) → IsState (record { mark = mark; last = last; bad = bad; fresh = fresh })
     → info_of (flags (record { mark = mark; last = last; bad = bad; fresh = fresh })) last ≡ Some (record { mark = mark; last = last; bad = bad; fresh = fresh })
 info_again_of Pending last bad fresh state =
     let none : HasNoHistory (record { mark = Pending; last = last; bad = bad; fresh = fresh }) = state refl in
@@ -89,7 +89,7 @@ from_one_is most field known e =
     let o = or_false (eqb field.0 0) (ltb most field.0) g.0 in
     (omega (arith, eqb-false field.0 0 o.0), ltb-false most field.0 o.1, g.1)
 
-from_one_again : (most n : ℕ) (rest : List ℕ) → 1 ≤ n → n ≤ most → from_one most (n, rest) ≡ Some (n, rest)
+pub from_one_again : (most n : ℕ) (rest : List ℕ) → 1 ≤ n → n ≤ most → from_one most (n, rest) ≡ Some (n, rest)
 from_one_again most n rest some le =
     let not_zero : n ≡ 0 → ⊥ = λ e. omega arith in
     let passes : (eqb n 0 || ltb most n) ≡ false = false_or (eqb n 0) (ltb most n) (not_eqb n 0 (eqb n 0) refl not_zero) (le-ltb most n le) in

@@ -25,7 +25,7 @@ head_of shape size count = record { shape = shape; length = size; columns = coun
 abbrev pub table_of : BuildingValue → TableValue
 table_of building = record { shape = building.shape; columns = building.columns; infos = building.infos }
 
-regroup_head : (a b c d rest : List ℕ) → (((a ++ b) ++ c) ++ d) ++ rest ≡ a ++ (b ++ (c ++ (d ++ rest)))
+pub regroup_head : (a b c d rest : List ℕ) → (((a ++ b) ++ c) ++ d) ++ rest ≡ a ++ (b ++ (c ++ (d ++ rest)))
 regroup_head a b c d rest = simp append_assoc
 
 regroup_body : (a b c d rest : List ℕ) → ((a ++ (b ++ c)) ++ d) ++ rest ≡ (a ++ b) ++ (c ++ (d ++ rest))

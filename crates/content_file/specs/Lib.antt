@@ -1,6 +1,10 @@
 pub mod Fault
+pub mod FirstFlaw
+pub mod Flaw
 pub mod Head
 pub mod Load
 pub mod Pushing
 pub mod Reading
+pub mod Save
 pub mod Spelling
+pub mod Tests

@@ -1,6 +1,7 @@
 // Reading a whole content file.
-ghost use Rattle.std.specs.Prelude.{◌≡◌, ◌≢◌, ◌-◌, ◌≤◌, length, take, IfOk, OnOk, OnErr, IsErrOf};
+ghost use Rattle.std.specs.Prelude.{◌≡◌, ◌≢◌, ◌-◌, ◌≤◌, length, take, IfOk, OnOk, OnErr, IsErrOf, IsSome, None};
 ghost use Rattle.file_table.specs.Valid.{IsValid};
+ghost use Rattle.content_file.specs.FirstFlaw.{first_flaw};
 ghost use Rattle.content_file.specs.Spelling.{spelling, IsContent};
 ghost use Rattle.sha2.specs.Sha256.{sha256};
 
@@ -17,6 +18,8 @@ pub fn decode(alloc: Global, bytes: &[u8]) -> Result<Table, DecodeFault>
     ensures valid { IfOk result IsValid }
     ensures found { IfOk result (λ table. bytes.now ≡ spelling table) }
     ensures damaged { IsErrOf result DecodeFault.Damaged → ¬ (IsContent bytes.now) }
+    ensures flawless { OnOk result (first_flaw bytes.now ≡ None) }
+    ensures flawed { IsErrOf result DecodeFault.Damaged → IsSome (first_flaw bytes.now) }
 {
     let (head, rest) = head_of(bytes)?;
     let mut builder = Builder::new(alloc, head.shape, head.length)?;

@@ -9,9 +9,9 @@ use crate::reader::{byte_of, piece_of, sixteen_of, u32_of};
 use block_hash::Kind;
 use file_table::Shape;
 
-const MAGIC: &[u8; 7] = b"SNAPRCF";
+pub(crate) const MAGIC: &[u8; 7] = b"SNAPRCF";
 
-const VERSION: u8 = 1;
+pub(crate) const VERSION: u8 = 1;
 
 const MOST_KIBIBYTES: u32 = 4096;
 

@@ -1,8 +1,10 @@
 //! What follows for the format as a whole. The calls do nothing: their contracts are laws.
-ghost use Rattle.std.specs.Prelude.{◌≡◌, ℕ, List, [], ◌++◌};
+ghost use Rattle.std.specs.Prelude.{◌≡◌, ◌≢◌, ◌↔◌, ℕ, ◌<◌, List, [], ◌++◌, All, None, Some};
 ghost use Rattle.file_table.specs.Table.{TableValue};
 ghost use Rattle.file_table.specs.Valid.{IsValid};
-ghost use Rattle.content_file.specs.Spelling.{spelling};
+ghost use Rattle.content_file.specs.FirstFlaw.{first_flaw, read_content};
+ghost use Rattle.content_file.specs.Flaw.{Damage, Good, Short};
+ghost use Rattle.content_file.specs.Spelling.{spelling, IsContent};
 
 /// No spelling begins another: one that stands at the front of bytes tells its table, and where it ends.
 pub fn no_spelling_begins_another()
@@ -19,4 +21,22 @@ pub fn one_table_has_a_spelling()
 pub fn a_spelling_tells_its_end()
     ensures { (a b : TableValue) (x y : List ℕ) → IsValid a → IsValid b →
         spelling a ++ x ≡ spelling b ++ y → (a ≡ b) × (x ≡ y) }
+{}
+
+/// Bytes, numbers below 256, have a first wrong field exactly where they are no content file.
+pub fn only_content_has_no_flaw()
+    ensures { (bytes : List ℕ) → All (λ byte. byte < 256) bytes → (first_flaw bytes ≡ None ↔ IsContent bytes) }
+{}
+
+/// Reading field by field gives a table that the bytes spell, and each table from its spelling.
+pub fn reading_gives_the_table()
+    ensures read { (bytes : List ℕ) (table : TableValue) → All (λ byte. byte < 256) bytes →
+        read_content bytes ≡ Good table → IsValid table × (bytes ≡ spelling table) }
+    ensures spelled { (table : TableValue) → IsValid table → read_content (spelling table) ≡ Good table }
+{}
+
+/// A wrong field stays the first one whatever follows the bytes, unless it was cut off.
+pub fn a_flaw_stays()
+    ensures { (bytes more : List ℕ) (damage : Damage) → All (λ byte. byte < 256) bytes →
+        first_flaw bytes ≡ Some damage → damage.why ≢ Short → first_flaw (bytes ++ more) ≡ Some damage }
 {}

@@ -1,1 +1,10 @@
+pub mod BytesLemmas
+pub mod InsideLemmas
+pub mod ListingLemmas
 pub mod OpenerLemmas
+pub mod OrderLemmas
+pub mod PastLemmas
+pub mod PlaceLemmas
+pub mod SetLemmas
+pub mod TreeLemmas
+pub mod VaultLemmas

@@ -1,4 +1,6 @@
 pub mod Calls
+pub mod Files
+pub mod FilesLaws
 pub mod Folder
 pub mod Given
 pub mod Opener

@@ -1,9 +1,9 @@
 -- Openers in memory.
-use Rattle.std.specs.Prelude.{ℕ, List, [], true, Bool, not}
+use Rattle.std.specs.Prelude.{◌≡◌, ℕ, List, [], true, Bool, not}
 use Rattle.std.specs.Prelude.{Option, None, Some}
 use Rattle.disk_model.specs.Folder.{FolderView}
 use Rattle.disk_model.specs.Vault.{VaultView, quiet_vault}
-use Rattle.disk_model.specs.Opener.{OpenerView, OpenerDone}
+use Rattle.disk_model.specs.Opener.{OpenerView, OpenerDone, SameVault}
 
 -- the folders that are left to give
 abbrev pub folders_left : {A : Type 0} → (A → List FolderView) → Option A → List FolderView
@@ -26,3 +26,23 @@ opener_view faults config folders vault lost calls = record {
   tells_calls = not lost;
   calls = calls;
 }
+
+-- an opener that tells that it holds these, with no call yet
+pub record IsFreshOpener (config : List ℕ) (folders : List FolderView) (vault : VaultView) (v : OpenerView) : Type 0 where
+  pub faults : v.faults ≡ 0
+  pub tells : v.tells ≡ true
+  pub config_is : v.config ≡ config
+  pub folders_are : v.folders ≡ folders
+  pub vault_is : SameVault true vault v.vault
+  pub tells_calls : v.tells_calls ≡ true
+  pub calls : v.calls ≡ []
+
+-- all that is known of an opener is as it was
+pub record SameOpener (old new : OpenerView) : Type 0 where
+  pub faults : new.faults ≡ old.faults
+  pub tells : new.tells ≡ old.tells
+  pub config : new.config ≡ old.config
+  pub folders : new.folders ≡ old.folders
+  pub vault : SameVault true old.vault new.vault
+  pub tells_calls : new.tells_calls ≡ old.tells_calls
+  pub calls : new.calls ≡ old.calls

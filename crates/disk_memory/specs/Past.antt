@@ -16,6 +16,11 @@ pub record Notes {C : Type 0} (call : C) (failed : Bool) (old new : Past C) : Ty
 pub record Loses {C : Type 0} (old new : Past C) : Type 0 where
   pub lost : new.lost ≡ true
 
+-- the record was not lost before, and is now
+pub record LosesNow {C : Type 0} (old new : Past C) : Type 0 where
+  pub was : old.lost ≡ false
+  pub lost : new.lost ≡ true
+
 -- the last call of the record did not fail
 pub record Corrects {C : Type 0} (old new : Past C) : Type 0 where
   pub lost : new.lost ≡ old.lost

@@ -1,6 +1,5 @@
 -- Vaults in memory.
-use Rattle.std.specs.Prelude.{ℕ, List, [], replicate, Bool, true, not}
-use Rattle.std.specs.Prelude.{None}
+use Rattle.std.specs.Prelude.{ℕ, List, [], replicate, Bool, true, not, None}
 use Rattle.disk_model.specs.Files.{Files}
 use Rattle.disk_model.specs.Vault.{VaultView, VaultDone, no_images}
 use Rattle.disk_model.specs.declared.draft.Draft.{Draft}

@@ -13,7 +13,7 @@ vault_well_formed v = record {
     staged = sym v.staged.ok.0 ∙ v.staged_of_each_copy ∙ sym v.draft_of_each_copy ∙ v.drafts.ok.0;
   };
   leaves_files = λ told. tt;
-  counts_now = λ told t files le left. tt;
+  earlier = λ told t u files le left. tt;
 }
   where
     untold : IsTrue false → ⊥

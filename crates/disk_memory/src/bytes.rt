@@ -1,4 +1,6 @@
 // A file's bytes in memory.
+ghost use Rattle.std.specs.Prelude.{◌≡◌, ◌+◌, ◌≤◌, ◌++◌, length, take, drop};
+
 use disk_model::NoMemory;
 use std::alloc::Global;
 use std::marker::Model;
@@ -18,8 +20,8 @@ impl Model for Bytes {
 }
 
 impl Bytes {
-    ghost use Rattle.std.specs.Prelude.{◌≡◌, ◌≤◌, [], length, take, IfOk};
-    ghost use Rattle.disk_model.specs.Bytes.{read_from};
+    ghost use Rattle.std.specs.Prelude.{◌≡◌, ◌+◌, ◌-◌, ◌^◌, ◌<◌, ◌≤◌, [], ◌++◌, length, take, replicate, IfOk, OnOk, OnErr};
+    ghost use Rattle.disk_model.specs.Bytes.{put, resized, read_from};
 
     pub fn new(alloc: Global) -> Bytes
         ensures { result ≡ [] }
@@ -55,4 +57,52 @@ impl Bytes {
         out[..count].copy_from_slice(&rest[..count]);
         count
     }
+    // Puts bytes at a place, after zeros where there were fewer. Memory may refuse the room.
+    pub fn put(&mut self, at: u64, bytes: &[u8]) -> Result<(), NoMemory>
+        requires { at + length bytes.now < 2 ^ 64 }
+        ensures ok { OnOk result (self.new ≡ put self.old at bytes.now) }
+        ensures err { OnErr result (self.new ≡ self.old) }
+    {
+        let start = at as usize;
+        self.reach(start + bytes.len())?;
+        write_over(self.bytes.as_mut_slice(), start, bytes);
+        Ok(())
+    }
+
+    // Adds zeros up to a length. Memory may refuse the room.
+    fn reach(&mut self, len: usize) -> Result<(), NoMemory>
+        ensures ok { OnOk result (self.new ≡ self.old ++ replicate (len - length self.old) 0) }
+        ensures err { OnErr result (self.new ≡ self.old) }
+    {
+        if self.bytes.len() < len {
+            self.bytes.resize(len, 0)?;
+        }
+        Ok(())
+    }
+
+    // Cuts, or extends with zeros. Memory may refuse the room.
+    pub fn set_len(&mut self, len: u64) -> Result<(), NoMemory>
+        ensures ok { OnOk result (self.new ≡ resized self.old len) }
+        ensures err { OnErr result (self.new ≡ self.old) }
+    {
+        self.bytes.resize(len as usize, 0)?;
+        Ok(())
+    }
+
+    // Memory may refuse the room.
+    pub fn append(&mut self, bytes: &[u8]) -> Result<(), NoMemory>
+        ensures ok { OnOk result (self.new ≡ self.old ++ bytes.now) }
+        ensures err { OnErr result (self.new ≡ self.old) }
+    {
+        self.bytes.extend_from_slice(bytes)?;
+        Ok(())
+    }
+}
+
+// Writes bytes over those from a place on.
+fn write_over(out: &mut [u8], start: usize, bytes: &[u8])
+    requires { start + length bytes.now ≤ length out.old }
+    ensures { out.new ≡ take start out.old ++ (bytes.now ++ drop (start + length bytes.now) out.old) }
+{
+    out[start..start + bytes.len()].copy_from_slice(bytes);
 }

@@ -1,16 +1,84 @@
 // The calls of each kind of object, as its record keeps them.
-ghost use Rattle.std.specs.Prelude.{◌≡◌, IfSome, IfOk};
+ghost use Rattle.std.specs.Prelude.{◌≡◌, position, IfSome, IfOk};
+ghost use Rattle.disk_model.specs.Folder.{Look, ReadAt};
 ghost use Rattle.disk_model.specs.Opener.{Config, Open};
-ghost use Rattle.disk_memory.specs.Calls.{opener_call};
+ghost use Rattle.disk_model.specs.Vault.{VaultDone, ParityWrite, DraftAppend};
+ghost use Rattle.disk_memory.specs.declared.past.Made.{Made};
+ghost use Rattle.disk_memory.specs.declared.calls.VaultEntry.{VaultEntry};
+ghost use Rattle.disk_memory.specs.Calls.{vault_call, vault_calls, is_write, folder_call, opener_call};
 
-use disk_model::{NoMemory, Places, Text};
+use crate::bytes::Bytes;
+use crate::past::Made;
+use disk_model::{NoMemory, Path, Places, Text};
 use std::alloc::Global;
 
 /// A call of a vault.
 #[derive(Drop)]
 pub enum VaultEntry {
+    ParityLen(u32),
+    ParityRead(u32, u64, usize),
+    ParityWrite(u32, u64, Bytes),
+    ParitySetLen(u32, u64),
+    ParitySync(u32),
     ContentSize(u32),
     ContentRead(u32, u64, usize),
+    DraftBegin(u32),
+    DraftAppend(u32, Bytes),
+    DraftSeal(u32),
+    Publish(u32),
+}
+
+impl VaultEntry {
+    // Whether it is a write to a parity file.
+    pub fn is_write(&self) -> bool
+        ensures { result ≡ is_write (vault_call self.now) }
+    {
+        match self {
+            VaultEntry::ParityWrite(_, _, _) => true,
+            _ => false,
+        }
+    }
+}
+
+// The place of the first write to a parity file.
+pub fn first_write_in(entries: &[Made<VaultEntry>]) -> Option<usize>
+    ensures { result ≡ position (λ (d : VaultDone). is_write d.call) (vault_calls entries.now) }
+{
+    first_write_entry(entries)
+}
+
+fn first_write_entry(entries: &[Made<VaultEntry>]) -> Option<usize>
+    ensures { result ≡ position (λ (m : Made VaultEntry). is_write (vault_call m.call)) entries.now }
+{
+    entries.iter().position(|made| made.call.is_write())
+}
+
+/// A call of a folder.
+#[derive(Drop)]
+pub enum FolderEntry {
+    ListFiles,
+    Look(Path, bool),
+    ReadAt(Path, bool, u64, usize),
+}
+
+// None where memory refused it.
+pub fn look_entry(path: &Path, lost: bool) -> Option<FolderEntry>
+    ensures { IfSome result (λ entry. folder_call entry ≡ Look path.now lost) }
+{
+    match path.copy() {
+        Ok(path) => Some(FolderEntry::Look(path, lost)),
+        Err(NoMemory) => None,
+    }
+}
+
+// None where memory refused it.
+pub fn read_entry(path: &Path, lost: bool, at: u64, count: usize) -> Option<FolderEntry>
+    ensures { IfSome result (λ entry. folder_call entry ≡ ReadAt path.now lost at count) }
+{
+    match path.copy() {
+        Ok(path) => Some(FolderEntry::ReadAt(path, lost, at, count)),
+        Err(NoMemory) => None,
+    }
 }
 
 /// A call of an opener.
@@ -18,6 +86,26 @@ pub enum VaultEntry {
 pub enum OpenerEntry {
     Config(Text),
     Open(Places),
+}
+
+// None where memory refused it.
+pub fn write_entry(alloc: Global, level: u32, at: u64, bytes: &[u8]) -> Option<VaultEntry>
+    ensures { IfSome result (λ entry. vault_call entry ≡ ParityWrite level at bytes.now) }
+{
+    match Bytes::from_slice(alloc, bytes) {
+        Ok(bytes) => Some(VaultEntry::ParityWrite(level, at, bytes)),
+        Err(NoMemory) => None,
+    }
+}
+
+// None where memory refused it.
+pub fn append_entry(alloc: Global, copy: u32, bytes: &[u8]) -> Option<VaultEntry>
+    ensures { IfSome result (λ entry. vault_call entry ≡ DraftAppend copy bytes.now) }
+{
+    match Bytes::from_slice(alloc, bytes) {
+        Ok(bytes) => Some(VaultEntry::DraftAppend(copy, bytes)),
+        Err(NoMemory) => None,
+    }
 }
 
 // None where memory refused it.

@@ -22,16 +22,16 @@ pub struct MemOpener<F: Folder, V: Vault> {
 }
 
 impl<F: Folder, V: Vault> MemOpener<F, V> {
-    ghost use Rattle.std.specs.Prelude.{◌≡◌, [], ◌∷◌, ◌++◌, OnOk, OnErr};
-    ghost use Rattle.disk_memory.specs.Schedule.{fresh_plan};
-    ghost use Rattle.disk_memory.specs.Schedule.{plan_of};
+    ghost use Rattle.std.specs.Prelude.{◌≡◌, [], ◌∷◌, ◌++◌, map, OnOk, OnErr};
+    ghost use Rattle.disk_memory.specs.Schedule.{fresh_plan, plan_of};
+    ghost use Rattle.disk_memory.specs.Opener.{IsFreshOpener, SameOpener};
 
     /// An opener that holds these. No folder is closed, and the vault has no draft and nothing unsynced.
     pub fn new(alloc: Global, config: Vec<u8>, folders: Vec<F>, vault: V) -> Self
         requires { CanGive F.view folders.items (V.view vault) }
+        ensures view { IsFreshOpener config.items (map F.view folders.items) (V.view vault) (⟦<MemOpener<F, V> as Opener>⟧.view result) }
         ensures config { result.config.items ≡ config.items }
         ensures held { result.held ≡ Some (record { folders = folders; vault = vault }) }
-        ensures faults { result.schedule.faults ≡ 0 }
         ensures plan { plan_of result.schedule ≡ fresh_plan }
     {
         MemOpener {
@@ -44,6 +44,7 @@ impl<F: Folder, V: Vault> MemOpener<F, V> {
 
     /// Adds a number to the list of failing calls.
     pub fn fail_at(&mut self, call: u64) -> Result<(), NoMemory>
+        ensures same { SameOpener (⟦<MemOpener<F, V> as Opener>⟧.view self.old) (⟦<MemOpener<F, V> as Opener>⟧.view self.new) }
         ensures added { OnOk result (plan_of self.new.schedule ≡ record (plan_of self.old.schedule) { failing = (plan_of self.old.schedule).failing ++ call ∷ [] }) }
         ensures err { OnErr result (plan_of self.new.schedule ≡ plan_of self.old.schedule) }
     {
@@ -52,6 +53,7 @@ impl<F: Folder, V: Vault> MemOpener<F, V> {
 
     /// Every call after so many fails; the greatest u64 means none.
     pub fn stop_after(&mut self, calls: u64)
+        ensures same { SameOpener (⟦<MemOpener<F, V> as Opener>⟧.view self.old) (⟦<MemOpener<F, V> as Opener>⟧.view self.new) }
         ensures plan { plan_of self.new.schedule ≡ record (plan_of self.old.schedule) { stop = calls } }
     {
         self.schedule.stop_after(calls);

@@ -1,7 +1,7 @@
 // The record of an object's calls.
-ghost use Rattle.std.specs.Prelude.{◌≡◌, [], IsTrue, IfSome, IfNone, true, false};
+ghost use Rattle.std.specs.Prelude.{◌≡◌, ◌⊎◌, [], IsTrue, IfSome, IfNone, true, false};
 ghost use Rattle.std.specs.Bool.{OnTrue};
-ghost use Rattle.disk_memory.specs.Past.{Notes, Loses, Corrects};
+ghost use Rattle.disk_memory.specs.Past.{Notes, Loses, LosesNow, Corrects};
 ghost use Rattle.disk_memory.specs.Schedule.{plan_of, IsDue, counted};
 
 use crate::schedule::Schedule;
@@ -48,6 +48,7 @@ impl<C: Drop> Past<C> {
     pub fn note(&mut self, call: Option<C>) -> bool
         ensures noted { IfSome call (λ c. Notes c true self.old self.new) }
         ensures refused { IfNone call (Loses self.old self.new) }
+        ensures cause { result ≡ false → LosesNow self.old self.new }
     {
         if self.lost {
             return true;
@@ -67,6 +68,7 @@ pub fn begin<C: Drop>(schedule: &mut Schedule, past: &mut Past<C>, call: Option<
     ensures faults { schedule.new.faults ≡ schedule.old.faults }
     ensures counts { plan_of schedule.new ≡ counted (plan_of schedule.old) }
     ensures due { OnTrue result (¬ (IsDue (plan_of schedule.new))) }
+    ensures cause { result ≡ false → IsDue (plan_of schedule.new) ⊎ LosesNow past.old past.new }
     ensures noted { IfSome call (λ c. Notes c true past.old past.new) }
     ensures refused { IfNone call (Loses past.old past.new) }
 {

@@ -1,4 +1,7 @@
 // Which calls fail, and what is given.
+mod folder;
+mod vault;
+
 use crate::{MemFolder, MemOpener, MemSink, MemVault};
 use disk_model::{Failed, OpenFault, Opener, Places, Sink, Text, Vault};
 use std::test::Fail;

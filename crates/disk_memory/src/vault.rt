@@ -3,11 +3,12 @@ ghost use Rattle.std.specs.Prelude.{◌≡◌, [], replicate, None, IfOk};
 ghost use Rattle.std.specs.Vec.{vec_len};
 
 use crate::bytes::Bytes;
-use crate::calls::VaultEntry;
+use crate::calls::{VaultEntry, append_entry, first_write_in, write_entry};
 use crate::past::{Past, begin};
 use crate::schedule::Schedule;
 use disk_model::{Draft, Failed, NoMemory, Vault};
 use std::alloc::Global;
+use std::mem::replace;
 
 /// All parity files and content copies, in memory.
 #[derive(Drop)]
@@ -60,11 +61,13 @@ fn absent_drafts(alloc: Global, count: u32) -> Result<Vec<Draft>, NoMemory>
 }
 
 impl MemVault {
-    ghost use Rattle.std.specs.Prelude.{◌<◌, [], ◌∷◌, ◌++◌, IfOk, OnOk, OnErr};
+    ghost use Rattle.std.specs.Prelude.{◌<◌, ◌≤◌, [], ◌∷◌, ◌++◌, set, IfOk, OnOk, OnErr};
+    ghost use Rattle.disk_model.specs.Cause.{Rose};
     ghost use Rattle.std.specs.Option.{option_copied};
-    ghost use Rattle.disk_model.specs.Files.{with_content};
+    ghost use Rattle.disk_model.specs.Files.{with_parity, with_content};
     ghost use Rattle.disk_model.specs.Vault.{copies_of, IsSettled};
     ghost use Rattle.disk_memory.specs.Schedule.{fresh_plan};
+    ghost use Rattle.disk_memory.specs.Calls.{first_write};
     ghost use Rattle.disk_memory.specs.Vault.{vault_state, vault_view, vault_plan, fresh_vault};
 
     /// Empty parity files, no content copy, no draft.
@@ -85,6 +88,19 @@ impl MemVault {
         })
     }
 
+    /// Sets the bytes of a parity file: damage from outside.
+    pub fn set_parity(&mut self, level: u32, bytes: &[u8]) -> Result<(), NoMemory>
+        requires level { level < (vault_view self.old).levels }
+        requires settled { IsSettled (vault_view self.old) }
+        ensures set { OnOk result (vault_state self.new ≡ record (vault_state self.old) { files = with_parity (vault_state self.old).files level bytes.now }) }
+        ensures err { OnErr result (vault_state self.new ≡ vault_state self.old) }
+        ensures plan { vault_plan self.new ≡ vault_plan self.old }
+    {
+        let parity = Bytes::from_slice(self.alloc, bytes)?;
+        self.parities[level as usize] = parity;
+        Ok(())
+    }
+
     /// Sets a content copy, or takes it away: damage from outside.
     pub fn set_content(&mut self, copy: u32, bytes: Option<&[u8]>) -> Result<(), NoMemory>
         requires copy { copy < copies_of (vault_view self.old) }
@@ -99,6 +115,32 @@ impl MemVault {
         };
         self.contents[copy as usize] = content;
         Ok(())
+    }
+
+    /// The number, from 1, of the first write to a parity file among the recorded calls, 0 where there is none.
+    pub fn first_write(&self) -> u64
+        ensures { result ≡ first_write (vault_state self.now).calls }
+    {
+        match first_write_in(&self.past.made) {
+            Some(place) => place as u64 + 1,
+            None => 0,
+        }
+    }
+
+    // One failure more, and no draft of this copy.
+    fn lose_draft(&mut self, copy: u32) -> Failed
+        requires { copy < copies_of (vault_view self.old) }
+        ensures cause { Rose (vault_state self.old).faults (vault_state self.new).faults }
+        ensures later { (vault_state self.old).faults ≤ (vault_state self.new).faults }
+        ensures lost { vault_state self.new ≡ record (vault_state self.old) {
+          faults = (vault_state self.new).faults;
+          drafts = set (vault_state self.old).drafts copy Draft.Absent;
+          staged = set (vault_state self.old).staged copy [];
+        } }
+    {
+        self.drafts[copy as usize] = Draft::Absent;
+        self.staged[copy as usize] = Bytes::new(self.alloc);
+        self.schedule.fail()
     }
 
     /// Adds a number to the list of failing calls.
@@ -139,6 +181,61 @@ impl Vault for MemVault {
         self.copies
     }
 
+    fn parity_len(&mut self, level: u32) -> Result<u64, Failed> {
+        let entry = Some(VaultEntry::ParityLen(level));
+        if !begin(&mut self.schedule, &mut self.past, entry) {
+            return Err(self.schedule.fail());
+        }
+        self.past.succeed();
+        Ok(self.parities[level as usize].len())
+    }
+
+    fn parity_read(&mut self, level: u32, at: u64, out: &mut [u8]) -> Result<usize, Failed> {
+        let entry = Some(VaultEntry::ParityRead(level, at, out.len()));
+        if !begin(&mut self.schedule, &mut self.past, entry) {
+            return Err(self.schedule.fail());
+        }
+        self.past.succeed();
+        Ok(self.parities[level as usize].read(at, out))
+    }
+
+    fn parity_write(&mut self, level: u32, at: u64, bytes: &[u8]) -> Result<(), Failed> {
+        let entry = write_entry(self.alloc, level, at, bytes);
+        if !begin(&mut self.schedule, &mut self.past, entry) {
+            return Err(self.schedule.fail());
+        }
+        match self.parities[level as usize].put(at, bytes) {
+            Ok(()) => {
+                self.past.succeed();
+                Ok(())
+            }
+            Err(NoMemory) => Err(self.schedule.fail()),
+        }
+    }
+
+    fn parity_set_len(&mut self, level: u32, len: u64) -> Result<(), Failed> {
+        let entry = Some(VaultEntry::ParitySetLen(level, len));
+        if !begin(&mut self.schedule, &mut self.past, entry) {
+            return Err(self.schedule.fail());
+        }
+        match self.parities[level as usize].set_len(len) {
+            Ok(()) => {
+                self.past.succeed();
+                Ok(())
+            }
+            Err(NoMemory) => Err(self.schedule.fail()),
+        }
+    }
+
+    fn parity_sync(&mut self, level: u32) -> Result<(), Failed> {
+        let entry = Some(VaultEntry::ParitySync(level));
+        if !begin(&mut self.schedule, &mut self.past, entry) {
+            return Err(self.schedule.fail());
+        }
+        self.past.succeed();
+        Ok(())
+    }
+
     fn content_size(&mut self, copy: u32) -> Result<Option<u64>, Failed> {
         let entry = Some(VaultEntry::ContentSize(copy));
         if !begin(&mut self.schedule, &mut self.past, entry) {
@@ -162,5 +259,53 @@ impl Vault for MemVault {
             Some(bytes) => Ok(bytes.read(at, out)),
             None => Ok(0),
         }
+    }
+
+    fn draft_begin(&mut self, copy: u32) -> Result<(), Failed> {
+        let entry = Some(VaultEntry::DraftBegin(copy));
+        if !begin(&mut self.schedule, &mut self.past, entry) {
+            return Err(self.lose_draft(copy));
+        }
+        self.past.succeed();
+        self.drafts[copy as usize] = Draft::Open;
+        self.staged[copy as usize] = Bytes::new(self.alloc);
+        Ok(())
+    }
+
+    fn draft_append(&mut self, copy: u32, bytes: &[u8]) -> Result<(), Failed> {
+        let entry = append_entry(self.alloc, copy, bytes);
+        if !begin(&mut self.schedule, &mut self.past, entry) {
+            return Err(self.lose_draft(copy));
+        }
+        match self.staged[copy as usize].append(bytes) {
+            Ok(()) => {
+                self.past.succeed();
+                Ok(())
+            }
+            Err(NoMemory) => Err(self.lose_draft(copy)),
+        }
+    }
+
+    fn draft_seal(&mut self, copy: u32) -> Result<(), Failed> {
+        let entry = Some(VaultEntry::DraftSeal(copy));
+        if !begin(&mut self.schedule, &mut self.past, entry) {
+            return Err(self.lose_draft(copy));
+        }
+        self.past.succeed();
+        self.drafts[copy as usize] = Draft::Sealed;
+        Ok(())
+    }
+
+    fn publish(&mut self, copy: u32) -> Result<(), Failed> {
+        let entry = Some(VaultEntry::Publish(copy));
+        if !begin(&mut self.schedule, &mut self.past, entry) {
+            return Err(self.lose_draft(copy));
+        }
+        self.past.succeed();
+        let none = Bytes::new(self.alloc);
+        let bytes = replace(&mut self.staged[copy as usize], none);
+        self.drafts[copy as usize] = Draft::Absent;
+        self.contents[copy as usize] = Some(bytes);
+        Ok(())
     }
 }

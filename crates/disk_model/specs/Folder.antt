@@ -1,10 +1,14 @@
 -- What is known of a folder, and what its calls do.
-use Rattle.std.specs.Prelude.{◌≡◌, ℕ, ◌≤◌, List, [], None, Bool, false, IsTrue}
+use Rattle.std.specs.Prelude.{◌≡◌, ◌≢◌, ℕ, ◌≤◌, List, [], ◌∷◌, None, Bool, true, false, IsTrue, Result, Ok, Err}
 use Rattle.std.specs.FinMap as map
-use Rattle.disk_model.specs.Cause.{Grows}
+use Rattle.disk_model.specs.Cause.{Rose, Grows}
 use Rattle.disk_model.specs.Tree.{Tree, file_of, IsTree, IsApart}
 use Rattle.disk_model.specs.Path.{IsValidPath}
 use Rattle.disk_model.specs.declared.meta.Stamp.{Stamp}
+use Rattle.disk_model.specs.declared.fault.FileFault.{FileFault}
+use Rattle.disk_model.specs.declared.fault.FileFault.TheVariants as files
+use Rattle.disk_model.specs.declared.fault.ListFault.{ListFault}
+use Rattle.disk_model.specs.declared.fault.ListFault.TheVariants as lists
 
 -- a call with its arguments
 pub data FolderCall : Type 0 where
@@ -51,6 +55,42 @@ pub record FolderGoesOn (old new : FolderView) (done : List FolderDone) : Type 0
   pub closed : new.closed ≡ old.closed
   pub tells : new.tells ≡ old.tells
   pub calls : Grows old.tells_calls old.calls new.tells_calls new.calls done
+
+-- the answer is `Failed`, of a listing and of a call on one file
+abbrev pub listing_failed : {T : Type 0} → Result T ListFault → Bool
+listing_failed (Ok _) = false
+listing_failed (Err lists.Failed) = true
+listing_failed (Err lists.Memory) = false
+
+abbrev pub file_failed : {T : Type 0} → Result T FileFault → Bool
+file_failed (Ok _) = false
+file_failed (Err files.Failed) = true
+file_failed (Err files.Missing) = false
+
+-- one call, with its cause where it failed
+pub record IsFolderCall (call : FolderCall) (failed : Bool) (old new : FolderView) : Type 0 where
+  pub goes_on : FolderGoesOn old new (record { call = call; failed = failed } ∷ [])
+  pub cause : IsTrue failed → Rose old.faults new.faults
+
+-- the files stay
+abbrev pub TreeStays : FolderView → FolderView → Type 0
+TreeStays old new = IsTrue old.tells → new.tree ≡ old.tree
+
+-- a call that only reads
+pub record IsFolderReading (call : FolderCall) (failed : Bool) (old new : FolderView) : Type 0 where
+  pub called : IsFolderCall call failed old new
+  pub tree : TreeStays old new
+
+-- `Missing` is answered exactly where the call does not fail and there is no such file
+abbrev pub MissingExactly : {T : Type 0} → Result T FileFault → FolderView → List ℕ → Type 0
+MissingExactly (Ok _) old path = IsTrue old.tells → file_of old.tree path ≢ None
+MissingExactly (Err files.Missing) old path = IsTrue old.tells → file_of old.tree path ≡ None
+MissingExactly (Err files.Failed) old path = Unit {0}
+
+-- some calls were made
+pub record SomeFolderCalls (old new : FolderView) : Type 0 where
+  pub done : List FolderDone
+  pub goes_on : FolderGoesOn old new done
 
 -- one that tells only what is always told, and is open
 abbrev pub quiet_folder : ℕ → Bool → FolderView

@@ -1,6 +1,7 @@
 -- What is known of an opener, and what its calls do.
-use Rattle.std.specs.Prelude.{◌≡◌, ℕ, ◌≤◌, List, [], ◌∷◌, replicate, get_or, Bool, true, false, IsTrue, Result, Ok, Err}
+use Rattle.std.specs.Prelude.{◌≡◌, ◌↔◌, ℕ, ◌≤◌, List, [], ◌∷◌, replicate, get_or, Bool, true, false, IsTrue, Result, Ok, Err}
 use Rattle.disk_model.specs.Cause.{Rose, Grows}
+use Rattle.disk_model.specs.Files.{Files}
 use Rattle.disk_model.specs.Folder.{FolderView, quiet_folder}
 use Rattle.disk_model.specs.Vault.{VaultView, IsSettled}
 use Rattle.disk_model.specs.declared.draft.Draft.TheVariants.{Absent}
@@ -62,10 +63,12 @@ pub record SameVault (is_told : Bool) (held other : VaultView) : Type 0 where
   pub drafts : IsTrue is_told → other.drafts ≡ held.drafts
   pub tells : IsTrue is_told → other.tells ≡ held.tells
   pub files : IsTrue is_told → other.files ≡ held.files
+  pub staged : IsTrue is_told → other.staged ≡ held.staged
   pub tells_calls : IsTrue is_told → other.tells_calls ≡ held.tells_calls
   pub calls : IsTrue is_told → other.calls ≡ held.calls
   pub tells_images : IsTrue is_told → other.images.told ≡ held.images.told
   pub moment : IsTrue is_told → other.images.moment ≡ held.images.moment
+  pub since : IsTrue is_told → (t : ℕ) (files : Files) → other.images.since t files ↔ held.images.since t files
 
 -- the vault is given as it was held, with nothing unsynced and no draft
 pub record VaultIsGiven (is_told : Bool) (parities contents : ℕ) (held given : VaultView) : Type 0 where

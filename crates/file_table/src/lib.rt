@@ -25,5 +25,6 @@ pub use builder::Builder;
 pub use fault::BuildFault;
 pub use info::{Info, Mark};
 pub use name::is_name;
+pub use record_path::is_record_path;
 pub use shape::Shape;
 pub use table::Table;

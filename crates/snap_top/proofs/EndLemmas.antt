@@ -1,34 +1,43 @@
--- How a run ends where its line wants memory.
-use Rattle.std.proofs.Common.{◌≡◌, ◌⊎◌, inl, inr, ℕ, List, Bool, sym, subst}
-use Rattle.disk_model.specs.Opener.{OpenerView}
+-- The ends of a run.
+use Rattle.std.proofs.Common.{◌≡◌, ◌⊎◌, inl, inr, ℕ, List, [], ◌++◌, length, map, take, drop, true, refl, sym, ◌∙◌, ap, subst}
+use Rattle.std.proofs.Math.Seq.{take-append_seam}
+use Rattle.disk_model.specs.Folder.{FolderView}
+use Rattle.disk_model.specs.Opener.{OpenerView, VaultIsGiven}
 use Rattle.disk_model.specs.Sink.{SinkView}
 use Rattle.disk_model.specs.Vault.{VaultView}
+use Rattle.snap_sync.specs.Sync.{AllReadOnly}
+use Rattle.snap_top.specs.End.{IsEndWith, line_of}
+use Rattle.snap_top.specs.FirstForm.{FormValue}
+use Rattle.snap_top.specs.Lines.{plain_line}
+use Rattle.snap_top.specs.Opening.{IsOpened}
+use Rattle.snap_top.specs.Run.{Entry, Exit, at_exit, Ends, ends_opened, ends_till_memory, Task, Works, opening_of}
+use Rattle.snap_top.specs.declared.end.End.{End}
 use Rattle.snap_top.specs.declared.why.Why.{Why}
-use Rattle.snap_top.specs.declared.why.Why.TheVariants.{BadConfig, NoMemory}
-use Rattle.snap_top.specs.Opening.{Refuses, refuses_words, refuses_config, fails_at_config, fails_at_opening, memory_at_config, memory_at_opening}
-use Rattle.snap_top.specs.Run.{Entry, Exit, Ends, ends_refused, ends_opened, Lists, lists_all, lists_part, lists_till_memory, lists_unloaded, lists_failed, lists_damaged, IsWithoutLine}
+use Rattle.snap_top.specs.declared.why.Why.TheVariants.{NoMemory}
+use Rattle.snap_top.specs.declared.words.Command.{Command}
+use Rattle.snap_top.proofs.RunLemmas.{works_held}
 
-refused_without_line : (words : List (List ℕ)) (old new : OpenerView) (why : Why) → why ≡ BadConfig → Refuses words old new why → Refuses words old new NoMemory
-refused_without_line words old new _ is (refuses_words none calls) = absurd (cc)
-refused_without_line words old new _ is (refuses_config file asked says calls) = memory_at_config file asked calls
-refused_without_line words old new _ is (fails_at_config file asked rose calls) = absurd (cc)
-refused_without_line words old new _ is (fails_at_opening form configured rose calls) = absurd (cc)
-refused_without_line words old new _ is (memory_at_config file asked calls) = memory_at_config file asked calls
-refused_without_line words old new _ is (memory_at_opening form configured calls) = memory_at_opening form configured calls
+-- a run that opened its array ends as its work does
+pub opened_ends : {F : Type 0} (view : F → FolderView) (words : List (List ℕ)) (entry : Entry) (opener : OpenerView) (command : Command) (form : FormValue) (opened lent news items : List F) (held vault : VaultView) (out : SinkView) (why : Why) (line : List ℕ)
+    → lent ≡ opened → items ≡ news → IsOpened words entry.opener opener command form (map view opened) → VaultIsGiven entry.opener.tells 1 1 entry.opener.vault held
+    → AllReadOnly (map view lent) (map view news)
+    → Works (record { command = command; form = form; now = entry.now; seed = entry.seed }) (opening_of held (map view lent) entry.out) vault (map view news) out why line
+    → Ends words entry (at_exit opener (map view items) true vault out) why line
+opened_ends view words entry opener command form opened lent news items held vault out why line lent_is items_are is_opened given read works =
+    subst (λ fs. Ends words entry (at_exit opener (map view fs) true vault out) why line) (sym items_are)
+    (ends_opened command form (map view lent) why line (subst (λ fs. IsOpened words entry.opener opener command form (map view fs)) (sym lent_is) is_opened) refl read
+    (works_held entry.opener.tells entry.opener.vault held _ (map view lent) entry.out vault (map view news) out why line given works))
 
-not_listed : (is_told : Bool) (held now : VaultView) (out out_new : SinkView) (why : Why) → why ≡ BadConfig → Lists is_told held now out out_new why → ⊥
-not_listed is_told held now out out_new _ is (lists_all table loads goes_on text) = cc
-not_listed is_told held now out out_new _ is (lists_part table loads goes_on rose part) = cc
-not_listed is_told held now out out_new _ is (lists_till_memory table loads goes_on part) = cc
-not_listed is_told held now out out_new _ is (lists_unloaded same) = cc
-not_listed is_told held now out out_new _ is (lists_failed rose fails same) = cc
-not_listed is_told held now out out_new _ is (lists_damaged damaged same) = cc
+-- the end of a run by an equal cause and line
+ends_same : (words : List (List ℕ)) (entry : Entry) (exit : Exit) (why other : Why) (line text : List ℕ) → other ≡ why → text ≡ line → Ends words entry exit why line → Ends words entry exit other text
+ends_same words entry exit why other line text why_is line_is ends = subst (λ w. Ends words entry exit w text) (sym why_is) (subst (λ l. Ends words entry exit why l) (sym line_is) ends)
 
-ends_without_line : (words : List (List ℕ)) (before : Entry) (after : Exit) (why : Why) → why ≡ BadConfig → Ends words before after why → Ends words before after NoMemory
-ends_without_line words before after why is (ends_refused refused kept folders vault out) = ends_refused (refused_without_line words before.opener after.opener why is refused) kept folders vault out
-ends_without_line words before after why is (ends_opened opened vault read lists) = absurd (not_listed before.opener.tells before.opener.vault after.vault before.out after.out why is lists)
+-- an end with its line, or for want of memory
+pub run_ends_with : (words : List (List ℕ)) (entry : Entry) (exit : Exit) (why : Why) (line : List ℕ) (end : End) → Ends words entry exit why line
+    → IsEndWith why line end ⊎ IsEndWith NoMemory (plain_line NoMemory) end → Ends words entry exit end.why (line_of end)
+run_ends_with words entry exit why line end ends (inl same) = ends_same words entry exit why end.why line (line_of end) same.why_is same.line_is ends
+run_ends_with words entry exit why line end ends (inr memory) = ends_same words entry exit NoMemory end.why (plain_line NoMemory) (line_of end) memory.why_is memory.line_is (ends_till_memory why line ends)
 
--- the run ends as was said
-pub ends_as_said : (words : List (List ℕ)) (before : Entry) (after : Exit) (why said : Why) → Ends words before after why → (said ≡ why) ⊎ IsWithoutLine why said → Ends words before after said
-ends_as_said words before after why said ends (inl same) = subst (Ends words before after) (sym same) ends
-ends_as_said words before after why said ends (inr without) = subst (Ends words before after) (sym without.is) (ends_without_line words before after why without.was ends)
+-- what was lent and written stands in the place of what was there
+pub written_back : {A : Type 0} (n : ℕ) (news olds : List A) → n ≡ length news → take n (news ++ olds) ≡ news
+written_back n news olds is = ap (λ k. take k (news ++ olds)) is ∙ take-append_seam news olds

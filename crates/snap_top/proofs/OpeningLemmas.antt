@@ -12,6 +12,7 @@ use Rattle.snap_top.specs.FirstForm.{FormDisk, FormValue, Says, SaysNothing}
 use Rattle.snap_top.specs.FormSetup.{Holds}
 use Rattle.snap_top.specs.Opening.{IsConfigured, IsOpened, opens, reads_config}
 use Rattle.snap_top.specs.declared.first_form.Setup.{Setup}
+use Rattle.snap_top.specs.declared.words.Command.{Command}
 
 -- no call
 pub no_calls_yet : (opener : OpenerView) → OpenerGoesOn opener opener []
@@ -57,10 +58,12 @@ holds_start opener = record {
     drafts = λ told. refl;
     tells = λ told. refl;
     files = λ told. refl;
+    staged = λ told. refl;
     tells_calls = λ told. refl;
     calls = λ told. refl;
     tells_images = λ told. refl;
     moment = λ told. refl;
+    since = λ told t files. (λ left. left, λ left. left);
   };
 }
 
@@ -71,10 +74,12 @@ same_vault_then told_old told_mid old mid new tells one two = record {
   drafts = λ told. two.drafts (tells ∙ told) ∙ one.drafts told;
   tells = λ told. two.tells (tells ∙ told) ∙ one.tells told;
   files = λ told. two.files (tells ∙ told) ∙ one.files told;
+  staged = λ told. two.staged (tells ∙ told) ∙ one.staged told;
   tells_calls = λ told. two.tells_calls (tells ∙ told) ∙ one.tells_calls told;
   calls = λ told. two.calls (tells ∙ told) ∙ one.calls told;
   tells_images = λ told. two.tells_images (tells ∙ told) ∙ one.tells_images told;
   moment = λ told. two.moment (tells ∙ told) ∙ one.moment told;
+  since = λ told t files. (λ left. (one.since told t files).0 ((two.since (tells ∙ told) t files).0 left), λ left. (two.since (tells ∙ told) t files).1 ((one.since told t files).1 left));
 }
 
 pub holds_then : (old mid new : OpenerView) → mid.tells ≡ old.tells → HoldsSame old mid → HoldsSame mid new → HoldsSame old new
@@ -133,9 +138,9 @@ vault_given old mid given same tells is = record {
 }
 
 -- what a setup was read from, the words and the file say
-abbrev pub is_configured : (words : List (List ℕ)) (file front : List ℕ) (form : FormValue) (old : OpenerView) → Asks words file → (IsTrue old.tells → front ≡ take 1048577 old.config) → Says front form
-    → IsConfigured words old form
-is_configured words file front form old asked is says = record {
+abbrev pub is_configured : (words : List (List ℕ)) (file front : List ℕ) (command : Command) (form : FormValue) (old : OpenerView) → Asks words command file → (IsTrue old.tells → front ≡ take 1048577 old.config) → Says front form
+    → IsConfigured words old command form
+is_configured words file front command form old asked is says = record {
   file = file;
   asked = asked;
   valid = says.valid;
@@ -146,15 +151,16 @@ as_many : {A B : Type 0} (f : A → B) (xs : List A) → length (map f xs) ≡ l
 as_many f [] = refl
 as_many f (x ∷ xs) = ap (λ n. suc n) (as_many f xs)
 
-pub opened_as_named : {F : Type 0} (view : F → FolderView) (fs : List F) (words : List (List ℕ)) (form : FormValue) (setup : Setup) (old mid new : OpenerView) (configured : IsConfigured words old form)
+pub opened_as_named : {F : Type 0} (view : F → FolderView) (fs : List F) (words : List (List ℕ)) (command : Command) (form : FormValue) (setup : Setup) (old mid new : OpenerView) (configured : IsConfigured words old command form)
     → OpenerGoesOn old new (reads_config configured.file false ∷ opens form false ∷ []) → HoldsSame old mid → mid.tells ≡ old.tells → Holds setup form → length fs ≡ length setup.places.dirs.items
+    → (IsTrue mid.tells → length fs ≡ length mid.folders)
     → ((column : ℕ) → column < length fs → FolderIsGiven mid.tells (folder_held mid column) (get_or (map view fs) column (quiet_folder 0 false)))
-    → IsOpened words old new (map view fs)
-opened_as_named view fs words form setup old mid new configured calls same tells holds columns given = record {
-  form = form;
+    → IsOpened words old new command form (map view fs)
+opened_as_named view fs words command form setup old mid new configured calls same tells holds columns just given = record {
   configured = configured;
   calls = calls;
   columns = as_many view fs ∙ columns ∙ ap length holds.dirs ∙ as_many (λ (disk : FormDisk). disk.dir) form.disks;
+  just = λ told. as_many view fs ∙ just (tells ∙ told) ∙ ap length (same.folders told);
   folders_given = λ column below. folder_given old mid column _ same tells (given column (let same_many = as_many view fs in omega (arith, below, same_many)));
 }
 

@@ -36,6 +36,7 @@ part_of_both first more old mid new whole part = record {
 pub prints_none : (sink : SinkView) → Prints {T = Unit {0}} [] (Ok tt) sink sink
 prints_none sink = record {
   goes_on = record { later = omega arith; tells = refl };
+  unfailed = refl;
   whole = λ told. sym (append-nil sink.written);
   part = λ told. part_of_none [] sink.written;
   cause = λ never. absurd (cc);
@@ -47,6 +48,7 @@ prints_then first more result old mid new one two =
     let tells : mid.tells ≡ old.tells = one.goes_on.tells in
     record {
       goes_on = record { later = omega (arith, one.goes_on.later, two.goes_on.later); tells = two.goes_on.tells ∙ tells };
+      unfailed = whole_of result two.unfailed (λ same. same ∙ one.unfailed);
       whole = whole_of result two.whole (λ both told. both (tells ∙ told) ∙ ap (λ xs. xs ++ more) (one.whole told) ∙ append_assoc old.written first more);
       part = λ told. part_of_both first more _ _ _ (one.whole told) (two.part (tells ∙ told));
       cause = λ is. rose_after _ _ _ one.goes_on.later (two.cause is);
@@ -60,6 +62,7 @@ prints_then first more result old mid new one two =
 pub prints_cut : {T U : Type 0} (text more : List ℕ) (cut : Cut) (old new : SinkView) → Prints {T = T} text (Err cut) old new → Prints {T = U} (text ++ more) (Err cut) old new
 prints_cut text more cut old new one = record {
   goes_on = one.goes_on;
+  unfailed = tt;
   whole = tt;
   part = λ told. part_of_first text more _ _ (one.part told);
   cause = λ is. one.cause (let same : cut ≡ Output = cc in ap (λ c. Err c) same);

@@ -1,13 +1,26 @@
--- What is said of a vault that was given, said of the one that was held.
-use Rattle.std.proofs.Common.{◌≡◌, ◌⊎◌, inl, inr, ℕ, ◌++◌, Bool, true, IsTrue, arith, refl, sym, ◌∙◌, ap, subst}
+-- What is said of a vault that was given, said of the one that an opener held.
+use Rattle.std.proofs.Common.{◌≡◌, ◌⊎◌, inl, inr, ℕ, ◌<◌, ◌∷◌, [], ◌++◌, length, Bool, true, IsTrue, List, Option, None, Some, MatchOption, arith, refl, sym, ◌∙◌, ap, subst}
 use Rattle.disk_model.specs.Cause.{Rose}
-use Rattle.disk_model.specs.Files.{Files, Stays}
+use Rattle.disk_model.specs.Files.{Files, Stays, content_of}
+use Rattle.disk_model.specs.Folder.{FolderView}
 use Rattle.disk_model.specs.Moments.{ComesBy, MayLeave}
 use Rattle.disk_model.specs.Opener.{VaultIsGiven, SameVault}
 use Rattle.disk_model.specs.Sink.{SinkView}
-use Rattle.disk_model.specs.Vault.{VaultView, SomeCalls, ChangesBy, DraftsStay}
+use Rattle.disk_model.specs.Vault.{VaultView, SomeCalls, ChangesBy, DraftsStay, copies_of}
+use Rattle.content_file.specs.Load.{Loads, LoadsNothing}
+use Rattle.file_table.specs.Table.{TableValue}
+use Rattle.snap_sync.specs.Sync.{Before, before_of}
+use Rattle.snap_top.specs.End.{IsEndWith, line_of}
+use Rattle.snap_top.specs.FirstForm.{FormValue}
+use Rattle.snap_top.specs.Lines.{plain_line}
+use Rattle.snap_top.specs.Matching.{Matches}
+use Rattle.snap_top.specs.declared.end.End.{End}
 use Rattle.snap_top.specs.declared.why.Why.{Why}
-use Rattle.snap_top.specs.Run.{IsReadOnly, IsReadWhereTold, Lists, lists_all, lists_part, lists_till_memory, lists_unloaded, lists_failed, lists_damaged}
+use Rattle.snap_top.specs.declared.why.Why.TheVariants.{NoMemory}
+use Rattle.snap_top.specs.declared.words.Command.{Command}
+use Rattle.snap_top.specs.declared.words.Command.TheVariants as commands
+use Rattle.snap_top.specs.Run.{IsReadOnly, IsReadWhereTold, IsGivenOne, LoadsNot, loads_not_for_memory, loads_not_for_failure, loads_not_for_damage, HasNoContent, StartsSync, IsTouched, SomeAdded, MatchesLoaded}
+use Rattle.snap_top.specs.Run.{Task, Opening, opening_of, Works, works_unloaded, works_differs, works_list, works_not_over_content, works_sync, works_till_memory}
 use Rattle.snap_top.proofs.LoadedLemmas.{loads_held, fails_held, is_damaged_held}
 
 -- an image since the opening holds what was held
@@ -16,46 +29,166 @@ image_is_held : (given : VaultView) (t : ℕ) (files : Files) → t ≡ given.im
 image_is_held given t files now settled told (inl left) = settled told files (subst (λ m. given.images.since m files) now left)
 image_is_held given t files now settled told (inr comes) = comes.2 ∙ settled told comes.0 comes.1
 
-read_only : (held given now : VaultView) → SameVault true held given → (IsTrue given.images.told → (files : Files) → MayLeave given.images files → files ≡ given.files)
-    → SomeCalls given now → ChangesBy Stays given now → IsReadOnly held now
-read_only held given now same settled calls changes =
-    let told_now : IsTrue true = refl in
-    let tells : given.tells ≡ held.tells = same.tells told_now in
-    let files : given.files ≡ held.files = same.files told_now in
-    let tells_calls : given.tells_calls ≡ held.tells_calls = same.tells_calls told_now in
-    let moment : given.images.moment ≡ held.images.moment = same.moment told_now in
-    record {
-      tells = calls.goes_on.tells ∙ tells;
-      files = λ told. changes.reads (tells ∙ told) ∙ files;
-      calls = record {
-        done = calls.done;
-        grown = record {
-          told = λ told. sym tells_calls ∙ calls.goes_on.calls.told told;
-          more = λ told. calls.goes_on.calls.more told ∙ ap (λ cs. cs ++ calls.done) (same.calls told_now);
-        };
-      };
-      told = λ told. sym (same.tells_images told_now) ∙ changes.leaves.told told;
-      later = λ told. omega (arith, moment, changes.leaves.later told);
-      stops = λ told left since.
-          image_is_held given held.images.moment left (sym moment) settled (changes.leaves.told told) (changes.leaves.within told held.images.moment left (omega (arith, moment)) since) ∙ files;
-    }
+added : (old new : VaultView) → SomeCalls old new → SomeAdded old new
+added old new calls = record { done = calls.done; grown = calls.goes_on.calls }
 
-pub read_where_told : (is_told : Bool) (held given now : VaultView) → VaultIsGiven is_told 1 1 held given → SomeCalls given now → ChangesBy Stays given now → DraftsStay given now → IsReadWhereTold is_told held now
-read_where_told is_told held given now is calls changes drafts = record {
-  later = omega (arith, is.same.faults, calls.goes_on.later);
+-- a vault of which only reading calls were made
+pub read_here : (given now : VaultView) → IsGivenOne given → SomeCalls given now → ChangesBy Stays given now → DraftsStay given now → IsReadWhereTold true given now
+read_here given now is calls changes drafts = record {
+  later = calls.goes_on.later;
   levels = calls.goes_on.levels ∙ is.levels;
   drafts = drafts.state ∙ is.drafts;
-  told = λ told. read_only held given now (subst (λ b. SameVault b held given) told is.same) is.settled calls changes;
+  held_levels = λ _. calls.goes_on.levels;
+  held_drafts = λ _. drafts.state;
+  told = λ _. record {
+    tells = calls.goes_on.tells;
+    files = λ told. changes.reads told;
+    staged = λ told. drafts.bytes told;
+    calls = added given now calls;
+    told = λ told. changes.leaves.told told;
+    later = λ told. changes.leaves.later told;
+    stops = λ told left since. image_is_held given given.images.moment left refl is.settled (changes.leaves.told told) (changes.leaves.within told given.images.moment left (omega arith) since);
+  };
+}
+
+-- a vault of which calls were made
+pub touched_here : (given now : VaultView) → IsGivenOne given → SomeCalls given now → IsTouched true given now
+touched_here given now is calls = record {
+  later = calls.goes_on.later;
+  levels = calls.goes_on.levels ∙ is.levels;
+  copies = calls.goes_on.copies ∙ ap length is.drafts;
+  tells = λ _. calls.goes_on.tells;
+  calls = λ _. added given now calls;
+}
+
+-- no content was loaded
+pub nothing_here : (given now : VaultView) → LoadsNothing given now → HasNoContent true given
+nothing_here given now loads told tells copy within = loads.none tells copy within
+
+-- a sync that begins after loading
+pub starts_here : (given mid : VaultView) (folders : List FolderView) (out : SinkView) → IsGivenOne given → SomeCalls given mid → ChangesBy Stays given mid → StartsSync true given folders out (before_of folders mid out)
+starts_here given mid folders out is calls changes = record {
+  folders_are = refl;
+  files_are = λ _ tells. changes.reads tells;
+  copies_are = calls.goes_on.copies ∙ ap length is.drafts;
+  later = calls.goes_on.later;
+  out_is = refl;
 }
 
 same_told : (is_told : Bool) (held given : VaultView) → VaultIsGiven is_told 1 1 held given → IsTrue is_told → SameVault true held given
 same_told is_told held given is told = subst (λ b. SameVault b held given) told is.same
 
--- how listing what was given ends, said of what was held
-pub lists_held : (is_told : Bool) (held given now : VaultView) (out out_new : SinkView) (why : Why) → VaultIsGiven is_told 1 1 held given → Lists true given now out out_new why → Lists is_told held now out out_new why
-lists_held is_told held given now out out_new _ is (lists_all table loads goes_on text) = lists_all table (λ told. loads_held held given now table (same_told is_told held given is told) (loads refl)) goes_on text
-lists_held is_told held given now out out_new _ is (lists_part table loads goes_on rose part) = lists_part table (λ told. loads_held held given now table (same_told is_told held given is told) (loads refl)) goes_on rose part
-lists_held is_told held given now out out_new _ is (lists_till_memory table loads goes_on part) = lists_till_memory table (λ told. loads_held held given now table (same_told is_told held given is told) (loads refl)) goes_on part
-lists_held is_told held given now out out_new _ is (lists_unloaded same) = lists_unloaded same
-lists_held is_told held given now out out_new _ is (lists_failed rose fails same) = lists_failed (subst (λ n. Rose n now.faults) is.same.faults rose) (λ told. fails_held held given now (same_told is_told held given is told) (fails refl)) same
-lists_held is_told held given now out out_new _ is (lists_damaged damaged same) = lists_damaged (λ told. is_damaged_held held given now (same_told is_told held given is told) (damaged refl)) same
+added_held : (held given now : VaultView) → SameVault true held given → SomeAdded given now → SomeAdded held now
+added_held held given now same one = record {
+  done = one.done;
+  grown = record { told = λ told. sym (same.tells_calls refl) ∙ one.grown.told told; more = λ told. one.grown.more told ∙ ap (λ cs. cs ++ one.done) (same.calls refl) };
+}
+
+read_only_held : (held given now : VaultView) → SameVault true held given → IsReadOnly given now → IsReadOnly held now
+read_only_held held given now same one =
+    let tells : given.tells ≡ held.tells = same.tells refl in
+    let files : given.files ≡ held.files = same.files refl in
+    let moment : given.images.moment ≡ held.images.moment = same.moment refl in
+    record {
+      tells = one.tells ∙ tells;
+      files = λ told. one.files (tells ∙ told) ∙ files;
+      staged = λ told. one.staged (tells ∙ told) ∙ same.staged refl;
+      calls = added_held held given now same one.calls;
+      told = λ told. sym (same.tells_images refl) ∙ one.told told;
+      later = λ told. omega (arith, moment, one.later told);
+      stops = λ told left since. one.stops told left (subst (λ m. now.images.since m left) (sym moment) since) ∙ files;
+    }
+
+read_held : (is_told : Bool) (held given now : VaultView) → VaultIsGiven is_told 1 1 held given → IsReadWhereTold true given now → IsReadWhereTold is_told held now
+read_held is_told held given now is one = record {
+  later = omega (arith, is.same.faults, one.later);
+  levels = one.levels;
+  drafts = one.drafts;
+  held_levels = λ told. one.held_levels refl ∙ is.same.levels told;
+  held_drafts = λ told. one.held_drafts refl ∙ is.same.drafts told;
+  told = λ told. read_only_held held given now (same_told is_told held given is told) (one.told refl);
+}
+
+loads_not_held : (is_told : Bool) (held given now : VaultView) (why : Why) → VaultIsGiven is_told 1 1 held given → LoadsNot true given now why → LoadsNot is_told held now why
+loads_not_held is_told held given now _ is loads_not_for_memory = loads_not_for_memory
+loads_not_held is_told held given now _ is (loads_not_for_failure rose fails) =
+    loads_not_for_failure (subst (λ n. Rose n now.faults) is.same.faults rose) (λ told. fails_held held given now (same_told is_told held given is told) (fails refl))
+loads_not_held is_told held given now _ is (loads_not_for_damage damaged) = loads_not_for_damage (λ told. is_damaged_held held given now (same_told is_told held given is told) (damaged refl))
+
+no_content_held : (is_told : Bool) (held given : VaultView) → VaultIsGiven is_told 1 1 held given → HasNoContent true given → HasNoContent is_told held
+no_content_held is_told held given is none told tells copy within =
+    let same = same_told is_told held given is told in
+    sym (ap (λ (files : Files). content_of files copy) (same.files refl)) ∙ none refl (same.tells refl ∙ tells) copy (subst (λ n. copy < n) (sym (ap length (same.drafts refl))) within)
+
+touched_held : (is_told : Bool) (held given now : VaultView) → VaultIsGiven is_told 1 1 held given → IsTouched true given now → IsTouched is_told held now
+touched_held is_told held given now is one = record {
+  later = omega (arith, is.same.faults, one.later);
+  levels = one.levels;
+  copies = one.copies;
+  tells = λ told. one.tells refl ∙ is.same.tells told;
+  calls = λ told. added_held held given now (same_told is_told held given is told) (one.calls refl);
+}
+
+starts_held : (is_told : Bool) (held given : VaultView) (folders : List FolderView) (out : SinkView) (start : Before) → VaultIsGiven is_told 1 1 held given → StartsSync true given folders out start → StartsSync is_told held folders out start
+starts_held is_told held given folders out start is one = record {
+  folders_are = one.folders_are;
+  files_are = λ told tells. let same = same_told is_told held given is told in one.files_are refl (same.tells refl ∙ tells) ∙ same.files refl;
+  copies_are = one.copies_are;
+  later = omega (arith, is.same.faults, one.later);
+  out_is = one.out_is;
+}
+
+-- how work on what was given ends, said of what was held
+pub works_held : (is_told : Bool) (held given : VaultView) (task : Task) (opened : List FolderView) (out : SinkView) (vault : VaultView) (folders : List FolderView) (out_new : SinkView) (why : Why) (line : List ℕ)
+    → VaultIsGiven is_told 1 1 held given → Works task (opening_of given opened out) vault folders out_new why line
+    → Works task (record { is_told = is_told; held = held; given = opened; out = out }) vault folders out_new why line
+works_held is_told held given task opened out vault folders out_new _ _ is (works_unloaded why read not same) =
+    works_unloaded why (read_held is_told held given vault is read) (loads_not_held is_told held given vault why is not) same
+works_held is_told held given task opened out vault folders out_new _ _ is (works_differs table why line read loads differs same) =
+    works_differs table why line (read_held is_told held given vault is read) (λ told. loads_held held given vault (Some table) (same_told is_told held given is told) (loads refl)) differs same
+works_held is_told held given task opened out vault folders out_new _ _ is (works_list command table why read loads matches prints) =
+    works_list command table why (read_held is_told held given vault is read) (λ told. loads_held held given vault table (same_told is_told held given is told) (loads refl)) matches prints
+works_held is_told held given task opened out vault folders out_new _ _ is (works_not_over_content command table read loads matches same) =
+    works_not_over_content command table (read_held is_told held given vault is read) (λ told. loads_held held given vault (Some table) (same_told is_told held given is told) (loads refl)) matches same
+works_held is_told held given task opened out vault folders out_new _ _ is (works_sync command why line none touched start starts ends early untold) =
+    works_sync command why line (no_content_held is_told held given is none) (touched_held is_told held given vault is touched) start (starts_held is_told held given opened out start is starts) ends
+    (λ is_early. read_held is_told held given vault is (early is_early)) untold
+works_held is_told held given task opened out vault folders out_new _ _ is (works_till_memory why line works) =
+    works_till_memory why line (works_held is_told held given task opened out vault folders out_new why line is works)
+
+-- the end of a run by an equal cause and line
+pub works_same : (task : Task) (before : Opening) (vault : VaultView) (folders : List FolderView) (out : SinkView) (why other : Why) (line text : List ℕ) → other ≡ why → text ≡ line
+    → Works task before vault folders out why line → Works task before vault folders out other text
+works_same task before vault folders out why other line text why_is line_is works =
+    subst (λ w. Works task before vault folders out w text) (sym why_is) (subst (λ l. Works task before vault folders out why l) (sym line_is) works)
+
+-- an end with its line, or for want of memory
+pub works_with : (task : Task) (before : Opening) (vault : VaultView) (folders : List FolderView) (out : SinkView) (why : Why) (line : List ℕ) (end : End) → Works task before vault folders out why line
+    → IsEndWith why line end ⊎ IsEndWith NoMemory (plain_line NoMemory) end → Works task before vault folders out end.why (line_of end)
+works_with task before vault folders out why line end works (inl same) = works_same task before vault folders out why end.why line (line_of end) same.why_is same.line_is works
+works_with task before vault folders out why line end works (inr memory) = works_same task before vault folders out NoMemory end.why (plain_line NoMemory) (line_of end) memory.why_is memory.line_is (works_till_memory why line works)
+
+-- loading of what is a table
+pub loads_some : (old new : VaultView) (loaded : Option TableValue) (table : TableValue) → loaded ≡ Some table → Loads old new loaded → Loads old new (Some table)
+loads_some old new loaded table is loads = subst (Loads old new) is loads
+
+pub matches_some : (form : FormValue) (loaded : Option TableValue) (table : TableValue) → loaded ≡ Some table → MatchesLoaded form loaded → Matches form table
+matches_some form loaded table is matches = subst (MatchesLoaded form) is matches
+
+pub loads_none : (old new : VaultView) (loaded : Option TableValue) → loaded ≡ None → Loads old new loaded → LoadsNothing old new
+loads_none old new loaded is loads = subst (Loads old new) is loads
+
+-- neither listing nor another command
+pub is_sync : (command : Command) → (command ≡ commands.List → ⊥) → command ≡ commands.Sync
+is_sync commands.List other = absurd (other refl)
+is_sync commands.Sync other = refl
+
+-- what is not something is nothing
+pub is_none : {A : Type 0} (o : Option A) → ((x : A) → o ≡ Some x → ⊥) → o ≡ None
+is_none None other = refl
+is_none (Some x) other = absurd (other x refl)
+
+-- where nothing was found
+pub found_none : {A P : Type 0} (Q : A → Type 0) (o : Option A) → ((x : A) → o ≡ Some x → ⊥) → MatchOption o P Q → P
+found_none Q None other p = p
+found_none Q (Some x) other q = absurd (other x refl)

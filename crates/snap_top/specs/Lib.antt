@@ -2,7 +2,12 @@ pub mod Words
 pub mod FirstForm
 pub mod FormLines
 pub mod FormSetup
+pub mod Lines
 pub mod ListText
 pub mod Print
+pub mod Matching
 pub mod Opening
 pub mod Run
+pub mod End
+pub mod Job
+pub mod Difference

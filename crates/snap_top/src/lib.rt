@@ -1,17 +1,19 @@
 //! One run of the tool, from its words to its status.
 //!
-//! Start at `run` in `running.rt`; what it leaves and why is `specs/Run.antt`, what it prints `specs/ListText.antt`,
-//! and what its configuration says `specs/FirstForm.antt`.
+//! Start at `run` in `running.rt`; what it leaves and why is `specs/Run.antt`, what `list` prints `specs/ListText.antt`,
+//! and what its configuration says `specs/FirstForm.antt`. What `sync` leaves is snap_sync's `specs/Sync.antt`.
 //! Proved: the status, the line on `err` and what is printed are those of the one cause by which the run ended; the
-//! opener is asked for what the words and the configuration name, and for nothing else; all that was opened goes back
-//! as it was.
+//! opener is asked for what the words and the configuration name, and for nothing else; all that was opened goes back,
+//! the folders only read, and the vault as it was but for what a sync wrote.
 //! Not here: real files. They are the program's.
 #![tactic(auto)]
 
+mod end;
 mod first_form;
+mod first_sync;
 mod list;
+mod matching;
 mod opening;
-mod printing;
 mod running;
 mod totals;
 mod why;

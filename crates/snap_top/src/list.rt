@@ -2,13 +2,14 @@
 ghost use Rattle.std.specs.Prelude.{◌<◌, [], length};
 ghost use Rattle.std.specs.List.{flat_map};
 ghost use Rattle.file_table.specs.Table.{column_at, record_at};
-ghost use Rattle.snap_top.specs.ListText.{record_line, column_lines, totals_text, list_text};
+ghost use Rattle.snap_report.specs.Text.{totals_text};
+ghost use Rattle.snap_top.specs.ListText.{record_line, column_lines, list_text};
 ghost use Rattle.snap_top.specs.Print.{Prints};
 
-use crate::printing::{push_file_line, push_totals};
 use crate::totals::{Totals, totals_of};
 use disk_model::Sink;
 use file_table::Table;
+use snap_report::{push_file_line, push_totals};
 use std::alloc::Global;
 
 /// Why printing was cut short.

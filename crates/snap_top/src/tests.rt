@@ -3,3 +3,5 @@ mod array;
 mod damage;
 mod faults;
 mod list;
+mod matching;
+mod sync;

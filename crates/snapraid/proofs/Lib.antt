@@ -1,1 +1,3 @@
 mod OpenedLemmas
+mod OrderLemmas
+mod QuietLemmas

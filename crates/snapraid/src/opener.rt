@@ -1,12 +1,16 @@
 // What opens files and folders of the system.
 ghost use Rattle.std.specs.Prelude.{◌≡◌, ◌<◌, ◌^◌, length, vec_len, IfOk, All};
+ghost use Rattle.snapraid.specs.Drafts.{state_of};
+ghost use Rattle.disk_model.specs.declared.draft.Draft.{Draft};
 
-use crate::faults::raise;
+use crate::contents::ContentFile;
+use crate::faults::{is_memory, raise};
 use crate::folder::DiskFolder;
+use crate::parity::ParityFile;
 use crate::vault::DiskVault;
 use disk_model::{NoMemory, OpenFault, Opened, Opener, Places, Text};
 use std::alloc::Global;
-use std::io::{ErrorKind, Read};
+use std::io::Read;
 use std::os::unix::fs::FileExt;
 use std::rt::Files;
 use std::{fs, io};
@@ -37,30 +41,44 @@ fn read_start<R: Files>(rt: &R, name: &str, bytes: &mut Vec<u8>) -> io::Result<u
     fs::open(rt, name)?.take(LONGEST).read_to_end(bytes)
 }
 
-// Whether memory was refused, and not by the system to a call.
-fn is_memory(error: &io::Error) -> bool {
-    error.kind() == ErrorKind::OutOfMemory && error.raw_os_error().is_none()
-}
-
-fn copied(alloc: Global, names: &[Text]) -> Result<Vec<Text>, NoMemory>
-    ensures { IfOk result (λ v. vec_len v ≡ length names.now) }
-{
-    let mut copies = Vec::new(alloc);
-    for name in names {
-        copies.push(name.copy()?)?;
-    }
-    Ok(copies)
-}
-
-fn folders_of(alloc: Global, dirs: &[Text]) -> Result<Vec<DiskFolder>, NoMemory>
+fn folders_of<R: Files + Clone>(
+    alloc: Global,
+    rt: &R,
+    dirs: &[Text],
+) -> Result<Vec<DiskFolder<R>>, NoMemory>
     ensures count { IfOk result (λ v. vec_len v ≡ length dirs.now) }
     ensures new { IfOk result (λ v. All (λ folder. folder.faults ≡ 0) v.items) }
 {
     let mut folders = Vec::new(alloc);
     for dir in dirs {
-        folders.push(DiskFolder::new(dir.copy()?))?;
+        folders.push(DiskFolder::new(rt.clone()?, dir.copy()?))?;
     }
     Ok(folders)
+}
+
+fn parities_of<R: Files>(alloc: Global, names: &[Text]) -> Result<Vec<ParityFile<R>>, NoMemory>
+where
+    R::File: FileExt,
+    ensures { IfOk result (λ v. vec_len v ≡ length names.now) }
+{
+    let mut parities = Vec::new(alloc);
+    for name in names {
+        parities.push(ParityFile::new(name.copy()?))?;
+    }
+    Ok(parities)
+}
+
+fn contents_of<R: Files>(alloc: Global, names: &[Text]) -> Result<Vec<ContentFile<R>>, NoMemory>
+where
+    R::File: FileExt,
+    ensures count { IfOk result (λ v. vec_len v ≡ length names.now) }
+    ensures new { IfOk result (λ v. All (λ content. state_of content.draft.stage ≡ Draft.Absent) v.items) }
+{
+    let mut contents = Vec::new(alloc);
+    for name in names {
+        contents.push(ContentFile::new(alloc, name)?)?;
+    }
+    Ok(contents)
 }
 
 fn vault_of<R: Files + Clone>(
@@ -68,22 +86,25 @@ fn vault_of<R: Files + Clone>(
     rt: &R,
     places: &Places,
 ) -> Result<DiskVault<R>, NoMemory>
+where
+    R::File: FileExt,
     requires levels { vec_len places.now.parities < 2 ^ 32 }
     requires copies { vec_len places.now.contents < 2 ^ 32 }
     ensures faults { IfOk result (λ v. v.faults ≡ 0) }
     ensures levels { IfOk result (λ v. vec_len v.parities ≡ vec_len places.now.parities) }
     ensures copies { IfOk result (λ v. vec_len v.contents ≡ vec_len places.now.contents) }
+    ensures new { IfOk result (λ v. All (λ content. state_of content.draft.stage ≡ Draft.Absent) v.contents.items) }
 {
-    let parities = copied(alloc, places.parities.as_slice())?;
-    let contents = copied(alloc, places.contents.as_slice())?;
+    let parities = parities_of(alloc, places.parities.as_slice())?;
+    let contents = contents_of(alloc, places.contents.as_slice())?;
     Ok(DiskVault::new(rt.clone()?, parities, contents))
 }
 
-impl<R: Files + Clone + Send> Opener for DiskOpener<R>
+impl<R: Files + AllocGlobal + Clone + Drop + Send> Opener for DiskOpener<R>
 where
     R::File: FileExt + Send,
 {
-    type Folder = DiskFolder;
+    type Folder = DiskFolder<R>;
 
     type Vault = DiskVault<R>;
 
@@ -111,13 +132,13 @@ where
         &mut self,
         alloc: Global,
         places: &Places,
-    ) -> Result<Opened<DiskFolder, DiskVault<R>>, OpenFault> {
+    ) -> Result<Opened<DiskFolder<R>, DiskVault<R>>, OpenFault> {
         if places.parities.len() >= MANY || places.contents.len() >= MANY {
             raise(&mut self.faults);
             return Err(OpenFault::Failed);
         }
         match (
-            folders_of(alloc, places.dirs.as_slice()),
+            folders_of(alloc, &self.rt, places.dirs.as_slice()),
             vault_of(alloc, &self.rt, places),
         ) {
             (Ok(folders), Ok(vault)) => Ok(Opened { folders, vault }),

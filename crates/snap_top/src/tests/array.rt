@@ -1,6 +1,7 @@
 // An array of one disk in memory, and runs over it.
 use crate::run;
 use disk_memory::{MemFolder, MemOpener, MemSink, MemVault};
+use disk_model::{Path, Stamp, Vault};
 use std::alloc::Global;
 use std::test::Fail;
 
@@ -44,6 +45,7 @@ pub const BACKSLASH: [u8; 128] = [
 #[derive(Clone, Copy)]
 pub struct Failing {
     pub opener: u64,
+    pub folder: u64,
     pub vault: u64,
     pub out: u64,
 }
@@ -51,8 +53,30 @@ pub struct Failing {
 /// No call fails.
 pub const NONE: Failing = Failing {
     opener: 0,
+    folder: 0,
     vault: 0,
     out: 0,
+};
+
+/// The bytes of a file, by its path.
+pub type NamedFile<'a> = (&'a str, &'a [u8]);
+
+/// An array of one disk, its one content copy, and what is to fail in it.
+#[derive(Clone, Copy)]
+pub struct Array<'a> {
+    pub config: &'a str,
+    pub content: Option<&'a [u8]>,
+    /// All changed at 1.000000005.
+    pub files: &'a [NamedFile<'a>],
+    pub failing: Failing,
+}
+
+/// No file, and no content.
+pub const EMPTY: Array = Array {
+    config: CONFIG,
+    content: None,
+    files: &[],
+    failing: NONE,
 };
 
 /// What a run left.
@@ -60,55 +84,101 @@ pub const NONE: Failing = Failing {
 pub struct Left {
     pub status: u8,
     pub folders: usize,
-    pub has_vault: bool,
+    pub vault: Option<MemVault>,
     pub out: MemSink,
     pub err: MemSink,
 }
 
 /// Runs `snapraid list -c FILE` over an array with this content copy.
 pub fn list(alloc: Global, content: Option<&[u8]>, failing: Failing) -> Result<Left, Fail> {
-    let words = ["snapraid", "list", "-c", "FILE"];
-    run_words(alloc, &words, CONFIG, content, failing)
+    let array = Array {
+        content,
+        failing,
+        ..EMPTY
+    };
+    run_words(alloc, &["snapraid", "list", "-c", "FILE"], array)
 }
 
-/// Runs words over an array with this configuration and this content copy.
-pub fn run_words(
-    alloc: Global,
-    words: &[&str],
-    config: &str,
-    content: Option<&[u8]>,
-    failing: Failing,
-) -> Result<Left, Fail> {
-    let mut opener = opener(alloc, config, content, failing)?;
+/// Runs `snapraid sync -c FILE` over an array.
+pub fn sync(alloc: Global, array: Array) -> Result<Left, Fail> {
+    run_words(alloc, &["snapraid", "sync", "-c", "FILE"], array)
+}
+
+/// Runs words over an array, at 100.
+pub fn run_words(alloc: Global, words: &[&str], array: Array) -> Result<Left, Fail> {
+    let mut opener = opener(alloc, array)?;
     let mut out = MemSink::new(alloc);
-    out.fail_at(failing.out)?;
+    out.fail_at(array.failing.out)?;
     let mut err = MemSink::new(alloc);
     let words = owned(alloc, words)?;
-    let outcome = run(alloc, words.as_slice(), &mut opener, &mut out, &mut err);
+    let seed = *b"abcdefghijklmnop";
+    let outcome = run(
+        alloc,
+        words.as_slice(),
+        &mut opener,
+        &mut out,
+        &mut err,
+        100,
+        seed,
+    );
     Ok(Left {
         status: outcome.status,
         folders: outcome.folders.len(),
-        has_vault: outcome.vault.is_some(),
+        vault: outcome.vault,
         out,
         err,
     })
 }
 
+/// The content copy that a run left.
+pub fn content(alloc: Global, left: &mut Left) -> Result<Vec<u8>, Fail> {
+    let mut bytes = Vec::new(alloc);
+    if let Some(vault) = &mut left.vault {
+        if vault.copies() > 0 {
+            let size = vault.content_size(0)?.unwrap_or(0);
+            bytes.resize(size as usize, 0)?;
+            vault.content_read(0, 0, bytes.as_mut_slice())?;
+        }
+    }
+    Ok(bytes)
+}
+
+/// The parity that a run left.
+pub fn parity(alloc: Global, left: &mut Left) -> Result<Vec<u8>, Fail> {
+    let mut bytes = Vec::new(alloc);
+    if let Some(vault) = &mut left.vault {
+        if vault.levels() > 0 {
+            let size = vault.parity_len(0)?;
+            bytes.resize(size as usize, 0)?;
+            vault.parity_read(0, 0, bytes.as_mut_slice())?;
+        }
+    }
+    Ok(bytes)
+}
+
 // An opener of that array.
-fn opener(
-    alloc: Global,
-    config: &str,
-    content: Option<&[u8]>,
-    failing: Failing,
-) -> Result<MemOpener<MemFolder, MemVault>, Fail> {
+fn opener(alloc: Global, array: Array) -> Result<MemOpener<MemFolder, MemVault>, Fail> {
     let mut vault = MemVault::new(alloc, 1, 1)?;
-    vault.set_content(0, content)?;
-    vault.fail_at(failing.vault)?;
-    let folders = vec![in alloc; MemFolder::new(alloc, true)]?;
-    let config = Vec::from_slice(alloc, config.as_bytes())?;
+    vault.set_content(0, array.content)?;
+    vault.fail_at(array.failing.vault)?;
+    let folders = vec![in alloc; folder(alloc, array)?]?;
+    let config = Vec::from_slice(alloc, array.config.as_bytes())?;
     let mut opener = MemOpener::new(alloc, config, folders, vault);
-    opener.fail_at(failing.opener)?;
+    opener.fail_at(array.failing.opener)?;
     Ok(opener)
+}
+
+fn folder(alloc: Global, array: Array) -> Result<MemFolder, Fail> {
+    let mut folder = MemFolder::new(alloc, true);
+    folder.fail_at(array.failing.folder)?;
+    let stamp = Stamp {
+        seconds: 1,
+        nanos: 5,
+    };
+    for (name, bytes) in array.files {
+        folder.put(Path::new(alloc, name)?, stamp, bytes)?;
+    }
+    Ok(folder)
 }
 
 fn owned(alloc: Global, words: &[&str]) -> Result<Vec<String>, Fail> {

@@ -21,7 +21,7 @@ fn damaged_content(rt: HostRuntime) -> Result<(), Fail> {
             left.err.bytes(),
             b"snapraid: content 1 is damaged\n".as_slice()
         );
-        assert!(rt; left.has_vault);
+        assert!(rt; left.vault.is_some());
     }
     Ok(())
 }

@@ -1,5 +1,7 @@
 // What `list` prints, and which words and configurations it refuses.
-use crate::tests::array::{BACKSLASH, CONFIG, NO_FILE, NONE, ONE_FILE, list, run_words};
+use crate::tests::array::{
+    Array, BACKSLASH, CONFIG, EMPTY, NO_FILE, NONE, ONE_FILE, list, run_words,
+};
 use std::test::Fail;
 
 #[test]
@@ -21,7 +23,7 @@ fn files_of_the_last_sync(rt: HostRuntime) -> Result<(), Fail> {
         assert_eq!(rt; left.out.bytes(), text.as_bytes());
         assert_eq!(rt; left.err.bytes().len(), 0);
         assert_eq!(rt; left.folders, 1);
-        assert!(rt; left.has_vault);
+        assert!(rt; left.vault.is_some());
     }
     Ok(())
 }
@@ -33,24 +35,30 @@ fn refused_words_and_configurations(rt: HostRuntime) -> Result<(), Fail> {
     for (words, config, line) in [
         (["snapraid", "list", "-c"].as_slice(), CONFIG, usage),
         (["snapraid", "list", "-C", "a"].as_slice(), CONFIG, usage),
-        (["snapraid", "sync", "-c", "a"].as_slice(), CONFIG, usage),
+        (["snapraid", "scrub", "-c", "a"].as_slice(), CONFIG, usage),
         (
             ["snapraid", "list", "-c", "a", "b"].as_slice(),
             CONFIG,
             usage,
         ),
         (["snapraid", "list", "-c", "a\tb"].as_slice(), "", form),
+        (["snapraid", "sync", "-c", "a\tb"].as_slice(), "", form),
         (
             ["snapraid", "list", "-c", "a\tb"].as_slice(),
             "parity p\n",
             form,
         ),
     ] {
-        let left = run_words(rt.alloc(), words, config, Some(&ONE_FILE), NONE)?;
+        let array = Array {
+            config,
+            content: Some(&ONE_FILE),
+            ..EMPTY
+        };
+        let left = run_words(rt.alloc(), words, array)?;
         assert_eq!(rt; left.status, 2);
         assert_eq!(rt; left.out.bytes().len(), 0);
         assert_eq!(rt; left.err.bytes(), line.as_bytes());
-        assert!(rt; !left.has_vault);
+        assert!(rt; !left.vault.is_some());
     }
     Ok(())
 }

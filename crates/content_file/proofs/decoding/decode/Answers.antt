@@ -4,6 +4,8 @@ use Rattle.content_file.specs.Spelling.{body, spelling}
 use Rattle.content_file.proofs.Damage.{exits_as, fails_damaged}
 use Rattle.content_file.proofs.Undone.{no_head, no_columns_read, no_infos_read, no_digest, not_finished}
 use Rattle.content_file.proofs.Whole.{head_takes, table_of, body_read, whole_read}
+use Rattle.content_file.proofs.TakenContent.{some_flaw}
+use Rattle.content_file.proofs.ReadContent.{none_from_content}
 use Rattle.content_file.proofs.decoding.decode.Goals as goal
 
 pub new-requires-clause-block_size : goal.new-requires-clause-block_size
@@ -52,3 +54,21 @@ returns-in_err-finish-clause-damaged c = λ is.
     not_finished _ _ _ c.in_ok-builder.builder _ _ _ _ c.in_err-finish.field-0.0 c.in_ok-head.ensures c.in_ok-builder.ensures.ok c.in_ok-rest.ensures.found c.in_ok-rest.ensures.open c.in_ok-rest-2.ensures.found c.in_ok-rest-2.ensures.building
     (λ e. refused.name (ap (λ f. Err f) e)) (λ e. refused.blocks (ap (λ f. Err f) e)) (λ e. refused.state (ap (λ f. Err f) e)) (λ e. refused.length (ap (λ f. Err f) e)) refused.only
     (exits_as _ c.from_residual-in_err-finish.result c.from_residual-in_err-finish.ensures.1 _ is)
+
+pub returns-clause-flawless : goal.returns-clause-flawless
+returns-clause-flawless c = none_from_content _ (record { table = c.in_ok-finish.field-0; valid = c.in_ok-finish.ensures.valid; spelled = returns-clause-found c })
+
+pub returns-in_err-head-clause-flawed : goal.returns-in_err-head-clause-flawed
+returns-in_err-head-clause-flawed c = λ is. some_flaw _ (λ i. omega (arith, c.type_inv.bytes i)) (returns-in_err-head-clause-damaged c is)
+
+pub returns-in_err-rest-clause-flawed : goal.returns-in_err-rest-clause-flawed
+returns-in_err-rest-clause-flawed c = λ is. some_flaw _ (λ i. omega (arith, c.type_inv.bytes i)) (returns-in_err-rest-clause-damaged c is)
+
+pub returns-in_err-rest-2-clause-flawed : goal.returns-in_err-rest-2-clause-flawed
+returns-in_err-rest-2-clause-flawed c = λ is. some_flaw _ (λ i. omega (arith, c.type_inv.bytes i)) (returns-in_err-rest-2-clause-damaged c is)
+
+pub returns-in_err-end_of-clause-flawed : goal.returns-in_err-end_of-clause-flawed
+returns-in_err-end_of-clause-flawed c = λ is. some_flaw _ (λ i. omega (arith, c.type_inv.bytes i)) (returns-in_err-end_of-clause-damaged c is)
+
+pub returns-in_err-finish-clause-flawed : goal.returns-in_err-finish-clause-flawed
+returns-in_err-finish-clause-flawed c = λ is. some_flaw _ (λ i. omega (arith, c.type_inv.bytes i)) (returns-in_err-finish-clause-damaged c is)

@@ -1,9 +1,10 @@
-use Rattle.std.proofs.Common.{refl}
-use Rattle.snap_top.specs.Run.{ends_opened}
-use Rattle.snap_top.proofs.RunLemmas.{read_where_told, lists_held}
+use Rattle.std.proofs.Common.{refl, ap, map, length, arith}
+use Rattle.snap_top.specs.Run.{ends_refused}
+use Rattle.snap_top.proofs.EndLemmas.{opened_ends, run_ends_with, written_back}
 use Rattle.snap_top.proofs.running.work.Goals as goal
 
-pub returns-in-Ok : goal.returns-in-Ok
-returns-in-Ok g c =
-    let list = c.list-why.ensures in
-    record { ended = ends_opened c.in-Ok.ensures.opened refl (read_where_told _ _ _ _ c.in-Ok.ensures.vault list.calls list.changes list.drafts) (lists_held _ _ _ _ _ _ _ c.in-Ok.ensures.vault list.ended) }
+pub returns-in-Ok-clause-ended : goal.returns-in-Ok-clause-ended
+returns-in-Ok-clause-ended g c = opened_ends g.O.Folder.Folder.view _ _ _ _ _ c.in-Ok.session.folders.items _ c.work_on-end.new.folders _ _ _ _ _ _ c.as_mut_slice.ensures.value (written_back _ c.work_on-end.new.folders _ (let same = ap length c.as_mut_slice.ensures.value in omega (arith, c.in-Ok.session.folders.ok.0, same, c.work_on-end.auto.folders))) c.in-Ok.ensures.opened c.in-Ok.ensures.vault c.work_on-end.ensures.folders c.work_on-end.ensures.worked
+
+pub returns-in-Err-clause-ended : goal.returns-in-Err-clause-ended
+returns-in-Err-clause-ended g c = run_ends_with _ _ _ _ _ _ (ends_refused c.in-Err.why c.in-Err.ensures.refused c.in-Err.ensures.kept (ap (map g.O.Folder.Folder.view) c.new.ensures.items) refl refl) c.refused_end.ensures.said

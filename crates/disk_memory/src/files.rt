@@ -1,0 +1,181 @@
+// The files of a folder in memory, in the order of their paths.
+ghost use Rattle.std.specs.Prelude.{◌≡◌, ◌↔◌, ◌<◌, length, IfOk, IfErr, IsTrue, nat_eq, map};
+ghost use Rattle.std.specs.List.{starts_with};
+ghost use Rattle.disk_model.specs.Tree.{listed};
+ghost use Rattle.disk_memory.specs.Files.{IsKept, IsRising, IsPlace, HasPath, LacksPath, info_of};
+ghost use Rattle.disk_memory.specs.FilesLaws.{IsKept-prop};
+
+use crate::bytes::Bytes;
+use disk_model::{FileInfo, Meta, NoMemory, Path, Stamp};
+use std::alloc::Global;
+
+const SLASH: u8 = b'/';
+
+/// A file of a folder.
+#[derive(Drop)]
+pub struct MemFile {
+    pub path: Path,
+    pub stamp: Stamp,
+    pub bytes: Bytes,
+}
+
+/// The files of a folder: their paths rise in byte order, and none is a directory of another.
+#[derive(Drop)]
+pub struct Files {
+    list: Vec<MemFile>,
+    ghost kept: { IsKept list.items } by { IsKept-prop list.items },
+}
+
+impl Files {
+    ghost use Rattle.std.specs.Prelude.{[], OnOk, OnErr, false};
+    ghost use Rattle.std.specs.FinMap as map;
+    ghost use Rattle.std.specs.Option.{option_map, option_copied};
+    ghost use Rattle.disk_model.specs.Tree.{file_of, listing_of, IsApart, IsFile, IsListing};
+    ghost use Rattle.disk_memory.specs.Files.{file_in, tree_of, EndsDirectory, HasNoDirectory, HoldsNone};
+
+    pub fn new(alloc: Global) -> Files
+        ensures { result.list.items ≡ [] }
+    {
+        Files {
+            list: Vec::new(alloc),
+        }
+    }
+
+    // The file with this path.
+    pub fn get(&self, path: &[u8]) -> Option<&MemFile>
+        ensures { option_map file_in (option_copied result) ≡ file_of (tree_of self.now.list.items) path.now }
+    {
+        match place_of(&self.list, path) {
+            Ok(place) => Some(&self.list[place]),
+            Err(_) => None,
+        }
+    }
+
+    // Sets a file. Memory may refuse the room.
+    pub fn put(&mut self, path: Path, stamp: Stamp, bytes: Bytes) -> Result<(), NoMemory>
+        requires { IsFile (tree_of self.old.list.items) path (record { stamp = stamp; bytes = bytes }) }
+        ensures ok { OnOk result (tree_of self.new.list.items ≡ map.insert (tree_of self.old.list.items) path (record { stamp = stamp; bytes = bytes })) }
+        ensures err { OnErr result (self.new.list.items ≡ self.old.list.items) }
+    {
+        match place_of(&self.list, path.as_str().as_bytes()) {
+            Ok(place) => {
+                self.list[place] = MemFile { path, stamp, bytes };
+            }
+            Err(place) => {
+                self.list.insert(place, MemFile { path, stamp, bytes })?;
+            }
+        }
+        Ok(())
+    }
+
+    // Takes a file away. Was it there?
+    pub fn remove(&mut self, path: &[u8]) -> bool
+        ensures there { result ≡ map.contains_key (tree_of self.old.list.items) path.now }
+        ensures removed { tree_of self.new.list.items ≡ map.remove (tree_of self.old.list.items) path.now }
+        ensures missing { result ≡ false → self.new.list.items ≡ self.old.list.items }
+    {
+        match place_of(&self.list, path) {
+            Ok(place) => {
+                self.list.remove(place);
+                true
+            }
+            Err(_) => false,
+        }
+    }
+
+    // Whether no file is a directory of the path, and it is a directory of no file.
+    pub fn is_apart(&self, alloc: Global, path: &[u8]) -> Result<bool, NoMemory>
+        ensures { IfOk result (λ answer. IsTrue answer ↔ IsApart (tree_of self.now.list.items) path.now) }
+    {
+        if !self.has_no_directory(path) {
+            return Ok(false);
+        }
+        self.holds_none(alloc, path)
+    }
+
+    // Whether no file is a directory of the path.
+    fn has_no_directory(&self, path: &[u8]) -> bool
+        ensures { IsTrue result ↔ HasNoDirectory (tree_of self.now.list.items) path.now }
+    {
+        for end in 0..path.len() {
+            if self.ends_directory(path, end) {
+                return false;
+            }
+        }
+        true
+    }
+
+    // Whether a file is what stands before a slash at this place.
+    fn ends_directory(&self, path: &[u8], end: usize) -> bool
+        requires { end < length path.now }
+        ensures { IsTrue result ↔ EndsDirectory (tree_of self.now.list.items) path.now end }
+    {
+        path[end] == SLASH && self.get(&path[..end]).is_some()
+    }
+
+    // Whether the path is a directory of no file. Such a file would stand first from the path and a slash on.
+    fn holds_none(&self, alloc: Global, path: &[u8]) -> Result<bool, NoMemory>
+        ensures { IfOk result (λ answer. IsTrue answer ↔ HoldsNone (tree_of self.now.list.items) path.now) }
+    {
+        let mut front = Vec::from_slice(alloc, path)?;
+        front.push(SLASH)?;
+        let place = first_from(&self.list, front.as_slice());
+        if place < self.list.len() {
+            return Ok(!begins_with(&self.list[place], front.as_slice()));
+        }
+        Ok(true)
+    }
+
+    // All files as they are listed.
+    pub fn infos(&self, alloc: Global) -> Result<Vec<FileInfo>, NoMemory>
+        ensures listing { IfOk result (λ infos. IsListing (listed infos.items)) }
+        ensures found { IfOk result (λ infos. listed infos.items ≡ listing_of (tree_of self.now.list.items)) }
+    {
+        infos_of(alloc, &self.list)
+    }
+}
+
+// The first place from which on no path is less than this one, and whether the file there has this path.
+fn place_of(files: &[MemFile], path: &[u8]) -> Result<usize, usize>
+    requires { IsRising files.now }
+    ensures there { IfOk result (λ place. IsPlace files.now path.now place) }
+    ensures is { IfOk result (HasPath files.now path.now) }
+    ensures gap { IfErr result (λ place. IsPlace files.now path.now place) }
+    ensures lacks { IfErr result (λ place. LacksPath files.now path.now) }
+{
+    files.binary_search_by(|file| file.path.as_str().as_bytes().cmp(&path))
+}
+
+// The first place from which on no path is less than this one.
+fn first_from(files: &[MemFile], path: &[u8]) -> usize
+    requires { IsRising files.now }
+    ensures { IsPlace files.now path.now result }
+{
+    match place_of(files, path) {
+        Ok(place) => place,
+        Err(place) => place,
+    }
+}
+
+fn begins_with(file: &MemFile, front: &[u8]) -> bool
+    ensures { result ≡ starts_with nat_eq file.now.path front.now }
+{
+    file.path.as_str().as_bytes().starts_with(front)
+}
+
+fn infos_of(alloc: Global, files: &[MemFile]) -> Result<Vec<FileInfo>, NoMemory>
+    ensures { IfOk result (λ infos. listed infos.items ≡ map info_of files.now) }
+{
+    let mut infos = Vec::new(alloc);
+    for file in files {
+        let meta = Meta {
+            size: file.bytes.len(),
+            stamp: file.stamp,
+        };
+        infos.push(FileInfo {
+            path: file.path.copy()?,
+            meta,
+        })?;
+    }
+    Ok(infos)
+}

@@ -1,0 +1,5 @@
+pub mod Keeping
+pub mod KeepsLemmas
+pub mod LevelsLemmas
+pub mod RowLemmas
+pub mod SettleLemmas

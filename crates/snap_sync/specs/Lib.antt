@@ -1,0 +1,15 @@
+pub mod Kept
+pub mod Listing
+pub mod Layout
+pub mod LayoutFault
+pub mod Reading
+pub mod Found
+pub mod Closing
+pub mod Events
+pub mod Telling
+pub mod Parity
+pub mod Sync
+pub mod Steps
+pub mod Faults
+pub mod SyncFault
+pub mod Ending

@@ -1,0 +1,35 @@
+-- How a first sync ends a run.
+use Rattle.std.proofs.Common.{◌≡◌, ◌⊎◌, inl, inr, ℕ, List, sym, subst}
+use Rattle.file_table.specs.Table.{TableValue}
+use Rattle.snap_sync.specs.Sync.{Names, Before, After, Ending, Syncs}
+use Rattle.snap_sync.specs.SyncFault.{Causes}
+use Rattle.snap_sync.specs.declared.fault.SyncFault.{SyncFault}
+use Rattle.snap_top.specs.End.{IsEndWith, line_of}
+use Rattle.snap_top.specs.Lines.{plain_line}
+use Rattle.snap_top.specs.Matching.{empty_table, names_in}
+use Rattle.snap_top.specs.Run.{Task, SyncEnds, sync_ends, sync_fails, sync_till_memory, ending_why, fault_why, fault_line}
+use Rattle.snap_top.specs.declared.end.End.{End}
+use Rattle.snap_top.specs.declared.why.Why.{Why}
+use Rattle.snap_top.specs.declared.why.Why.TheVariants.{NoMemory}
+
+-- the end of a run by an equal cause and line
+pub ends_same : (task : Task) (start : Before) (after : After) (why other : Why) (line text : List ℕ) → other ≡ why → text ≡ line → SyncEnds task start after why line → SyncEnds task start after other text
+ends_same task start after why other line text why_is line_is ends =
+    subst (λ w. SyncEnds task start after w text) (sym why_is) (subst (λ l. SyncEnds task start after why l) (sym line_is) ends)
+
+-- an end with its line, or for want of memory
+pub ends_with : (task : Task) (start : Before) (after : After) (why : Why) (line : List ℕ) (end : End) → SyncEnds task start after why line
+    → IsEndWith why line end ⊎ IsEndWith NoMemory (plain_line NoMemory) end → SyncEnds task start after end.why (line_of end)
+ends_with task start after why line end ends (inl same) = ends_same task start after why end.why line (line_of end) same.why_is same.line_is ends
+ends_with task start after why line end ends (inr memory) = ends_same task start after NoMemory end.why (plain_line NoMemory) (line_of end) memory.why_is memory.line_is (sync_till_memory why line ends)
+
+-- what was said of other names and another table, which are these
+pub ended_sync : (task : Task) (names : Names) (old : TableValue) (start : Before) (after : After) (ending : Ending) → names ≡ names_in task.form → old ≡ empty_table task.form task.seed
+    → Syncs names old task.now start after ending → SyncEnds task start after (ending_why ending) (plain_line (ending_why ending))
+ended_sync task names old start after ending names_are old_is syncs =
+    sync_ends ending (subst (λ n. Syncs n (empty_table task.form task.seed) task.now start after ending) names_are (subst (λ t. Syncs names t task.now start after ending) old_is syncs))
+
+pub failed_sync : (task : Task) (names : Names) (old : TableValue) (start : Before) (after : After) (fault : SyncFault) → names ≡ names_in task.form → old ≡ empty_table task.form task.seed
+    → Causes names old start after fault → SyncEnds task start after (fault_why fault) (fault_line task.form fault)
+failed_sync task names old start after fault names_are old_is causes =
+    sync_fails fault (subst (λ n. Causes n (empty_table task.form task.seed) start after fault) names_are (subst (λ t. Causes names t start after fault) old_is causes))
