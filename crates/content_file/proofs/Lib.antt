@@ -2,7 +2,6 @@ pub mod Apart
 pub mod Appended
 pub mod Columns
 pub mod Damage
-pub mod DraftCalls
 pub mod Drafts
 pub mod Fields
 pub mod Fitting
@@ -14,12 +13,14 @@ pub mod LoadLemmas
 pub mod LoadLoop
 pub mod OneSpelling
 pub mod Parts
+pub mod Pieces
 pub mod Pushed
 pub mod ReadColumn
 pub mod ReadContent
 pub mod ReadHead
 pub mod ReadRecord
 pub mod Refused
+pub mod SaveCalls
 pub mod SaveLemmas
 pub mod Stays
 pub mod Stops

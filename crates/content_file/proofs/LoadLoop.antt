@@ -4,12 +4,15 @@ use Rattle.disk_model.specs.Files.{Files, Stays, content_of}
 use Rattle.disk_model.specs.Vault.{VaultView, SomeCalls, ChangesBy, DraftsStay, copies_of}
 use Rattle.disk_model.proofs.VaultLemmas.{no_calls, calls_then, changes_start, changes_on}
 use Rattle.file_table.specs.Table.{TableValue}
-use Rattle.content_file.specs.Load.{HasFailed, NoneFailed, IsDamaged, IsUseless, IsPassedOver, IsCopyOf, LoadsTable}
-use Rattle.content_file.proofs.LoadLemmas.{failed_before, failed_after, none_failed_yet, none_failed_then}
+use Rattle.disk_model.specs.Calls.{MakesOnly}
+use Rattle.disk_model.proofs.CallsLemmas.{only_none}
+use Rattle.content_file.specs.Load.{IsReadOf, IsReadBelow, HasFailed, NoneFailed, IsDamaged, IsUseless, IsPassedOver, IsCopyOf, LoadsTable}
+use Rattle.content_file.proofs.LoadLemmas.{failed_before, failed_after, none_failed_yet, none_failed_then, below_then, read_well}
 
 -- so many copies were tried, and none gave a table
 pub record HasPassed (old now : VaultView) (copies : ℕ) (failed damaged : Bool) : Type 0 where
   pub calls : SomeCalls old now
+  pub made : MakesOnly (IsReadBelow copies) old now
   pub changes : ChangesBy Stays old now
   pub drafts : DraftsStay old now
   pub passed : IsTrue old.tells → (k : ℕ) → k < copies → IsUseless old k ⊎ HasFailed old now k
@@ -22,6 +25,7 @@ pub record HasPassed (old now : VaultView) (copies : ℕ) (failed damaged : Bool
 pub passed_none : (v : VaultView) → HasPassed v v 0 false false
 passed_none v = record {
   calls = no_calls v;
+  made = only_none (IsReadBelow 0) v;
   changes = changes_start Stays v (λ files. refl);
   drafts = record { state = refl; bytes = λ told. refl };
   passed = λ told k below. absurd (omega (arith, below));
@@ -50,13 +54,14 @@ passed_before old mid new k calls (inl useless) = inl useless
 passed_before old mid new k calls (inr failed) = inr (failed_before old mid new k failed calls)
 
 -- the next copy is absent
-pub passed_absent : (old mid new : VaultView) (copies : ℕ) (failed damaged : Bool) → HasPassed old mid copies failed damaged → SomeCalls mid new → ChangesBy Stays mid new → DraftsStay mid new
+pub passed_absent : (old mid new : VaultView) (copies : ℕ) (failed damaged : Bool) → HasPassed old mid copies failed damaged → SomeCalls mid new → MakesOnly (IsReadOf copies) mid new → ChangesBy Stays mid new → DraftsStay mid new
     → IsCopyOf mid copies None → NoneFailed mid new → HasPassed old new (copies + 1) failed damaged
-passed_absent old mid new copies failed damaged one calls changes drafts none quiet =
+passed_absent old mid new copies failed damaged one calls made changes drafts none quiet =
     let tells : mid.tells ≡ old.tells = one.calls.goes_on.tells in
     let here : IsTrue old.tells → content_of old.files copies ≡ None = λ told. sym (content_then old mid copies one.changes told) ∙ none (tells ∙ told) in
     record {
       calls = calls_then old mid new one.calls calls;
+      made = below_then copies old mid new one.made made;
       changes = stays_on old mid new tells one.changes changes;
       drafts = drafts_on old mid new tells one.drafts drafts;
       passed = λ told. below_more (λ k. IsUseless old k ⊎ HasFailed old new k) copies (λ k below. passed_before old mid new k calls (one.passed told k below)) (inl (inl (here told)));
@@ -68,13 +73,14 @@ passed_absent old mid new copies failed damaged one calls changes drafts none qu
     }
 
 -- the next copy is damaged
-pub passed_damaged : (old mid new : VaultView) (copies : ℕ) (failed damaged : Bool) → HasPassed old mid copies failed damaged → SomeCalls mid new → ChangesBy Stays mid new → DraftsStay mid new
+pub passed_damaged : (old mid new : VaultView) (copies : ℕ) (failed damaged : Bool) → HasPassed old mid copies failed damaged → SomeCalls mid new → MakesOnly (IsReadOf copies) mid new → ChangesBy Stays mid new → DraftsStay mid new
     → IsPassedOver mid new copies → HasPassed old new (copies + 1) failed true
-passed_damaged old mid new copies failed damaged one calls changes drafts over =
+passed_damaged old mid new copies failed damaged one calls made changes drafts over =
     let tells : mid.tells ≡ old.tells = one.calls.goes_on.tells in
     let here : IsTrue old.tells → IsDamaged old copies = λ told. damaged_then old mid copies one.changes told (over.damaged (tells ∙ told)) in
     record {
       calls = calls_then old mid new one.calls calls;
+      made = below_then copies old mid new one.made made;
       changes = stays_on old mid new tells one.changes changes;
       drafts = drafts_on old mid new tells one.drafts drafts;
       passed = λ told. below_more (λ k. IsUseless old k ⊎ HasFailed old new k) copies (λ k below. passed_before old mid new k calls (one.passed told k below)) (inl (inr (here told)));
@@ -86,13 +92,14 @@ passed_damaged old mid new copies failed damaged one calls changes drafts over =
     }
 
 -- the reading of the next copy failed
-pub passed_failed : (old mid new : VaultView) (copies : ℕ) (failed damaged : Bool) → HasPassed old mid copies failed damaged → SomeCalls mid new → ChangesBy Stays mid new → DraftsStay mid new
+pub passed_failed : (old mid new : VaultView) (copies : ℕ) (failed damaged : Bool) → HasPassed old mid copies failed damaged → SomeCalls mid new → MakesOnly (IsReadOf copies) mid new → ChangesBy Stays mid new → DraftsStay mid new
     → HasFailed mid new copies → HasPassed old new (copies + 1) true damaged
-passed_failed old mid new copies failed damaged one calls changes drafts fails =
+passed_failed old mid new copies failed damaged one calls made changes drafts fails =
     let tells : mid.tells ≡ old.tells = one.calls.goes_on.tells in
     let here : HasFailed old new copies = failed_after old mid new copies one.calls fails calls.goes_on.calls.told in
     record {
       calls = calls_then old mid new one.calls calls;
+      made = below_then copies old mid new one.made made;
       changes = stays_on old mid new tells one.changes changes;
       drafts = drafts_on old mid new tells one.drafts drafts;
       passed = λ told. below_more (λ k. IsUseless old k ⊎ HasFailed old new k) copies (λ k below. passed_before old mid new k calls (one.passed told k below)) (inr here);
@@ -105,12 +112,13 @@ passed_failed old mid new copies failed damaged one calls changes drafts fails =
 
 -- the next copy gave a table
 pub passed_to_table : (old mid new : VaultView) (copies : ℕ) (failed damaged : Bool) (table : TableValue) → copies < copies_of old → HasPassed old mid copies failed damaged → SomeCalls mid new
-    → IsCopyOf mid copies (Some table) → LoadsTable old new table
-passed_to_table old mid new copies failed damaged table within one calls is = record {
+    → NoneFailed mid new → IsCopyOf mid copies (Some table) → LoadsTable old new table
+passed_to_table old mid new copies failed damaged table within one calls well is = record {
   copy = copies;
   within = within;
   valid = is.0;
   held = λ told. sym (content_then old mid copies one.changes told) ∙ is.1 (one.calls.goes_on.tells ∙ told);
+  read = read_well copies old mid new one.made well;
   earlier = λ told k below. passed_before old mid new k calls (one.passed told k below);
 }
 

@@ -7,8 +7,10 @@ use Rattle.disk_model.specs.Vault.{VaultView, SomeCalls, ChangesBy, Holds, Draft
 use Rattle.disk_model.specs.declared.draft.Draft.TheVariants.{Absent, Sealed}
 use Rattle.disk_model.proofs.MomentsLemmas.{leaves_more}
 use Rattle.disk_model.proofs.VaultLemmas.{no_calls, calls_then, changes_start, changes_then, changes_more, stays_then, draft_state, draft_bytes}
-use Rattle.content_file.specs.Save.{MaySave, HasSaved, HasNoDraft, MakesDraftCalls}
-use Rattle.content_file.proofs.DraftCalls.{no_draft_calls, draft_calls_then}
+use Rattle.content_file.specs.Save.{MaySave, HasSaved, HasNoDraft, copy_calls, save_calls}
+use Rattle.disk_model.specs.Calls.{MakesThese}
+use Rattle.disk_model.proofs.CallsLemmas.{these_none}
+use Rattle.disk_model.proofs.InOrder.{all_more}
 
 -- ---- one copy
 
@@ -94,7 +96,7 @@ has_saved_more copy bytes a b saved may this =
 -- the first copies are saved, and have no drafts
 pub record Saving (copy : ℕ) (bytes : List ℕ) (old now : VaultView) : Type 0 where
   pub calls : SomeCalls old now
-  pub made : MakesDraftCalls old now
+  pub made : MakesThese (save_calls copy bytes) old now
   pub changes : ChangesBy (MaySave bytes) old now
   pub saved : Holds (HasSaved copy bytes) now
   pub drafts : HasNoDraft old → HasNoDraft now
@@ -103,7 +105,7 @@ pub record Saving (copy : ℕ) (bytes : List ℕ) (old now : VaultView) : Type 0
 pub saving_start : (bytes : List ℕ) (old : VaultView) → Saving 0 bytes old old
 saving_start bytes old = record {
   calls = no_calls old;
-  made = no_draft_calls old;
+  made = these_none old;
   changes = changes_start (MaySave bytes) old (saves_nothing bytes);
   saved = record { reads = λ told copy below. absurd (omega arith); leaves = λ told files left copy below. absurd (omega arith) };
   drafts = λ none. none;
@@ -117,11 +119,11 @@ saving_so_far copy bytes old mid new so_far changes =
 pub drafts_so_far : (copy : ℕ) (bytes : List ℕ) (old mid new : VaultView) → Saving copy bytes old mid → DraftIs copy Absent [] mid new → HasNoDraft old → HasNoDraft new
 drafts_so_far copy bytes old mid new so_far gone none other = other_draft copy other [] mid new gone (so_far.drafts none other)
 
-pub saving_more : (copy : ℕ) (bytes : List ℕ) (old mid new : VaultView) → copy < copies_of mid → Saving copy bytes old mid → SomeCalls mid new → MakesDraftCalls mid new → ChangesBy (MayPublish copy true bytes) mid new
+pub saving_more : (copy : ℕ) (bytes : List ℕ) (old mid new : VaultView) → copy < copies_of mid → Saving copy bytes old mid → SomeCalls mid new → MakesThese (copy_calls bytes copy) mid new → ChangesBy (MayPublish copy true bytes) mid new
     → Holds (λ files. content_of files copy ≡ Some bytes) new → DraftIs copy Absent [] mid new → Saving (copy + 1) bytes old new
 saving_more copy bytes old mid new within so_far calls made changes holds gone = record {
   calls = calls_then old mid new so_far.calls calls;
-  made = draft_calls_then old mid new so_far.made made;
+  made = all_more (copy_calls bytes) copy old mid new so_far.made made;
   changes = saving_so_far copy bytes old mid new so_far changes;
   saved = record {
     reads = λ told. let was = sym calls.goes_on.tells ∙ told in has_saved_more copy bytes mid.files new.files (so_far.saved.reads was) (changes.reads was) (holds.reads told);

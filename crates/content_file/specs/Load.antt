@@ -12,6 +12,10 @@ use Rattle.content_file.specs.Spelling.{spelling, IsContent}
 abbrev pub IsReadOf : ℕ → VaultCall → Type 0
 IsReadOf copy call = (call ≡ ContentSize copy) ⊎ ((at : ℕ) × (n : ℕ) × (call ≡ ContentRead copy at n))
 
+-- a call that reads one of the first copies or its size
+abbrev pub IsReadBelow : ℕ → VaultCall → Type 0
+IsReadBelow copies call = (copy : ℕ) × (copy < copies) × IsReadOf copy call
+
 -- The reading of a copy failed: the count rose, and such a call is among those since.
 pub record HasFailed (old new : VaultView) (copy : ℕ) : Type 0 where
   pub within : copy < copies_of old
@@ -27,6 +31,12 @@ pub record NoneFailed (old new : VaultView) : Type 0 where
   pub done : List VaultDone
   pub grown : Grows old.tells_calls old.calls new.tells_calls new.calls done
   pub each : AllByRecursion (λ (d : VaultDone). d.failed ≡ false) done
+
+-- none of the calls since that read this copy failed
+pub record IsReadWell (old new : VaultView) (copy : ℕ) : Type 0 where
+  pub done : List VaultDone
+  pub grown : Grows old.tells_calls old.calls new.tells_calls new.calls done
+  pub each : AllByRecursion (λ (d : VaultDone). IsReadOf copy d.call → d.failed ≡ false) done
 
 -- a copy holds bytes that are no content file
 pub record IsDamaged (v : VaultView) (copy : ℕ) : Type 0 where
@@ -54,6 +64,7 @@ pub record LoadsTable (old new : VaultView) (table : TableValue) : Type 0 where
   pub within : copy < copies_of old
   pub valid : IsValid table
   pub held : IsTrue old.tells → content_of old.files copy ≡ Some (spelling table)
+  pub read : IsReadWell old new copy
   pub earlier : IsTrue old.tells → (k : ℕ) → k < copy → IsUseless old k ⊎ HasFailed old new k
 
 -- there is no copy

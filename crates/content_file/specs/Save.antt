@@ -1,9 +1,9 @@
--- What saving leaves of a vault.
-use Rattle.std.specs.Prelude.{◌≡◌, ◌⊎◌, ℕ, ◌<◌, ◌≤◌, List, length, Some}
-use Rattle.std.specs.List.{All}
-use Rattle.disk_model.specs.Cause.{Grows}
+-- What saving leaves of a vault, and which calls it makes.
+use Rattle.std.specs.Prelude.{◌≡◌, ◌⊎◌, ℕ, ◌*◌, ◌<◌, ◌≤◌, List, [], ◌∷◌, ◌++◌, length, take, drop, map, Some}
+use Rattle.std.specs.Int.{div_ceil}
+use Rattle.std.specs.List.{flat_map, range_with_len}
 use Rattle.disk_model.specs.Files.{Files, content_of}
-use Rattle.disk_model.specs.Vault.{VaultView, VaultCall, VaultDone, DraftBegin, DraftAppend, DraftSeal, Publish, draft_of}
+use Rattle.disk_model.specs.Vault.{VaultView, VaultCall, DraftBegin, DraftAppend, DraftSeal, Publish, draft_of}
 use Rattle.disk_model.specs.declared.draft.Draft.TheVariants.{Absent}
 
 -- all parity files are as before, and each copy is as before or holds these bytes
@@ -27,8 +27,29 @@ IsDraftCall (DraftSeal copy) = Unit {0}
 IsDraftCall (Publish copy) = Unit {0}
 IsDraftCall _ = ⊥
 
--- only such calls were made
-pub record MakesDraftCalls (old new : VaultView) : Type 0 where
-  pub done : List VaultDone
-  pub grown : Grows old.tells_calls old.calls new.tells_calls new.calls done
-  pub each : All (λ (d : VaultDone). IsDraftCall d.call) done
+-- bytes in pieces of 65,536, of which the last may be shorter: the n-th, and how many they are
+abbrev pub piece_of : List ℕ → ℕ → List ℕ
+piece_of bytes n = take 65536 (drop (n * 65536) bytes)
+
+abbrev pub piece_count : List ℕ → ℕ
+piece_count bytes = div_ceil (length bytes) 65536
+
+-- the call that appends one of the pieces to the draft of a copy
+abbrev pub append_call : ℕ → List ℕ → ℕ → VaultCall
+append_call copy bytes n = DraftAppend copy (piece_of bytes n)
+
+-- one such call for each piece, in order
+abbrev pub append_calls : ℕ → List ℕ → List VaultCall
+append_calls copy bytes = map (append_call copy bytes) (range_with_len 0 (piece_count bytes))
+
+-- the calls that make a sealed draft of bytes: it is begun, filled piece by piece and sealed
+abbrev pub draft_calls : List ℕ → ℕ → List VaultCall
+draft_calls bytes copy = DraftBegin copy ∷ (append_calls copy bytes ++ DraftSeal copy ∷ [])
+
+-- the calls that save bytes to one copy: those of its draft, and then it is published
+abbrev pub copy_calls : List ℕ → ℕ → List VaultCall
+copy_calls bytes copy = draft_calls bytes copy ++ Publish copy ∷ []
+
+-- the calls that save bytes to each of the first copies, in order
+abbrev pub save_calls : ℕ → List ℕ → List VaultCall
+save_calls copies bytes = flat_map (copy_calls bytes) (range_with_len 0 copies)

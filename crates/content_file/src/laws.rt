@@ -1,9 +1,11 @@
 //! What follows for the format as a whole. The calls do nothing: their contracts are laws.
-ghost use Rattle.std.specs.Prelude.{◌≡◌, ◌≢◌, ◌↔◌, ℕ, ◌<◌, List, [], ◌++◌, All, None, Some};
+ghost use Rattle.std.specs.Prelude.{◌≡◌, ◌≢◌, ◌↔◌, ℕ, ◌<◌, ◌≤◌, List, [], ◌++◌, length, All, None, Some};
+ghost use Rattle.std.specs.List.{flat_map, range_with_len};
 ghost use Rattle.file_table.specs.Table.{TableValue};
 ghost use Rattle.file_table.specs.Valid.{IsValid};
 ghost use Rattle.content_file.specs.FirstFlaw.{first_flaw, read_content};
 ghost use Rattle.content_file.specs.Flaw.{Damage, Good, Short};
+ghost use Rattle.content_file.specs.Save.{piece_of, piece_count};
 ghost use Rattle.content_file.specs.Spelling.{spelling, IsContent};
 
 /// No spelling begins another: one that stands at the front of bytes tells its table, and where it ends.
@@ -39,4 +41,10 @@ pub fn reading_gives_the_table()
 pub fn a_flaw_stays()
     ensures { (bytes more : List ℕ) (damage : Damage) → All (λ byte. byte < 256) bytes →
         first_flaw bytes ≡ Some damage → damage.why ≢ Short → first_flaw (bytes ++ more) ≡ Some damage }
+{}
+
+/// The pieces in which bytes are saved are these bytes one after another, and each has at least one and at most 65,536.
+pub fn pieces_are_the_bytes()
+    ensures joined { (bytes : List ℕ) → flat_map (piece_of bytes) (range_with_len 0 (piece_count bytes)) ≡ bytes }
+    ensures each { (bytes : List ℕ) (n : ℕ) → n < piece_count bytes → (0 < length (piece_of bytes n)) × (length (piece_of bytes n) ≤ 65536) }
 {}

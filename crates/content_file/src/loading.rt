@@ -1,9 +1,10 @@
 // A table from the content copies.
 ghost use Rattle.std.specs.Prelude.{◌≡◌, ◌<◌, ℕ, IfOk, IsErrOf, IsTrue};
 ghost use Rattle.std.specs.Option.{option_map};
+ghost use Rattle.disk_model.specs.Calls.{MakesOnly};
 ghost use Rattle.disk_model.specs.Files.{Stays, content_of};
 ghost use Rattle.disk_model.specs.Vault.{SomeCalls, ChangesBy, DraftsStay, copies_of};
-ghost use Rattle.content_file.specs.Load.{Loads, LoadFails, LoadIsDamaged, HasFailed, NoneFailed, IsCopyOf, IsPassedOver};
+ghost use Rattle.content_file.specs.Load.{IsReadOf, IsReadBelow, Loads, LoadFails, LoadIsDamaged, HasFailed, NoneFailed, IsCopyOf, IsPassedOver};
 
 use crate::{DecodeFault, decode};
 use disk_model::Vault;
@@ -28,6 +29,7 @@ fn read_copy<V: Vault>(
 ) -> Result<Option<Vec<u8>>, LoadFault>
     requires { copy < copies_of (V.view vault.old) }
     ensures calls { SomeCalls (V.view vault.old) (V.view vault.new) }
+    ensures made { MakesOnly (IsReadOf copy) (V.view vault.old) (V.view vault.new) }
     ensures changes { ChangesBy Stays (V.view vault.old) (V.view vault.new) }
     ensures drafts { DraftsStay (V.view vault.old) (V.view vault.new) }
     ensures found { IsTrue (V.view vault.old).tells → IfOk result (λ bytes. option_map (λ v. v.items) bytes ≡ content_of (V.view vault.old).files copy) }
@@ -55,6 +57,7 @@ fn read_copy<V: Vault>(
 fn load_copy<V: Vault>(alloc: Global, vault: &mut V, copy: u32) -> Result<Option<Table>, LoadFault>
     requires { copy < copies_of (V.view vault.old) }
     ensures calls { SomeCalls (V.view vault.old) (V.view vault.new) }
+    ensures made { MakesOnly (IsReadOf copy) (V.view vault.old) (V.view vault.new) }
     ensures changes { ChangesBy Stays (V.view vault.old) (V.view vault.new) }
     ensures drafts { DraftsStay (V.view vault.old) (V.view vault.new) }
     ensures found { IfOk result (λ table. IsCopyOf (V.view vault.old) copy table) }
@@ -78,6 +81,7 @@ fn load_copy<V: Vault>(alloc: Global, vault: &mut V, copy: u32) -> Result<Option
 /// without failure and is a content file is taken. `None` where there is no copy.
 pub fn load<V: Vault>(alloc: Global, vault: &mut V) -> Result<Option<Table>, LoadFault>
     ensures calls { SomeCalls (V.view vault.old) (V.view vault.new) }
+    ensures made { MakesOnly (IsReadBelow (copies_of (V.view vault.old))) (V.view vault.old) (V.view vault.new) }
     ensures changes { ChangesBy Stays (V.view vault.old) (V.view vault.new) }
     ensures drafts { DraftsStay (V.view vault.old) (V.view vault.new) }
     ensures loaded { IfOk result (λ table. Loads (V.view vault.old) (V.view vault.new) table) }

@@ -35,7 +35,7 @@ fresh_folder keeps_stamps = record {
 }
 
 pub folder_well_formed : (f : MemFolder) → IsFolder (folder_view f)
-folder_well_formed f = record { tree = λ told. f.files.kept.tree; closed = λ told. absurd (not_closed told) }
+folder_well_formed f = record { tree = λ told. f.files.kept.tree; told = λ closed. absurd (not_closed closed); closed = λ closed. absurd (not_closed closed) }
   where
     not_closed : IsTrue false → ⊥
     not_closed told = cc

@@ -1,5 +1,5 @@
 -- When the calls of an object in memory fail.
-use Rattle.std.specs.Prelude.{◌⊎◌, ℕ, ◌+◌, ◌-◌, ◌^◌, ◌<◌, min, List, [], Contains}
+use Rattle.std.specs.Prelude.{◌≡◌, ◌⊎◌, ℕ, ◌+◌, ◌-◌, ◌^◌, ◌<◌, min, List, [], Bool, true, false, Contains}
 use Rattle.disk_memory.specs.declared.schedule.Schedule.{Schedule}
 
 -- how many calls there were, the numbers of those that are to fail, and after how many every call fails
@@ -22,3 +22,13 @@ counted plan = record plan { calls = min (plan.calls + 1) (2 ^ 64 - 1) }
 -- the call of the last number is to fail
 abbrev pub IsDue : Plan → Type 0
 IsDue plan = (plan.stop < plan.calls) ⊎ Contains plan.failing plan.calls
+
+-- A call was counted, and it failed where it was to fail.
+pub record Obeys (failed : Bool) (old new : Plan) : Type 0 where
+  pub counts : new ≡ counted old
+  pub due : IsDue (counted old) → failed ≡ true
+
+-- It failed just where it was to fail, or where memory refused the entry of the call, so that calls are told no more.
+pub record ObeysExactly (failed : Bool) (old new : Plan) (told told_now : Bool) : Type 0 where
+  pub obeys : Obeys failed old new
+  pub only : failed ≡ true → IsDue (counted old) ⊎ ((told ≡ true) × (told_now ≡ false))

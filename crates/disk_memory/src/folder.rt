@@ -105,8 +105,16 @@ fn name_of(alloc: Global, path: &Path, lost: bool) -> Result<Vec<u8>, NoMemory>
     Ok(name)
 }
 
+// Each call meets the trait's clauses, and fails as its schedule says (`scheduled`).
 impl Folder for MemFolder {
-    ghost use Rattle.disk_memory.specs.Folder.{folder_view, folder_well_formed};
+    ghost use Rattle.std.specs.Prelude.{◌≡◌, ◌≤◌, length, take, IfOk, IfSome, IsTrue, Some};
+    ghost use Rattle.std.specs.Option.{option_map};
+    ghost use Rattle.disk_model.specs.Bytes.{read_from};
+    ghost use Rattle.disk_model.specs.Stamp.{IsStamp};
+    ghost use Rattle.disk_model.specs.Tree.{file_of, meta_of, path_of, IsListing, listed, listing_of};
+    ghost use Rattle.disk_model.specs.Folder.{ListFiles, Look, ReadAt, IsFolderReading, MissingExactly, listing_failed, file_failed};
+    ghost use Rattle.disk_memory.specs.Schedule.{Obeys, ObeysExactly};
+    ghost use Rattle.disk_memory.specs.Folder.{folder_view, folder_plan, folder_well_formed};
 
     ghost view = { folder_view };
 
@@ -116,7 +124,12 @@ impl Folder for MemFolder {
         self.schedule.faults
     }
 
-    fn list(&mut self, alloc: Global) -> Result<Vec<FileInfo>, ListFault> {
+    fn list(&mut self, alloc: Global) -> Result<Vec<FileInfo>, ListFault>
+        ensures call { IsFolderReading ListFiles (listing_failed result) (folder_view self.old) (folder_view self.new) }
+        ensures listing { IfOk result (λ files. IsListing (listed files.items)) }
+        ensures found { IsTrue (folder_view self.old).tells → IfOk result (λ files. listed files.items ≡ listing_of (folder_view self.old).tree) }
+        ensures scheduled { ObeysExactly (listing_failed result) (folder_plan self.old) (folder_plan self.new) (folder_view self.old).tells_calls (folder_view self.new).tells_calls }
+    {
         if !begin(
             &mut self.schedule,
             &mut self.past,
@@ -132,7 +145,13 @@ impl Folder for MemFolder {
         }
     }
 
-    fn look(&mut self, path: &Path, lost: bool) -> Result<Meta, FileFault> {
+    fn look(&mut self, path: &Path, lost: bool) -> Result<Meta, FileFault>
+        ensures call { IsFolderReading (Look path.now lost) (file_failed result) (folder_view self.old) (folder_view self.new) }
+        ensures missing { MissingExactly result (folder_view self.old) (path_of path.now lost) }
+        ensures stamp { IfOk result (λ meta. IsStamp meta.stamp) }
+        ensures found { IsTrue (folder_view self.old).tells → IfOk result (λ meta. option_map meta_of (file_of (folder_view self.old).tree (path_of path.now lost)) ≡ Some meta) }
+        ensures scheduled { Obeys (file_failed result) (folder_plan self.old) (folder_plan self.new) }
+    {
         let entry = look_entry(path, lost);
         if !begin(&mut self.schedule, &mut self.past, entry) {
             self.schedule.fail();
@@ -158,7 +177,13 @@ impl Folder for MemFolder {
         lost: bool,
         at: u64,
         out: &mut [u8],
-    ) -> Result<usize, FileFault> {
+    ) -> Result<usize, FileFault>
+        ensures call { IsFolderReading (ReadAt path.now lost at (length out.old)) (file_failed result) (folder_view self.old) (folder_view self.new) }
+        ensures missing { MissingExactly result (folder_view self.old) (path_of path.now lost) }
+        ensures bound { IfOk result (λ n. n ≤ length out.new) }
+        ensures found { IsTrue (folder_view self.old).tells → IfOk result (λ n. IfSome (file_of (folder_view self.old).tree (path_of path.now lost)) (λ file. take n out.new ≡ read_from file.bytes at (length out.old))) }
+        ensures scheduled { Obeys (file_failed result) (folder_plan self.old) (folder_plan self.new) }
+    {
         let entry = read_entry(path, lost, at, out.len());
         if !begin(&mut self.schedule, &mut self.past, entry) {
             self.schedule.fail();

@@ -65,7 +65,10 @@ impl<F: Folder, V: Vault> Opener for MemOpener<F, V> {
 
     type Vault = V;
 
-    ghost use Rattle.std.specs.Prelude.{map};
+    ghost use Rattle.std.specs.Prelude.{◌≡◌, ◌<◌, ℕ, map, length, take, get_or, vec_len, true, false, IsTrue, IfOk, OnErr};
+    ghost use Rattle.disk_model.specs.Folder.{quiet_folder};
+    ghost use Rattle.disk_model.specs.Opener.{Config, Open, IsOpenerCall, HoldsSame, FolderIsGiven, VaultIsGiven, folder_held, has_failed};
+    ghost use Rattle.disk_memory.specs.Schedule.{Obeys, plan_of};
     ghost use Rattle.disk_memory.specs.Calls.{opener_calls};
     ghost use Rattle.disk_memory.specs.Opener.{opener_view, folders_left, vault_left};
 
@@ -78,7 +81,12 @@ impl<F: Folder, V: Vault> Opener for MemOpener<F, V> {
         self.schedule.faults
     }
 
-    fn config(&mut self, alloc: Global, name: &str) -> Result<Vec<u8>, OpenFault> {
+    fn config(&mut self, alloc: Global, name: &str) -> Result<Vec<u8>, OpenFault>
+        ensures call { IsOpenerCall (Config name.now) result (⟦<MemOpener<F, V> as Opener>⟧.view self.old) (⟦<MemOpener<F, V> as Opener>⟧.view self.new) }
+        ensures same { HoldsSame (⟦<MemOpener<F, V> as Opener>⟧.view self.old) (⟦<MemOpener<F, V> as Opener>⟧.view self.new) }
+        ensures found { IsTrue (⟦<MemOpener<F, V> as Opener>⟧.view self.old).tells → IfOk result (λ bytes. bytes.items ≡ take 1048577 (⟦<MemOpener<F, V> as Opener>⟧.view self.old).config) }
+        ensures scheduled { Obeys (has_failed result) (plan_of self.old.schedule) (plan_of self.new.schedule) }
+    {
         let entry = config_entry(alloc, name);
         if !begin(&mut self.schedule, &mut self.past, entry) {
             self.schedule.fail();
@@ -88,7 +96,18 @@ impl<F: Folder, V: Vault> Opener for MemOpener<F, V> {
         front_of(alloc, self.config.as_slice())
     }
 
-    fn open(&mut self, alloc: Global, places: &Places) -> Result<Opened<F, V>, OpenFault> {
+    fn open(&mut self, alloc: Global, places: &Places) -> Result<Opened<F, V>, OpenFault>
+        ensures call { IsOpenerCall (Open places.now.dirs.items places.now.parities.items places.now.contents.items) result (⟦<MemOpener<F, V> as Opener>⟧.view self.old) (⟦<MemOpener<F, V> as Opener>⟧.view self.new) }
+        ensures columns { IfOk result (λ opened. vec_len opened.folders ≡ vec_len places.now.dirs) }
+        ensures just { IsTrue (⟦<MemOpener<F, V> as Opener>⟧.view self.old).tells → IfOk result (λ opened. vec_len opened.folders ≡ length (⟦<MemOpener<F, V> as Opener>⟧.view self.old).folders) }
+        ensures folders { IfOk result (λ opened. (column : ℕ) → column < vec_len opened.folders →
+            FolderIsGiven (⟦<MemOpener<F, V> as Opener>⟧.view self.old).tells (folder_held (⟦<MemOpener<F, V> as Opener>⟧.view self.old) column) (get_or (map F.view opened.folders.items) column (quiet_folder 0 false))) }
+        ensures vault { IfOk result (λ opened.
+            VaultIsGiven (⟦<MemOpener<F, V> as Opener>⟧.view self.old).tells (vec_len places.now.parities) (vec_len places.now.contents) (⟦<MemOpener<F, V> as Opener>⟧.view self.old).vault (V.view opened.vault)) }
+        ensures kept { OnErr result (HoldsSame (⟦<MemOpener<F, V> as Opener>⟧.view self.old) (⟦<MemOpener<F, V> as Opener>⟧.view self.new)) }
+        ensures failed { OnErr result (has_failed result ≡ true) }
+        ensures scheduled { Obeys (has_failed result) (plan_of self.old.schedule) (plan_of self.new.schedule) }
+    {
         let entry = open_entry(alloc, places);
         let may = begin(&mut self.schedule, &mut self.past, entry);
         let fits = match &self.held {

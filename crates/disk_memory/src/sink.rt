@@ -50,8 +50,12 @@ impl MemSink {
     }
 }
 
+// Each write meets the trait's clause, and fails as its schedule says (`scheduled`).
 impl Sink for MemSink {
-    ghost use Rattle.disk_memory.specs.Sink.{sink_view};
+    ghost use Rattle.std.specs.Prelude.{is_err};
+    ghost use Rattle.disk_model.specs.Sink.{IsWrite};
+    ghost use Rattle.disk_memory.specs.Schedule.{Obeys};
+    ghost use Rattle.disk_memory.specs.Sink.{sink_view, sink_plan};
 
     ghost view = { sink_view };
 
@@ -59,7 +63,10 @@ impl Sink for MemSink {
         self.schedule.faults
     }
 
-    fn write(&mut self, bytes: &[u8]) -> Result<(), Failed> {
+    fn write(&mut self, bytes: &[u8]) -> Result<(), Failed>
+        ensures written { IsWrite bytes.now result (sink_view self.old) (sink_view self.new) }
+        ensures scheduled { Obeys (is_err result) (sink_plan self.old) (sink_plan self.new) }
+    {
         if !self.schedule.next_call() && self.written.extend_from_slice(bytes).is_ok() {
             return Ok(());
         }

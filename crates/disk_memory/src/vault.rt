@@ -132,6 +132,7 @@ impl MemVault {
         requires { copy < copies_of (vault_view self.old) }
         ensures cause { Rose (vault_state self.old).faults (vault_state self.new).faults }
         ensures later { (vault_state self.old).faults ≤ (vault_state self.new).faults }
+        ensures plan { vault_plan self.new ≡ vault_plan self.old }
         ensures lost { vault_state self.new ≡ record (vault_state self.old) {
           faults = (vault_state self.new).faults;
           drafts = set (vault_state self.old).drafts copy Draft.Absent;
@@ -161,8 +162,16 @@ impl MemVault {
     }
 }
 
+// Each call meets the trait's clauses, and fails as its schedule says (`scheduled`).
 impl Vault for MemVault {
-    ghost use Rattle.disk_memory.specs.Vault.{vault_view};
+    ghost use Rattle.std.specs.Prelude.{◌≡◌, ◌≢◌, ◌+◌, ◌^◌, ◌<◌, ◌≤◌, ◌++◌, [], length, take, IfOk, OnOk, OnErr, IsTrue, unwrap_or, is_err, Some};
+    ghost use Rattle.std.specs.Option.{option_map};
+    ghost use Rattle.disk_model.specs.Bytes.{put, resized, read_from};
+    ghost use Rattle.disk_model.specs.Files.{parity_of, content_of, TearsParity, StretchesParity, MayPublish, Stays};
+    ghost use Rattle.disk_model.specs.Vault.{ParityLen, ParityRead, ParityWrite, ParitySetLen, ParitySync, ContentSize, ContentRead, DraftBegin, DraftAppend, DraftSeal, Publish};
+    ghost use Rattle.disk_model.specs.Vault.{copies_of, draft_of, staged_of, is_sealed, IsCall, IsReading, ChangesBy, Reads, Holds, DraftIs, DraftsStay};
+    ghost use Rattle.disk_memory.specs.Schedule.{Obeys, ObeysExactly};
+    ghost use Rattle.disk_memory.specs.Vault.{vault_view, vault_state, vault_plan};
     ghost use Rattle.disk_memory.specs.VaultLaws.{vault_well_formed};
 
     ghost view = { vault_view };
@@ -181,7 +190,12 @@ impl Vault for MemVault {
         self.copies
     }
 
-    fn parity_len(&mut self, level: u32) -> Result<u64, Failed> {
+    fn parity_len(&mut self, level: u32) -> Result<u64, Failed>
+        requires { level < (vault_view self.old).levels }
+        ensures call { IsReading (ParityLen level) result (vault_view self.old) (vault_view self.new) }
+        ensures found { IsTrue (vault_view self.old).tells → IfOk result (λ n. n ≡ length (parity_of (vault_view self.old).files level)) }
+        ensures scheduled { ObeysExactly (is_err result) (vault_plan self.old) (vault_plan self.new) (vault_state self.old).tells_calls (vault_state self.new).tells_calls }
+    {
         let entry = Some(VaultEntry::ParityLen(level));
         if !begin(&mut self.schedule, &mut self.past, entry) {
             return Err(self.schedule.fail());
@@ -190,7 +204,13 @@ impl Vault for MemVault {
         Ok(self.parities[level as usize].len())
     }
 
-    fn parity_read(&mut self, level: u32, at: u64, out: &mut [u8]) -> Result<usize, Failed> {
+    fn parity_read(&mut self, level: u32, at: u64, out: &mut [u8]) -> Result<usize, Failed>
+        requires { level < (vault_view self.old).levels }
+        ensures call { IsReading (ParityRead level at (length out.old)) result (vault_view self.old) (vault_view self.new) }
+        ensures bound { IfOk result (λ n. n ≤ length out.new) }
+        ensures found { IsTrue (vault_view self.old).tells → IfOk result (λ n. take n out.new ≡ read_from (parity_of (vault_view self.old).files level) at (length out.old)) }
+        ensures scheduled { ObeysExactly (is_err result) (vault_plan self.old) (vault_plan self.new) (vault_state self.old).tells_calls (vault_state self.new).tells_calls }
+    {
         let entry = Some(VaultEntry::ParityRead(level, at, out.len()));
         if !begin(&mut self.schedule, &mut self.past, entry) {
             return Err(self.schedule.fail());
@@ -199,7 +219,15 @@ impl Vault for MemVault {
         Ok(self.parities[level as usize].read(at, out))
     }
 
-    fn parity_write(&mut self, level: u32, at: u64, bytes: &[u8]) -> Result<(), Failed> {
+    fn parity_write(&mut self, level: u32, at: u64, bytes: &[u8]) -> Result<(), Failed>
+        requires level { level < (vault_view self.old).levels }
+        requires room { at + length bytes.now < 2 ^ 64 }
+        ensures call { IsCall (ParityWrite level at bytes.now) result (vault_view self.old) (vault_view self.new) }
+        ensures written { OnOk result (Reads (λ files. parity_of files level ≡ put (parity_of (vault_view self.old).files level) at bytes.now) (vault_view self.new)) }
+        ensures changes { ChangesBy (TearsParity level at (length bytes.now)) (vault_view self.old) (vault_view self.new) }
+        ensures drafts { DraftsStay (vault_view self.old) (vault_view self.new) }
+        ensures scheduled { Obeys (is_err result) (vault_plan self.old) (vault_plan self.new) }
+    {
         let entry = write_entry(self.alloc, level, at, bytes);
         if !begin(&mut self.schedule, &mut self.past, entry) {
             return Err(self.schedule.fail());
@@ -213,7 +241,14 @@ impl Vault for MemVault {
         }
     }
 
-    fn parity_set_len(&mut self, level: u32, len: u64) -> Result<(), Failed> {
+    fn parity_set_len(&mut self, level: u32, len: u64) -> Result<(), Failed>
+        requires { level < (vault_view self.old).levels }
+        ensures call { IsCall (ParitySetLen level len) result (vault_view self.old) (vault_view self.new) }
+        ensures written { OnOk result (Reads (λ files. parity_of files level ≡ resized (parity_of (vault_view self.old).files level) len) (vault_view self.new)) }
+        ensures changes { ChangesBy (StretchesParity level len) (vault_view self.old) (vault_view self.new) }
+        ensures drafts { DraftsStay (vault_view self.old) (vault_view self.new) }
+        ensures scheduled { Obeys (is_err result) (vault_plan self.old) (vault_plan self.new) }
+    {
         let entry = Some(VaultEntry::ParitySetLen(level, len));
         if !begin(&mut self.schedule, &mut self.past, entry) {
             return Err(self.schedule.fail());
@@ -227,7 +262,14 @@ impl Vault for MemVault {
         }
     }
 
-    fn parity_sync(&mut self, level: u32) -> Result<(), Failed> {
+    fn parity_sync(&mut self, level: u32) -> Result<(), Failed>
+        requires { level < (vault_view self.old).levels }
+        ensures call { IsCall (ParitySync level) result (vault_view self.old) (vault_view self.new) }
+        ensures changes { ChangesBy Stays (vault_view self.old) (vault_view self.new) }
+        ensures drafts { DraftsStay (vault_view self.old) (vault_view self.new) }
+        ensures synced { OnOk result (Holds (λ files. parity_of files level ≡ parity_of (vault_view self.old).files level) (vault_view self.new)) }
+        ensures scheduled { ObeysExactly (is_err result) (vault_plan self.old) (vault_plan self.new) (vault_state self.old).tells_calls (vault_state self.new).tells_calls }
+    {
         let entry = Some(VaultEntry::ParitySync(level));
         if !begin(&mut self.schedule, &mut self.past, entry) {
             return Err(self.schedule.fail());
@@ -236,7 +278,12 @@ impl Vault for MemVault {
         Ok(())
     }
 
-    fn content_size(&mut self, copy: u32) -> Result<Option<u64>, Failed> {
+    fn content_size(&mut self, copy: u32) -> Result<Option<u64>, Failed>
+        requires { copy < copies_of (vault_view self.old) }
+        ensures call { IsReading (ContentSize copy) result (vault_view self.old) (vault_view self.new) }
+        ensures found { IsTrue (vault_view self.old).tells → IfOk result (λ n. n ≡ option_map length (content_of (vault_view self.old).files copy)) }
+        ensures scheduled { ObeysExactly (is_err result) (vault_plan self.old) (vault_plan self.new) (vault_state self.old).tells_calls (vault_state self.new).tells_calls }
+    {
         let entry = Some(VaultEntry::ContentSize(copy));
         if !begin(&mut self.schedule, &mut self.past, entry) {
             return Err(self.schedule.fail());
@@ -249,7 +296,13 @@ impl Vault for MemVault {
         )
     }
 
-    fn content_read(&mut self, copy: u32, at: u64, out: &mut [u8]) -> Result<usize, Failed> {
+    fn content_read(&mut self, copy: u32, at: u64, out: &mut [u8]) -> Result<usize, Failed>
+        requires { copy < copies_of (vault_view self.old) }
+        ensures call { IsReading (ContentRead copy at (length out.old)) result (vault_view self.old) (vault_view self.new) }
+        ensures bound { IfOk result (λ n. n ≤ length out.new) }
+        ensures found { IsTrue (vault_view self.old).tells → IfOk result (λ n. take n out.new ≡ read_from (unwrap_or (content_of (vault_view self.old).files copy) []) at (length out.old)) }
+        ensures scheduled { ObeysExactly (is_err result) (vault_plan self.old) (vault_plan self.new) (vault_state self.old).tells_calls (vault_state self.new).tells_calls }
+    {
         let entry = Some(VaultEntry::ContentRead(copy, at, out.len()));
         if !begin(&mut self.schedule, &mut self.past, entry) {
             return Err(self.schedule.fail());
@@ -261,7 +314,14 @@ impl Vault for MemVault {
         }
     }
 
-    fn draft_begin(&mut self, copy: u32) -> Result<(), Failed> {
+    fn draft_begin(&mut self, copy: u32) -> Result<(), Failed>
+        requires { copy < copies_of (vault_view self.old) }
+        ensures call { IsCall (DraftBegin copy) result (vault_view self.old) (vault_view self.new) }
+        ensures begun { OnOk result (DraftIs copy Draft.Open [] (vault_view self.old) (vault_view self.new)) }
+        ensures gone { OnErr result (DraftIs copy Draft.Absent [] (vault_view self.old) (vault_view self.new)) }
+        ensures changes { ChangesBy Stays (vault_view self.old) (vault_view self.new) }
+        ensures scheduled { ObeysExactly (is_err result) (vault_plan self.old) (vault_plan self.new) (vault_state self.old).tells_calls (vault_state self.new).tells_calls }
+    {
         let entry = Some(VaultEntry::DraftBegin(copy));
         if !begin(&mut self.schedule, &mut self.past, entry) {
             return Err(self.lose_draft(copy));
@@ -272,7 +332,15 @@ impl Vault for MemVault {
         Ok(())
     }
 
-    fn draft_append(&mut self, copy: u32, bytes: &[u8]) -> Result<(), Failed> {
+    fn draft_append(&mut self, copy: u32, bytes: &[u8]) -> Result<(), Failed>
+        requires copy { copy < copies_of (vault_view self.old) }
+        requires draft { draft_of (vault_view self.old) copy ≡ Draft.Open }
+        ensures call { IsCall (DraftAppend copy bytes.now) result (vault_view self.old) (vault_view self.new) }
+        ensures appended { OnOk result (DraftIs copy Draft.Open (staged_of (vault_view self.old) copy ++ bytes.now) (vault_view self.old) (vault_view self.new)) }
+        ensures gone { OnErr result (DraftIs copy Draft.Absent [] (vault_view self.old) (vault_view self.new)) }
+        ensures changes { ChangesBy Stays (vault_view self.old) (vault_view self.new) }
+        ensures scheduled { Obeys (is_err result) (vault_plan self.old) (vault_plan self.new) }
+    {
         let entry = append_entry(self.alloc, copy, bytes);
         if !begin(&mut self.schedule, &mut self.past, entry) {
             return Err(self.lose_draft(copy));
@@ -286,7 +354,15 @@ impl Vault for MemVault {
         }
     }
 
-    fn draft_seal(&mut self, copy: u32) -> Result<(), Failed> {
+    fn draft_seal(&mut self, copy: u32) -> Result<(), Failed>
+        requires copy { copy < copies_of (vault_view self.old) }
+        requires draft { draft_of (vault_view self.old) copy ≡ Draft.Open }
+        ensures call { IsCall (DraftSeal copy) result (vault_view self.old) (vault_view self.new) }
+        ensures sealed { OnOk result (DraftIs copy Draft.Sealed (staged_of (vault_view self.old) copy) (vault_view self.old) (vault_view self.new)) }
+        ensures gone { OnErr result (DraftIs copy Draft.Absent [] (vault_view self.old) (vault_view self.new)) }
+        ensures changes { ChangesBy Stays (vault_view self.old) (vault_view self.new) }
+        ensures scheduled { ObeysExactly (is_err result) (vault_plan self.old) (vault_plan self.new) (vault_state self.old).tells_calls (vault_state self.new).tells_calls }
+    {
         let entry = Some(VaultEntry::DraftSeal(copy));
         if !begin(&mut self.schedule, &mut self.past, entry) {
             return Err(self.lose_draft(copy));
@@ -296,7 +372,16 @@ impl Vault for MemVault {
         Ok(())
     }
 
-    fn publish(&mut self, copy: u32) -> Result<(), Failed> {
+    fn publish(&mut self, copy: u32) -> Result<(), Failed>
+        requires copy { copy < copies_of (vault_view self.old) }
+        requires draft { draft_of (vault_view self.old) copy ≢ Draft.Absent }
+        ensures call { IsCall (Publish copy) result (vault_view self.old) (vault_view self.new) }
+        ensures gone { DraftIs copy Draft.Absent [] (vault_view self.old) (vault_view self.new) }
+        ensures published { OnOk result (draft_of (vault_view self.old) copy ≡ Draft.Sealed →
+            Holds (λ files. content_of files copy ≡ Some (staged_of (vault_view self.old) copy)) (vault_view self.new)) }
+        ensures changes { ChangesBy (MayPublish copy (is_sealed (draft_of (vault_view self.old) copy)) (staged_of (vault_view self.old) copy)) (vault_view self.old) (vault_view self.new) }
+        ensures scheduled { ObeysExactly (is_err result) (vault_plan self.old) (vault_plan self.new) (vault_state self.old).tells_calls (vault_state self.new).tells_calls }
+    {
         let entry = Some(VaultEntry::Publish(copy));
         if !begin(&mut self.schedule, &mut self.past, entry) {
             return Err(self.lose_draft(copy));

@@ -1,3 +1,5 @@
+pub mod CallsLemmas
+pub mod InOrder
 pub mod MomentsLemmas
 pub mod PathLemmas
 pub mod VaultLemmas

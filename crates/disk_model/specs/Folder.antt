@@ -37,9 +37,10 @@ pub record FolderView : Type 0 where
   pub tells_calls : Bool
   pub calls : List FolderDone
 
--- what it tells is a tree, and a closed one is empty
+-- what it tells is a tree, and a closed one tells that it is empty
 pub record IsFolder (v : FolderView) : Type 0 where
   pub tree : IsTrue v.tells → IsTree v.tree
+  pub told : IsTrue v.closed → IsTrue v.tells
   pub closed : IsTrue v.closed → (path : List ℕ) → file_of v.tree path ≡ None
 
 -- where it tells its tree, it takes a file under this path: it is open, and no file stands in the way
@@ -97,7 +98,7 @@ abbrev pub quiet_folder : ℕ → Bool → FolderView
 quiet_folder faults keeps_stamps = record { faults = faults; keeps_stamps = keeps_stamps; closed = false; tells = false; tree = map.empty; tells_calls = false; calls = [] }
 
 pub quiet_folder-is_folder : (faults : ℕ) (keeps_stamps : Bool) → IsFolder (quiet_folder faults keeps_stamps)
-quiet_folder-is_folder faults keeps_stamps = record { tree = λ told. absurd (false_told told); closed = λ told. absurd (false_told told) }
+quiet_folder-is_folder faults keeps_stamps = record { tree = λ told. absurd (false_told told); told = λ closed. closed; closed = λ told. absurd (false_told told) }
   where
     false_told : IsTrue false → ⊥
     false_told told = cc

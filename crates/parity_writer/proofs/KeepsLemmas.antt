@@ -1,9 +1,10 @@
 -- What steps on one level keep.
-use Rattle.std.proofs.Common.{◌≡◌, ◌≢◌, ◌⊎◌, inl, inr, ⊎_elim, ℕ, ◌+◌, ◌<◌, ◌≤◌, List, [], length, get_or, set, refl, sym, ◌∙◌, ap, subst, arith}
+use Rattle.std.proofs.Common.{◌≡◌, ◌≢◌, ◌⊎◌, inl, inr, ⊎_elim, ℕ, ◌+◌, ◌*◌, ◌<◌, ◌≤◌, max, List, [], length, get_or, set, refl, sym, ◌∙◌, ap, subst, arith}
 use Rattle.std.proofs.lemmas.List.{get_or-set_same, get_or-set_other, set_past, set-get_or}
 use Rattle.std.proofs.lemmas.Bool.{cases_eq, cases_lt}
 use Rattle.disk_model.specs.Files.{Files, parity_of, with_parity, TearsParity, StretchesParity}
-use Rattle.parity_writer.specs.Keeps.{HasByte, KeepsAt}
+use Rattle.parity_writer.specs.Keeps.{HasByte, KeepsAt, IsOutside, WritesBlock}
+use Rattle.parity_writer.proofs.RowLemmas.{outside_range}
 
 -- a level after a change of one level
 parity_cases : (level : ℕ) (file : List ℕ) (old new : Files) → new ≡ with_parity old level file → (r : ℕ)
@@ -68,3 +69,25 @@ keeps_nothing_less P files = record { contents = refl; bytes = λ r i x at has. 
 
 pub keeps_then : (P : ℕ → Type 0) (a b c : Files) → KeepsAt P a b → KeepsAt P b c → KeepsAt P a c
 keeps_then P a b c one two = record { contents = two.contents ∙ one.contents; bytes = λ r i x at has. two.bytes r i x at (one.bytes r i x at has) }
+
+-- one more change of a length
+pub stretch_then : (level len : ℕ) (a b c : Files) → KeepsAt (λ i. i < len) a b → StretchesParity level len b c → KeepsAt (λ i. i < len) a c
+stretch_then level len a b c one two = keeps_then (λ i. i < len) a b c one (stretch_keeps level len b c two)
+
+-- a write makes no level longer than to its own end
+pub tear_no_longer : (level at n : ℕ) (old new : Files) → TearsParity level at n old new → (r : ℕ) → length (parity_of new r) ≤ max (length (parity_of old r)) (at + n)
+tear_no_longer level at n old new tears r =
+    ⊎_elim
+    (λ same. let is = ap length same in omega (arith, is))
+    (λ here. let is = ap length here.1 in let was = ap (λ k. length (parity_of old k)) here.0 in omega (arith, is, was, tears.torn.no_longer))
+    (parity_cases level tears.file old new tears.rest r)
+
+pub writes_nothing : (block_size stripe : ℕ) (files : Files) → WritesBlock block_size stripe files files
+writes_nothing block_size stripe files = record { keeps = keeps_nothing_less (IsOutside block_size stripe) files; no_longer = λ level. omega arith }
+
+-- one more write of the block of a stripe
+pub writes_then : (block_size stripe level at n : ℕ) → at ≡ stripe * block_size → n ≡ block_size → (a b c : Files) → WritesBlock block_size stripe a b → TearsParity level at n b c → WritesBlock block_size stripe a c
+writes_then block_size stripe level at n is as_many a b c one two = record {
+  keeps = keeps_then (IsOutside block_size stripe) a b c one.keeps (tear_keeps (IsOutside block_size stripe) level at n (outside_range block_size stripe at n is as_many) b c two);
+  no_longer = λ r. let before = one.no_longer r in let after = tear_no_longer level at n b c two r in omega (arith, is, as_many, before, after);
+}

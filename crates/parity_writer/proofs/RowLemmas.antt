@@ -2,7 +2,8 @@
 use Rattle.std.proofs.Common.{◌≡◌, ◌⊎◌, inl, inr, ◌≤◌, ℕ, zero, suc, ◌+◌, ◌*◌, ◌<◌, List, [], ◌∷◌, ◌++◌, length, take, drop, refl, sym, ◌∙◌, ap, arith}
 use Rattle.std.proofs.lemmas.List.{drop-drop}
 use Rattle.cauchy.specs.Matrix.{parity_of as level_of}
-use Rattle.parity_writer.specs.Rows.{blocks_in, IsOutside}
+use Rattle.parity_writer.specs.Keeps.{IsOutside}
+use Rattle.parity_writer.specs.Rows.{blocks_in}
 
 pub length-blocks_in : (size count : ℕ) (bytes : List ℕ) → length (blocks_in size count bytes) ≡ count
 length-blocks_in size zero bytes = refl

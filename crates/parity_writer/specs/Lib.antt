@@ -1,2 +1,3 @@
+pub mod Calls
 pub mod Keeps
 pub mod Rows

@@ -1,5 +1,5 @@
 -- The parity of a row of blocks, written.
-use Rattle.std.specs.Prelude.{◌≡◌, ◌⊎◌, ℕ, zero, suc, ◌+◌, ◌*◌, ◌<◌, ◌≤◌, List, [], ◌∷◌, take, drop}
+use Rattle.std.specs.Prelude.{◌≡◌, ℕ, zero, suc, ◌*◌, ◌<◌, List, [], ◌∷◌, take, drop}
 use Rattle.disk_model.specs.Bytes.{put, resized}
 use Rattle.disk_model.specs.Files.{Files, parity_of}
 use Rattle.cauchy.specs.Matrix.{parity_of as level_of}
@@ -8,10 +8,6 @@ use Rattle.cauchy.specs.Matrix.{parity_of as level_of}
 abbrev pub blocks_in : ℕ → ℕ → List ℕ → List (List ℕ)
 blocks_in block_size zero bytes = []
 blocks_in block_size (suc count) bytes = take block_size bytes ∷ blocks_in block_size count (drop block_size bytes)
-
--- a place outside of the block of a stripe
-abbrev pub IsOutside : ℕ → ℕ → ℕ → Type 0
-IsOutside block_size stripe i = (i < stripe * block_size) ⊎ (stripe * block_size + block_size ≤ i)
 
 -- the first levels are cut to so many bytes, or extended to them with zeros
 abbrev pub HasLengths : ℕ → ℕ → Files → Files → Type 0

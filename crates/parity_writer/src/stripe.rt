@@ -1,10 +1,11 @@
 // The parity of one stripe.
 ghost use Rattle.std.specs.Prelude.{◌≡◌, ◌*◌, ◌<◌, ◌≤◌, ℕ, length, OnOk, OnErr};
 ghost use Rattle.cauchy.specs.Matrix.{parity_of as level_of};
-ghost use Rattle.disk_model.specs.Cause.{Rose};
+ghost use Rattle.disk_model.specs.Calls.{MakesThese, FailsAmong};
 ghost use Rattle.disk_model.specs.Vault.{SomeCalls, ChangesBy, DraftsStay, Reads};
-ghost use Rattle.parity_writer.specs.Keeps.{KeepsAt};
-ghost use Rattle.parity_writer.specs.Rows.{IsOutside, HasSums, blocks_in};
+ghost use Rattle.parity_writer.specs.Calls.{sum_calls};
+ghost use Rattle.parity_writer.specs.Keeps.{WritesBlock};
+ghost use Rattle.parity_writer.specs.Rows.{HasSums, blocks_in};
 
 use cauchy::add_column;
 use cauchy::laws::empty_row;
@@ -41,8 +42,9 @@ pub fn write_stripe<V: Vault>(
     requires block { length block.old ≤ 4194304 }
     requires levels { (V.view vault.old).levels ≤ 6 }
     ensures calls { SomeCalls (V.view vault.old) (V.view vault.new) }
-    ensures cause { OnErr result (Rose (V.view vault.old).faults (V.view vault.new).faults) }
-    ensures changes { ChangesBy (KeepsAt (IsOutside (length block.old) stripe)) (V.view vault.old) (V.view vault.new) }
+    ensures made { OnOk result (MakesThese (sum_calls (V.view vault.old).levels (length block.old) stripe (blocks_in (length block.old) columns row.now)) (V.view vault.old) (V.view vault.new)) }
+    ensures cause { OnErr result (FailsAmong (sum_calls (V.view vault.old).levels (length block.old) stripe (blocks_in (length block.old) columns row.now)) (V.view vault.old) (V.view vault.new)) }
+    ensures changes { ChangesBy (WritesBlock (length block.old) stripe) (V.view vault.old) (V.view vault.new) }
     ensures drafts { DraftsStay (V.view vault.old) (V.view vault.new) }
     ensures written { OnOk result (Reads (HasSums (V.view vault.old).levels (length block.old) stripe (blocks_in (length block.old) columns row.now) (V.view vault.old).files) (V.view vault.new)) }
 {

@@ -1,6 +1,6 @@
 -- Folders that were only read, one call after another.
-use Rattle.std.proofs.Common.{◌≡◌, ℕ, ◌<◌, List, [], ◌++◌, length, set, map, get_or, false, inl, inr, refl, sym, ap, ◌∙◌, subst, arith, append_assoc}
-use Rattle.std.proofs.lemmas.List.{append-nil, length-set, map-set, get_or-map, get_or-set_same, get_or-set_other}
+use Rattle.std.proofs.Common.{◌≡◌, ◌≢◌, ℕ, ◌<◌, List, [], ◌++◌, length, set, map, get_or, false, inl, inr, refl, sym, ap, ◌∙◌, subst, arith, append_assoc}
+use Rattle.std.proofs.lemmas.List.{append-nil, length-map, length-set, map-set, get_or-map, get_or-set_same, get_or-set_other}
 use Rattle.std.proofs.lemmas.Bool.{cases_eq}
 use Rattle.disk_model.specs.Folder.{FolderView, quiet_folder}
 use Rattle.snap_sync.specs.Found.{ReadsOnly, folder_at}
@@ -64,6 +64,15 @@ all_read_one olds mids d after so_far one =
 -- the folder of a number, as the code lends it
 pub folder_lent : {F : Type 0} (view : F → FolderView) (folders : List F) (d : ℕ) (before : F) → d < length folders → view (get_or folders d before) ≡ folder_at (map view folders) d
 folder_lent view folders d before there = sym (get_or-map view folders d before (quiet_folder 0 false) there)
+
+pub folder_set : {F : Type 0} (view : F → FolderView) (folders : List F) (d : ℕ) (after : F) → d < length folders → folder_at (map view (set folders d after)) d ≡ view after
+folder_set view folders d after there =
+    ap (λ vs. folder_at vs d) (map-set view folders d after)
+    ∙ get_or-set_same (map view folders) d (view after) (quiet_folder 0 false) (omega (arith, there, length-map folders view))
+
+-- and the others
+pub folder_other : {F : Type 0} (view : F → FolderView) (folders : List F) (d k : ℕ) (after : F) → k ≢ d → folder_at (map view (set folders d after)) k ≡ folder_at (map view folders) k
+folder_other view folders d k after other = ap (λ vs. folder_at vs k) (map-set view folders d after) ∙ get_or-set_other (map view folders) d k (view after) (quiet_folder 0 false) other
 
 pub all_read_lent : {F : Type 0} (view : F → FolderView) (olds : List FolderView) (folders : List F) (d : ℕ) (before after : F) → d < length folders
     → AllReadOnly olds (map view folders) → ReadsOnly (view (get_or folders d before)) (view after) → AllReadOnly olds (map view (set folders d after))

@@ -1,17 +1,20 @@
 -- What the calls on a folder say of one cell, and what the zeros behind its bytes leave.
-use Rattle.std.proofs.Common.{◌≡◌, ◌≢◌, ℕ, ◌*◌, ◌≤◌, List, [], ◌∷◌, ◌++◌, length, take, false, IsTrue, Bool, Option, Some, None, IfSome, refl, sym, ap, ◌∙◌, subst, arith, append_assoc}
+use Rattle.std.proofs.Common.{◌≡◌, ◌≢◌, ℕ, ◌*◌, ◌≤◌, List, [], ◌∷◌, ◌++◌, length, take, false, true, IsTrue, inl, inr, Bool, Option, Some, None, IfSome, refl, sym, ap, ap₂, ◌∙◌, subst, arith, append_assoc}
 use Rattle.std.specs.Option.{option_map}
+use Rattle.std.proofs.Math.Seq.{drop-nil, take-nil}
 use Rattle.std.proofs.lemmas.List.{append-nil, length-take, length-take-le, take-append-le, take_at}
 use Rattle.disk_model.specs.Bytes.{read_from}
 use Rattle.disk_model.specs.Cause.{Rose}
 use Rattle.disk_model.specs.Tree.{File, file_of, meta_of, path_of}
-use Rattle.disk_model.specs.Folder.{FolderView, FolderCall, FolderDone, IsFolderReading, TreeStays}
+use Rattle.disk_model.specs.Folder.{FolderView, FolderCall, FolderDone, Look, ReadAt, IsFolderReading, TreeStays}
 use Rattle.disk_model.specs.declared.meta.Meta.{Meta}
 use Rattle.file_table.specs.Table.{Column, record_in, IsAt}
 use Rattle.snap_sync.specs.declared.reading.Found.{Found}
 use Rattle.snap_sync.specs.declared.reading.Found.TheVariants as found
 use Rattle.snap_sync.specs.Reading.{CellReading, NoBlock, Unread, Gave, block_length, bytes_of}
+use Rattle.snap_sync.specs.FolderCalls.{AreCellCalls, Asks, look_of, read_of, succeeds, fails}
 use Rattle.snap_sync.specs.Found.{reading_of, got_of, Came, ReadsOnly, ReadsCell}
+use Rattle.snap_sync.proofs.FolderCallsLemmas.{Grew, grew_nothing}
 
 -- without a call
 pub reads_nothing : (v : FolderView) → ReadsOnly v v
@@ -56,14 +59,31 @@ bytes_of_seen : (file : Option File) (seen : Meta) (at n : ℕ) (bytes : List �
 bytes_of_seen None seen at n bytes is came = cc
 bytes_of_seen (Some there) seen at n bytes is came = came
 
+nothing_there : (file : Option File) (at n : ℕ) → file ≡ None → [] ≡ read_from (bytes_of file) at n
+nothing_there file at n none = sym (ap (λ (f : Option File). read_from (bytes_of f) at n) none ∙ ap (take n) (drop-nil at) ∙ take-nil n)
+
 module _ (block_size : ℕ) (column : Column) (stripe rec index : ℕ) (path : List ℕ) (old mid new : FolderView) (is_at : IsAt column stripe rec index) (path_is : path ≡ (record_in column rec).path) where
+  look_is : Look path false ≡ look_of column rec
+  look_is = ap (λ place. Look place false) path_is
+
+  read_is : (at n : ℕ) → at ≡ index * block_size → n ≡ block_length block_size (record_in column rec).meta.size index → ReadAt path false at n ≡ read_of block_size column rec index
+  read_is at n at_is n_is = ap (λ place. ReadAt place false at n) path_is ∙ ap₂ (ReadAt (record_in column rec).path false) at_is n_is
+
+  read_there : (seen : Meta) (bytes : List ℕ) (at n : ℕ) → at ≡ index * block_size → n ≡ block_length block_size (record_in column rec).meta.size index
+      → Grew old new (succeeds (Look path false) ∷ succeeds (ReadAt path false at n) ∷ []) → Asks [] (AreCellCalls block_size column (Gave rec index (Some seen) bytes)) old new
+  read_there seen bytes at n at_is n_is calls = record {
+    done = _;
+    are = ap₂ (λ (first last : FolderCall). succeeds first ∷ succeeds last ∷ []) look_is (read_is at n at_is n_is);
+    grown = calls;
+  }
+
   -- the file was seen, and these bytes of it came
-  pub cell_given : (seen : Meta) (at n count : ℕ) (out rest : List ℕ) → ReadsOnly old new → TreeStays old mid → mid.tells ≡ old.tells
+  pub cell_given : (seen : Meta) (at n count : ℕ) (out rest : List ℕ) → Grew old new (succeeds (Look path false) ∷ succeeds (ReadAt path false at n) ∷ []) → ReadsOnly old new → TreeStays old mid → mid.tells ≡ old.tells
       → at ≡ index * block_size → n ≡ block_length block_size (record_in column rec).meta.size index → length out ≡ n → count ≤ length out
       → (IsTrue old.tells → option_map meta_of (file_of old.tree (path_of path false)) ≡ Some seen)
       → (IsTrue mid.tells → IfSome (file_of mid.tree (path_of path false)) (λ file. take count out ≡ read_from file.bytes at n))
       → ReadsCell block_size column stripe (Gave rec index (Some seen) (take count (out ++ rest))) old new
-  cell_given seen at n count out rest only stays tells at_is n_is long few saw came =
+  cell_given seen at n count out rest calls only stays tells at_is n_is long few saw came =
       let kept = record_in column rec in
       let named : path_of path false ≡ kept.path = append-nil path ∙ path_is in
       let front : take count (out ++ rest) ≡ take count out = take-append-le count out rest few in
@@ -79,27 +99,61 @@ module _ (block_size : ℕ) (column : Column) (stripe rec index : ℕ) (path : L
         at = (is_at, short, λ none. cc);
         given = λ told. (sym (saw told) ∙ ap (λ place. option_map meta_of (file_of old.tree place)) named, bytes told);
         unread = λ no. cc;
+        calls = read_there seen (take count out) at n at_is n_is calls;
       })
 
   -- the file was seen, and was not there any more: so the folder does not tell
-  pub cell_gone : (seen : Meta) → ReadsOnly old new → TreeStays old mid → mid.tells ≡ old.tells
+  pub cell_gone : (seen : Meta) (at n : ℕ) → at ≡ index * block_size → n ≡ block_length block_size (record_in column rec).meta.size index
+      → Grew old new (succeeds (Look path false) ∷ succeeds (ReadAt path false at n) ∷ []) → ReadsOnly old new → TreeStays old mid → mid.tells ≡ old.tells
       → (IsTrue old.tells → file_of old.tree (path_of path false) ≢ None)
       → (IsTrue mid.tells → file_of mid.tree (path_of path false) ≡ None)
       → ReadsCell block_size column stripe (Gave rec index (Some seen) []) old new
-  cell_gone seen only stays tells there gone = record {
+  cell_gone seen at n at_is n_is calls only stays tells there gone = record {
     folder = only;
     at = (is_at, omega arith, λ none. refl);
     given = λ told. absurd (there told (ap (λ tree. file_of tree (path_of path false)) (sym (stays told)) ∙ gone (tells ∙ told)));
     unread = λ no. cc;
+    calls = read_there seen [] at n at_is n_is calls;
   }
 
   -- the read failed
-  pub cell_unread : ReadsOnly old new → old.faults ≤ mid.faults → Rose mid.faults new.faults → ReadsCell block_size column stripe (Unread rec index) old new
-  cell_unread only later rose = record { folder = only; at = is_at; given = λ told. tt; unread = λ yes. rose_later _ mid.faults _ later rose }
+  pub cell_unread : (at n : ℕ) → at ≡ index * block_size → n ≡ block_length block_size (record_in column rec).meta.size index → Grew old new (succeeds (Look path false) ∷ fails (ReadAt path false at n) ∷ [])
+      → ReadsOnly old new → old.faults ≤ mid.faults → Rose mid.faults new.faults → ReadsCell block_size column stripe (Unread rec index) old new
+  cell_unread at n at_is n_is calls only later rose = record {
+    folder = only;
+    at = is_at;
+    given = λ told. tt;
+    unread = λ yes. rose_later _ mid.faults _ later rose;
+    calls = record { done = _; are = inr (ap₂ (λ (first last : FolderCall). succeeds first ∷ fails last ∷ []) look_is (read_is at n at_is n_is)); grown = calls };
+  }
+
+  -- the look failed
+  pub cell_unseen : IsFolderReading (Look path false) true old new → ReadsCell block_size column stripe (Unread rec index) old new
+  cell_unseen look = record {
+    folder = record { calls = record { done = _; goes_on = look.called.goes_on }; tree = look.tree };
+    at = is_at;
+    given = λ told. tt;
+    unread = λ yes. look.called.cause refl;
+    calls = record { done = _; are = inl (ap (λ (call : FolderCall). fails call ∷ []) look_is); grown = look.called.goes_on.calls };
+  }
+
+  -- no file was there
+  pub cell_absent : IsFolderReading (Look path false) false old new → (IsTrue old.tells → file_of old.tree (path_of path false) ≡ None) → ReadsCell block_size column stripe (Gave rec index None []) old new
+  cell_absent look none =
+      let kept = record_in column rec in
+      let named : path_of path false ≡ kept.path = append-nil path ∙ path_is in
+      let gone : IsTrue old.tells → file_of old.tree kept.path ≡ None = λ told. ap (file_of old.tree) (sym named) ∙ none told in
+      record {
+        folder = record { calls = record { done = _; goes_on = look.called.goes_on }; tree = look.tree };
+        at = (is_at, omega arith, λ _. refl);
+        given = λ told. (sym (ap (option_map meta_of) (gone told)), nothing_there (file_of old.tree kept.path) _ _ (gone told));
+        unread = λ no. cc;
+        calls = record { done = _; are = ap (λ (call : FolderCall). succeeds call ∷ []) look_is; grown = look.called.goes_on.calls };
+      }
 
 -- a column without a block at a stripe
 pub cell_empty : (block_size : ℕ) (column : Column) (stripe : ℕ) (v : FolderView) → ((rec index : ℕ) → ¬ (IsAt column stripe rec index)) → ReadsCell block_size column stripe NoBlock v v
-cell_empty block_size column stripe v none = record { folder = reads_nothing v; at = none; given = λ told. tt; unread = λ no. cc }
+cell_empty block_size column stripe v none = record { folder = reads_nothing v; at = none; given = λ told. tt; unread = λ no. cc; calls = record { done = []; are = refl; grown = grew_nothing v } }
 
 -- what follows the bytes that came does not count
 reading_of-filled : (cell : Found) (n : ℕ) (block rest : List ℕ) → n ≡ got_of cell → Came cell block → reading_of cell (take n block ++ rest) ≡ reading_of cell block

@@ -23,8 +23,10 @@ use Rattle.snap_sync.specs.Closing.{block_with, record_hashed, column_hashed, co
 use Rattle.snap_sync.specs.Events.{cell_events, row_events, stripe_events}
 use Rattle.snap_sync.specs.declared.reading.Row.{Row}
 use Rattle.snap_sync.specs.declared.told.Told.{Told}
+use Rattle.snap_sync.specs.FolderCalls.{AreCellCalls, Asks}
 use Rattle.snap_sync.specs.Found.{HasRoom, ReadsStripe}
 use Rattle.snap_sync.specs.Telling.{lines_of, written, TellsEvents}
+use Rattle.snap_sync.proofs.FolderCallsLemmas.{cell_calls_same}
 
 pub block_with-position : (given : Option Digest16) (block : Block) → (block_with given block).position ≡ block.position
 block_with-position None block = refl
@@ -215,6 +217,18 @@ module _ (given : ℕ → ℕ → Option Digest16) where
   IsGivenBy-column_unhashed tree block_size d columns cell given_by =
       IsGivenBy-unhashed (given d) (column_at columns d) tree block_size cell (subst (λ (column : Column). IsGivenBy tree block_size column cell) (column_at-hashed columns d) given_by)
 
+  -- the calls for it
+  pub Asks-unhashed : (d block_size : ℕ) (columns : List Column) (cell : CellReading) (old new : FolderView) → Asks [] (AreCellCalls block_size (column_at (columns_hashed given 0 columns) d) cell) old new
+      → Asks [] (AreCellCalls block_size (column_at columns d) cell) old new
+  Asks-unhashed d block_size columns cell old new asks =
+      let column = column_at columns d in
+      record {
+        done = asks.done;
+        are = cell_calls_same block_size column (column_hashed (given d) column) cell asks.done (path-hashed (given d) column) (meta-hashed (given d) column)
+            (subst (λ (c : Column). AreCellCalls block_size c cell asks.done) (column_at-hashed columns d) asks.are);
+        grown = asks.grown;
+      }
+
   pub HasRoom-hashed : (table : TableValue) (row : Row) → HasRoom table row → HasRoom (record table { columns = columns_hashed given 0 table.columns }) row
   HasRoom-hashed table row room = record {
     found = room.found ∙ sym (length-columns_hashed table.columns);
@@ -247,5 +261,6 @@ module _ (given : ℕ → ℕ → Option Digest16) where
               (subst (λ (column : Column). IsReadingAt table.shape.block_size column stripe (get_or reading.cells d NoBlock)) (column_at-hashed table.columns d) cell.at);
           given = λ told. IsGivenBy-column_unhashed _ _ d table.columns _ (cell.given told);
           unread = cell.unread;
+          calls = Asks-unhashed d table.shape.block_size table.columns _ _ _ cell.calls;
         };
   }

@@ -18,7 +18,7 @@ use Rattle.snap_sync.specs.Telling.{lines_of, written, TellsEvents}
 use Rattle.snap_sync.proofs.RowLemmas.{length-cells_of}
 use Rattle.snap_sync.proofs.EventsLemmas.{cell_events-here, row_events-more, row_events-rest}
 
-part_of_first : (front back old mid : List ℕ) → AppendsPart front old mid → AppendsPart (front ++ back) old mid
+pub part_of_first : (front back old mid : List ℕ) → AppendsPart front old mid → AppendsPart (front ++ back) old mid
 part_of_first front back old mid part = record {
   front = part.front;
   rest = part.rest ++ back;
@@ -26,7 +26,7 @@ part_of_first front back old mid part = record {
   appended = part.appended;
 }
 
-part_of_both : (front back old mid new : List ℕ) → mid ≡ old ++ front → AppendsPart back mid new → AppendsPart (front ++ back) old new
+pub part_of_both : (front back old mid new : List ℕ) → mid ≡ old ++ front → AppendsPart back mid new → AppendsPart (front ++ back) old new
 part_of_both front back old mid new whole part = record {
   front = front ++ part.front;
   rest = part.rest;
@@ -34,13 +34,13 @@ part_of_both front back old mid new whole part = record {
   appended = part.appended ∙ ap (λ xs. xs ++ part.front) whole ∙ append_assoc old front part.front;
 }
 
-no_part : (bytes old : List ℕ) → AppendsPart bytes old old
+pub no_part : (bytes old : List ℕ) → AppendsPart bytes old old
 no_part bytes old = record { front = []; rest = bytes; whole = refl; appended = sym (append-nil old) }
 
-goes_nowhere : (out : SinkView) → SinkGoesOn out out
+pub goes_nowhere : (out : SinkView) → SinkGoesOn out out
 goes_nowhere out = record { later = omega arith; tells = refl }
 
-goes_on_twice : (old mid new : SinkView) → SinkGoesOn old mid → SinkGoesOn mid new → SinkGoesOn old new
+pub goes_on_twice : (old mid new : SinkView) → SinkGoesOn old mid → SinkGoesOn mid new → SinkGoesOn old new
 goes_on_twice old mid new one two = record { later = omega (arith, one.later, two.later); tells = two.tells ∙ one.tells }
 
 -- what is counted up to a limit in two steps

@@ -8,6 +8,7 @@ use Rattle.file_table.specs.declared.block.Cell.{Cell}
 use Rattle.snap_sync.specs.declared.reading.Found.{Found}
 use Rattle.snap_sync.specs.declared.reading.Found.TheVariants as found
 use Rattle.snap_sync.specs.declared.reading.Row.{Row}
+use Rattle.snap_sync.specs.FolderCalls.{AreCellCalls, Asks}
 use Rattle.snap_sync.specs.Reading.{CellReading, NoBlock, Unread, Gave, StripeReading, IsReadingAt, IsGivenBy, is_unread}
 
 -- the reading of a cell, by what was found and its block
@@ -64,6 +65,7 @@ pub record ReadsCell (block_size : ℕ) (column : Column) (stripe : ℕ) (readin
   pub at : IsReadingAt block_size column stripe reading
   pub given : IsTrue old.tells → IsGivenBy old.tree block_size column reading
   pub unread : is_unread reading ≡ true → Rose old.faults new.faults
+  pub calls : Asks [] (AreCellCalls block_size column reading) old new
 
 -- one block of a column was read, at whichever stripe it stands
 abbrev pub ReadsBlock : TableValue → ℕ → Cell → CellReading → FolderView → FolderView → Type 0

@@ -3,13 +3,17 @@ pub mod Listing
 pub mod Layout
 pub mod LayoutFault
 pub mod Reading
+pub mod FolderCalls
 pub mod Found
 pub mod Closing
 pub mod Events
 pub mod Telling
 pub mod Parity
 pub mod Sync
+pub mod Calls
 pub mod Steps
 pub mod Faults
 pub mod SyncFault
 pub mod Ending
+pub mod Stops
+pub mod Part

@@ -1,33 +1,34 @@
 // A first sync.
-ghost use Rattle.std.specs.Prelude.{◌≡◌, ◌<◌, ◌*◌, true, length, map, count_by, IfOk, OnOk, IfErr, OnErr, IsTrue};
-ghost use Rattle.disk_model.specs.Cause.{Rose};
-ghost use Rattle.disk_model.specs.Vault.{copies_of, SomeCalls, Reads, Holds};
+ghost use Rattle.std.specs.Prelude.{true, false, ◌≡◌, ◌⊎◌, ◌*◌, length, map, count_by, IfOk, OnOk, IfErr, OnErr, IsTrue};
+ghost use Rattle.disk_model.specs.Calls.{Makes};
+ghost use Rattle.disk_model.specs.Vault.{copies_of, SomeCalls, ChangesBy, Reads, Holds};
 ghost use Rattle.content_file.specs.Save.{HasSaved};
 ghost use Rattle.content_file.specs.Spelling.{spelling};
-ghost use Rattle.parity_writer.specs.Rows.{HasLengths, HasSums};
+ghost use Rattle.parity_writer.specs.Rows.{HasLengths};
 ghost use Rattle.snap_report.specs.Lines.{Tells};
 ghost use Rattle.snap_report.specs.Text.{sync_text};
-ghost use Rattle.snap_sync.specs.Closing.{columns_hashed, stripe_hash, AreHashed};
+ghost use Rattle.snap_sync.specs.Calls.{IsSyncCall, MakesSuch, MakesWell, AreOpening, AreClosing};
+ghost use Rattle.snap_sync.specs.Closing.{AreHashed};
 ghost use Rattle.snap_sync.specs.Kept.{own_names};
 ghost use Rattle.snap_sync.specs.Listing.{files_of, lists_of};
-ghost use Rattle.snap_sync.specs.Reading.{is_verified, row_of};
-ghost use Rattle.snap_sync.specs.Found.{reading_in, ReadsOnly, HasRoom};
+ghost use Rattle.snap_sync.specs.Found.{ReadsOnly};
 ghost use Rattle.snap_sync.specs.Telling.{written};
 ghost use Rattle.snap_sync.specs.Sync.{IsArray, AllReadOnly, Syncs, before_of, after_of};
-ghost use Rattle.snap_sync.specs.Steps.{IsLate, EndsListing, EndsListings, ListsFolder, ListsAll, IsNewWork, HoldsStripe, SyncsStripe, SyncsStripes, ClosesTable};
+ghost use Rattle.snap_sync.specs.Steps.{IsLate, EndsListing, EndsListings, ListsFolder, ListsAll, MayOpen, MayClose, LeavesNoDraft, ClosesTable, with_marks};
+ghost use Rattle.snap_sync.specs.Stops.{Leaves};
 ghost use Rattle.snap_sync.specs.Ending.{names_of, ending_of};
 ghost use Rattle.snap_sync.specs.SyncFault.{Causes, is_early};
 
 use crate::SyncFault;
-use crate::closing::{mark_closed, set_hashes};
+use crate::closing::mark_closed;
 use crate::kept::{Listing, kept};
 use crate::layout::lay_out;
-use crate::reading::Row;
-use crate::telling::{Told, tell_stripe};
+use crate::stripes::{Work, sync_stripes, work_on};
+use crate::telling::Told;
 use content_file::save;
-use disk_model::{Failed, Folder, ListFault, NoMemory, Places, Sink, Vault};
+use disk_model::{Folder, ListFault, NoMemory, Places, Sink, Vault};
 use file_table::Table;
-use parity_writer::{set_lengths, settle, write_stripe};
+use parity_writer::{set_lengths, settle};
 use snap_report::{push_sync_totals, put};
 use std::alloc::Global;
 
@@ -55,7 +56,7 @@ fn list_folder<F: Folder>(
     disk: u32,
 ) -> Result<Listing, SyncFault>
     ensures folder { ReadsOnly (F.view folder.old) (F.view folder.new) }
-    ensures listed { IfOk result (λ listing. ListsFolder (own_names places.now.parities.items places.now.contents.items) dir.now (F.view folder.old) (files_of listing)) }
+    ensures listed { IfOk result (λ listing. ListsFolder (own_names places.now.parities.items places.now.contents.items) dir.now (F.view folder.old) (F.view folder.new) (files_of listing)) }
     ensures failed { IfErr result (EndsListing disk (F.view folder.old) (F.view folder.new)) }
 {
     let files = match folder.list(alloc) {
@@ -77,7 +78,7 @@ fn list_all<F: Folder>(
     requires dirs { length places.now.dirs.items ≡ disks }
     ensures folders { AllReadOnly (map F.view folders.old) (map F.view folders.new) }
     ensures count { IfOk result (λ listings. length listings.items ≡ disks) }
-    ensures listed { IfOk result (λ listings. ListsAll (names_of places.now) (map F.view folders.old) (lists_of listings.items)) }
+    ensures listed { IfOk result (λ listings. ListsAll (names_of places.now) (map F.view folders.old) (map F.view folders.new) (lists_of listings.items)) }
     ensures failed { IfErr result (EndsListings (map F.view folders.old) (map F.view folders.new)) }
 {
     let mut listings = Vec::new(alloc);
@@ -90,109 +91,17 @@ fn list_all<F: Folder>(
     Ok(listings)
 }
 
-// What the loop over the stripes works on, and the buffers that it takes once.
-#[derive(Drop)]
-struct Work {
-    table: Table,
-    row: Row,
-    sum: Vec<u8>,
-    closed: Vec<bool>,
-    told: Told,
-}
-
-fn work_on(alloc: Global, table: Table) -> Result<Work, NoMemory>
-    ensures { IfOk result (IsNewWork table) }
-{
-    let row = Row::make(alloc, &table)?;
-    let sum = vec![in alloc; 0u8; table.shape().block_size as usize]?;
-    let closed = vec![in alloc; false; table.length() as usize]?;
-    let told = Told {
-        line: Vec::new(alloc),
-        failed: false,
-        findings: 0,
-    };
-    Ok(Work {
-        table,
-        row,
-        sum,
-        closed,
-        told,
-    })
-}
-
-// Closes a stripe that was verified: its hashes go into the table, and its sums to the levels.
-fn close_stripe<V: Vault>(work: &mut Work, vault: &mut V, stripe: u32) -> Result<(), Failed>
-    requires holds { HoldsStripe work.old.table stripe work.old.row }
-    requires sum { length work.old.sum.items ≡ work.old.table.shape.block_size }
-    requires levels { (V.view vault.old).levels ≡ work.old.table.shape.levels }
-    requires verified { is_verified work.old.table.shape.block_size work.old.table.columns (reading_in work.old.table.shape.block_size work.old.row) ≡ true }
-    ensures table { work.new.table ≡ record work.old.table { columns = columns_hashed (stripe_hash work.old.table.shape (reading_in work.old.table.shape.block_size work.old.row)) 0 work.old.table.columns } }
-    ensures sum { length work.new.sum.items ≡ length work.old.sum.items }
-    ensures rest { work.new ≡ record work.old { table = work.new.table; sum = work.new.sum } }
-    ensures calls { SomeCalls (V.view vault.old) (V.view vault.new) }
-    ensures cause { OnErr result (Rose (V.view vault.old).faults (V.view vault.new).faults) }
-    ensures written { OnOk result (Reads (HasSums work.old.table.shape.levels work.old.table.shape.block_size stripe (row_of work.old.table.shape.block_size (reading_in work.old.table.shape.block_size work.old.row)) (V.view vault.old).files) (V.view vault.new)) }
-{
-    set_hashes(&mut work.table, &work.row);
-    let columns = work.table.disks();
-    write_stripe(vault, stripe, columns, &work.row.blocks, &mut work.sum)
-}
-
-// Reads a stripe, tells what was found, and closes it where it is verified.
-fn sync_stripe<F: Folder, V: Vault, W: Sink>(
-    work: &mut Work,
-    folders: &mut [F],
-    vault: &mut V,
-    stripe: u32,
-    out: &mut W,
-) -> Result<(), SyncFault>
-    requires folders { length folders.old ≡ length work.old.table.columns }
-    requires stripe { stripe < length work.old.table.infos }
-    requires room { HasRoom work.old.table work.old.row }
-    requires sum { length work.old.sum.items ≡ work.old.table.shape.block_size }
-    requires closed { length work.old.closed.items ≡ length work.old.table.infos }
-    requires levels { (V.view vault.old).levels ≡ work.old.table.shape.levels }
-    ensures folders { AllReadOnly (map F.view folders.old) (map F.view folders.new) }
-    ensures calls { SomeCalls (V.view vault.old) (V.view vault.new) }
-    ensures synced { OnOk result (SyncsStripe stripe work.old work.new (map F.view folders.old) (map F.view folders.new) (V.view vault.old) (V.view vault.new) (W.view out.old) (W.view out.new)) }
-    ensures failed { IfErr result (IsLate (V.view vault.old).faults (V.view vault.new).faults) }
-{
-    work.row.read(folders, &work.table, stripe);
-    tell_stripe(&work.table, &work.row, &mut work.told, out)?;
-    let is_closed = work.row.is_verified(&work.table);
-    work.closed[stripe as usize] = is_closed;
-    if is_closed {
-        close_stripe(work, vault, stripe)?;
-    }
-    Ok(())
-}
-
-fn sync_stripes<F: Folder, V: Vault, W: Sink>(
-    work: &mut Work,
-    folders: &mut [F],
-    vault: &mut V,
-    out: &mut W,
-) -> Result<(), SyncFault>
-    requires folders { length folders.old ≡ length work.old.table.columns }
-    requires work { IsNewWork work.old.table work.old }
-    requires levels { (V.view vault.old).levels ≡ work.old.table.shape.levels }
-    ensures folders { AllReadOnly (map F.view folders.old) (map F.view folders.new) }
-    ensures calls { SomeCalls (V.view vault.old) (V.view vault.new) }
-    ensures synced { OnOk result (SyncsStripes work.old work.new (map F.view folders.old) (map F.view folders.new) (V.view vault.old) (V.view vault.new) (W.view out.old) (W.view out.new)) }
-    ensures failed { IfErr result (IsLate (V.view vault.old).faults (V.view vault.new).faults) }
-{
-    for stripe in 0..work.table.length() {
-        sync_stripe(work, folders, vault, stripe, out)?;
-    }
-    Ok(())
-}
-
 // Saves the table in which no stripe is synced, and gives the levels their lengths.
 fn open_levels<V: Vault>(alloc: Global, pending: &Table, vault: &mut V) -> Result<(), SyncFault>
     ensures calls { SomeCalls (V.view vault.old) (V.view vault.new) }
+    ensures made { MakesSuch (AreOpening (length pending.now.infos * pending.now.shape.block_size)) (V.view vault.old) (V.view vault.new) }
+    ensures opens { OnOk result (MakesWell (AreOpening (length pending.now.infos * pending.now.shape.block_size)) (V.view vault.old) (V.view vault.new)) }
+    ensures well { OnOk result (Makes IsSyncCall (V.view vault.old) (V.view vault.new)) }
+    ensures changes { ChangesBy (MayOpen (copies_of (V.view vault.old)) (spelling pending.now)) (V.view vault.old) (V.view vault.new) }
+    ensures drafts { LeavesNoDraft (V.view vault.old) (V.view vault.new) }
     ensures saved { OnOk result (Holds (HasSaved (copies_of (V.view vault.old)) (spelling pending.now)) (V.view vault.new)) }
     ensures opened { OnOk result (Reads (HasLengths (V.view vault.old).levels (length pending.now.infos * pending.now.shape.block_size) (V.view vault.old).files) (V.view vault.new)) }
-    ensures failed { IfErr result (IsLate (V.view vault.old).faults (V.view vault.new).faults) }
+    ensures failed { IfErr result (IsLate (V.view vault.old) (V.view vault.new)) }
 {
     save(alloc, vault, pending)?;
     let bytes = u64::from(pending.length()) * u64::from(pending.shape().block_size);
@@ -210,9 +119,13 @@ fn close_table<V: Vault>(
     requires stripes { length closed.now ≡ length table.old.infos }
     requires hashed { AreHashed table.old.columns closed.now }
     ensures calls { SomeCalls (V.view vault.old) (V.view vault.new) }
+    ensures made { MakesSuch (AreClosing (V.view vault.old).levels) (V.view vault.old) (V.view vault.new) }
+    ensures well { OnOk result (Makes IsSyncCall (V.view vault.old) (V.view vault.new)) }
+    ensures changes { ChangesBy (MayClose (V.view vault.old).levels (V.view vault.old).files (spelling (with_marks now table.old closed.now))) (V.view vault.old) (V.view vault.new) }
+    ensures drafts { LeavesNoDraft (V.view vault.old) (V.view vault.new) }
     ensures closed { OnOk result (ClosesTable table.old table.new closed.now now (V.view vault.old) (V.view vault.new)) }
     ensures counted { IfOk result (λ synced. synced ≡ count_by (λ is_closed. is_closed) closed.now) }
-    ensures failed { IfErr result (IsLate (V.view vault.old).faults (V.view vault.new).faults) }
+    ensures failed { IfErr result (IsLate (V.view vault.old) (V.view vault.new)) }
 {
     settle(vault)?;
     let synced = mark_closed(table, closed, now);
@@ -229,6 +142,7 @@ fn tell_end<W: Sink>(
 ) -> Result<(), NoMemory>
     ensures told { OnOk result (Tells (sync_text synced pending) (written told.old (W.view out.old)) (written told.new (W.view out.new))) }
     ensures findings { told.new.findings ≡ told.old.findings }
+    ensures untold { OnErr result (out.new ≡ out.old) }
 {
     told.line.clear();
     push_sync_totals(&mut told.line, synced, pending)?;
@@ -238,7 +152,8 @@ fn tell_end<W: Sink>(
 
 /// The first sync of an array: lays out the files of its folders, and closes each stripe whose blocks can be read as they were listed.
 /// `now` is in seconds since 1970. The names are those of the array's folders, parity files and content copies, and `old` is a
-/// table without files.
+/// table without files. Whatever it answers and whenever it is stopped, each copy is as before or one of two tables: the one that
+/// was laid out, in which no stripe is synced, or the one whose synced stripes have their sums in parity (`leaves`).
 pub fn sync<F: Folder, V: Vault, W: Sink>(
     alloc: Global,
     folders: &mut [F],
@@ -253,6 +168,9 @@ pub fn sync<F: Folder, V: Vault, W: Sink>(
     ensures calls { SomeCalls (V.view vault.old) (V.view vault.new) }
     ensures done { IfOk result (λ end. Syncs (names_of places.now) old now (before_of (map F.view folders.old) (V.view vault.old) (W.view out.old)) (after_of (map F.view folders.new) (V.view vault.new) (W.view out.new)) (ending_of end)) }
     ensures failed { IfErr result (Causes (names_of places.now) old (before_of (map F.view folders.old) (V.view vault.old) (W.view out.old)) (after_of (map F.view folders.new) (V.view vault.new) (W.view out.new))) }
+    ensures made { OnOk result (Makes IsSyncCall (V.view vault.old) (V.view vault.new)) }
+    ensures left { OnOk result (Leaves true (names_of places.now) old now (before_of (map F.view folders.old) (V.view vault.old) (W.view out.old)) (V.view vault.old) (after_of (map F.view folders.new) (V.view vault.new) (W.view out.new))) }
+    ensures leaves { OnErr result (((vault.new ≡ vault.old) × (out.new ≡ out.old)) ⊎ Leaves false (names_of places.now) old now (before_of (map F.view folders.old) (V.view vault.old) (W.view out.old)) (V.view vault.old) (after_of (map F.view folders.new) (V.view vault.new) (W.view out.new))) }
     ensures untouched { IfErr result (λ fault. IsTrue (is_early fault) → vault.new ≡ vault.old) }
     ensures untold { IfErr result (λ fault. IsTrue (is_early fault) → out.new ≡ out.old) }
 {

@@ -10,7 +10,7 @@ use Rattle.snap_sync.specs.Sync.{IsArray, Names}
 use Rattle.snap_top.specs.FirstForm.{FormDisk, FormValue}
 use Rattle.snap_top.specs.FormSetup.{form_of, Holds}
 use Rattle.snap_top.specs.Job.{IsJob}
-use Rattle.snap_top.specs.Matching.{empty_table, names_in, size_in}
+use Rattle.snap_top.specs.Matching.{empty_table, names_in, size_in, levels_in}
 use Rattle.snap_top.specs.declared.first_form.Setup.{Setup}
 use Rattle.snap_top.specs.declared.first_sync.Job.{Job}
 
@@ -24,7 +24,7 @@ columns_of_disks (disk ∷ disks) = ap (λ cs. record { name = disk.name; record
 
 -- a builder that was given the names of all disks makes that table
 pub empty_built : (form : FormValue) (seed : List ℕ) (size levels at : ℕ) (names : List (List ℕ)) (built first : BuildingValue) (table : TableValue)
-    → size ≡ size_in form → levels ≡ 1 → names ≡ map (λ (disk : FormDisk). disk.name) form.disks → length names ≤ at
+    → size ≡ size_in form → levels ≡ levels_in form → names ≡ map (λ (disk : FormDisk). disk.name) form.disks → length names ≤ at
     → first ≡ new_building (record { block_size = size; levels = levels; kind = Md5; seed = seed }) 0
     → built ≡ record first { columns = empty_columns (take at names) } → Finishes built table → table ≡ empty_table form seed
 empty_built form seed size levels at names built first table size_is levels_are names_are whole first_is built_is finishes =
@@ -45,19 +45,19 @@ no_records (disk ∷ disks) = no_records disks
 pub names_same : (setup : Setup) → Holds setup (form_of setup) → names_of setup.places ≡ names_in (form_of setup)
 names_same setup holds =
     ap (λ ds. record { dirs = ds; parities = setup.places.parities.items; contents = setup.places.contents.items }) holds.dirs
-    ∙ ap (λ ps. record { dirs = map (λ (disk : FormDisk). disk.dir) (form_of setup).disks; parities = ps; contents = setup.places.contents.items }) holds.parity
-    ∙ ap (λ cs. record { dirs = map (λ (disk : FormDisk). disk.dir) (form_of setup).disks; parities = (form_of setup).parity ∷ []; contents = cs }) holds.content
+    ∙ ap (λ ps. record { dirs = map (λ (disk : FormDisk). disk.dir) (form_of setup).disks; parities = ps; contents = setup.places.contents.items }) holds.parities
+    ∙ ap (λ cs. record { dirs = map (λ (disk : FormDisk). disk.dir) (form_of setup).disks; parities = (form_of setup).parities; contents = cs }) holds.content
 
 -- folders, vault and that table go together
-pub empty_array : (job : Job) (old : TableValue) (seed : List ℕ) (folders : List FolderView) (levels : ℕ) → IsJob job folders → levels ≡ 1 → old ≡ empty_table (form_of job.setup) seed
+pub empty_array : (job : Job) (old : TableValue) (seed : List ℕ) (folders : List FolderView) (levels : ℕ) → IsJob job folders → levels ≡ levels_in (form_of job.setup) → old ≡ empty_table (form_of job.setup) seed
     → IsArray (names_of job.setup.places) old folders levels
-empty_array job old seed folders levels is one old_is =
+empty_array job old seed folders levels is levels_are old_is =
     let form = form_of job.setup in
     let dirs : length job.setup.places.dirs.items ≡ length form.disks = ap length is.holds.dirs ∙ length-map _ _ in
     let columns : length old.columns ≡ length form.disks = ap (λ (t : TableValue). length t.columns) old_is ∙ length-map _ _ in
     record {
       folder_count = is.count ∙ dirs ∙ sym columns;
       dir_count = dirs ∙ sym columns;
-      level_count = one ∙ sym (ap (λ (t : TableValue). t.shape.levels) old_is);
+      level_count = levels_are ∙ sym (ap (λ (t : TableValue). t.shape.levels) old_is);
       no_records = ap (λ (t : TableValue). records_of t.columns) old_is ∙ no_records form.disks;
     }

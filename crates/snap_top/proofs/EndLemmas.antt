@@ -9,6 +9,7 @@ use Rattle.snap_sync.specs.Sync.{AllReadOnly}
 use Rattle.snap_top.specs.End.{IsEndWith, line_of}
 use Rattle.snap_top.specs.FirstForm.{FormValue}
 use Rattle.snap_top.specs.Lines.{plain_line}
+use Rattle.snap_top.specs.Matching.{levels_in}
 use Rattle.snap_top.specs.Opening.{IsOpened}
 use Rattle.snap_top.specs.Run.{Entry, Exit, at_exit, Ends, ends_opened, ends_till_memory, Task, Works, opening_of}
 use Rattle.snap_top.specs.declared.end.End.{End}
@@ -19,7 +20,7 @@ use Rattle.snap_top.proofs.RunLemmas.{works_held}
 
 -- a run that opened its array ends as its work does
 pub opened_ends : {F : Type 0} (view : F → FolderView) (words : List (List ℕ)) (entry : Entry) (opener : OpenerView) (command : Command) (form : FormValue) (opened lent news items : List F) (held vault : VaultView) (out : SinkView) (why : Why) (line : List ℕ)
-    → lent ≡ opened → items ≡ news → IsOpened words entry.opener opener command form (map view opened) → VaultIsGiven entry.opener.tells 1 1 entry.opener.vault held
+    → lent ≡ opened → items ≡ news → IsOpened words entry.opener opener command form (map view opened) → VaultIsGiven entry.opener.tells (levels_in form) 1 entry.opener.vault held
     → AllReadOnly (map view lent) (map view news)
     → Works (record { command = command; form = form; now = entry.now; seed = entry.seed }) (opening_of held (map view lent) entry.out) vault (map view news) out why line
     → Ends words entry (at_exit opener (map view items) true vault out) why line

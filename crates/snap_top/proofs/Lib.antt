@@ -1,5 +1,6 @@
 pub mod DiskLemmas
 pub mod FaultLemmas
+pub mod LevelLemmas
 pub mod LineLemmas
 pub mod LoadedLemmas
 pub mod OpeningLemmas

@@ -51,6 +51,11 @@ table_held held given new table same one = record {
   within = subst (λ n. one.copy < n) (copies_held held given same) one.within;
   valid = one.valid;
   held = λ told. sym (content_held held given one.copy same) ∙ one.held (same.tells refl ∙ told);
+  read = record {
+    done = one.read.done;
+    grown = record { told = λ told. sym (same.tells_calls refl) ∙ one.read.grown.told told; more = λ told. one.read.grown.more told ∙ ap (λ cs. cs ++ one.read.done) (same.calls refl) };
+    each = one.read.each;
+  };
   earlier = λ told k below. either_held held given new k same (one.earlier (same.tells refl ∙ told) k below);
 }
 

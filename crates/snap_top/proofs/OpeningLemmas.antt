@@ -10,6 +10,7 @@ use Rattle.disk_model.specs.declared.fault.OpenFault.TheVariants.{Failed, Memory
 use Rattle.snap_top.specs.Words.{Asks}
 use Rattle.snap_top.specs.FirstForm.{FormDisk, FormValue, Says, SaysNothing}
 use Rattle.snap_top.specs.FormSetup.{Holds}
+use Rattle.snap_top.specs.Matching.{levels_in}
 use Rattle.snap_top.specs.Opening.{IsConfigured, IsOpened, opens, reads_config}
 use Rattle.snap_top.specs.declared.first_form.Setup.{Setup}
 use Rattle.snap_top.specs.declared.words.Command.{Command}
@@ -42,7 +43,7 @@ pub both_asked : {T U : Type 0} (file name : List ℕ) (form : FormValue) (setup
     → OpenerGoesOn old new (reads_config file false ∷ opens form failed ∷ [])
 both_asked file name form setup first second failed old mid new same ok second_ok holds one two =
     let second_is : record { call = Open setup.places.dirs.items setup.places.parities.items setup.places.contents.items; failed = has_failed second } ≡ opens form failed
-    = rw (holds.dirs, holds.parity, holds.content, second_ok) refl in
+    = rw (holds.dirs, holds.parities, holds.content, second_ok) refl in
     goes_on_then old mid new (reads_config file false ∷ []) (opens form failed ∷ []) (one_asked file name first false old mid same ok one)
     (subst (λ d. OpenerGoesOn mid new (d ∷ [])) second_is two.goes_on)
 
@@ -128,9 +129,9 @@ folder_given old mid column given same tells is = record {
   whole = λ told. is.whole (tells ∙ told) ∙ ap (λ folders. get_or folders column (quiet_folder 0 false)) (same.folders told);
 }
 
-pub vault_given : (old mid : OpenerView) (given : VaultView) → HoldsSame old mid → mid.tells ≡ old.tells
-    → VaultIsGiven mid.tells 1 1 mid.vault given → VaultIsGiven old.tells 1 1 old.vault given
-vault_given old mid given same tells is = record {
+pub vault_given : (levels : ℕ) (old mid : OpenerView) (given : VaultView) → HoldsSame old mid → mid.tells ≡ old.tells
+    → VaultIsGiven mid.tells levels 1 mid.vault given → VaultIsGiven old.tells levels 1 old.vault given
+vault_given levels old mid given same tells is = record {
   same = same_vault_then old.tells mid.tells old.vault mid.vault given tells same.vault is.same;
   levels = is.levels;
   drafts = is.drafts;
@@ -164,10 +165,10 @@ opened_as_named view fs words command form setup old mid new configured calls sa
   folders_given = λ column below. folder_given old mid column _ same tells (given column (let same_many = as_many view fs in omega (arith, below, same_many)));
 }
 
--- of as many levels and copies as were named, which is one each
+-- of as many levels and copies as were named: one copy
 pub vault_of_one : (setup : Setup) (form : FormValue) (is_told : Bool) (levels copies : ℕ) (held given : VaultView) → Holds setup form → levels ≡ length setup.places.parities.items → copies ≡ length setup.places.contents.items
-    → VaultIsGiven is_told levels copies held given → VaultIsGiven is_told 1 1 held given
+    → VaultIsGiven is_told levels copies held given → VaultIsGiven is_told (levels_in form) 1 held given
 vault_of_one setup form is_told levels copies held given holds level_count copy_count is =
-    let one : levels ≡ 1 = level_count ∙ ap length holds.parity in
+    let as_many : levels ≡ levels_in form = level_count ∙ ap length holds.parities in
     let one_copy : copies ≡ 1 = copy_count ∙ ap length holds.content in
-    subst (λ n. VaultIsGiven is_told 1 n held given) one_copy (subst (λ n. VaultIsGiven is_told n copies held given) one is)
+    subst (λ n. VaultIsGiven is_told (levels_in form) n held given) one_copy (subst (λ n. VaultIsGiven is_told n copies held given) as_many is)

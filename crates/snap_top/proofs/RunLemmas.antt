@@ -1,25 +1,32 @@
 -- What is said of a vault that was given, said of the one that an opener held.
-use Rattle.std.proofs.Common.{◌≡◌, ◌⊎◌, inl, inr, ℕ, ◌<◌, ◌∷◌, [], ◌++◌, length, Bool, true, IsTrue, List, Option, None, Some, MatchOption, arith, refl, sym, ◌∙◌, ap, subst}
+use Rattle.std.proofs.Common.{◌≡◌, ◌⊎◌, inl, inr, ⊎_elim, ℕ, zero, suc, ◌<◌, ◌∷◌, [], ◌++◌, length, get_or, All, Bool, true, IsTrue, List, Option, None, Some, MatchOption, arith, refl, sym, ◌∙◌, ap, subst}
+use Rattle.disk_model.specs.Calls.{MakesOnly}
 use Rattle.disk_model.specs.Cause.{Rose}
 use Rattle.disk_model.specs.Files.{Files, Stays, content_of}
 use Rattle.disk_model.specs.Folder.{FolderView}
 use Rattle.disk_model.specs.Moments.{ComesBy, MayLeave}
 use Rattle.disk_model.specs.Opener.{VaultIsGiven, SameVault}
 use Rattle.disk_model.specs.Sink.{SinkView}
-use Rattle.disk_model.specs.Vault.{VaultView, SomeCalls, ChangesBy, DraftsStay, copies_of}
-use Rattle.content_file.specs.Load.{Loads, LoadsNothing}
+use Rattle.disk_model.specs.declared.draft.Draft.TheVariants.{Absent}
+use Rattle.disk_model.proofs.VaultLemmas.{stays_then}
+use Rattle.disk_model.specs.Vault.{VaultView, VaultDone, SomeCalls, ChangesBy, DraftsStay, copies_of}
+use Rattle.content_file.specs.Load.{IsReadBelow, Loads, LoadsNothing, NoneFailed}
+use Rattle.content_file.specs.Save.{HasNoDraft}
 use Rattle.file_table.specs.Table.{TableValue}
-use Rattle.snap_sync.specs.Sync.{Before, before_of}
+use Rattle.snap_sync.specs.Stops.{MayStand}
+use Rattle.snap_sync.proofs.StopsLemmas.{stands_still}
+use Rattle.snap_sync.specs.Sync.{Before, After, before_of, after_of}
 use Rattle.snap_top.specs.End.{IsEndWith, line_of}
 use Rattle.snap_top.specs.FirstForm.{FormValue}
 use Rattle.snap_top.specs.Lines.{plain_line}
-use Rattle.snap_top.specs.Matching.{Matches}
+use Rattle.snap_top.specs.Matching.{Matches, levels_in, names_in, empty_table}
 use Rattle.snap_top.specs.declared.end.End.{End}
 use Rattle.snap_top.specs.declared.why.Why.{Why}
 use Rattle.snap_top.specs.declared.why.Why.TheVariants.{NoMemory}
 use Rattle.snap_top.specs.declared.words.Command.{Command}
 use Rattle.snap_top.specs.declared.words.Command.TheVariants as commands
 use Rattle.snap_top.specs.Run.{IsReadOnly, IsReadWhereTold, IsGivenOne, LoadsNot, loads_not_for_memory, loads_not_for_failure, loads_not_for_damage, HasNoContent, StartsSync, IsTouched, SomeAdded, MatchesLoaded}
+use Rattle.snap_top.specs.Run.{SyncLeaves, sync_leaves_all, sync_leaves_some, LeavesBy}
 use Rattle.snap_top.specs.Run.{Task, Opening, opening_of, Works, works_unloaded, works_differs, works_list, works_not_over_content, works_sync, works_till_memory}
 use Rattle.snap_top.proofs.LoadedLemmas.{loads_held, fails_held, is_damaged_held}
 
@@ -33,10 +40,10 @@ added : (old new : VaultView) → SomeCalls old new → SomeAdded old new
 added old new calls = record { done = calls.done; grown = calls.goes_on.calls }
 
 -- a vault of which only reading calls were made
-pub read_here : (given now : VaultView) → IsGivenOne given → SomeCalls given now → ChangesBy Stays given now → DraftsStay given now → IsReadWhereTold true given now
-read_here given now is calls changes drafts = record {
+pub read_here : (levels : ℕ) (given now : VaultView) → IsGivenOne levels given → SomeCalls given now → MakesOnly (IsReadBelow (copies_of given)) given now → ChangesBy Stays given now → DraftsStay given now → IsReadWhereTold true levels given now
+read_here levels given now is calls made changes drafts = record {
   later = calls.goes_on.later;
-  levels = calls.goes_on.levels ∙ is.levels;
+  levels_are = calls.goes_on.levels ∙ is.levels_are;
   drafts = drafts.state ∙ is.drafts;
   held_levels = λ _. calls.goes_on.levels;
   held_drafts = λ _. drafts.state;
@@ -44,7 +51,7 @@ read_here given now is calls changes drafts = record {
     tells = calls.goes_on.tells;
     files = λ told. changes.reads told;
     staged = λ told. drafts.bytes told;
-    calls = added given now calls;
+    calls = made;
     told = λ told. changes.leaves.told told;
     later = λ told. changes.leaves.later told;
     stops = λ told left since. image_is_held given given.images.moment left refl is.settled (changes.leaves.told told) (changes.leaves.within told given.images.moment left (omega arith) since);
@@ -52,10 +59,10 @@ read_here given now is calls changes drafts = record {
 }
 
 -- a vault of which calls were made
-pub touched_here : (given now : VaultView) → IsGivenOne given → SomeCalls given now → IsTouched true given now
-touched_here given now is calls = record {
+pub touched_here : (levels : ℕ) (given now : VaultView) → IsGivenOne levels given → SomeCalls given now → IsTouched true levels given now
+touched_here levels given now is calls = record {
   later = calls.goes_on.later;
-  levels = calls.goes_on.levels ∙ is.levels;
+  levels_are = calls.goes_on.levels ∙ is.levels_are;
   copies = calls.goes_on.copies ∙ ap length is.drafts;
   tells = λ _. calls.goes_on.tells;
   calls = λ _. added given now calls;
@@ -66,22 +73,54 @@ pub nothing_here : (given now : VaultView) → LoadsNothing given now → HasNoC
 nothing_here given now loads told tells copy within = loads.none tells copy within
 
 -- a sync that begins after loading
-pub starts_here : (given mid : VaultView) (folders : List FolderView) (out : SinkView) → IsGivenOne given → SomeCalls given mid → ChangesBy Stays given mid → StartsSync true given folders out (before_of folders mid out)
-starts_here given mid folders out is calls changes = record {
+pub starts_here : (levels : ℕ) (given mid now : VaultView) (folders : List FolderView) (out : SinkView) → IsGivenOne levels given → SomeCalls given mid → ChangesBy Stays given mid → NoneFailed given mid → SomeCalls mid now
+    → StartsSync true given now folders out (before_of folders mid out)
+starts_here levels given mid now folders out is calls changes well syncing = record {
   folders_are = refl;
   files_are = λ _ tells. changes.reads tells;
   copies_are = calls.goes_on.copies ∙ ap length is.drafts;
   later = calls.goes_on.later;
+  loaded = λ _. record { done = well.done; each = well.each; made = λ told. well.grown.more (syncing.goes_on.calls.told told) };
   out_is = refl;
 }
 
-same_told : (is_told : Bool) (held given : VaultView) → VaultIsGiven is_told 1 1 held given → IsTrue is_told → SameVault true held given
-same_told is_told held given is told = subst (λ b. SameVault b held given) told is.same
+-- no copy has a draft
+no_draft_here : (levels : ℕ) (given mid : VaultView) → IsGivenOne levels given → DraftsStay given mid → HasNoDraft mid
+no_draft_here levels given mid is drafts copy = ap (λ ds. get_or ds copy Absent) (drafts.state ∙ is.drafts) ∙ absent copy
+  where
+    absent : (copy : ℕ) → get_or (Absent ∷ []) copy Absent ≡ Absent
+    absent zero = refl
+    absent (suc copy) = refl
+
+-- what is left where nothing was done, by what that leaves
+pub stopped : (A B C D L : Type 0) → (A → C) → (B → D) → (A × B) ⊎ L → (C × D) ⊎ L
+stopped A B C D L one two (inl same) = inl (one same.0, two same.1)
+stopped A B C D L one two (inr left) = inr left
+
+-- what a sync leaves that begins after loading
+pub leaves_here : (task : Task) (why : Why) (given mid now : VaultView) (folders folders_new : List FolderView) (out out_new : SinkView) → IsGivenOne (levels_in task.form) given → SomeCalls given mid → ChangesBy Stays given mid → DraftsStay given mid
+    → (IsReadWhereTold true (levels_in task.form) given now × (out_new ≡ out)) ⊎ LeavesBy why (names_in task.form) (empty_table task.form task.seed) task.now (before_of folders mid out) mid (after_of folders_new now out_new)
+    → SyncLeaves task (opening_of given folders out) why (before_of folders mid out) (after_of folders_new now out_new)
+leaves_here task why given mid now folders folders_new out out_new is calls changes drafts (inl same) = sync_leaves_all same.0 same.1
+leaves_here task why given mid now folders folders_new out out_new is calls changes drafts (inr left) =
+    let came = left.leaves.progress in
+    sync_leaves_some left.ended left.only came (left.leaves.no_draft (no_draft_here (levels_in task.form) given mid is drafts))
+    (λ _. stays_then (MayStand mid.files (copies_of mid) came.start task.now came.readings) given mid now calls.goes_on.tells changes left.leaves.changes (stands_still mid.files (copies_of mid) came.start task.now came.readings))
+
+same_told : (is_told : Bool) (levels : ℕ) (held given : VaultView) → VaultIsGiven is_told levels 1 held given → IsTrue is_told → SameVault true held given
+same_told is_told levels held given is told = subst (λ b. SameVault b held given) told is.same
 
 added_held : (held given now : VaultView) → SameVault true held given → SomeAdded given now → SomeAdded held now
 added_held held given now same one = record {
   done = one.done;
   grown = record { told = λ told. sym (same.tells_calls refl) ∙ one.grown.told told; more = λ told. one.grown.more told ∙ ap (λ cs. cs ++ one.done) (same.calls refl) };
+}
+
+only_held : (held given now : VaultView) → SameVault true held given → MakesOnly (IsReadBelow (copies_of given)) given now → MakesOnly (IsReadBelow (copies_of held)) held now
+only_held held given now same one = record {
+  done = one.done;
+  grown = record { told = λ told. sym (same.tells_calls refl) ∙ one.grown.told told; more = λ told. one.grown.more told ∙ ap (λ cs. cs ++ one.done) (same.calls refl) };
+  each = subst (λ (n : ℕ). All (λ (d : VaultDone). IsReadBelow n d.call) one.done) (ap length (same.drafts refl)) one.each;
 }
 
 read_only_held : (held given now : VaultView) → SameVault true held given → IsReadOnly given now → IsReadOnly held now
@@ -93,66 +132,89 @@ read_only_held held given now same one =
       tells = one.tells ∙ tells;
       files = λ told. one.files (tells ∙ told) ∙ files;
       staged = λ told. one.staged (tells ∙ told) ∙ same.staged refl;
-      calls = added_held held given now same one.calls;
+      calls = only_held held given now same one.calls;
       told = λ told. sym (same.tells_images refl) ∙ one.told told;
       later = λ told. omega (arith, moment, one.later told);
       stops = λ told left since. one.stops told left (subst (λ m. now.images.since m left) (sym moment) since) ∙ files;
     }
 
-read_held : (is_told : Bool) (held given now : VaultView) → VaultIsGiven is_told 1 1 held given → IsReadWhereTold true given now → IsReadWhereTold is_told held now
-read_held is_told held given now is one = record {
+read_held : (is_told : Bool) (levels : ℕ) (held given now : VaultView) → VaultIsGiven is_told levels 1 held given → IsReadWhereTold true levels given now → IsReadWhereTold is_told levels held now
+read_held is_told levels held given now is one = record {
   later = omega (arith, is.same.faults, one.later);
-  levels = one.levels;
+  levels_are = one.levels_are;
   drafts = one.drafts;
   held_levels = λ told. one.held_levels refl ∙ is.same.levels told;
   held_drafts = λ told. one.held_drafts refl ∙ is.same.drafts told;
-  told = λ told. read_only_held held given now (same_told is_told held given is told) (one.told refl);
+  told = λ told. read_only_held held given now (same_told is_told levels held given is told) (one.told refl);
 }
 
-loads_not_held : (is_told : Bool) (held given now : VaultView) (why : Why) → VaultIsGiven is_told 1 1 held given → LoadsNot true given now why → LoadsNot is_told held now why
-loads_not_held is_told held given now _ is loads_not_for_memory = loads_not_for_memory
-loads_not_held is_told held given now _ is (loads_not_for_failure rose fails) =
-    loads_not_for_failure (subst (λ n. Rose n now.faults) is.same.faults rose) (λ told. fails_held held given now (same_told is_told held given is told) (fails refl))
-loads_not_held is_told held given now _ is (loads_not_for_damage damaged) = loads_not_for_damage (λ told. is_damaged_held held given now (same_told is_told held given is told) (damaged refl))
+loads_not_held : (is_told : Bool) (levels : ℕ) (held given now : VaultView) (why : Why) → VaultIsGiven is_told levels 1 held given → LoadsNot true given now why → LoadsNot is_told held now why
+loads_not_held is_told levels held given now _ is loads_not_for_memory = loads_not_for_memory
+loads_not_held is_told levels held given now _ is (loads_not_for_failure rose fails) =
+    loads_not_for_failure (subst (λ n. Rose n now.faults) is.same.faults rose) (λ told. fails_held held given now (same_told is_told levels held given is told) (fails refl))
+loads_not_held is_told levels held given now _ is (loads_not_for_damage damaged) = loads_not_for_damage (λ told. is_damaged_held held given now (same_told is_told levels held given is told) (damaged refl))
 
-no_content_held : (is_told : Bool) (held given : VaultView) → VaultIsGiven is_told 1 1 held given → HasNoContent true given → HasNoContent is_told held
-no_content_held is_told held given is none told tells copy within =
-    let same = same_told is_told held given is told in
+no_content_held : (is_told : Bool) (levels : ℕ) (held given : VaultView) → VaultIsGiven is_told levels 1 held given → HasNoContent true given → HasNoContent is_told held
+no_content_held is_told levels held given is none told tells copy within =
+    let same = same_told is_told levels held given is told in
     sym (ap (λ (files : Files). content_of files copy) (same.files refl)) ∙ none refl (same.tells refl ∙ tells) copy (subst (λ n. copy < n) (sym (ap length (same.drafts refl))) within)
 
-touched_held : (is_told : Bool) (held given now : VaultView) → VaultIsGiven is_told 1 1 held given → IsTouched true given now → IsTouched is_told held now
-touched_held is_told held given now is one = record {
+touched_held : (is_told : Bool) (levels : ℕ) (held given now : VaultView) → VaultIsGiven is_told levels 1 held given → IsTouched true levels given now → IsTouched is_told levels held now
+touched_held is_told levels held given now is one = record {
   later = omega (arith, is.same.faults, one.later);
-  levels = one.levels;
+  levels_are = one.levels_are;
   copies = one.copies;
   tells = λ told. one.tells refl ∙ is.same.tells told;
-  calls = λ told. added_held held given now (same_told is_told held given is told) (one.calls refl);
+  calls = λ told. added_held held given now (same_told is_told levels held given is told) (one.calls refl);
 }
 
-starts_held : (is_told : Bool) (held given : VaultView) (folders : List FolderView) (out : SinkView) (start : Before) → VaultIsGiven is_told 1 1 held given → StartsSync true given folders out start → StartsSync is_told held folders out start
-starts_held is_told held given folders out start is one = record {
+starts_held : (is_told : Bool) (levels : ℕ) (held given now : VaultView) (folders : List FolderView) (out : SinkView) (start : Before) → VaultIsGiven is_told levels 1 held given → StartsSync true given now folders out start → StartsSync is_told held now folders out start
+starts_held is_told levels held given now folders out start is one = record {
   folders_are = one.folders_are;
-  files_are = λ told tells. let same = same_told is_told held given is told in one.files_are refl (same.tells refl ∙ tells) ∙ same.files refl;
+  files_are = λ told tells. let same = same_told is_told levels held given is told in one.files_are refl (same.tells refl ∙ tells) ∙ same.files refl;
   copies_are = one.copies_are;
   later = omega (arith, is.same.faults, one.later);
+  loaded = λ told. let first = one.loaded refl in record { done = first.done; each = first.each; made = λ now_told. first.made now_told ∙ ap (λ cs. cs ++ first.done) ((same_told is_told levels held given is told).calls refl) };
   out_is = one.out_is;
 }
 
+-- a change of what was given is one of what was held
+changes_held : (step : Files → Files → Type 0) (held given now : VaultView) → SameVault true held given → ChangesBy step given now → ChangesBy step held now
+changes_held step held given now same changes =
+    let moment : given.images.moment ≡ held.images.moment = same.moment refl in
+    let comes : (files : Files) → ComesBy step given.images files → ComesBy step held.images files = λ files come.
+    (come.0, subst (λ m. held.images.since m come.0) moment ((same.since refl given.images.moment come.0).0 come.1), come.2) in
+    record {
+      reads = λ told. subst (λ f. step f now.files) (same.files refl) (changes.reads (same.tells refl ∙ told));
+      leaves = record {
+        told = λ told. sym (same.tells_images refl) ∙ changes.leaves.told told;
+        later = λ told. omega (arith, moment, changes.leaves.later told);
+        within = λ told t files before since. ⊎_elim (λ was. inl ((same.since refl t files).0 was)) (λ come. inr (comes files come)) (changes.leaves.within told t files (omega (arith, moment, before)) since);
+        at_end = λ told files left. comes files (changes.leaves.at_end told files left);
+      };
+    }
+
+leaves_held : (is_told : Bool) (task : Task) (why : Why) (held given : VaultView) (opened : List FolderView) (out : SinkView) (start : Before) (after : After) → VaultIsGiven is_told (levels_in task.form) 1 held given
+    → SyncLeaves task (opening_of given opened out) why start after → SyncLeaves task (record { is_told = is_told; held = held; given = opened; out = out }) why start after
+leaves_held is_told task why held given opened out start after is (sync_leaves_all read same) = sync_leaves_all (read_held is_told (levels_in task.form) held given after.vault is read) same
+leaves_held is_told task why held given opened out start after is (sync_leaves_some ended only progress none changes) =
+    sync_leaves_some ended only progress none (λ told. changes_held (MayStand start.files start.copies progress.start task.now progress.readings) held given after.vault (same_told is_told (levels_in task.form) held given is told) (changes refl))
+
 -- how work on what was given ends, said of what was held
 pub works_held : (is_told : Bool) (held given : VaultView) (task : Task) (opened : List FolderView) (out : SinkView) (vault : VaultView) (folders : List FolderView) (out_new : SinkView) (why : Why) (line : List ℕ)
-    → VaultIsGiven is_told 1 1 held given → Works task (opening_of given opened out) vault folders out_new why line
+    → VaultIsGiven is_told (levels_in task.form) 1 held given → Works task (opening_of given opened out) vault folders out_new why line
     → Works task (record { is_told = is_told; held = held; given = opened; out = out }) vault folders out_new why line
 works_held is_told held given task opened out vault folders out_new _ _ is (works_unloaded why read not same) =
-    works_unloaded why (read_held is_told held given vault is read) (loads_not_held is_told held given vault why is not) same
+    works_unloaded why (read_held is_told (levels_in task.form) held given vault is read) (loads_not_held is_told (levels_in task.form) held given vault why is not) same
 works_held is_told held given task opened out vault folders out_new _ _ is (works_differs table why line read loads differs same) =
-    works_differs table why line (read_held is_told held given vault is read) (λ told. loads_held held given vault (Some table) (same_told is_told held given is told) (loads refl)) differs same
+    works_differs table why line (read_held is_told (levels_in task.form) held given vault is read) (λ told. loads_held held given vault (Some table) (same_told is_told (levels_in task.form) held given is told) (loads refl)) differs same
 works_held is_told held given task opened out vault folders out_new _ _ is (works_list command table why read loads matches prints) =
-    works_list command table why (read_held is_told held given vault is read) (λ told. loads_held held given vault table (same_told is_told held given is told) (loads refl)) matches prints
+    works_list command table why (read_held is_told (levels_in task.form) held given vault is read) (λ told. loads_held held given vault table (same_told is_told (levels_in task.form) held given is told) (loads refl)) matches prints
 works_held is_told held given task opened out vault folders out_new _ _ is (works_not_over_content command table read loads matches same) =
-    works_not_over_content command table (read_held is_told held given vault is read) (λ told. loads_held held given vault (Some table) (same_told is_told held given is told) (loads refl)) matches same
-works_held is_told held given task opened out vault folders out_new _ _ is (works_sync command why line none touched start starts ends early untold) =
-    works_sync command why line (no_content_held is_told held given is none) (touched_held is_told held given vault is touched) start (starts_held is_told held given opened out start is starts) ends
-    (λ is_early. read_held is_told held given vault is (early is_early)) untold
+    works_not_over_content command table (read_held is_told (levels_in task.form) held given vault is read) (λ told. loads_held held given vault (Some table) (same_told is_told (levels_in task.form) held given is told) (loads refl)) matches same
+works_held is_told held given task opened out vault folders out_new _ _ is (works_sync command why line none touched start starts ends early untold leaves) =
+    works_sync command why line (no_content_held is_told (levels_in task.form) held given is none) (touched_held is_told (levels_in task.form) held given vault is touched) start (starts_held is_told (levels_in task.form) held given vault opened out start is starts) ends
+    (λ is_early. read_held is_told (levels_in task.form) held given vault is (early is_early)) untold (leaves_held is_told task why held given opened out start (after_of folders vault out_new) is leaves)
 works_held is_told held given task opened out vault folders out_new _ _ is (works_till_memory why line works) =
     works_till_memory why line (works_held is_told held given task opened out vault folders out_new why line is works)
 

@@ -1,9 +1,9 @@
 -- What a configuration in the first form begins with, line by line, and the rest after it.
-use Rattle.std.specs.Prelude.{◌≡◌, ◌≢◌, ℕ, ◌≤◌, List, [], ◌∷◌, ◌++◌, length, codes, Contains, All, AllPairs}
+use Rattle.std.specs.Prelude.{◌≡◌, ◌≢◌, ℕ, ◌<◌, ◌≤◌, List, [], ◌∷◌, ◌++◌, length, get_or, codes, Contains, All, AllPairs}
 use Rattle.std.specs.Fmt.{decimal}
 use Rattle.std.specs.List.{flat_map}
-use Rattle.file_table.specs.Valid.{IsName, most_columns}
-use Rattle.snap_top.specs.FirstForm.{FormDisk, line, disk_line, IsFileName}
+use Rattle.file_table.specs.Valid.{IsName, IsLevelCount, level_names, most_columns}
+use Rattle.snap_top.specs.FirstForm.{FormDisk, line, file_lines, disk_line, IsFileName}
 
 -- a text begins with a line of this keyword and this argument
 pub record StartsLine (keyword text argument rest : List ℕ) : Type 0 where
@@ -43,6 +43,22 @@ pub record StartsFileLine (keyword text name rest : List ℕ) : Type 0 where
 abbrev pub HasNoFileLine : List ℕ → List ℕ → Type 0
 HasNoFileLine keyword text = (name rest : List ℕ) → ¬ (StartsFileLine keyword text name rest)
 
+-- a text begins with the line of the parity file of a level
+pub record StartsLevelLine (level : ℕ) (text name rest : List ℕ) : Type 0 where
+  pub within : level < length level_names
+  pub starts : StartsFileLine (get_or level_names level []) text name rest
+
+-- it begins with no such line
+abbrev pub HasNoLevelLine : ℕ → List ℕ → Type 0
+HasNoLevelLine level text = (name rest : List ℕ) → ¬ (StartsLevelLine level text name rest)
+
+-- a text begins with the lines of these parity files, from level 0 on, and with no line of a further level after them
+pub record StartsParityLines (text : List ℕ) (files : List (List ℕ)) (rest : List ℕ) : Type 0 where
+  pub count : IsLevelCount (length files)
+  pub names : All IsFileName files
+  pub spelled : text ≡ file_lines level_names files ++ rest
+  pub last : HasNoLevelLine (length files) rest
+
 -- a text begins with the line of a data disk
 pub record StartsDataLine (text : List ℕ) (disk : FormDisk) (rest : List ℕ) : Type 0 where
   pub name : IsName disk.name
@@ -54,16 +70,17 @@ abbrev pub HasNoDataLine : List ℕ → Type 0
 HasNoDataLine text = (disk : FormDisk) (rest : List ℕ) → ¬ (StartsDataLine text disk rest)
 
 -- a text begins with the lines before those of the data disks
-pub record StartsHead (text : List ℕ) (kibibytes : ℕ) (parity content rest : List ℕ) : Type 0 where
+pub record StartsHead (text : List ℕ) (kibibytes : ℕ) (parities : List (List ℕ)) (content rest : List ℕ) : Type 0 where
   pub least : 1 ≤ kibibytes
   pub most : kibibytes ≤ 4096
-  pub parity_name : IsFileName parity
+  pub level_count : IsLevelCount (length parities)
+  pub parity_names : All IsFileName parities
   pub content_name : IsFileName content
-  pub spelled : text ≡ line (codes "blocksize") (decimal kibibytes) ++ line (codes "parity") parity ++ line (codes "content") content ++ rest
+  pub spelled : text ≡ line (codes "blocksize") (decimal kibibytes) ++ file_lines level_names parities ++ line (codes "content") content ++ rest
 
 -- it begins with no such lines
 abbrev pub HasNoHead : List ℕ → Type 0
-HasNoHead text = (kibibytes : ℕ) (parity content rest : List ℕ) → ¬ (StartsHead text kibibytes parity content rest)
+HasNoHead text = (kibibytes : ℕ) (parities : List (List ℕ)) (content rest : List ℕ) → ¬ (StartsHead text kibibytes parities content rest)
 
 -- the lines of data disks that one configuration may have
 pub record HasDisks (text : List ℕ) (disks : List FormDisk) : Type 0 where

@@ -1,5 +1,5 @@
 -- Whether content and configuration are of one array.
-use Rattle.std.specs.Prelude.{◌≡◌, ◌≢◌, ℕ, ◌*◌, ◌<◌, List, [], ◌∷◌, slice_get, map}
+use Rattle.std.specs.Prelude.{◌≡◌, ◌≢◌, ℕ, ◌*◌, ◌<◌, List, [], ◌∷◌, length, slice_get, map}
 use Rattle.block_hash.specs.declared.Kind.TheVariants.{Md5}
 use Rattle.file_table.specs.Table.{TableValue}
 use Rattle.snap_sync.specs.Sync.{Names}
@@ -13,11 +13,11 @@ abbrev pub size_in : FormValue → ℕ
 size_in form = 1024 * form.kibibytes
 
 abbrev pub levels_in : FormValue → ℕ
-levels_in form = 1
+levels_in form = length form.parities
 
 -- the names of folders, parity files and content copies
 abbrev pub names_in : FormValue → Names
-names_in form = record { dirs = map (λ (disk : FormDisk). disk.dir) form.disks; parities = form.parity ∷ []; contents = form.content ∷ [] }
+names_in form = record { dirs = map (λ (disk : FormDisk). disk.dir) form.disks; parities = form.parities; contents = form.content ∷ [] }
 
 -- the table of an array that has no content yet: no files; hashes are MD5 behind this seed
 abbrev pub empty_table : FormValue → List ℕ → TableValue

@@ -21,7 +21,7 @@ abbrev pub reads_config : List ℕ → Bool → OpenerDone
 reads_config file failed = record { call = Config file; failed = failed }
 
 abbrev pub opens : FormValue → Bool → OpenerDone
-opens form failed = record { call = Open (map (λ (disk : FormDisk). disk.dir) form.disks) (form.parity ∷ []) (form.content ∷ []); failed = failed }
+opens form failed = record { call = Open (map (λ (disk : FormDisk). disk.dir) form.disks) form.parities (form.content ∷ []); failed = failed }
 
 -- The folders were opened as the configuration names them: as many as disks, and just those that the opener held, each as it was. The opener was asked for the
 -- configuration and for what it names, once each, and for nothing else.

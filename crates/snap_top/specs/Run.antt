@@ -1,23 +1,28 @@
 -- What a run leaves, and why it ended so.
 use Rattle.std.specs.Prelude.{◌≡◌, ◌⊎◌, ℕ, ◌<◌, ◌≤◌, ◌==◌, List, [], ◌∷◌, ◌++◌, Bool, true, false, IsTrue, if◌then◌else◌}
 use Rattle.std.specs.Prelude.{Option, None, Some}
+use Rattle.std.specs.List.{All, AllByRecursion}
+use Rattle.disk_model.specs.Calls.{WentWell, MakesOnly}
 use Rattle.disk_model.specs.Cause.{Rose, Grows}
 use Rattle.disk_model.specs.Files.{Files, content_of}
 use Rattle.disk_model.specs.declared.draft.Draft.TheVariants.{Absent}
 use Rattle.disk_model.specs.Folder.{FolderView}
 use Rattle.disk_model.specs.Opener.{OpenerView, HoldsSame}
 use Rattle.disk_model.specs.Sink.{SinkView, SinkGoesOn, AppendsPart}
-use Rattle.disk_model.specs.Vault.{VaultView, VaultDone, copies_of, IsSettled}
+use Rattle.disk_model.specs.Vault.{VaultView, VaultDone, copies_of, ChangesBy, IsSettled}
 use Rattle.file_table.specs.Table.{TableValue}
-use Rattle.content_file.specs.Load.{Loads, LoadFails, LoadIsDamaged}
-use Rattle.snap_sync.specs.Sync.{Before, After, after_of, Ending, AllReadOnly, Syncs}
+use Rattle.content_file.specs.Load.{IsReadBelow, Loads, LoadFails, LoadIsDamaged}
+use Rattle.content_file.specs.Save.{HasNoDraft}
+use Rattle.snap_sync.specs.Calls.{MakesSince, IsSyncCall}
+use Rattle.snap_sync.specs.Stops.{Progress, MayStand, Leaves}
+use Rattle.snap_sync.specs.Sync.{Names, Before, After, after_of, Ending, AllReadOnly, Syncs}
 use Rattle.snap_sync.specs.SyncFault.{Causes}
 use Rattle.snap_sync.specs.declared.fault.SyncFault.{SyncFault}
 use Rattle.snap_sync.specs.declared.fault.SyncFault.TheVariants as faults
 use Rattle.snap_top.specs.FirstForm.{FormValue}
 use Rattle.snap_top.specs.Lines.{status_of, plain_line, config_line, full_line, folder_line, form_names}
 use Rattle.snap_top.specs.ListText.{list_text}
-use Rattle.snap_top.specs.Matching.{Matches, Differs, names_in, empty_table}
+use Rattle.snap_top.specs.Matching.{Matches, Differs, names_in, levels_in, empty_table}
 use Rattle.snap_top.specs.Opening.{IsOpened, Refuses}
 use Rattle.snap_top.specs.declared.why.Why.{Why}
 use Rattle.snap_top.specs.declared.why.Why.TheVariants.{Listed, Synced, Found, BadConfig, HasContent, Full, FolderFailed, VaultFailed, OutputFailed, NoMemory, Damaged}
@@ -39,15 +44,15 @@ pub record IsReadOnly (held now : VaultView) : Type 0 where
   pub tells : now.tells ≡ held.tells
   pub files : IsTrue held.tells → now.files ≡ held.files
   pub staged : IsTrue held.tells → now.staged ≡ held.staged
-  pub calls : SomeAdded held now
+  pub calls : MakesOnly (IsReadBelow (copies_of held)) held now
   pub told : IsTrue now.images.told → IsTrue held.images.told
   pub later : IsTrue now.images.told → held.images.moment ≤ now.images.moment
   pub stops : IsTrue now.images.told → (files : Files) → now.images.since held.images.moment files → files ≡ held.files
 
--- the same of a vault that an opener held, which may tell that or not: of one level and one copy, without a draft
-pub record IsReadWhereTold (is_told : Bool) (held now : VaultView) : Type 0 where
+-- the same of a vault that an opener held, which may tell that or not: of so many levels and one copy, without a draft
+pub record IsReadWhereTold (is_told : Bool) (levels : ℕ) (held now : VaultView) : Type 0 where
   pub later : held.faults ≤ now.faults
-  pub levels : now.levels ≡ 1
+  pub levels_are : now.levels ≡ levels
   pub drafts : now.drafts ≡ Absent ∷ []
   pub held_levels : IsTrue is_told → now.levels ≡ held.levels
   pub held_drafts : IsTrue is_told → now.drafts ≡ held.drafts
@@ -74,18 +79,25 @@ MatchesLoaded form (Some table) = Matches form table
 abbrev pub HasNoContent : Bool → VaultView → Type 0
 HasNoContent is_told held = IsTrue is_told → IsTrue held.tells → (copy : ℕ) → copy < copies_of held → content_of held.files copy ≡ None
 
--- a sync began with the folders that were opened, and with the files that the opener held
-pub record StartsSync (is_told : Bool) (held : VaultView) (given : List FolderView) (out : SinkView) (before : Before) : Type 0 where
+-- no call of the loading failed, and these were the calls of the vault when the sync began
+pub record LoadsFirst (held now : VaultView) (calls : List VaultDone) : Type 0 where
+  pub done : List VaultDone
+  pub each : AllByRecursion (λ (d : VaultDone). d.failed ≡ false) done
+  pub made : IsTrue now.tells_calls → calls ≡ held.calls ++ done
+
+-- a sync began with the folders that were opened, with the files that the opener held, and after the loading
+pub record StartsSync (is_told : Bool) (held now : VaultView) (given : List FolderView) (out : SinkView) (before : Before) : Type 0 where
   pub folders_are : before.folders ≡ given
   pub files_are : IsTrue is_told → IsTrue held.tells → before.files ≡ held.files
   pub copies_are : before.copies ≡ 1
   pub later : held.faults ≤ before.faults
+  pub loaded : IsTrue is_told → LoadsFirst held now before.calls
   pub out_is : before.out ≡ out
 
--- calls were made of a vault of one level and one copy
-pub record IsTouched (is_told : Bool) (held now : VaultView) : Type 0 where
+-- calls were made of a vault of so many levels and one copy
+pub record IsTouched (is_told : Bool) (levels : ℕ) (held now : VaultView) : Type 0 where
   pub later : held.faults ≤ now.faults
-  pub levels : now.levels ≡ 1
+  pub levels_are : now.levels ≡ levels
   pub copies : copies_of now ≡ 1
   pub tells : IsTrue is_told → now.tells ≡ held.tells
   pub calls : IsTrue is_told → SomeAdded held now
@@ -116,7 +128,7 @@ pub record Task : Type 0 where
 
 -- How a first sync ended, and its line on `err`.
 pub data SyncEnds (task : Task) (start : Before) (after : After) : Why → List ℕ → Type 0 where
-  sync_ends : (ending : Ending) → Syncs (names_in task.form) (empty_table task.form task.seed) task.now start after ending
+  sync_ends : (ending : Ending) → Syncs (names_in task.form) (empty_table task.form task.seed) task.now start after ending → MakesSince (All (WentWell IsSyncCall)) start.calls after.vault
       → SyncEnds task start after (ending_why ending) (plain_line (ending_why ending))
   sync_fails : (fault : SyncFault) → Causes (names_in task.form) (empty_table task.form task.seed) start after fault
       → SyncEnds task start after (fault_why fault) (fault_line task.form fault)
@@ -128,6 +140,19 @@ is_early_why (Full blocks files) = true
 is_early_why (FolderFailed disk) = true
 is_early_why _ = false
 
+-- ends of a sync that ended
+abbrev pub is_ended_why : Why → Bool
+is_ended_why Synced = true
+is_ended_why Found = true
+is_ended_why OutputFailed = true
+is_ended_why _ = false
+
+-- what a sync leaves that is called so
+pub record LeavesBy (why : Why) (names : Names) (old : TableValue) (now : ℕ) (before : Before) (vault : VaultView) (after : After) : Type 0 where
+  pub ended : Bool
+  pub only : IsTrue ended → IsTrue (is_ended_why why)
+  pub leaves : Leaves ended names old now before vault after
+
 -- What was opened and what it is afterwards: the vault as the opener held it, the folders as they were given, the sink.
 pub record Opening : Type 1 where
   pub is_told : Bool
@@ -138,28 +163,37 @@ pub record Opening : Type 1 where
 abbrev pub opening_of : VaultView → List FolderView → SinkView → Opening
 opening_of held given out = record { is_told = true; held = held; given = given; out = out }
 
--- a vault as it was given: of one level and one copy, without a draft and with nothing unsynced
-pub record IsGivenOne (v : VaultView) : Type 0 where
-  pub levels : v.levels ≡ 1
+-- What a sync leaves, whatever its end and whenever it is stopped: all as it was, or the steps that it came to. Each image at each moment since the opening is as these say.
+-- The last line was printed, or a front of it, only where the sync ended.
+pub data SyncLeaves (task : Task) (before : Opening) (why : Why) (start : Before) (after : After) : Type 0 where
+  sync_leaves_all : IsReadWhereTold before.is_told (levels_in task.form) before.held after.vault → after.out ≡ before.out → SyncLeaves task before why start after
+  sync_leaves_some : (ended : Bool) → (IsTrue ended → IsTrue (is_ended_why why)) → (progress : Progress ended (names_in task.form) (empty_table task.form task.seed) start after) → HasNoDraft after.vault
+      → (IsTrue before.is_told → ChangesBy (MayStand start.files start.copies progress.start task.now progress.readings) before.held after.vault)
+      → SyncLeaves task before why start after
+
+-- a vault as it was given: of so many levels and one copy, without a draft and with nothing unsynced
+pub record IsGivenOne (levels : ℕ) (v : VaultView) : Type 0 where
+  pub levels_are : v.levels ≡ levels
   pub drafts : v.drafts ≡ Absent ∷ []
   pub settled : IsSettled v
 
 -- Why a run ended that opened its array, and its line on `err`: one case for each cause. Where the opener tells what it holds, the loaded table is what that spells.
 pub data Works (task : Task) (before : Opening) (vault : VaultView) (folders : List FolderView) (out : SinkView) : Why → List ℕ → Type 0 where
-  works_unloaded : (why : Why) → IsReadWhereTold before.is_told before.held vault → LoadsNot before.is_told before.held vault why → out ≡ before.out
+  works_unloaded : (why : Why) → IsReadWhereTold before.is_told (levels_in task.form) before.held vault → LoadsNot before.is_told before.held vault why → out ≡ before.out
       → Works task before vault folders out why (plain_line why)
-  works_differs : (table : TableValue) (why : Why) (line : List ℕ) → IsReadWhereTold before.is_told before.held vault
+  works_differs : (table : TableValue) (why : Why) (line : List ℕ) → IsReadWhereTold before.is_told (levels_in task.form) before.held vault
       → (IsTrue before.is_told → Loads before.held vault (Some table)) → Differs task.form table why line → out ≡ before.out
       → Works task before vault folders out why line
-  works_list : task.command ≡ commands.List → (table : Option TableValue) (why : Why) → IsReadWhereTold before.is_told before.held vault
+  works_list : task.command ≡ commands.List → (table : Option TableValue) (why : Why) → IsReadWhereTold before.is_told (levels_in task.form) before.held vault
       → (IsTrue before.is_told → Loads before.held vault table) → MatchesLoaded task.form table → PrintsAll (text_of table) before.out out why
       → Works task before vault folders out why (plain_line why)
-  works_not_over_content : task.command ≡ commands.Sync → (table : TableValue) → IsReadWhereTold before.is_told before.held vault
+  works_not_over_content : task.command ≡ commands.Sync → (table : TableValue) → IsReadWhereTold before.is_told (levels_in task.form) before.held vault
       → (IsTrue before.is_told → Loads before.held vault (Some table)) → Matches task.form table → out ≡ before.out
       → Works task before vault folders out HasContent (plain_line HasContent)
-  works_sync : task.command ≡ commands.Sync → (why : Why) (line : List ℕ) → HasNoContent before.is_told before.held → IsTouched before.is_told before.held vault
-      → (start : Before) → StartsSync before.is_told before.held before.given before.out start → SyncEnds task start (after_of folders vault out) why line
-      → (IsTrue (is_early_why why) → IsReadWhereTold before.is_told before.held vault) → (IsTrue (is_early_why why) → out ≡ before.out)
+  works_sync : task.command ≡ commands.Sync → (why : Why) (line : List ℕ) → HasNoContent before.is_told before.held → IsTouched before.is_told (levels_in task.form) before.held vault
+      → (start : Before) → StartsSync before.is_told before.held vault before.given before.out start → SyncEnds task start (after_of folders vault out) why line
+      → (IsTrue (is_early_why why) → IsReadWhereTold before.is_told (levels_in task.form) before.held vault) → (IsTrue (is_early_why why) → out ≡ before.out)
+      → SyncLeaves task before why start (after_of folders vault out)
       → Works task before vault folders out why line
   works_till_memory : (why : Why) (line : List ℕ) → Works task before vault folders out why line → Works task before vault folders out NoMemory (plain_line NoMemory)
 

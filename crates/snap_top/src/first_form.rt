@@ -1,10 +1,11 @@
 // The first form of a configuration, and the setup that it makes.
 mod disks;
 mod line;
+mod parities;
 #[cfg(test)]
 mod tests;
 
-ghost use Rattle.std.specs.Prelude.{◌≡◌, [], ◌∷◌, IfOk, IfErr, IsErrOf, MatchOption};
+ghost use Rattle.std.specs.Prelude.{◌≡◌, [], ◌∷◌, IfOk, IfErr, IsErrOf};
 ghost use Rattle.snap_top.specs.declared.first_form.FormFault.TheVariants.{Memory};
 ghost use Rattle.snap_top.specs.FirstForm.{FormValue, Says, SaysNothing};
 ghost use Rattle.snap_top.specs.FormLines.{StartsHead, HasNoHead};
@@ -13,6 +14,7 @@ ghost use Rattle.snap_top.specs.FormSetup.{form_of, Holds};
 use disk_model::{NoMemory, Places, Text};
 use disks::{Disks, read_disks};
 use line::{file_line, size_line};
+use parities::{Parities, read_parities};
 use std::alloc::{AllocFailed, Global};
 use std::str;
 
@@ -66,16 +68,15 @@ pub(crate) fn read_form(alloc: Global, bytes: &[u8]) -> Result<Setup, FormFault>
     let Ok(text) = str::from_utf8(bytes) else {
         return Err(FormFault::Refused);
     };
-    let head = read_head(text).ok_or(FormFault::Refused)?;
+    let head = read_head(alloc, text)?;
     let Disks { names, dirs } = read_disks(alloc, head.rest)?;
-    let parities = one_text(alloc, head.parity)?;
     let contents = one_text(alloc, head.content)?;
     Ok(Setup {
         block_size: 1024 * head.kibibytes,
         names,
         places: Places {
             dirs,
-            parities,
+            parities: head.parities,
             contents,
         },
     })
@@ -85,21 +86,21 @@ pub(crate) fn read_form(alloc: Global, bytes: &[u8]) -> Result<Setup, FormFault>
 #[derive(Drop)]
 struct Head<'a> {
     kibibytes: u32,
-    parity: &'a str,
+    parities: Vec<Text>,
     content: &'a str,
     rest: &'a str,
 }
 
-fn read_head(text: &str) -> Option<Head<'_>>
-    ensures { MatchOption result (HasNoHead text.now)
-        (λ head. StartsHead text.now head.kibibytes head.parity.now head.content.now head.rest.now) }
+fn read_head(alloc: Global, text: &str) -> Result<Head<'_>, FormFault>
+    ensures ok { IfOk result (λ head. StartsHead text.now head.kibibytes head.parities.items head.content.now head.rest.now) }
+    ensures refused { IsErrOf result FormFault.Refused → HasNoHead text.now }
 {
-    let (kibibytes, rest) = size_line(text)?;
-    let (parity, rest) = file_line(rest, "parity")?;
-    let (content, rest) = file_line(rest, "content")?;
-    Some(Head {
+    let (kibibytes, rest) = size_line(text).ok_or(FormFault::Refused)?;
+    let Parities { files, rest } = read_parities(alloc, rest)?;
+    let (content, rest) = file_line(rest, "content").ok_or(FormFault::Refused)?;
+    Ok(Head {
         kibibytes,
-        parity,
+        parities: files,
         content,
         rest,
     })

@@ -8,8 +8,8 @@ ghost use Rattle.snap_top.specs.FirstForm.{IsForm};
 ghost use Rattle.snap_top.specs.FormSetup.{form_of, Holds};
 ghost use Rattle.snap_top.specs.Job.{IsJob, task_of};
 ghost use Rattle.snap_top.specs.Lines.{full_line, folder_line, is_plain, plain_line};
-ghost use Rattle.snap_top.specs.Matching.{empty_table};
-ghost use Rattle.snap_top.specs.Run.{SyncEnds, ending_why, fault_why, fault_line, is_early_why};
+ghost use Rattle.snap_top.specs.Matching.{empty_table, levels_in, names_in};
+ghost use Rattle.snap_top.specs.Run.{SyncEnds, LeavesBy, ending_why, fault_why, fault_line, is_early_why};
 
 use crate::Why;
 use crate::end::End;
@@ -128,11 +128,13 @@ pub(crate) fn sync_first<F: Folder, V: Vault, W: Sink>(
     out: &mut W,
 ) -> End
     requires job { IsJob job.now (map F.view folders.old) }
-    requires levels { (V.view vault.old).levels ≡ 1 }
+    requires levels { (V.view vault.old).levels ≡ levels_in (form_of job.now.setup) }
     ensures folders { AllReadOnly (map F.view folders.old) (map F.view folders.new) }
     ensures calls { SomeCalls (V.view vault.old) (V.view vault.new) }
     ensures end { IsEnd result }
     ensures ended { SyncEnds (task_of job.now) (before_of (map F.view folders.old) (V.view vault.old) (W.view out.old)) (after_of (map F.view folders.new) (V.view vault.new) (W.view out.new)) result.why (line_of result) }
+    ensures leaves { ((vault.new ≡ vault.old) × (out.new ≡ out.old)) ⊎ LeavesBy result.why (names_in (form_of job.now.setup)) (empty_table (form_of job.now.setup) job.now.seed) job.now.moment
+        (before_of (map F.view folders.old) (V.view vault.old) (W.view out.old)) (V.view vault.old) (after_of (map F.view folders.new) (V.view vault.new) (W.view out.new)) }
     ensures untouched { IsTrue (is_early_why result.why) → vault.new ≡ vault.old }
     ensures untold { IsTrue (is_early_why result.why) → out.new ≡ out.old }
 {

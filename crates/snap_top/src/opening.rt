@@ -3,6 +3,7 @@ ghost use Rattle.std.specs.Prelude.{◌≡◌, map, string_bytes, vec_len, IfOk,
 ghost use Rattle.disk_model.specs.Opener.{VaultIsGiven, HoldsSame};
 ghost use Rattle.snap_top.specs.FirstForm.{IsForm};
 ghost use Rattle.snap_top.specs.FormSetup.{form_of, Holds};
+ghost use Rattle.snap_top.specs.Matching.{levels_in};
 ghost use Rattle.snap_top.specs.Opening.{IsOpened, Refuses};
 
 use crate::Why;
@@ -29,7 +30,7 @@ pub(crate) fn open_all<O: Opener>(
     ensures holds { IfOk result (λ session. Holds session.setup (form_of session.setup)) }
     ensures valid { IfOk result (λ session. IsForm (form_of session.setup)) }
     ensures count { IfOk result (λ session. vec_len session.folders ≡ vec_len session.setup.places.dirs) }
-    ensures vault { IfOk result (λ session. VaultIsGiven (O.view opener.old).tells 1 1 (O.view opener.old).vault (O.Vault.view session.vault)) }
+    ensures vault { IfOk result (λ session. VaultIsGiven (O.view opener.old).tells (levels_in (form_of session.setup)) 1 (O.view opener.old).vault (O.Vault.view session.vault)) }
     ensures refused { IfErr result (λ why. Refuses (map string_bytes words.now) (O.view opener.old) (O.view opener.new) why) }
     ensures kept { OnErr result (HoldsSame (O.view opener.old) (O.view opener.new)) }
 {

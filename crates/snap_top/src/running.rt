@@ -7,6 +7,7 @@ ghost use Rattle.snap_top.specs.Difference.{SaysDifference};
 ghost use Rattle.snap_top.specs.FirstForm.{IsForm};
 ghost use Rattle.snap_top.specs.FormSetup.{form_of, Holds};
 ghost use Rattle.snap_top.specs.Lines.{config_line, is_plain, plain_line};
+ghost use Rattle.snap_top.specs.Matching.{levels_in};
 ghost use Rattle.snap_top.specs.Print.{Prints};
 ghost use Rattle.snap_top.specs.Run.{Ends, EndsWith, MatchesLoaded, PrintsAll, Works, IsGivenOne, at_entry, at_exit, vault_in, refused_line, text_of, opening_of};
 
@@ -84,7 +85,7 @@ fn work_on<F: Folder, V: Vault, W: Sink>(
     out: &mut W,
 ) -> End
     requires job { IsJob job.now (map F.view folders.old) }
-    requires given { IsGivenOne (V.view vault.old) }
+    requires given { IsGivenOne (levels_in (form_of job.now.setup)) (V.view vault.old) }
     ensures folders { AllReadOnly (map F.view folders.old) (map F.view folders.new) }
     ensures end { IsEnd result }
     ensures worked { Works (task_of job.now) (opening_of (V.view vault.old) (map F.view folders.old) (W.view out.old)) (V.view vault.new) (map F.view folders.new) (W.view out.new) result.why (line_of result) }

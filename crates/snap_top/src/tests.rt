@@ -1,7 +1,11 @@
 // Whole runs over objects in memory.
 mod array;
+mod changed;
 mod damage;
+mod definition;
 mod faults;
+mod layout;
+mod levels;
 mod list;
 mod matching;
 mod sync;

@@ -1,15 +1,14 @@
 -- Lemmas on files in the order of their paths.
-use Rattle.std.proofs.Common.{◌≡◌, ◌≢◌, ◌↔◌, ◌∙◌, inl, inr, ℕ, ◌+◌, ◌-◌, ◌<◌, ◌≤◌, List, [], ◌∷◌, ◌++◌, length, get_or, take, drop, refl, sym, ap, subst, arith, is_ge, Bool, true, false, IsTrue, All, Result, Ok, Err, is_ok, length-append}
+use Rattle.std.proofs.Common.{◌≡◌, ◌↔◌, ◌∙◌, inl, inr, ℕ, ◌+◌, ◌-◌, ◌<◌, ◌≤◌, List, [], ◌∷◌, ◌++◌, length, get_or, take, drop, refl, sym, ap, subst, arith, is_ge, Bool, true, false, IsTrue, All, Result, Ok, Err, is_ok, length-append}
 use Rattle.std.specs.Ordering.{nat_cmp, ordering_index}
 use Rattle.std.specs.Cmp.Lexicographic.{slice_cmp, nat_list_cmp_total}
-use Rattle.std.specs.List.{starts_with}
-use Rattle.std.specs.Prelude.{nat_eq, pos}
+use Rattle.std.specs.Prelude.{pos}
 use Rattle.std.specs.List.Sorted.{IsNonDecreasingBy, IsPartitionPoint, IsBinarySearchResult, IsSearchInRange}
 use Rattle.std.specs.FinMap.{slice_cmp-IsAntisymmetric, nat_cmp-IsAntisymmetric}
 use Rattle.std.specs.declared.cmp.Ordering.{Ordering}
 use Rattle.std.specs.declared.cmp.Ordering.TheVariants.{Less, Equal, Greater}
 use Rattle.std.proofs.lemmas.Cmp.{tied_itself}
-use Rattle.std.proofs.lemmas.List.{append_assoc, get_or_at, get_or_default, get_or-map, length-map, take_at}
+use Rattle.std.proofs.lemmas.List.{append_assoc, get_or_at, get_or_default, get_or-map, length-map, take_at, take_more, take-append-drop}
 use Rattle.std.proofs.lemmas.Bool.{cases_lt}
 use Rattle.std.proofs.lemmas.Bool.Decides.{eqb_tells, Decides-eqb}
 use Rattle.std.proofs.lemmas.Slice.Eq.{starts_is}
@@ -148,3 +147,52 @@ makes_listing files order fits stamps = record {
   where
     entry : FileInfo → List ℕ × Meta
     entry f = (f.path, f.meta)
+
+-- a file with a path that ends before a slash of this one is a directory of it
+pub some_is_directory : (files : List FileInfo) (path : List ℕ) (end : ℕ) → end < length path → get_or path end 0 ≡ 47 → HasPath files (take end path) → ¬ (HasNoDirectoryOf files path)
+some_is_directory files path end within slash has none =
+    let front : take (end + 1) path ≡ take end path ++ 47 ∷ [] = take_more path end 0 within ∙ ap (λ (byte : ℕ). take end path ++ byte ∷ []) slash in
+    let begins : path ≡ (take end path ++ 47 ∷ []) ++ drop (end + 1) path = sym (take-append-drop (end + 1) path) ∙ ap (λ (bytes : List ℕ). bytes ++ drop (end + 1) path) front in
+    let yes : is_directory_of (take end path) path ≡ true = (starts_is Decides-eqb path (take end path ++ 47 ∷ []) (is_directory_of (take end path) path) refl).1 (drop (end + 1) path) begins in
+    let no : is_directory_of (get_or files has.place no_file).path path ≡ false = none has.place no_file has.within in
+    let same : is_directory_of (get_or files has.place no_file).path path ≡ is_directory_of (take end path) path = ap (λ (p : List ℕ). is_directory_of p path) (has.is no_file) in
+    cc
+
+-- no path is a directory of itself
+not_its_own : (path : List ℕ) → is_directory_of path path ≡ false
+not_its_own path = not_true (is_directory_of path path) (λ is.
+    let rest : List ℕ = drop (length (path ++ 47 ∷ [])) path in
+    let begins : path ≡ (path ++ 47 ∷ []) ++ rest = (starts_is Decides-eqb path (path ++ 47 ∷ []) (is_directory_of path path) refl).0 is in
+    let long : length path ≡ length ((path ++ 47 ∷ []) ++ rest) = ap length begins in
+    absurd (omega (arith, long, length-append (path ++ 47 ∷ []) rest, length-append path (47 ∷ []))))
+
+abbrev entry_of : FileInfo → List ℕ × Meta
+entry_of f = (f.path, f.meta)
+
+-- the path of a listed file
+path_at : (files : List FileInfo) (i : ℕ) → i < length files → (get_or (listed files) i (entry_of no_file)).0 ≡ (get_or files i no_file).path
+path_at files i within = ap (λ (e : List ℕ × Meta). e.0) (get_or-map entry_of files i no_file (entry_of no_file) within)
+
+listed_before : (files : List FileInfo) → IsListing (listed files) → (i j : ℕ) → i < j → j < length files → IsListedBefore (get_or files i no_file).path (get_or files j no_file).path
+listed_before files is i j less within =
+    let before : IsListedBefore (get_or (listed files) i (entry_of no_file)).0 (get_or (listed files) j (entry_of no_file)).0 = is.order i j (entry_of no_file) less (omega (arith, within, length-map files entry_of)) in
+    subst (λ (p : List ℕ). IsListedBefore (get_or files i no_file).path p) (path_at files j within)
+    (subst (λ (p : List ℕ). IsListedBefore p (get_or (listed files) j (entry_of no_file)).0) (path_at files i (omega (arith, less, within))) before)
+
+-- the files of a listing rise, and fit among one another
+pub listing_rises : (files : List FileInfo) → IsListing (listed files) → AreInOrder files
+listing_rises files is i j d less within =
+    subst (λ (f : FileInfo). IsBelow f.path (get_or files j d).path) (sym (get_or_default files i d no_file (omega (arith, less, within))))
+    (subst (λ (f : FileInfo). IsBelow (get_or files i no_file).path f.path) (sym (get_or_default files j d no_file within)) (listed_before files is i j less within).less)
+
+pub listing_fits : (files : List FileInfo) → IsListing (listed files) → All (FitsAmong files) files
+listing_fits files is k d within = subst (FitsAmong files) (sym (get_or_default files k d no_file within)) (record {
+  valid = subst IsValidPath (path_at files k within) (is.valid k (entry_of no_file) (omega (arith, within, length-map files entry_of)));
+  apart = λ i other i_in. subst (λ (f : FileInfo). is_directory_of f.path (get_or files k no_file).path ≡ false) (sym (get_or_default files i other no_file i_in)) (elim (eqb_tells i k) [
+    | inl same ↦ subst (λ (n : ℕ). is_directory_of (get_or files n no_file).path (get_or files k no_file).path ≡ false) (sym same.1) (not_its_own (get_or files k no_file).path)
+    | inr other_place ↦ elim (cases_lt i k) [
+      | inl before ↦ (listed_before files is i k (omega arith) within).no_directory
+      | inr after ↦ (listed_before files is k i (omega (arith, other_place.1)) i_in).not_inside
+    ]
+  ]);
+})

@@ -1,5 +1,5 @@
 // How failures of the system are counted.
-ghost use Rattle.std.specs.Prelude.{◌≡◌, ◌≤◌, IfOk, OnOk, OnErr, IsTrue, Some, is_err};
+ghost use Rattle.std.specs.Prelude.{◌≡◌, ◌+◌, ◌-◌, ◌^◌, ◌≤◌, min, IfOk, OnOk, OnErr, IsTrue, IsErrOf, None, Some, false, is_err};
 ghost use Rattle.disk_model.specs.Cause.{Rose};
 ghost use Rattle.disk_model.specs.Folder.{file_failed, listing_failed};
 
@@ -11,6 +11,7 @@ use std::io::ErrorKind;
 pub(crate) fn raise(faults: &mut u64)
     ensures later { faults.old ≤ faults.new }
     ensures rose { Rose faults.old faults.new }
+    ensures one { faults.new ≡ min (faults.old + 1) (2 ^ 64 - 1) }
 {
     *faults = faults.saturating_add(1);
 }
@@ -39,6 +40,9 @@ pub(crate) fn counted_file<T: Drop>(
 ) -> Result<T, FileFault>
     ensures later { faults.old ≤ faults.new }
     ensures value { IfOk result (λ value. answer ≡ Ok (Some value)) }
+    ensures missing { IsErrOf result FileFault.Missing → answer ≡ Ok None }
+    ensures same { file_failed result ≡ is_err answer }
+    ensures kept { file_failed result ≡ false → faults.new ≡ faults.old }
     ensures cause { IsTrue (file_failed result) → Rose faults.old faults.new }
 {
     match answer {
@@ -58,6 +62,8 @@ pub(crate) fn counted_listing<T: Drop>(
 ) -> Result<T, ListFault>
     ensures later { faults.old ≤ faults.new }
     ensures value { IfOk result (λ value. answer ≡ Ok value) }
+    ensures same { is_err result ≡ is_err answer }
+    ensures kept { listing_failed result ≡ false → faults.new ≡ faults.old }
     ensures cause { IsTrue (listing_failed result) → Rose faults.old faults.new }
 {
     match answer {

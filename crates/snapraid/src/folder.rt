@@ -124,7 +124,9 @@ fn open_data<R: Files + AllocGlobal>(
     }))
 }
 
-fn path_copy(path: &Path) -> io::Result<Path> {
+fn path_copy(path: &Path) -> io::Result<Path>
+    ensures { IfOk result (λ copy. copy ≡ path.now) }
+{
     match path.copy() {
         Ok(path) => Ok(path),
         Err(NoMemory) => Err(io::Error::from(ErrorKind::OutOfMemory)),

@@ -1,5 +1,5 @@
 // All files of a data folder.
-ghost use Rattle.std.specs.Prelude.{IfOk, All};
+ghost use Rattle.std.specs.Prelude.{◌≡◌, IfOk, All};
 ghost use Rattle.disk_model.specs.Tree.{IsListing, listed};
 ghost use Rattle.snapraid.specs.Listing.{HasStamp};
 
@@ -117,7 +117,9 @@ fn joined(alloc: Global, folder: &str, name: &str) -> io::Result<String> {
     Ok(format!(in alloc; "{folder}/{name}")?)
 }
 
-fn path_of(alloc: Global, text: &str) -> io::Result<Path> {
+fn path_of(alloc: Global, text: &str) -> io::Result<Path>
+    ensures { IfOk result (λ path. path ≡ text.now) }
+{
     match Path::new(alloc, text) {
         Ok(path) => Ok(path),
         Err(PathFault::Invalid) => Err(io::Error::from(ErrorKind::InvalidFilename)),

@@ -14,13 +14,15 @@ const SLASH: u8 = b'/';
 // Whether the paths rise, and none is a directory of another.
 pub(crate) fn is_listing(files: &[FileInfo]) -> bool
     requires { All HasStamp files.now }
-    ensures { IsTrue result → IsListing (listed files.now) }
+    ensures listing { IsTrue result → IsListing (listed files.now) }
+    ensures refused { result ≡ false → ¬ (IsListing (listed files.now)) }
 {
     rises(files) && is_apart(files)
 }
 
 fn rises(files: &[FileInfo]) -> bool
-    ensures { IsTrue result → AreInOrder files.now }
+    ensures order { IsTrue result → AreInOrder files.now }
+    ensures refused { result ≡ false → ¬ (AreInOrder files.now) }
 {
     for i in 1..files.len() {
         if files[i - 1].path.as_str() >= files[i].path.as_str() {
@@ -32,7 +34,8 @@ fn rises(files: &[FileInfo]) -> bool
 
 fn is_apart(files: &[FileInfo]) -> bool
     requires { AreInOrder files.now }
-    ensures { IsTrue result → All (FitsAmong files.now) files.now }
+    ensures apart { IsTrue result → All (FitsAmong files.now) files.now }
+    ensures refused { result ≡ false → ¬ (All (FitsAmong files.now) files.now) }
 {
     for file in files {
         if has_directory_of(files, file.path.as_str().as_bytes()) {
@@ -45,7 +48,8 @@ fn is_apart(files: &[FileInfo]) -> bool
 // Whether a file's path is a directory of this one.
 fn has_directory_of(files: &[FileInfo], path: &[u8]) -> bool
     requires { AreInOrder files.now }
-    ensures { result ≡ false → HasNoDirectoryOf files.now path.now }
+    ensures none { result ≡ false → HasNoDirectoryOf files.now path.now }
+    ensures some { IsTrue result → ¬ (HasNoDirectoryOf files.now path.now) }
 {
     for end in 0..path.len() {
         if path[end] == SLASH && has_path(files, &path[..end]) {

@@ -1,5 +1,6 @@
 // Where a file of a data folder stands. No link is followed, and nothing but a folder gone through.
-ghost use Rattle.std.specs.Prelude.{IfOk};
+ghost use Rattle.std.specs.Fs.{metadata_len};
+ghost use Rattle.std.specs.Prelude.{◌≡◌, IfOk};
 ghost use Rattle.disk_model.specs.Stamp.{IsStamp};
 
 use disk_model::{Meta, Path, Stamp};
@@ -86,7 +87,8 @@ pub(crate) fn is_same_file(one: &Metadata, other: &Metadata) -> bool {
 
 // Size and stamp. A system that tells a whole second of nanoseconds fails.
 pub(crate) fn meta_of(seen: &Metadata) -> io::Result<Meta>
-    ensures { IfOk result (λ meta. IsStamp meta.stamp) }
+    ensures stamp { IfOk result (λ meta. IsStamp meta.stamp) }
+    ensures size { IfOk result (λ meta. meta.size ≡ metadata_len seen.now) }
 {
     match u32::try_from(seen.mtime_nsec()) {
         Ok(nanos) if nanos < SECOND => Ok(Meta {

@@ -6,6 +6,7 @@ mod parity;
 mod reading;
 mod running;
 mod sink;
+mod starting;
 
 use disk_model::{NoMemory, Places, Text};
 use std::alloc::Global;

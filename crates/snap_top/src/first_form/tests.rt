@@ -67,6 +67,7 @@ fn refused_heads(rt: HostRuntime) {
         "blocksize 1\nparity p\n\ncontent c\ndata d1 /x\n",
         "blocksize 1\nparity p\ncontent c\n",
         "blocksize 1\nparity p\ncontent c",
+        "blocksize 1\ncontent c\ndata d1 /x\n",
     ] {
         assert!(rt; is_refused(rt.alloc(), text.as_bytes()), "{text}");
     }
@@ -76,6 +77,56 @@ fn refused_heads(rt: HostRuntime) {
             b"blocksize 1\nparity p\ncontent c\ndata d1 /\xff\n"
         )
     );
+}
+
+#[test]
+fn one_to_six_parity_lines(rt: HostRuntime) -> Result<(), Fail> {
+    let files = ["p", "q", "r", "s", "t", "u"];
+    let mut lines = String::from_str(rt.alloc(), "blocksize 1\n")?;
+    for level in 0..6 {
+        match level {
+            0 => writeln!(lines, "parity {}", files[0])?,
+            _ => writeln!(lines, "{}-parity {}", level + 1, files[level])?,
+        }
+        let text = format!(in rt.alloc(); "{lines}content c\ndata d1 /x\n")?;
+        let setup = read_form(rt.alloc(), text.as_bytes())?;
+        assert_eq!(rt; setup.places.parities.len(), level + 1);
+        for (parity, file) in setup.places.parities.iter().zip(&files) {
+            assert_eq!(rt; parity.as_str(), *file);
+        }
+    }
+    Ok(())
+}
+
+#[test]
+fn refused_parity_lines(rt: HostRuntime) -> Result<(), Fail> {
+    let six = "parity p\n2-parity q\n3-parity r\n4-parity s\n5-parity t\n6-parity u\n";
+    let seven = format!(in rt.alloc(); "{six}7-parity v\n")?;
+    for lines in [
+        "parity p\n3-parity q\n",
+        "2-parity q\nparity p\n",
+        "parity p\n3-parity r\n2-parity q\n",
+        "2-parity q\n",
+        "parity p\n2-parity q\n2-parity r\n",
+        "parity p\nparity q\n",
+        "1-parity p\n",
+        "parity p\n1-parity q\n",
+        "parity p\n02-parity q\n",
+        "parity p\n2-parity \n",
+        "parity p\n2-parity q,r\n",
+        "parity p\n2-parity\n",
+        seven.as_str(),
+    ] {
+        let text = format!(in rt.alloc(); "blocksize 1\n{lines}content c\ndata d1 /x\n")?;
+        assert!(rt; is_refused(rt.alloc(), text.as_bytes()), "{lines}");
+    }
+    assert!(rt;
+        is_refused(
+            rt.alloc(),
+            b"blocksize 1\nparity p\ncontent c\n2-parity q\ndata d1 /x\n"
+        )
+    );
+    Ok(())
 }
 
 #[test]

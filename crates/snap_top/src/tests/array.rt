@@ -1,4 +1,4 @@
-// An array of one disk in memory, and runs over it.
+// Arrays in memory, and runs over them.
 use crate::run;
 use disk_memory::{MemFolder, MemOpener, MemSink, MemVault};
 use disk_model::{Path, Stamp, Vault};
@@ -65,15 +65,17 @@ pub type NamedFile<'a> = (&'a str, &'a [u8]);
 #[derive(Clone, Copy)]
 pub struct Array<'a> {
     pub config: &'a str,
+    pub levels: u32,
     pub content: Option<&'a [u8]>,
     /// All changed at 1.000000005.
     pub files: &'a [NamedFile<'a>],
     pub failing: Failing,
 }
 
-/// No file, and no content.
+/// No file, one level, and no content.
 pub const EMPTY: Array = Array {
     config: CONFIG,
+    levels: 1,
     content: None,
     files: &[],
     failing: NONE,
@@ -107,15 +109,38 @@ pub fn sync(alloc: Global, array: Array) -> Result<Left, Fail> {
 /// Runs words over an array, at 100.
 pub fn run_words(alloc: Global, words: &[&str], array: Array) -> Result<Left, Fail> {
     let mut opener = opener(alloc, array)?;
+    run_over(alloc, words, &mut opener, array.failing.out)
+}
+
+/// Runs `snapraid sync -c FILE` over these folders, with as many levels and one content copy that is not there yet.
+pub fn sync_folders(
+    alloc: Global,
+    config: &str,
+    levels: u32,
+    folders: Vec<MemFolder>,
+) -> Result<Left, Fail> {
+    let vault = MemVault::new(alloc, levels, 1)?;
+    let config = Vec::from_slice(alloc, config.as_bytes())?;
+    let mut opener = MemOpener::new(alloc, config, folders, vault);
+    run_over(alloc, &["snapraid", "sync", "-c", "FILE"], &mut opener, 0)
+}
+
+// Runs words over what an opener holds. The call of `out` that is to fail has this number; 0 is none.
+fn run_over(
+    alloc: Global,
+    words: &[&str],
+    opener: &mut MemOpener<MemFolder, MemVault>,
+    failing: u64,
+) -> Result<Left, Fail> {
     let mut out = MemSink::new(alloc);
-    out.fail_at(array.failing.out)?;
+    out.fail_at(failing)?;
     let mut err = MemSink::new(alloc);
     let words = owned(alloc, words)?;
     let seed = *b"abcdefghijklmnop";
     let outcome = run(
         alloc,
         words.as_slice(),
-        &mut opener,
+        opener,
         &mut out,
         &mut err,
         100,
@@ -143,14 +168,14 @@ pub fn content(alloc: Global, left: &mut Left) -> Result<Vec<u8>, Fail> {
     Ok(bytes)
 }
 
-/// The parity that a run left.
-pub fn parity(alloc: Global, left: &mut Left) -> Result<Vec<u8>, Fail> {
+/// The parity that a run left in a level.
+pub fn parity(alloc: Global, left: &mut Left, level: u32) -> Result<Vec<u8>, Fail> {
     let mut bytes = Vec::new(alloc);
     if let Some(vault) = &mut left.vault {
-        if vault.levels() > 0 {
-            let size = vault.parity_len(0)?;
+        if vault.levels() > level {
+            let size = vault.parity_len(level)?;
             bytes.resize(size as usize, 0)?;
-            vault.parity_read(0, 0, bytes.as_mut_slice())?;
+            vault.parity_read(level, 0, bytes.as_mut_slice())?;
         }
     }
     Ok(bytes)
@@ -158,30 +183,33 @@ pub fn parity(alloc: Global, left: &mut Left) -> Result<Vec<u8>, Fail> {
 
 // An opener of that array.
 fn opener(alloc: Global, array: Array) -> Result<MemOpener<MemFolder, MemVault>, Fail> {
-    let mut vault = MemVault::new(alloc, 1, 1)?;
+    let mut vault = MemVault::new(alloc, array.levels, 1)?;
     vault.set_content(0, array.content)?;
     vault.fail_at(array.failing.vault)?;
-    let folders = vec![in alloc; folder(alloc, array)?]?;
+    let mut folder = folder(alloc, array.files)?;
+    folder.fail_at(array.failing.folder)?;
+    let folders = vec![in alloc; folder]?;
     let config = Vec::from_slice(alloc, array.config.as_bytes())?;
     let mut opener = MemOpener::new(alloc, config, folders, vault);
     opener.fail_at(array.failing.opener)?;
     Ok(opener)
 }
 
-fn folder(alloc: Global, array: Array) -> Result<MemFolder, Fail> {
+/// A folder of these files, all changed at 1.000000005.
+pub fn folder(alloc: Global, files: &[NamedFile]) -> Result<MemFolder, Fail> {
     let mut folder = MemFolder::new(alloc, true);
-    folder.fail_at(array.failing.folder)?;
     let stamp = Stamp {
         seconds: 1,
         nanos: 5,
     };
-    for (name, bytes) in array.files {
+    for (name, bytes) in files {
         folder.put(Path::new(alloc, name)?, stamp, bytes)?;
     }
     Ok(folder)
 }
 
-fn owned(alloc: Global, words: &[&str]) -> Result<Vec<String>, Fail> {
+/// Words of a command line.
+pub fn owned(alloc: Global, words: &[&str]) -> Result<Vec<String>, Fail> {
     let mut line = Vec::new(alloc);
     for word in words {
         line.push(String::from_str(alloc, word)?)?;

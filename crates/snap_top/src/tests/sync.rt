@@ -22,7 +22,7 @@ fn one_file_is_synced_and_listed(rt: HostRuntime) -> Result<(), Fail> {
         b"sync: 1 stripes synced, 0 pending\n".as_slice()
     );
     assert_eq!(rt; left.err.bytes().len(), 0);
-    let parity = parity(alloc, &mut left)?;
+    let parity = parity(alloc, &mut left, 0)?;
     assert_eq!(rt; parity.len(), 1024);
     assert_eq!(rt; &parity[..10], b"qrstuvwxyz".as_slice());
     assert!(rt; parity[10..].iter().all(|byte| *byte == 0));
@@ -48,7 +48,7 @@ fn a_folder_without_files(rt: HostRuntime) -> Result<(), Fail> {
         content(rt.alloc(), &mut left)?.as_slice(),
         NO_FILE.as_slice()
     );
-    assert_eq!(rt; parity(rt.alloc(), &mut left)?.len(), 0);
+    assert_eq!(rt; parity(rt.alloc(), &mut left, 0)?.len(), 0);
     Ok(())
 }
 
@@ -73,32 +73,38 @@ fn files_of_whole_and_part_blocks(rt: HostRuntime) -> Result<(), Fail> {
         left.out.bytes(),
         b"sync: 5 stripes synced, 0 pending\n".as_slice()
     );
-    let parity = parity(rt.alloc(), &mut left)?;
+    let parity = parity(rt.alloc(), &mut left, 0)?;
     assert_eq!(rt; parity.len(), 5120);
     Ok(())
 }
 
+// The folder's second call looks at the file, and its third reads the block.
 #[test]
 fn a_file_that_cannot_be_read_stays_pending(rt: HostRuntime) -> Result<(), Fail> {
-    let failing = Failing { folder: 2, ..NONE };
-    let array = Array {
-        files: &ONE,
-        failing,
-        ..EMPTY
-    };
-    let mut left = sync(rt.alloc(), array)?;
-    assert_eq!(rt; left.status, 1);
-    let text = b"io 0 d1:a 0\nsync: 0 stripes synced, 1 pending\n";
-    assert_eq!(rt; left.out.bytes(), text.as_slice());
-    assert_eq!(rt; left.err.bytes().len(), 0);
-    let content = content(rt.alloc(), &mut left)?;
-    assert!(rt; content.as_slice() != ONE_FILE.as_slice());
-    let listed = list(rt.alloc(), Some(content.as_slice()), NONE)?;
-    assert_eq!(rt; listed.status, 0);
-    assert_eq!(rt;
-        listed.out.bytes(),
-        b"10 1.000000005 d1:a\n1 files, 10 bytes\n".as_slice()
-    );
+    for call in 2..4 {
+        let failing = Failing {
+            folder: call,
+            ..NONE
+        };
+        let array = Array {
+            files: &ONE,
+            failing,
+            ..EMPTY
+        };
+        let mut left = sync(rt.alloc(), array)?;
+        assert_eq!(rt; left.status, 1);
+        let text = b"io 0 d1:a 0\nsync: 0 stripes synced, 1 pending\n";
+        assert_eq!(rt; left.out.bytes(), text.as_slice());
+        assert_eq!(rt; left.err.bytes().len(), 0);
+        let content = content(rt.alloc(), &mut left)?;
+        assert!(rt; content.as_slice() != ONE_FILE.as_slice());
+        let listed = list(rt.alloc(), Some(content.as_slice()), NONE)?;
+        assert_eq!(rt; listed.status, 0);
+        assert_eq!(rt;
+            listed.out.bytes(),
+            b"10 1.000000005 d1:a\n1 files, 10 bytes\n".as_slice()
+        );
+    }
     Ok(())
 }
 

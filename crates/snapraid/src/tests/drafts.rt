@@ -84,6 +84,10 @@ fn begins_anew_and_publishes_over_an_older_copy(rt: HostRuntime) -> Result<(), F
     let count = content.read(&rt, 0, &mut out)?;
     assert_eq!(rt; str::from_utf8(&out[..count])?, "new bytes");
     assert_eq!(rt; content.size(&rt)?, Some(9));
+    // its size is asked of the file that stands there by then
+    fs::write(&rt, draft.as_str(), "other")?;
+    fs::rename(&rt, draft.as_str(), name.as_str())?;
+    assert_eq!(rt; content.size(&rt)?, Some(5));
     fs::remove_dir_all(&rt, folder.as_str())?;
     Ok(())
 }

@@ -3,6 +3,7 @@ use super::{new_folder, places};
 use crate::opener::DiskOpener;
 use crate::parity::ParityFile;
 use disk_model::{Failed, Opened, Opener, Text, Vault};
+use std::os::unix::fs::symlink;
 use std::test::Fail;
 use std::{fs, process};
 
@@ -54,6 +55,15 @@ fn takes_regular_files_alone(rt: HostRuntime) -> Result<(), Fail> {
         assert!(rt; parity.write(&rt, 0, b"x").is_err());
         assert!(rt; parity.set_len(&rt, 1).is_err());
     }
+    // nor is a file made at the end of a link
+    let (link, end) = (
+        format!(in rt.alloc(); "{folder}/link")?,
+        format!(in rt.alloc(); "{folder}/end")?,
+    );
+    symlink(&rt, "end", link.as_str())?;
+    let mut parity = ParityFile::new(Text::new(rt.alloc(), link.as_str())?);
+    assert!(rt; parity.write(&rt, 0, b"x").is_err());
+    assert!(rt; !fs::exists(&rt, end.as_str())?);
     fs::remove_dir_all(&rt, folder.as_str())?;
     Ok(())
 }

@@ -1,11 +1,29 @@
-use Rattle.disk_model.proofs.VaultLemmas.{more_calls}
+use Rattle.std.proofs.Common.{[], ◌∷◌}
+use Rattle.disk_model.specs.Vault.{Publish}
+use Rattle.disk_model.proofs.VaultLemmas.{one_call, more_calls, on_any}
+use Rattle.disk_model.proofs.InOrder.{among_front, call_these, call_among, then_these, then_among}
+use Rattle.content_file.specs.Save.{draft_calls}
 use Rattle.content_file.proofs.Drafts.{draft_gone}
 use Rattle.content_file.proofs.SaveLemmas.{no_publish, published}
-use Rattle.content_file.proofs.DraftCalls.{one_draft_call, draft_calls_then}
 use Rattle.content_file.proofs.saving.save_copy.Goals as goal
 
+pub returns-in_err-write_draft-clause-cause : goal.returns-in_err-write_draft-clause-cause
+returns-in_err-write_draft-clause-cause g c =
+    on_any c.from_residual.result (among_front (draft_calls c.args.bytes.now c.args.copy) (Publish c.args.copy ∷ []) (g.V.Vault.view c.args.vault.now) (g.V.Vault.view c.write_draft.new.vault) c.in_err-write_draft.ensures.cause)
+
 pub returns-clause-made : goal.returns-clause-made
-returns-clause-made g c = draft_calls_then _ _ _ c.write_draft.ensures.made (one_draft_call _ _ _ _ tt c.publish.ensures.call.goes_on)
+returns-clause-made g c =
+    let mid = g.V.Vault.view c.write_draft.new.vault in
+    let new = g.V.Vault.view c.publish.new.self in
+    then_these (draft_calls c.args.bytes.now c.args.copy) (Publish c.args.copy ∷ []) c.publish.result (g.V.Vault.view c.args.vault.now) mid new c.in_ok-write_draft.ensures.made
+    (call_these (Publish c.args.copy) c.publish.result mid new c.publish.ensures.call)
+
+pub returns-clause-cause : goal.returns-clause-cause
+returns-clause-cause g c =
+    let mid = g.V.Vault.view c.write_draft.new.vault in
+    let new = g.V.Vault.view c.publish.new.self in
+    then_among (draft_calls c.args.bytes.now c.args.copy) (Publish c.args.copy ∷ []) c.publish.result (g.V.Vault.view c.args.vault.now) mid new c.write_draft.ensures.calls (one_call mid new _ c.publish.ensures.call.goes_on) c.in_ok-write_draft.ensures.made
+    (call_among (Publish c.args.copy) c.publish.result mid new c.publish.ensures.call)
 
 pub returns-in_err-write_draft-clause-changes : goal.returns-in_err-write_draft-clause-changes
 returns-in_err-write_draft-clause-changes g c = no_publish _ _ _ _ c.write_draft.ensures.changes

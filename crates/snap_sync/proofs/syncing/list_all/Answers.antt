@@ -22,7 +22,7 @@ returns-in_err-listing-clause-failed g c =
     let olds = map g.F.Folder.view c.args.folders.now in
     handed_on c.from_residual.result _ _
     (λ fault same. subst (EndsListings olds (map g.F.Folder.view _)) (sym same)
-    (listing_lent g.F.Folder.view olds c.loop-disk.folders c.loop-disk.disk _ _ c.in_err-listing.field-0.0 (omega arith) (omega (arith, length-map c.args.folders.now g.F.Folder.view)) c.loop-disk.invariant.read c.in_err-listing.ensures.failed))
+    (listing_lent g.F.Folder.view olds c.loop-disk.folders c.loop-disk.disk _ _ c.in_err-listing.field-0.0 (omega arith) (omega (arith, length-map c.args.folders.now g.F.Folder.view)) c.loop-disk.invariant.read c.loop-disk.invariant.calls c.loop-disk.invariant.others c.in_err-listing.ensures.failed))
     c.from_residual.ensures.1
 
 pub returns-in_err-push-clause-folders : goal.returns-in_err-push-clause-folders

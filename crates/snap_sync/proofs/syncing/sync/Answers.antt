@@ -1,13 +1,26 @@
-use Rattle.std.proofs.Common.{List, Bool, map, length, refl, sym, ap, ◌∙◌, subst, arith}
+use Rattle.std.proofs.Common.{false, ◌≡◌, ℕ, ◌-◌, List, Bool, map, length, inl, inr, refl, sym, ap, ◌∙◌, subst, arith}
 use Rattle.std.specs.Prelude.{count_by}
 use Rattle.std.proofs.lemmas.List.{length-map}
-use Rattle.disk_model.proofs.VaultLemmas.{calls_then}
+use Rattle.disk_model.proofs.CallsLemmas.{makes_then, these_make}
+use Rattle.disk_model.proofs.VaultLemmas.{calls_then, on_any}
+use Rattle.snap_sync.specs.Calls.{IsSyncCall}
+use Rattle.snap_sync.specs.SyncFault.{Causes}
+use Rattle.snap_sync.proofs.FaultLemmas.{handed_on, late_after, late_causes}
+use Rattle.snap_sync.proofs.OrderLemmas.{all_writes}
+use Rattle.disk_model.specs.Sink.{SinkView}
+use Rattle.disk_model.specs.Vault.{ChangesBy}
+use Rattle.file_table.specs.Table.{TableValue}
+use Rattle.content_file.specs.Spelling.{spelling}
 use Rattle.snap_sync.specs.Closing.{AreHashed}
 use Rattle.snap_sync.specs.Ending.{names_of}
 use Rattle.snap_sync.specs.Listing.{lists_of}
-use Rattle.snap_sync.specs.Steps.{ClosesTable}
-use Rattle.snap_sync.proofs.EndLemmas.{marks_fit, marks_are_hashed, few_marked, closes_total, own_work, length-laid, syncs}
+use Rattle.snap_sync.specs.Stops.{Leaves}
+use Rattle.snap_sync.specs.Sync.{before_of, after_of}
+use Rattle.snap_sync.specs.Steps.{ClosesTable, MayClose, with_marks}
+use Rattle.snap_sync.proofs.EndLemmas.{marks_fit, marks_are_hashed, few_marked, closes_total, own_work, syncs}
+use Rattle.snap_sync.proofs.AllReadLemmas.{length-laid}
 use Rattle.snap_sync.proofs.FoldersLemmas.{all_read_then}
+use Rattle.snap_sync.proofs.LeavesLemmas.{stops_opening, stops_writing, stops_closing, stops_nowhere}
 use Rattle.snap_sync.proofs.syncing.sync.Goals as goal
 
 pub sync_stripes-requires-clause-folders : goal.sync_stripes-requires-clause-folders
@@ -72,3 +85,127 @@ returns-clause-done g c =
     c.close_table.ensures.calls closes
     (c.in_ok-synced.ensures.counted ∙ ap (count_by (λ (b : Bool). b)) marked) c.tell_end.ensures.findings (g.V.Vault.well_formed _)
     _ c.length.result c.length.ensures.count refl c.in_ok-tell_end.ensures.told
+
+pub returns-in_err-listings-clause-leaves : goal.returns-in_err-listings-clause-leaves
+returns-in_err-listings-clause-leaves g c = on_any c.from_residual.result (inl (refl, refl))
+
+pub returns-in_err-lay_out-clause-leaves : goal.returns-in_err-lay_out-clause-leaves
+returns-in_err-lay_out-clause-leaves g c = on_any c.from_residual-in_err-lay_out.result (inl (refl, refl))
+
+pub returns-in_err-work-clause-leaves : goal.returns-in_err-work-clause-leaves
+returns-in_err-work-clause-leaves g c = on_any c.from_residual-in_err-work.result (inl (refl, refl))
+
+pub returns-in_err-open_levels-clause-leaves : goal.returns-in_err-open_levels-clause-leaves
+returns-in_err-open_levels-clause-leaves g c =
+    let folder = g.F.Folder.view in
+    let vault = g.V.Vault.view in
+    let out = g.W.Sink.view in
+    let start = vault c.args.vault.now in
+    on_any c.from_residual-in_err-open_levels.result (inr (stops_opening (names_of c.args.places.now) c.args.old c.args.now (lists_of c.in_ok-listings.listings.items) (map folder c.args.folders.now) (map folder c.list_all.new.folders)
+    start (out c.args.out.now) c.in_ok-work.work c.requires c.in_ok-listings.ensures.listed c.list_all.ensures.folders (c.in_ok-work.ensures.table_is ∙ c.in_ok-lay_out.ensures.laid) c.in_ok-lay_out.ensures.fits
+    (vault c.open_levels.new.vault) c.open_levels.ensures.changes c.open_levels.ensures.made c.open_levels.ensures.drafts))
+
+pub returns-in_err-sync_stripes-clause-leaves : goal.returns-in_err-sync_stripes-clause-leaves
+returns-in_err-sync_stripes-clause-leaves g c =
+    let folder = g.F.Folder.view in
+    let vault = g.V.Vault.view in
+    let out = g.W.Sink.view in
+    let start = vault c.args.vault.now in
+    on_any c.from_residual-in_err-sync_stripes.result (inr (stops_writing (names_of c.args.places.now) c.args.old c.args.now (lists_of c.in_ok-listings.listings.items) (map folder c.args.folders.now) (map folder c.list_all.new.folders)
+    start (out c.args.out.now) c.in_ok-work.work c.requires c.in_ok-listings.ensures.listed c.list_all.ensures.folders (c.in_ok-work.ensures.table_is ∙ c.in_ok-lay_out.ensures.laid) c.in_ok-lay_out.ensures.fits
+    (vault c.open_levels.new.vault) c.open_levels.ensures.calls c.open_levels.ensures.changes c.in_ok-open_levels.ensures.saved c.in_ok-open_levels.ensures.opens c.open_levels.ensures.drafts
+    (map folder c.sync_stripes.new.folders) (vault c.sync_stripes.new.vault) (out c.sync_stripes.new.out) (g.V.Vault.well_formed c.sync_stripes.new.vault) c.sync_stripes.ensures.calls
+    c.sync_stripes.ensures.changes c.sync_stripes.ensures.drafts c.in_err-sync_stripes.ensures.stopped))
+
+pub returns-in_err-synced-clause-leaves : goal.returns-in_err-synced-clause-leaves
+returns-in_err-synced-clause-leaves g c =
+    let folder = g.F.Folder.view in
+    let vault = g.V.Vault.view in
+    let out = g.W.Sink.view in
+    let start = vault c.args.vault.now in
+    let ended = c.sync_stripes.new.work in
+    let read = vault c.sync_stripes.new.vault in
+    let closes = subst (λ (marks : List Bool). ChangesBy (MayClose read.levels read.files (spelling (with_marks c.args.now ended.table marks))) read (vault c.close_table.new.vault)) c.as_slice.ensures.value c.close_table.ensures.changes in
+    on_any c.from_residual-in_err-synced.result (inr (stops_closing (names_of c.args.places.now) c.args.old c.args.now (lists_of c.in_ok-listings.listings.items) (map folder c.args.folders.now) (map folder c.list_all.new.folders)
+    start (out c.args.out.now) c.in_ok-work.work c.requires c.in_ok-listings.ensures.listed c.list_all.ensures.folders (c.in_ok-work.ensures.table_is ∙ c.in_ok-lay_out.ensures.laid) c.in_ok-lay_out.ensures.fits
+    (vault c.open_levels.new.vault) c.open_levels.ensures.calls c.open_levels.ensures.changes c.in_ok-open_levels.ensures.saved c.in_ok-open_levels.ensures.opens c.open_levels.ensures.drafts
+    (map folder c.sync_stripes.new.folders) (vault c.sync_stripes.new.vault) (vault c.close_table.new.vault) (out c.sync_stripes.new.out) ended c.in_ok-open_levels.ensures.opened
+    (g.V.Vault.well_formed c.sync_stripes.new.vault) c.sync_stripes.ensures.calls c.sync_stripes.ensures.changes c.sync_stripes.ensures.drafts
+    c.in_ok-sync_stripes.ensures.synced (g.V.Vault.well_formed c.close_table.new.vault) c.close_table.ensures.calls closes c.close_table.ensures.made c.close_table.ensures.drafts))
+
+pub returns-in_err-tell_end-clause-leaves : goal.returns-in_err-tell_end-clause-leaves
+returns-in_err-tell_end-clause-leaves g c =
+    let folder = g.F.Folder.view in
+    let vault = g.V.Vault.view in
+    let out = g.W.Sink.view in
+    let start = vault c.args.vault.now in
+    let ended = c.sync_stripes.new.work in
+    let read = vault c.sync_stripes.new.vault in
+    let closes = subst (λ (marks : List Bool). ChangesBy (MayClose read.levels read.files (spelling (with_marks c.args.now ended.table marks))) read (vault c.close_table.new.vault)) c.as_slice.ensures.value c.close_table.ensures.changes in
+    let left = stops_closing (names_of c.args.places.now) c.args.old c.args.now (lists_of c.in_ok-listings.listings.items) (map folder c.args.folders.now) (map folder c.list_all.new.folders)
+    start (out c.args.out.now) c.in_ok-work.work c.requires c.in_ok-listings.ensures.listed c.list_all.ensures.folders (c.in_ok-work.ensures.table_is ∙ c.in_ok-lay_out.ensures.laid) c.in_ok-lay_out.ensures.fits
+    (vault c.open_levels.new.vault) c.open_levels.ensures.calls c.open_levels.ensures.changes c.in_ok-open_levels.ensures.saved c.in_ok-open_levels.ensures.opens c.open_levels.ensures.drafts
+    (map folder c.sync_stripes.new.folders) (vault c.sync_stripes.new.vault) (vault c.close_table.new.vault) (out c.sync_stripes.new.out) ended c.in_ok-open_levels.ensures.opened
+    (g.V.Vault.well_formed c.sync_stripes.new.vault) c.sync_stripes.ensures.calls c.sync_stripes.ensures.changes c.sync_stripes.ensures.drafts
+    c.in_ok-sync_stripes.ensures.synced (g.V.Vault.well_formed c.close_table.new.vault) c.close_table.ensures.calls closes c.close_table.ensures.made c.close_table.ensures.drafts in
+    on_any c.from_residual-in_err-tell_end.result (inr (subst (λ (sink : SinkView). Leaves false (names_of c.args.places.now) c.args.old c.args.now (before_of (map folder c.args.folders.now) start (out c.args.out.now)) start
+    (after_of (map folder c.sync_stripes.new.folders) (vault c.close_table.new.vault) sink)) (sym (ap out c.in_err-tell_end.ensures.untold)) left))
+
+pub returns-clause-left : goal.returns-clause-left
+returns-clause-left g c =
+    let folder = g.F.Folder.view in
+    let vault = g.V.Vault.view in
+    let out = g.W.Sink.view in
+    let start = vault c.args.vault.now in
+    let ended = c.sync_stripes.new.work in
+    let read = vault c.sync_stripes.new.vault in
+    let closes = subst (λ (marks : List Bool). ChangesBy (MayClose read.levels read.files (spelling (with_marks c.args.now ended.table marks))) read (vault c.close_table.new.vault)) c.as_slice.ensures.value c.close_table.ensures.changes in
+    let total = closes_total ended.table c.close_table.new.table _ _ _ _ c.in_ok-synced.ensures.closed in
+    let same : length ended.table.infos ≡ length c.in_ok-work.work.table.infos = ap (λ (t : TableValue). length t.infos) c.in_ok-sync_stripes.ensures.synced.table_is in
+    stops_nowhere (names_of c.args.places.now) c.args.old c.args.now (lists_of c.in_ok-listings.listings.items) (map folder c.args.folders.now) (map folder c.list_all.new.folders)
+    start (out c.args.out.now) c.in_ok-work.work c.requires c.in_ok-listings.ensures.listed c.list_all.ensures.folders (c.in_ok-work.ensures.table_is ∙ c.in_ok-lay_out.ensures.laid) c.in_ok-lay_out.ensures.fits
+    (vault c.open_levels.new.vault) c.open_levels.ensures.calls c.open_levels.ensures.changes c.in_ok-open_levels.ensures.saved c.in_ok-open_levels.ensures.opens c.open_levels.ensures.drafts
+    (map folder c.sync_stripes.new.folders) (vault c.sync_stripes.new.vault) (vault c.close_table.new.vault) (out c.sync_stripes.new.out) ended c.in_ok-open_levels.ensures.opened
+    (g.V.Vault.well_formed c.sync_stripes.new.vault) c.sync_stripes.ensures.calls c.sync_stripes.ensures.changes c.sync_stripes.ensures.drafts
+    c.in_ok-sync_stripes.ensures.synced (g.V.Vault.well_formed c.close_table.new.vault) c.close_table.ensures.calls closes c.close_table.ensures.made c.close_table.ensures.drafts
+    c.tell_end.new.told (out c.tell_end.new.out) c.in_ok-synced.synced _ (c.in_ok-synced.ensures.counted ∙ ap (count_by (λ (b : Bool). b)) c.as_slice.ensures.value)
+    (ap (λ (n : ℕ). n - c.in_ok-synced.synced) (c.length.ensures.count ∙ total ∙ same)) c.in_ok-tell_end.ensures.told
+
+pub returns-in_err-open_levels-clause-failed : goal.returns-in_err-open_levels-clause-failed
+returns-in_err-open_levels-clause-failed g c =
+    let vault = g.V.Vault.view in
+    let folders = map g.F.Folder.view c.args.folders.now in
+    let out = g.W.Sink.view c.args.out.now in
+    let start = vault c.args.vault.now in
+    let after = after_of (map g.F.Folder.view c.list_all.new.folders) (vault c.open_levels.new.vault) (g.W.Sink.view c.args.out.now) in
+    handed_on c.from_residual-in_err-open_levels.result _ _
+    (λ fault same. subst (Causes (names_of c.args.places.now) c.args.old (before_of folders start out) after) (sym same)
+    (late_causes (names_of c.args.places.now) c.args.old folders start out after c.in_err-open_levels.field-0.0 c.in_err-open_levels.ensures.failed))
+    c.from_residual-in_err-open_levels.ensures.1
+
+pub returns-in_err-sync_stripes-clause-failed : goal.returns-in_err-sync_stripes-clause-failed
+returns-in_err-sync_stripes-clause-failed g c =
+    let vault = g.V.Vault.view in
+    let folders = map g.F.Folder.view c.args.folders.now in
+    let out = g.W.Sink.view c.args.out.now in
+    let start = vault c.args.vault.now in
+    let after = after_of (map g.F.Folder.view c.sync_stripes.new.folders) (vault c.sync_stripes.new.vault) (g.W.Sink.view c.sync_stripes.new.out) in
+    handed_on c.from_residual-in_err-sync_stripes.result _ _
+    (λ fault same. subst (Causes (names_of c.args.places.now) c.args.old (before_of folders start out) after) (sym same)
+    (late_causes (names_of c.args.places.now) c.args.old folders start out after c.in_err-sync_stripes.field-0.0 (late_after start (vault c.open_levels.new.vault) (vault c.sync_stripes.new.vault) c.in_err-sync_stripes.field-0.0 c.open_levels.ensures.calls c.sync_stripes.ensures.calls c.in_ok-open_levels.ensures.well c.in_err-sync_stripes.ensures.failed)))
+    c.from_residual-in_err-sync_stripes.ensures.1
+
+pub returns-in_err-synced-clause-failed : goal.returns-in_err-synced-clause-failed
+returns-in_err-synced-clause-failed g c =
+    let vault = g.V.Vault.view in
+    let folders = map g.F.Folder.view c.args.folders.now in
+    let out = g.W.Sink.view c.args.out.now in
+    let start = vault c.args.vault.now in
+    let after = after_of (map g.F.Folder.view c.sync_stripes.new.folders) (vault c.close_table.new.vault) (g.W.Sink.view c.sync_stripes.new.out) in
+    handed_on c.from_residual-in_err-synced.result _ _
+    (λ fault same. subst (Causes (names_of c.args.places.now) c.args.old (before_of folders start out) after) (sym same)
+    (late_causes (names_of c.args.places.now) c.args.old folders start out after c.in_err-synced.field-0.0 (late_after start (vault c.sync_stripes.new.vault) (vault c.close_table.new.vault) c.in_err-synced.field-0.0 (calls_then _ _ _ c.open_levels.ensures.calls c.sync_stripes.ensures.calls) c.close_table.ensures.calls (makes_then IsSyncCall _ _ _ c.in_ok-open_levels.ensures.well (these_make IsSyncCall _ _ _ (all_writes c.in_ok-work.work.table c.in_ok-sync_stripes.ensures.synced.readings) c.in_ok-sync_stripes.ensures.synced.made)) c.in_err-synced.ensures.failed)))
+    c.from_residual-in_err-synced.ensures.1
+
+pub returns-clause-made : goal.returns-clause-made
+returns-clause-made g c = makes_then IsSyncCall _ _ _ (makes_then IsSyncCall _ _ _ c.in_ok-open_levels.ensures.well (these_make IsSyncCall _ _ _ (all_writes c.in_ok-work.work.table c.in_ok-sync_stripes.ensures.synced.readings) c.in_ok-sync_stripes.ensures.synced.made)) c.in_ok-synced.ensures.well

@@ -1,4 +1,4 @@
-use Rattle.std.proofs.Common.{◌*◌, sym, ap}
+use Rattle.std.proofs.Common.{◌*◌, refl, sym, ap}
 use Rattle.std.proofs.lemmas.Result.{err_from_is_err_and}
 use Rattle.snap_top.specs.declared.first_form.disks.Disks.{Disks}
 use Rattle.snap_top.specs.declared.first_form.FormFault.TheVariants.{Refused}
@@ -11,8 +11,7 @@ pub returns-in_err-names-clause-refused : goal.returns-in_err-names-clause-refus
 returns-in_err-names-clause-refused c = λ is form says.
     let p = err_from_is_err_and c.from_residual-in_err-names.result c.from_residual-in_err-names.ensures.1 in
     let refused = passed_on Disks c.from_residual-in_err-names.result p.0 Refused c.in_err-names.field-0.0 p.1 p.2 is in
-    let of_text = rw c.in_ok-head.ensures.ok_part at c.read_head.ensures in
-    let head = rw c.in-Ok.ensures.cases.0 at of_text in
+    let head = rw c.in-Ok.ensures.cases.0 at c.in_ok-head.ensures.ok in
     c.in_err-names.ensures.refused refused form.disks (disks_after c.args.bytes.now form _ _ _ _ says head).3
 
 pub returns-clause-holds : goal.returns-clause-holds
@@ -20,14 +19,13 @@ returns-clause-holds c = record {
   block_size = ap (λ n. 1024 * n) (sym (whole_kibibytes c.in_ok-head.head.kibibytes));
   names = sym (names-disks_of _ _ c.in_ok-names.ensures.same);
   dirs = sym (dirs-disks_of _ _ c.in_ok-names.ensures.same);
-  parity = one_text_is _ _ c.in_ok-parities.ensures.ok;
+  parities = refl;
   content = one_text_is _ _ c.in_ok-contents.ensures.ok;
 }
 
 pub returns-clause-only : goal.returns-clause-only
 returns-clause-only c = λ form says.
-    let of_text = rw c.in_ok-head.ensures.ok_part at c.read_head.ensures in
-    let head = rw c.in-Ok.ensures.cases.0 at of_text in
-    says_one c.args.bytes.now form _ says (setup_says c.args.bytes.now c.in_ok-head.head.kibibytes c.in_ok-head.head.parity.now c.in_ok-head.head.content.now c.in_ok-head.head.rest.now
-    c.in_ok-names.field-0.names.items c.in_ok-names.field-0.dirs.items c.in_ok-parities.parities.items c.in_ok-contents.contents.items
-    c.if-bytes-gt-LONGEST.false c.in-Ok.ensures.cases.1 head c.in_ok-names.ensures.ok c.in_ok-parities.ensures.ok c.in_ok-contents.ensures.ok)
+    let head = rw c.in-Ok.ensures.cases.0 at c.in_ok-head.ensures.ok in
+    says_one c.args.bytes.now form _ says (setup_says c.args.bytes.now c.in_ok-head.head.kibibytes c.in_ok-head.head.parities.items c.in_ok-head.head.content.now c.in_ok-head.head.rest.now
+    c.in_ok-names.field-0.names.items c.in_ok-names.field-0.dirs.items c.in_ok-contents.contents.items
+    c.if-bytes-gt-LONGEST.false c.in-Ok.ensures.cases.1 head c.in_ok-names.ensures.ok c.in_ok-contents.ensures.ok)

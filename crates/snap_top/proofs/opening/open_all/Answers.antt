@@ -37,7 +37,7 @@ returns-in-Ok-open-clause-opened g c =
     (λ column below. c.in-Ok-open.ensures.folders column (omega (arith, below, opened)))
 
 pub returns-in-Ok-open-clause-vault : goal.returns-in-Ok-open-clause-vault
-returns-in-Ok-open-clause-vault g c = vault_given _ _ _ c.in-Ok.ensures.same c.in-Ok.ensures.call.goes_on.tells
+returns-in-Ok-open-clause-vault g c = vault_given _ _ _ _ c.in-Ok.ensures.same c.in-Ok.ensures.call.goes_on.tells
     (vault_of_one c.in-Ok-read_form.setup (form_of c.in-Ok-read_form.setup) _ _ _ _ _ c.in-Ok-read_form.ensures.holds c.in-Ok-read_form.setup.places.parities.ok.0 c.in-Ok-read_form.setup.places.contents.ok.0 c.in-Ok-open.ensures.vault)
 
 pub returns-in-Err-Failed-open-clause-refused : goal.returns-in-Err-Failed-open-clause-refused
