@@ -2,11 +2,13 @@
 mod drafts;
 mod listing;
 mod opener;
+mod order;
 mod parity;
 mod reading;
 mod running;
 mod sink;
 mod starting;
+mod watched;
 
 use disk_model::{NoMemory, Places, Text};
 use std::alloc::Global;
