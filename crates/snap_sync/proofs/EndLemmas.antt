@@ -1,5 +1,5 @@
 -- The end of a sync, from what its steps leave.
-use Rattle.std.proofs.Common.{◌≡◌, ℕ, ◌+◌, ◌-◌, ◌*◌, ◌^◌, ◌≤◌, min, List, ◌++◌, length, Bool, IsTrue, sym, ap, ◌∙◌, subst, arith}
+use Rattle.std.proofs.Common.{◌≡◌, ℕ, ◌+◌, ◌-◌, ◌*◌, ◌^◌, ◌≤◌, min, List, ◌++◌, length, Bool, IsTrue, refl, sym, ap, ◌∙◌, subst, arith}
 use Rattle.std.specs.Prelude.{count_by}
 use Rattle.std.proofs.lemmas.List.Sums.{count_by-le-length}
 use Rattle.disk_model.specs.Files.{Files}
@@ -89,9 +89,9 @@ module _ (names : Names) (old : TableValue) (now : ℕ) (kept : List (List Liste
   all_findings : told.findings ≡ min (length (events_of size start.columns readings)) (2 ^ 64 - 1)
   all_findings = findings ∙ done.findings ∙ ap (λ n. min n (2 ^ 64 - 1)) (let none : begun.told.findings + length (events_of size start.columns readings) ≡ length (events_of size start.columns readings) = omega (arith, new.findings) in none)
 
-  pub syncs : (pending total : ℕ) → total ≡ length table.infos → pending ≡ total - synced → Tells (sync_text synced pending) (written ended.told out_read) (written told out_new)
+  whole : (pending total : ℕ) → total ≡ length table.infos → pending ≡ total - synced → Tells (sync_text synced pending) (written ended.told out_read) (written told out_new)
       → Syncs names old now (before_of folders vault out) (after_of folders_new vault_new out_new) (record { table = table; synced = synced; pending = pending; findings = told.findings; output_failed = told.failed })
-  syncs pending total total_is pending_is last = record {
+  whole pending total total_is pending_is last = record {
     listings = lists.listings;
     listed = lists.listed;
     few = subst (λ (all : List (List ListedFile)). ¬ (IsTooMany old.shape.block_size all)) lists.kept_is few;
@@ -114,3 +114,10 @@ module _ (names : Names) (old : TableValue) (now : ℕ) (kept : List (List Liste
         subst (λ (failed : Bool). Tells (lines_of start.columns (events_of size start.columns readings) ++ sync_text synced pending) (record { failed = failed; sink = out }) (written told out_new)) new.unfailed
         (tells_then _ _ (written begun.told out) (written ended.told out_read) (written told out_new) done.told last);
   }
+
+  -- by what was laid out and read
+  pub syncs : (pending total : ℕ) → total ≡ length table.infos → pending ≡ total - synced → Tells (sync_text synced pending) (written ended.told out_read) (written told out_new)
+      → (all : Syncs names old now (before_of folders vault out) (after_of folders_new vault_new out_new) (record { table = table; synced = synced; pending = pending; findings = told.findings; output_failed = told.failed }))
+      × (all.start ≡ start) × (all.readings ≡ readings)
+  unfolding whole
+  syncs pending total total_is pending_is last = (whole pending total total_is pending_is last, refl, refl)

@@ -1,12 +1,12 @@
 -- Why a sync did not end, from the faults of its steps.
-use Rattle.std.proofs.Common.{◌≡◌, ◌≢◌, ℕ, ◌<◌, ◌≤◌, List, length, map, set, get_or, IsTrue, refl, sym, ap, ◌∙◌, subst, arith}
+use Rattle.std.proofs.Common.{◌≡◌, ◌≢◌, ℕ, ◌+◌, ◌<◌, ◌≤◌, List, length, map, set, get_or, false, inl, inr, refl, sym, ap, ◌∙◌, subst, arith}
 use Rattle.std.specs.Prelude.{Result, Ok, Err, IfErr}
 use Rattle.std.specs.Result.{IsErrAnd}
 use Rattle.disk_model.specs.Calls.{Makes, FailsBy}
-use Rattle.disk_model.specs.Folder.{FolderView}
+use Rattle.disk_model.specs.Folder.{FolderView, quiet_folder}
 use Rattle.disk_model.specs.Sink.{SinkView}
 use Rattle.disk_model.specs.Vault.{VaultView, SomeCalls}
-use Rattle.disk_model.proofs.CallsLemmas.{fails_after, fails_wider}
+use Rattle.disk_model.proofs.CallsLemmas.{makes_none, makes_then, fails_after, fails_wider}
 use Rattle.file_table.specs.Table.{TableValue}
 use Rattle.content_file.specs.Save.{IsDraftCall}
 use Rattle.content_file.specs.declared.saving.SaveFault.{SaveFault}
@@ -22,41 +22,62 @@ use Rattle.snap_sync.specs.Found.{folder_at}
 use Rattle.snap_sync.specs.Kept.{ListedFile}
 use Rattle.snap_sync.specs.LayoutFault.{IsFull, RefusesLayout}
 use Rattle.snap_sync.specs.Steps.{IsLate, EndsListing, EndsListings, ListsAll}
-use Rattle.snap_sync.specs.Sync.{Names, Before, After, AllReadOnly, FailsListing, FailsToList, before_of}
+use Rattle.snap_sync.specs.Sync.{Names, Before, After, AllReadOnly, FailsListing, FailsToList, FirstListedOnce, before_of, after_of}
 use Rattle.snap_sync.proofs.FoldersLemmas.{folder_lent, folder_set, folder_other}
 use Rattle.snap_sync.proofs.OrderLemmas.{draft_is_sync}
-use Rattle.snap_sync.specs.SyncFault.{Causes, is_early}
+use Rattle.snap_sync.specs.SyncFault.{Causes, LeavesAfter}
+use Rattle.snap_sync.specs.Stops.{Leaves}
+use Rattle.std.proofs.lemmas.Bool.{cases_eq}
+use Rattle.std.proofs.lemmas.List.{get_or_past}
 
 -- a late fault, after calls that went well
 pub late_after : (old mid new : VaultView) (fault : SyncFault) → SomeCalls old mid → SomeCalls mid new → Makes IsSyncCall old mid → IsLate mid new fault → IsLate old new fault
 late_after old mid new (Full blocks files) calls more well late = late
 late_after old mid new (Folder disk) calls more well late = late
 late_after old mid new Vault calls more well late = fails_after IsSyncCall old mid new calls.goes_on.later more.goes_on.calls.told well late
-late_after old mid new Memory calls more well late = tt
+late_after old mid new Memory calls more well late = makes_then IsSyncCall old mid new well late
 
-pub late_is_not_early : (old new : VaultView) (fault : SyncFault) → IsLate old new fault → IsTrue (is_early fault) → ⊥
-late_is_not_early old new (Full blocks files) late early = late
-late_is_not_early old new (Folder disk) late early = late
-late_is_not_early old new Vault late early = cc
-late_is_not_early old new Memory late early = cc
+-- no call of the vault failed
+pub wants_memory : (names : Names) (table : TableValue) (folders : List FolderView) (vault : VaultView) (out : SinkView) (after : After) → Makes IsSyncCall vault after.vault → Causes names table (before_of folders vault out) after Memory
+wants_memory names table folders vault out after well = record { done = well.done; are = well.each; made = λ told. well.grown.more told }
+
+-- none was made
+pub wants_at_once : (names : Names) (table : TableValue) (folders folders_new : List FolderView) (vault : VaultView) (out out_new : SinkView)
+    → Causes names table (before_of folders vault out) (after_of folders_new vault out_new) Memory
+wants_at_once names table folders folders_new vault out out_new = wants_memory names table folders vault out (after_of folders_new vault out_new) (makes_none IsSyncCall vault)
 
 pub late_causes : (names : Names) (old : TableValue) (folders : List FolderView) (vault : VaultView) (out : SinkView) (after : After) (fault : SyncFault) → IsLate vault after.vault fault → Causes names old (before_of folders vault out) after fault
 late_causes names old folders vault out after (Full blocks files) late = absurd late
 late_causes names old folders vault out after (Folder disk) late = absurd late
 late_causes names old folders vault out after Vault late = late
-late_causes names old folders vault out after Memory late = tt
+late_causes names old folders vault out after Memory late = wants_memory names old folders vault out after late
+
+pub late_leaves : (untouched : Type 0) (names : Names) (old : TableValue) (now : ℕ) (before : Before) (vault : VaultView) (after : After) (fault : SyncFault)
+    → IsLate vault after.vault fault → Leaves names old now before vault after → LeavesAfter untouched names old now before vault after fault
+late_leaves untouched names old now before vault after (Full blocks files) late left = absurd late
+late_leaves untouched names old now before vault after (Folder disk) late left = absurd late
+late_leaves untouched names old now before vault after Vault late left = left
+late_leaves untouched names old now before vault after Memory late left = inr left
 
 -- of a call that writes drafts, lengths or parity
-pub save_is_late : (old new : VaultView) (fault : SaveFault) → (fault ≡ saves.Failed → FailsBy IsDraftCall old new) → IsLate old new (of_save fault)
-save_is_late old new saves.Failed fails = fails_wider IsDraftCall IsSyncCall old.faults old.calls new draft_is_sync (fails refl)
-save_is_late old new saves.Memory fails = tt
+pub save_is_late : (old new : VaultView) (fault : SaveFault) → (fault ≡ saves.Failed → FailsBy IsDraftCall old new) → (fault ≡ saves.Memory → new ≡ old) → IsLate old new (of_save fault)
+save_is_late old new saves.Failed fails stays = fails_wider IsDraftCall IsSyncCall old.faults old.calls new draft_is_sync (fails refl)
+save_is_late old new saves.Memory fails stays = subst (Makes IsSyncCall old) (sym (stays refl)) (makes_none IsSyncCall old)
 
 -- a fault of a listing
-pub listing_causes : (names : Names) (old : TableValue) (before : Before) (after : After) (fault : SyncFault) → EndsListings before.folders after.folders fault → Causes names old before after fault
-listing_causes names old before after (Full blocks files) ends = absurd ends
-listing_causes names old before after (Folder disk) ends = ends
-listing_causes names old before after Vault ends = absurd ends
-listing_causes names old before after Memory ends = tt
+pub listing_causes : (names : Names) (old : TableValue) (folders folders_new : List FolderView) (vault : VaultView) (out out_new : SinkView) (fault : SyncFault)
+    → EndsListings folders folders_new fault → Causes names old (before_of folders vault out) (after_of folders_new vault out_new) fault
+listing_causes names old folders folders_new vault out out_new (Full blocks files) ends = absurd ends
+listing_causes names old folders folders_new vault out out_new (Folder disk) ends = ends
+listing_causes names old folders folders_new vault out out_new Vault ends = absurd ends
+listing_causes names old folders folders_new vault out out_new Memory ends = wants_at_once names old folders folders_new vault out out_new
+
+pub listing_leaves : (untouched : Type 0) (names : Names) (old : TableValue) (now : ℕ) (before : Before) (vault : VaultView) (after : After) (fault : SyncFault)
+    → EndsListings before.folders after.folders fault → untouched → LeavesAfter untouched names old now before vault after fault
+listing_leaves untouched names old now before vault after (Full blocks files) ends still = absurd ends
+listing_leaves untouched names old now before vault after (Folder disk) ends still = still
+listing_leaves untouched names old now before vault after Vault ends still = absurd ends
+listing_leaves untouched names old now before vault after Memory ends still = inl (still, ends)
 
 -- of one folder after others were listed
 pub listing_ends : (olds mids news : List FolderView) (d : ℕ) (after : FolderView) (fault : SyncFault) → d < length olds → AllReadOnly olds mids → ((k : ℕ) → k < d → ListsOnce (folder_at olds k) (folder_at mids k)) → ((k : ℕ) → d ≤ k → folder_at mids k ≡ folder_at olds k)
@@ -74,7 +95,17 @@ listing_ends olds mids news d after (Folder disk) below so_far calls others is r
     } in
     subst (λ k. FailsToList olds news k) (sym ends.0) there
 listing_ends olds mids news d after Vault below so_far calls others is rest ends = ends
-listing_ends olds mids news d after Memory below so_far calls others is rest ends = tt
+listing_ends olds mids news d after Memory below so_far calls others is rest ends =
+    let here : ListsOnce (folder_at olds d) (folder_at news d) = subst (λ (v : FolderView). ListsOnce v (folder_at news d)) (others d (omega arith)) (subst (ListsOnce (folder_at mids d)) (sym is) ends) in
+    record {
+      count = d + 1;
+      within = omega (arith, below);
+      before = λ k lt. elim (cases_eq k d) [
+        | inl same ↦ subst (λ j. ListsOnce (folder_at olds j) (folder_at news j)) (sym same) here
+        | inr other ↦ subst (ListsOnce (folder_at olds k)) (sym (rest k other)) (calls k (omega (arith, lt, other)))
+      ];
+      behind = λ k from. rest k (λ same. omega (arith, same, from)) ∙ others k (omega (arith, from));
+    }
 
 pub listing_lent : {F : Type 0} (view : F → FolderView) (olds : List FolderView) (folders : List F) (d : ℕ) (before after : F) (fault : SyncFault) → d < length folders → d < length olds
     → AllReadOnly olds (map view folders) → ((k : ℕ) → k < d → ListsOnce (folder_at olds k) (folder_at (map view folders) k))
@@ -85,15 +116,30 @@ listing_lent view olds folders d before after fault there below so_far calls oth
     (subst (λ v. EndsListing d v (view after) fault) (folder_lent view folders d before there) ends)
 
 -- no table was laid out
-pub layout_causes : (names : Names) (old : TableValue) (before : Before) (after : After) (kept : List (List ListedFile)) (fault : LayoutFault) → ListsAll names before.folders after.folders kept
-    → RefusesLayout old.shape.block_size kept fault → Causes names old before after (of_layout fault)
-layout_causes names old before after kept (layouts.Full blocks files) lists refuses = record {
+pub layout_causes : (names : Names) (old : TableValue) (folders folders_new : List FolderView) (vault : VaultView) (out out_new : SinkView) (kept : List (List ListedFile)) (fault : LayoutFault)
+    → ListsAll names folders folders_new kept → RefusesLayout old.shape.block_size kept fault → Causes names old (before_of folders vault out) (after_of folders_new vault out_new) (of_layout fault)
+layout_causes names old folders folders_new vault out out_new kept (layouts.Full blocks files) lists refuses = record {
   listings = lists.listings;
   listed = lists.listed;
   calls = lists.calls;
   full = subst (λ (all : List (List ListedFile)). IsFull old.shape.block_size all blocks files) lists.kept_is refuses;
 }
-layout_causes names old before after kept layouts.Memory lists refuses = tt
+layout_causes names old folders folders_new vault out out_new kept layouts.Memory lists refuses = wants_at_once names old folders folders_new vault out out_new
+
+pub all_listed : (names : Names) (folders folders_new : List FolderView) (kept : List (List ListedFile)) → AllReadOnly folders folders_new → ListsAll names folders folders_new kept → FirstListedOnce folders folders_new
+all_listed names folders folders_new kept read lists =
+    let none = quiet_folder 0 false in
+    record {
+      count = length folders;
+      within = omega arith;
+      before = lists.calls;
+      behind = λ d from. get_or_past folders_new d none (omega (arith, read.count, from)) ∙ sym (get_or_past folders d none from);
+    }
+
+pub layout_leaves : (untouched : Type 0) (names : Names) (old : TableValue) (now : ℕ) (before : Before) (vault : VaultView) (after : After) (kept : List (List ListedFile)) (fault : LayoutFault)
+    → AllReadOnly before.folders after.folders → ListsAll names before.folders after.folders kept → untouched → LeavesAfter untouched names old now before vault after (of_layout fault)
+layout_leaves untouched names old now before vault after kept (layouts.Full blocks files) read lists still = still
+layout_leaves untouched names old now before vault after kept layouts.Memory read lists still = inl (still, all_listed names before.folders after.folders kept read lists)
 
 -- the fault of a call that is handed on
 pub handed_on : {T E : Type 0} (result : Result T E) (P Q : E → Type 0) → ((e : E) → P e → Q e) → IsErrAnd result P → IfErr result Q

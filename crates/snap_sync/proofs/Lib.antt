@@ -11,11 +11,13 @@ pub mod FoldersLemmas
 pub mod FoundLemmas
 pub mod FrontsLemmas
 pub mod HashedLemmas
+pub mod InOrderLemmas
 pub mod KeptLemmas
 pub mod Laid
 pub mod LeavesLemmas
 pub mod ListingLemmas
 pub mod MarksLemmas
+pub mod OpeningLemmas
 pub mod OrderLemmas
 pub mod ParityLemmas
 pub mod PartCells

@@ -1,11 +1,15 @@
 -- Which calls a sync makes of the vault, and in which order.
-use Rattle.std.specs.Prelude.{◌≡◌, ◌⊎◌, ℕ, ◌*◌, List, [], ◌∷◌, ◌++◌, length, map, All, false, IsTrue, if◌then◌else◌}
+use Rattle.std.specs.Prelude.{◌≡◌, ℕ, ◌*◌, List, [], ◌∷◌, ◌++◌, length, map, All, Bool, true, IsTrue, if◌then◌else◌}
 use Rattle.std.specs.List.{flat_map}
+use Rattle.disk_model.specs.Calls.{gone_well}
 use Rattle.disk_model.specs.Cause.{Grows}
+use Rattle.disk_model.specs.Files.{Files}
 use Rattle.disk_model.specs.Vault.{VaultView, VaultCall, VaultDone, ParityLen, ParityWrite, ParitySetLen, ParitySync}
 use Rattle.file_table.specs.Table.{TableValue}
-use Rattle.content_file.specs.Save.{IsDraftCall}
-use Rattle.parity_writer.specs.Calls.{IsLengthCall, sum_calls, sync_calls}
+use Rattle.content_file.specs.Save.{IsDraftCall, save_calls}
+use Rattle.content_file.specs.Spelling.{spelling}
+use Rattle.parity_writer.specs.Calls.{IsLengthCall, length_calls, sum_calls, sync_calls}
+use Rattle.snap_sync.specs.Closing.{closed}
 use Rattle.snap_sync.specs.Reading.{StripeReading, is_verified, row_of}
 
 -- a call of a draft, of a level's length, a write to a level or a sync of one; none that reads parity or content
@@ -40,13 +44,6 @@ pub record MakesSuch (P : List VaultDone → Type 0) (old new : VaultView) : Typ
   pub ends : EndsAtFailure done
   pub grown : Grows old.tells_calls old.calls new.tells_calls new.calls done
 
--- such calls were made, and none of them failed
-pub record MakesWell (P : List VaultDone → Type 0) (old new : VaultView) : Type 0 where
-  pub done : List VaultDone
-  pub are : P done
-  pub well : All (λ (d : VaultDone). d.failed ≡ false) done
-  pub grown : Grows old.tells_calls old.calls new.tells_calls new.calls done
-
 -- such calls were made since those of a list, where they are told
 pub record MakesSince (P : List VaultDone → Type 0) (calls : List VaultDone) (new : VaultView) : Type 0 where
   pub done : List VaultDone
@@ -58,31 +55,29 @@ pub record AreFront (calls : List VaultCall) (done : List VaultDone) : Type 0 wh
   pub rest : List VaultCall
   pub whole : calls_in done ++ rest ≡ calls
 
--- they save a table, and then set the lengths
-pub record AreOpening (bytes : ℕ) (done : List VaultDone) : Type 0 where
-  pub saving : List VaultDone
-  pub setting : List VaultDone
-  pub done_is : done ≡ saving ++ setting
-  pub drafts : All (λ (d : VaultDone). IsDraftCall d.call) saving
-  pub lengths : All (λ (d : VaultDone). IsLengthCall bytes d.call) setting
+-- Calls that give levels their lengths. Where the files are told, they are those that such files ask for.
+pub record AreLengths (told : Bool) (read : Files) (levels bytes : ℕ) (lengths : List VaultCall) : Type 0 where
+  pub each : All (IsLengthCall bytes) lengths
+  pub exact : IsTrue told → lengths ≡ length_calls levels bytes read
 
--- they sync each level, and save a table once each was synced
-pub record AreClosing (levels : ℕ) (done : List VaultDone) : Type 0 where
-  pub settling : List VaultDone
-  pub saving : List VaultDone
-  pub done_is : done ≡ settling ++ saving
-  pub syncs : AreFront (sync_calls levels) settling
-  pub drafts : All (λ (d : VaultDone). IsDraftCall d.call) saving
-  pub settled : (saving ≡ []) ⊎ (calls_in settling ≡ sync_calls levels)
+-- The calls of a sync: the laid out table is saved to every copy, the levels get their lengths, and the sums of what was read are written. Where it closes,
+-- each level is then synced, and the table in which the verified stripes are synced is saved to every copy.
+abbrev pub calls_till : Bool → ℕ → TableValue → ℕ → List StripeReading → List VaultCall → List VaultCall
+calls_till closing copies start now readings lengths =
+    save_calls copies (spelling start) ++ (lengths ++ (writes_of start readings ++
+    (if closing then sync_calls start.shape.levels ++ save_calls copies (spelling (closed now start readings)) else [])))
 
--- They open a sync, write the sums of what was read, and close the sync once all stripes were read and all sums written. None follows one that failed.
-pub record AreInOrder (start : TableValue) (readings : List StripeReading) (done : List VaultDone) : Type 0 where
-  pub opening : List VaultDone
-  pub writing : List VaultDone
-  pub closing : List VaultDone
-  pub done_is : done ≡ opening ++ (writing ++ closing)
-  pub opens : AreOpening (length start.infos * start.shape.block_size) opening
-  pub sums : AreFront (writes_of start readings) writing
-  pub closes : AreClosing start.shape.levels closing
+-- The calls of a sync that did not end: a front of these, of which one that failed is the last. It closes only once all stripes were read.
+pub record AreInOrder (told : Bool) (read : Files) (copies : ℕ) (start : TableValue) (now : ℕ) (readings : List StripeReading) (done : List VaultDone) : Type 0 where
+  pub lengths : List VaultCall
+  pub are : AreLengths told read start.shape.levels (length start.infos * start.shape.block_size) lengths
+  pub closing : Bool
+  pub all : IsTrue closing → length readings ≡ length start.infos
+  pub front : AreFront (calls_till closing copies start now readings lengths) done
   pub ends : EndsAtFailure done
-  pub written : (closing ≡ []) ⊎ ((length readings ≡ length start.infos) × (calls_in writing ≡ writes_of start readings))
+
+-- The calls of a sync that ended: all of these, of which none failed.
+pub record AreWhole (told : Bool) (read : Files) (copies : ℕ) (start : TableValue) (now : ℕ) (readings : List StripeReading) (done : List VaultDone) : Type 0 where
+  pub lengths : List VaultCall
+  pub are : AreLengths told read start.shape.levels (length start.infos * start.shape.block_size) lengths
+  pub done_is : done ≡ map gone_well (calls_till true copies start now readings lengths)

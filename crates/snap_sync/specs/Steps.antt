@@ -1,17 +1,18 @@
 -- What the steps of a first sync leave.
-use Rattle.std.specs.Prelude.{◌≡◌, ℕ, ◌+◌, ◌-◌, ◌*◌, ◌^◌, ◌<◌, ◌≤◌, min, List, [], length, map, set, replicate, All, Bool, IsTrue, false, Some, ◌⊎◌, if◌then◌else◌}
+use Rattle.std.specs.Prelude.{◌≡◌, ℕ, ◌+◌, ◌-◌, ◌*◌, ◌^◌, ◌<◌, ◌≤◌, min, List, [], ◌++◌, length, map, set, replicate, All, Bool, IsTrue, false, Some, ◌⊎◌, if◌then◌else◌}
 use Rattle.disk_model.specs.Bytes.{put}
-use Rattle.disk_model.specs.Calls.{FailsBy, MakesThese}
+use Rattle.disk_model.specs.Calls.{Makes, FailsBy, MakesThese}
 use Rattle.disk_model.specs.Cause.{Rose}
 use Rattle.disk_model.specs.Files.{Files, parity_of, content_of}
 use Rattle.disk_model.specs.Folder.{FolderView}
 use Rattle.disk_model.specs.Sink.{SinkView, SinkGoesOn, AppendsPart}
 use Rattle.disk_model.specs.Tree.{IsListing, listing_of}
-use Rattle.disk_model.specs.Vault.{VaultView, copies_of, Reads, Holds}
+use Rattle.disk_model.specs.Vault.{VaultView, VaultCall, copies_of, Reads, Holds}
 use Rattle.cauchy.specs.Matrix.{parity_of as level_of}
 use Rattle.file_table.specs.Table.{TableValue}
-use Rattle.content_file.specs.Save.{MaySave, HasSaved, HasNoDraft}
+use Rattle.content_file.specs.Save.{MaySave, HasSaved, HasNoDraft, save_calls}
 use Rattle.content_file.specs.Spelling.{spelling}
+use Rattle.parity_writer.specs.Calls.{sync_calls}
 use Rattle.parity_writer.specs.Keeps.{SameParities}
 use Rattle.parity_writer.specs.Rows.{blocks_in}
 use Rattle.snap_report.specs.Lines.{Tells}
@@ -28,28 +29,28 @@ use Rattle.snap_sync.specs.Closing.{new_hash, stripe_hash, columns_hashed, infos
 use Rattle.snap_sync.specs.Events.{stripe_events, events_of}
 use Rattle.snap_sync.specs.Telling.{lines_of, written}
 use Rattle.snap_sync.specs.Parity.{HasParity}
-use Rattle.snap_sync.specs.Calls.{IsSyncCall, MakesSuch, AreFront, stripe_writes, writes_of}
-use Rattle.snap_sync.specs.Sync.{Names, AreListed, AreFirstAfter, FailsListing, FailsToList, kept_of}
+use Rattle.snap_sync.specs.Calls.{IsSyncCall, MakesSuch, AreFront, AreLengths, stripe_writes, writes_of}
+use Rattle.snap_sync.specs.Sync.{Names, AreListed, AreFirstAfter, FailsListing, FailsToList, FirstListedOnce, kept_of}
 
--- a fault that comes after the listings: the vault failed, or memory was wanting
+-- a fault that comes after the listings: the vault failed by its last call, or memory was wanting, and then no call failed
 abbrev pub IsLate : VaultView → VaultView → SyncFault → Type 0
 IsLate old new (Full blocks files) = ⊥
 IsLate old new (Folder disk) = ⊥
 IsLate old new Vault = FailsBy IsSyncCall old new
-IsLate old new Memory = Unit {0}
+IsLate old new Memory = Makes IsSyncCall old new
 
--- a fault of the listing of one folder, and of all: the folder failed, or memory was wanting
+-- a fault of the listing of one folder, and of all: the folder failed, or memory was wanting, and then none failed
 abbrev pub EndsListing : ℕ → FolderView → FolderView → SyncFault → Type 0
 EndsListing d old new (Full blocks files) = ⊥
 EndsListing d old new (Folder disk) = (disk ≡ d) × (Rose old.faults new.faults) × FailsListing old new
 EndsListing d old new Vault = ⊥
-EndsListing d old new Memory = Unit {0}
+EndsListing d old new Memory = ListsOnce old new
 
 abbrev pub EndsListings : List FolderView → List FolderView → SyncFault → Type 0
 EndsListings olds news (Full blocks files) = ⊥
 EndsListings olds news (Folder disk) = FailsToList olds news disk
 EndsListings olds news Vault = ⊥
-EndsListings olds news Memory = Unit {0}
+EndsListings olds news Memory = FirstListedOnce olds news
 
 -- a folder was listed, and these of its files are kept
 pub record ListsFolder (own : List (List ℕ)) (dir : List ℕ) (old new : FolderView) (kept : List ListedFile) : Type 0 where
@@ -126,6 +127,12 @@ pub record SyncsStripes (old new : Work) (folders folders_new : List FolderView)
   pub told : Tells (lines_of old.table.columns (events_of old.table.shape.block_size old.table.columns readings)) (written old.told out) (written new.told out_new)
   pub findings : new.told.findings ≡ min (old.told.findings + length (events_of old.table.shape.block_size old.table.columns readings)) (2 ^ 64 - 1)
 
+-- a table was saved, and the levels got their lengths
+pub record Opens (bytes : ℕ) (table : TableValue) (old new : VaultView) : Type 0 where
+  pub lengths : List VaultCall
+  pub are : AreLengths old.tells old.files old.levels bytes lengths
+  pub made : MakesThese (save_calls (copies_of old) (spelling table) ++ lengths) old new
+
 -- the table in which the marked stripes are synced now
 abbrev pub with_marks : ℕ → TableValue → List Bool → TableValue
 with_marks now table marked = record table { infos = infos_closed (is_in marked) now 0 table.infos }
@@ -137,7 +144,17 @@ pub record ClosesTable (old new : TableValue) (marked : List Bool) (now : ℕ) (
   pub saved : Holds (HasSaved (copies_of vault) (spelling new)) vault_new
   pub no_draft : HasNoDraft vault_new
 
--- ---- what a step leaves of any answer
+-- ---- the calls that close a sync, and what a step leaves of any answer
+
+-- each level is synced, and a table is saved
+abbrev pub closing_calls : TableValue → VaultView → List VaultCall
+closing_calls table v = sync_calls v.levels ++ save_calls (copies_of v) (spelling table)
+
+-- a front was made of the calls that save a table and give levels their lengths
+pub record StopsOpening (bytes : ℕ) (table : TableValue) (old new : VaultView) : Type 0 where
+  pub lengths : List VaultCall
+  pub are : AreLengths old.tells old.files old.levels bytes lengths
+  pub made : MakesSuch (AreFront (save_calls (copies_of old) (spelling table) ++ lengths)) old new
 
 -- the copies stay
 abbrev pub SameCopies : Files → Files → Type 0

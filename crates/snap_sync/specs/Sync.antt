@@ -1,5 +1,5 @@
 -- What a first sync leaves, and why it did not end.
-use Rattle.std.specs.Prelude.{◌≡◌, ℕ, ◌+◌, ◌-◌, ◌^◌, ◌<◌, min, List, [], ◌∷◌, ◌++◌, length, map, get_or, count_by, Bool, false, IsTrue, All}
+use Rattle.std.specs.Prelude.{◌≡◌, ℕ, ◌+◌, ◌-◌, ◌^◌, ◌<◌, ◌≤◌, min, List, [], ◌∷◌, ◌++◌, length, map, get_or, count_by, Bool, false, IsTrue, All}
 use Rattle.std.specs.List.{range_with_len}
 use Rattle.disk_model.specs.Cause.{Rose, RoseBy}
 use Rattle.disk_model.specs.Files.{Files}
@@ -140,3 +140,10 @@ pub record FailsToList (olds news : List FolderView) (disk : ℕ) : Type 0 where
   pub calls : FailsListing (folder_at olds disk) (folder_at news disk)
   pub before : (d : ℕ) → d < disk → ListsOnce (folder_at olds d) (folder_at news d)
   pub behind : (d : ℕ) → disk < d → folder_at news d ≡ folder_at olds d
+
+-- the first folders were each listed once, which did not fail, and none behind them was asked for anything
+pub record FirstListedOnce (olds news : List FolderView) : Type 0 where
+  pub count : ℕ
+  pub within : count ≤ length olds
+  pub before : (d : ℕ) → d < count → ListsOnce (folder_at olds d) (folder_at news d)
+  pub behind : (d : ℕ) → count ≤ d → folder_at news d ≡ folder_at olds d

@@ -1,23 +1,23 @@
 // A first sync.
-ghost use Rattle.std.specs.Prelude.{true, false, ◌≡◌, ◌⊎◌, ◌*◌, length, map, count_by, IfOk, OnOk, IfErr, OnErr, IsTrue};
-ghost use Rattle.disk_model.specs.Calls.{Makes};
+ghost use Rattle.std.specs.Prelude.{◌≡◌, ◌*◌, length, map, count_by, IfOk, OnOk, IfErr, OnErr};
+ghost use Rattle.disk_model.specs.Calls.{Makes, MakesThese};
 ghost use Rattle.disk_model.specs.Vault.{copies_of, SomeCalls, ChangesBy, Reads, Holds};
 ghost use Rattle.content_file.specs.Save.{HasSaved};
 ghost use Rattle.content_file.specs.Spelling.{spelling};
 ghost use Rattle.parity_writer.specs.Rows.{HasLengths};
 ghost use Rattle.snap_report.specs.Lines.{Tells};
 ghost use Rattle.snap_report.specs.Text.{sync_text};
-ghost use Rattle.snap_sync.specs.Calls.{IsSyncCall, MakesSuch, MakesWell, AreOpening, AreClosing};
+ghost use Rattle.snap_sync.specs.Calls.{IsSyncCall, MakesSuch, AreFront};
 ghost use Rattle.snap_sync.specs.Closing.{AreHashed};
 ghost use Rattle.snap_sync.specs.Kept.{own_names};
 ghost use Rattle.snap_sync.specs.Listing.{files_of, lists_of};
 ghost use Rattle.snap_sync.specs.Found.{ReadsOnly};
 ghost use Rattle.snap_sync.specs.Telling.{written};
-ghost use Rattle.snap_sync.specs.Sync.{IsArray, AllReadOnly, Syncs, before_of, after_of};
-ghost use Rattle.snap_sync.specs.Steps.{IsLate, EndsListing, EndsListings, ListsFolder, ListsAll, MayOpen, MayClose, LeavesNoDraft, ClosesTable, with_marks};
-ghost use Rattle.snap_sync.specs.Stops.{Leaves};
+ghost use Rattle.snap_sync.specs.Sync.{IsArray, AllReadOnly, before_of, after_of};
+ghost use Rattle.snap_sync.specs.Steps.{IsLate, EndsListing, EndsListings, ListsFolder, ListsAll, Opens, StopsOpening, MayOpen, MayClose, LeavesNoDraft, ClosesTable, closing_calls, with_marks};
+ghost use Rattle.snap_sync.specs.Stops.{SyncsInOrder};
 ghost use Rattle.snap_sync.specs.Ending.{names_of, ending_of};
-ghost use Rattle.snap_sync.specs.SyncFault.{Causes, is_early};
+ghost use Rattle.snap_sync.specs.SyncFault.{Causes, LeavesAfter};
 
 use crate::SyncFault;
 use crate::closing::mark_closed;
@@ -94,8 +94,8 @@ fn list_all<F: Folder>(
 // Saves the table in which no stripe is synced, and gives the levels their lengths.
 fn open_levels<V: Vault>(alloc: Global, pending: &Table, vault: &mut V) -> Result<(), SyncFault>
     ensures calls { SomeCalls (V.view vault.old) (V.view vault.new) }
-    ensures made { MakesSuch (AreOpening (length pending.now.infos * pending.now.shape.block_size)) (V.view vault.old) (V.view vault.new) }
-    ensures opens { OnOk result (MakesWell (AreOpening (length pending.now.infos * pending.now.shape.block_size)) (V.view vault.old) (V.view vault.new)) }
+    ensures opens { OnOk result (Opens (length pending.now.infos * pending.now.shape.block_size) pending.now (V.view vault.old) (V.view vault.new)) }
+    ensures stopped { OnErr result (StopsOpening (length pending.now.infos * pending.now.shape.block_size) pending.now (V.view vault.old) (V.view vault.new)) }
     ensures well { OnOk result (Makes IsSyncCall (V.view vault.old) (V.view vault.new)) }
     ensures changes { ChangesBy (MayOpen (copies_of (V.view vault.old)) (spelling pending.now)) (V.view vault.old) (V.view vault.new) }
     ensures drafts { LeavesNoDraft (V.view vault.old) (V.view vault.new) }
@@ -119,7 +119,8 @@ fn close_table<V: Vault>(
     requires stripes { length closed.now ≡ length table.old.infos }
     requires hashed { AreHashed table.old.columns closed.now }
     ensures calls { SomeCalls (V.view vault.old) (V.view vault.new) }
-    ensures made { MakesSuch (AreClosing (V.view vault.old).levels) (V.view vault.old) (V.view vault.new) }
+    ensures made { OnOk result (MakesThese (closing_calls (with_marks now table.old closed.now) (V.view vault.old)) (V.view vault.old) (V.view vault.new)) }
+    ensures stopped { OnErr result (MakesSuch (AreFront (closing_calls (with_marks now table.old closed.now) (V.view vault.old))) (V.view vault.old) (V.view vault.new)) }
     ensures well { OnOk result (Makes IsSyncCall (V.view vault.old) (V.view vault.new)) }
     ensures changes { ChangesBy (MayClose (V.view vault.old).levels (V.view vault.old).files (spelling (with_marks now table.old closed.now))) (V.view vault.old) (V.view vault.new) }
     ensures drafts { LeavesNoDraft (V.view vault.old) (V.view vault.new) }
@@ -153,7 +154,7 @@ fn tell_end<W: Sink>(
 /// The first sync of an array: lays out the files of its folders, and closes each stripe whose blocks can be read as they were listed.
 /// `now` is in seconds since 1970. The names are those of the array's folders, parity files and content copies, and `old` is a
 /// table without files. Whatever it answers and whenever it is stopped, each copy is as before or one of two tables: the one that
-/// was laid out, in which no stripe is synced, or the one whose synced stripes have their sums in parity (`leaves`).
+/// was laid out, in which no stripe is synced, or the one whose synced stripes have their sums in parity (`done`, `leaves`).
 pub fn sync<F: Folder, V: Vault, W: Sink>(
     alloc: Global,
     folders: &mut [F],
@@ -166,13 +167,10 @@ pub fn sync<F: Folder, V: Vault, W: Sink>(
     requires { IsArray (names_of places.now) old (map F.view folders.old) (V.view vault.old).levels }
     ensures folders { AllReadOnly (map F.view folders.old) (map F.view folders.new) }
     ensures calls { SomeCalls (V.view vault.old) (V.view vault.new) }
-    ensures done { IfOk result (λ end. Syncs (names_of places.now) old now (before_of (map F.view folders.old) (V.view vault.old) (W.view out.old)) (after_of (map F.view folders.new) (V.view vault.new) (W.view out.new)) (ending_of end)) }
-    ensures failed { IfErr result (Causes (names_of places.now) old (before_of (map F.view folders.old) (V.view vault.old) (W.view out.old)) (after_of (map F.view folders.new) (V.view vault.new) (W.view out.new))) }
+    ensures done { IfOk result (λ end. SyncsInOrder (names_of places.now) old now (before_of (map F.view folders.old) (V.view vault.old) (W.view out.old)) (V.view vault.old) (after_of (map F.view folders.new) (V.view vault.new) (W.view out.new)) (ending_of end)) }
     ensures made { OnOk result (Makes IsSyncCall (V.view vault.old) (V.view vault.new)) }
-    ensures left { OnOk result (Leaves true (names_of places.now) old now (before_of (map F.view folders.old) (V.view vault.old) (W.view out.old)) (V.view vault.old) (after_of (map F.view folders.new) (V.view vault.new) (W.view out.new))) }
-    ensures leaves { OnErr result (((vault.new ≡ vault.old) × (out.new ≡ out.old)) ⊎ Leaves false (names_of places.now) old now (before_of (map F.view folders.old) (V.view vault.old) (W.view out.old)) (V.view vault.old) (after_of (map F.view folders.new) (V.view vault.new) (W.view out.new))) }
-    ensures untouched { IfErr result (λ fault. IsTrue (is_early fault) → vault.new ≡ vault.old) }
-    ensures untold { IfErr result (λ fault. IsTrue (is_early fault) → out.new ≡ out.old) }
+    ensures failed { IfErr result (Causes (names_of places.now) old (before_of (map F.view folders.old) (V.view vault.old) (W.view out.old)) (after_of (map F.view folders.new) (V.view vault.new) (W.view out.new))) }
+    ensures leaves { IfErr result (LeavesAfter ((vault.new ≡ vault.old) × (out.new ≡ out.old)) (names_of places.now) old now (before_of (map F.view folders.old) (V.view vault.old) (W.view out.old)) (V.view vault.old) (after_of (map F.view folders.new) (V.view vault.new) (W.view out.new))) }
 {
     let listings = list_all(alloc, folders, places, old.disks())?;
     let mut work = work_on(alloc, lay_out(alloc, &old, listings)?)?;

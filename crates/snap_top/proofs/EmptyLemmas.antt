@@ -1,12 +1,12 @@
 -- The table of an array without content.
-use Rattle.std.proofs.Common.{◌≡◌, ℕ, ◌+◌, ◌<◌, ◌≤◌, List, [], ◌∷◌, ◌++◌, map, take, length, refl, sym, ◌∙◌, ap, subst}
+use Rattle.std.proofs.Common.{◌≡◌, ℕ, ◌≤◌, List, [], ◌∷◌, map, take, length, refl, sym, ◌∙◌, ap}
 use Rattle.std.proofs.lemmas.List.{take_all, length-map}
 use Rattle.block_hash.specs.declared.Kind.TheVariants.{Md5}
 use Rattle.disk_model.specs.Folder.{FolderView}
 use Rattle.file_table.specs.Building.{BuildingValue, new_building, Finishes}
 use Rattle.file_table.specs.Table.{Column, TableValue, records_of}
 use Rattle.snap_sync.specs.Ending.{names_of}
-use Rattle.snap_sync.specs.Sync.{IsArray, Names}
+use Rattle.snap_sync.specs.Sync.{IsArray}
 use Rattle.snap_top.specs.FirstForm.{FormDisk, FormValue}
 use Rattle.snap_top.specs.FormSetup.{form_of, Holds}
 use Rattle.snap_top.specs.Job.{IsJob}

@@ -1,9 +1,9 @@
 -- Names that are the same, and what a difference says.
-use Rattle.std.proofs.Common.{◌≡◌, ◌≢◌, ℕ, zero, suc, ◌<◌, ◌≤◌, List, [], ◌∷◌, length, slice_get, Option, None, Some, refl, sym, ◌∙◌, ap, ap₂, subst, arith}
+use Rattle.std.proofs.Common.{◌≡◌, ◌≢◌, ℕ, zero, suc, ◌<◌, ◌≤◌, List, [], ◌∷◌, length, slice_get, None, Some, refl, sym, ◌∙◌, ap₂, subst, arith}
 use Rattle.std.proofs.lemmas.List.{length-map}
 use Rattle.file_table.specs.Table.{TableValue}
 use Rattle.snap_top.specs.FirstForm.{FormValue}
-use Rattle.snap_top.specs.Lines.{size_line, levels_line, disk_line, table_names, form_names}
+use Rattle.snap_top.specs.Lines.{size_line, levels_line, table_names, form_names}
 use Rattle.snap_top.specs.Matching.{Differs, differs_in_size, differs_in_levels, differs_in_disks, DiffersFirst, size_in, levels_in, difference_line}
 use Rattle.snap_top.specs.declared.why.Why.TheVariants.{OtherBlockSize, OtherLevels, OtherDisk}
 

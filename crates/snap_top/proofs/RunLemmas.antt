@@ -1,6 +1,8 @@
 -- What is said of a vault that was given, said of the one that an opener held.
-use Rattle.std.proofs.Common.{◌≡◌, ◌⊎◌, inl, inr, ⊎_elim, ℕ, zero, suc, ◌<◌, ◌∷◌, [], ◌++◌, length, get_or, All, Bool, true, IsTrue, List, Option, None, Some, MatchOption, arith, refl, sym, ◌∙◌, ap, subst}
-use Rattle.disk_model.specs.Calls.{MakesOnly}
+use Rattle.std.proofs.Common.{◌≡◌, ◌⊎◌, inl, inr, ⊎_elim, ℕ, zero, suc, ◌<◌, ◌∷◌, [], ◌++◌, length, get_or, All, Bool, true, false, IsTrue, List, Option, None, Some, MatchOption, arith, refl, sym, ◌∙◌, ap, subst}
+use Rattle.std.proofs.lemmas.List.{append_cancel_left}
+use Rattle.std.proofs.lemmas.List.Elements.{All-from_recursion}
+use Rattle.disk_model.specs.Calls.{MakesOnly, WentWell}
 use Rattle.disk_model.specs.Cause.{Rose}
 use Rattle.disk_model.specs.Files.{Files, Stays, content_of}
 use Rattle.disk_model.specs.Folder.{FolderView}
@@ -13,21 +15,25 @@ use Rattle.disk_model.specs.Vault.{VaultView, VaultDone, SomeCalls, ChangesBy, D
 use Rattle.content_file.specs.Load.{IsReadBelow, Loads, LoadsNothing, NoneFailed}
 use Rattle.content_file.specs.Save.{HasNoDraft}
 use Rattle.file_table.specs.Table.{TableValue}
-use Rattle.snap_sync.specs.Stops.{MayStand}
+use Rattle.snap_sync.specs.Stops.{MayStand, Leaves}
 use Rattle.snap_sync.proofs.StopsLemmas.{stands_still}
 use Rattle.snap_sync.specs.Sync.{Before, After, before_of, after_of}
+use Rattle.snap_sync.specs.SyncFault.{LeavesAfter}
+use Rattle.snap_sync.specs.declared.fault.SyncFault.{SyncFault}
+use Rattle.snap_sync.specs.declared.fault.SyncFault.TheVariants as faults
 use Rattle.snap_top.specs.End.{IsEndWith, line_of}
 use Rattle.snap_top.specs.FirstForm.{FormValue}
 use Rattle.snap_top.specs.Lines.{plain_line}
-use Rattle.snap_top.specs.Matching.{Matches, levels_in, names_in, empty_table}
+use Rattle.snap_top.specs.Matching.{Matches, Differs, levels_in, names_in, empty_table}
 use Rattle.snap_top.specs.declared.end.End.{End}
 use Rattle.snap_top.specs.declared.why.Why.{Why}
 use Rattle.snap_top.specs.declared.why.Why.TheVariants.{NoMemory}
 use Rattle.snap_top.specs.declared.words.Command.{Command}
 use Rattle.snap_top.specs.declared.words.Command.TheVariants as commands
 use Rattle.snap_top.specs.Run.{IsReadOnly, IsReadWhereTold, IsGivenOne, LoadsNot, loads_not_for_memory, loads_not_for_failure, loads_not_for_damage, HasNoContent, StartsSync, IsTouched, SomeAdded, MatchesLoaded}
-use Rattle.snap_top.specs.Run.{SyncLeaves, sync_leaves_all, sync_leaves_some, LeavesBy}
-use Rattle.snap_top.specs.Run.{Task, Opening, opening_of, Works, works_unloaded, works_differs, works_list, works_not_over_content, works_sync, works_till_memory}
+use Rattle.snap_top.specs.FirstSync.{FirstSync, synced, failed, failed_till_memory}
+use Rattle.snap_top.specs.Run.{LoadsFirst, IsUntouched, IsCutOff, SyncLeaves, SyncEnds, sync_ends, sync_fails, sync_till_memory}
+use Rattle.snap_top.specs.Run.{Task, Opening, opening_of, Works, works_unloaded, works_differs, works_differs_till_memory, works_list, works_not_over_content, works_sync}
 use Rattle.snap_top.proofs.LoadedLemmas.{loads_held, fails_held, is_damaged_held}
 
 -- an image since the opening holds what was held
@@ -72,15 +78,27 @@ touched_here levels given now is calls = record {
 pub nothing_here : (given now : VaultView) → LoadsNothing given now → HasNoContent true given
 nothing_here given now loads told tells copy within = loads.none tells copy within
 
+-- the calls of the loading, where none failed
+loads_first : (is_told : Bool) (given mid now : VaultView) → is_told ≡ mid.tells_calls → SomeCalls mid now → MakesOnly (IsReadBelow (copies_of given)) given mid → NoneFailed given mid → LoadsFirst given now mid.calls
+loads_first false given mid now quiet syncing made well = record { done = []; each = λ k d below. absurd (omega (arith, below)); made = λ told. absurd (untold (subst IsTrue (sym quiet) (syncing.goes_on.calls.told told))) }
+  where
+    untold : IsTrue false → ⊥
+    untold told = cc
+loads_first true given mid now tells syncing made well =
+    let told : IsTrue mid.tells_calls = sym tells in
+    let same : well.done ≡ made.done = append_cancel_left given.calls well.done made.done (sym (well.grown.more told) ∙ made.grown.more told) in
+    let unfailed : All (λ (d : VaultDone). d.failed ≡ false) made.done = subst (All (λ (d : VaultDone). d.failed ≡ false)) same (All-from_recursion (λ (d : VaultDone). d.failed ≡ false) well.done well.each) in
+    record { done = made.done; each = λ k d below. record { is = made.each k d below; unfailed = unfailed k d below }; made = λ now_told. made.grown.more told }
+
 -- a sync that begins after loading
-pub starts_here : (levels : ℕ) (given mid now : VaultView) (folders : List FolderView) (out : SinkView) → IsGivenOne levels given → SomeCalls given mid → ChangesBy Stays given mid → NoneFailed given mid → SomeCalls mid now
+pub starts_here : (levels : ℕ) (given mid now : VaultView) (folders : List FolderView) (out : SinkView) → IsGivenOne levels given → SomeCalls given mid → MakesOnly (IsReadBelow (copies_of given)) given mid → ChangesBy Stays given mid → NoneFailed given mid → SomeCalls mid now
     → StartsSync true given now folders out (before_of folders mid out)
-starts_here levels given mid now folders out is calls changes well syncing = record {
+starts_here levels given mid now folders out is calls made changes well syncing = record {
   folders_are = refl;
   files_are = λ _ tells. changes.reads tells;
   copies_are = calls.goes_on.copies ∙ ap length is.drafts;
   later = calls.goes_on.later;
-  loaded = λ _. record { done = well.done; each = well.each; made = λ told. well.grown.more (syncing.goes_on.calls.told told) };
+  loaded = λ _. loads_first mid.tells_calls given mid now refl syncing made well;
   out_is = refl;
 }
 
@@ -92,20 +110,41 @@ no_draft_here levels given mid is drafts copy = ap (λ ds. get_or ds copy Absent
     absent zero = refl
     absent (suc copy) = refl
 
--- what is left where nothing was done, by what that leaves
-pub stopped : (A B C D L : Type 0) → (A → C) → (B → D) → (A × B) ⊎ L → (C × D) ⊎ L
-stopped A B C D L one two (inl same) = inl (one same.0, two same.1)
-stopped A B C D L one two (inr left) = inr left
+-- what a sync leaves that was cut off, and began after loading
+cut_off_here : (task : Task) (given mid now : VaultView) (folders folders_new : List FolderView) (out out_new : SinkView) → IsGivenOne (levels_in task.form) given → SomeCalls given mid → ChangesBy Stays given mid → DraftsStay given mid
+    → Leaves (names_in task.form) (empty_table task.form task.seed) task.now (before_of folders mid out) mid (after_of folders_new now out_new)
+    → IsCutOff task (opening_of given folders out) (before_of folders mid out) (after_of folders_new now out_new)
+cut_off_here task given mid now folders folders_new out out_new is calls changes drafts left =
+    let came = left.progress in
+    record {
+      progress = came;
+      no_draft = left.no_draft (no_draft_here (levels_in task.form) given mid is drafts);
+      changes = λ _. stays_then (MayStand mid.files (copies_of mid) came.start task.now came.readings) given mid now calls.goes_on.tells changes left.changes (stands_still mid.files (copies_of mid) came.start task.now came.readings);
+    }
 
--- what a sync leaves that begins after loading
-pub leaves_here : (task : Task) (why : Why) (given mid now : VaultView) (folders folders_new : List FolderView) (out out_new : SinkView) → IsGivenOne (levels_in task.form) given → SomeCalls given mid → ChangesBy Stays given mid → DraftsStay given mid
-    → (IsReadWhereTold true (levels_in task.form) given now × (out_new ≡ out)) ⊎ LeavesBy why (names_in task.form) (empty_table task.form task.seed) task.now (before_of folders mid out) mid (after_of folders_new now out_new)
-    → SyncLeaves task (opening_of given folders out) why (before_of folders mid out) (after_of folders_new now out_new)
-leaves_here task why given mid now folders folders_new out out_new is calls changes drafts (inl same) = sync_leaves_all same.0 same.1
-leaves_here task why given mid now folders folders_new out out_new is calls changes drafts (inr left) =
-    let came = left.leaves.progress in
-    sync_leaves_some left.ended left.only came (left.leaves.no_draft (no_draft_here (levels_in task.form) given mid is drafts))
-    (λ _. stays_then (MayStand mid.files (copies_of mid) came.start task.now came.readings) given mid now calls.goes_on.tells changes left.leaves.changes (stands_still mid.files (copies_of mid) came.start task.now came.readings))
+-- what a fault of a sync leaves that began after loading
+leaves_here : (untouched : Type 0) (task : Task) (fault : SyncFault) (given mid now : VaultView) (folders folders_new : List FolderView) (out out_new : SinkView) → IsGivenOne (levels_in task.form) given → SomeCalls given mid → ChangesBy Stays given mid → DraftsStay given mid
+    → (untouched → IsUntouched (levels_in task.form) (opening_of given folders out) (after_of folders_new now out_new))
+    → LeavesAfter untouched (names_in task.form) (empty_table task.form task.seed) task.now (before_of folders mid out) mid (after_of folders_new now out_new) fault
+    → SyncLeaves task (opening_of given folders out) (before_of folders mid out) (after_of folders_new now out_new) fault
+leaves_here untouched task (faults.Full blocks files) given mid now folders folders_new out out_new is calls changes drafts still left = still left
+leaves_here untouched task (faults.Folder disk) given mid now folders folders_new out out_new is calls changes drafts still left = still left
+leaves_here untouched task faults.Vault given mid now folders folders_new out out_new is calls changes drafts still left = cut_off_here task given mid now folders folders_new out out_new is calls changes drafts left
+leaves_here untouched task faults.Memory given mid now folders folders_new out out_new is calls changes drafts still (inl same) = inl (still same.0, same.1)
+leaves_here untouched task faults.Memory given mid now folders folders_new out out_new is calls changes drafts still (inr left) = inr (cut_off_here task given mid now folders folders_new out out_new is calls changes drafts left)
+
+-- how a sync ended that began after loading
+pub ends_here : (untouched : Type 0) (task : Task) (given mid now : VaultView) (folders folders_new : List FolderView) (out out_new : SinkView) (why : Why) (line : List ℕ) → IsGivenOne (levels_in task.form) given → SomeCalls given mid → ChangesBy Stays given mid → DraftsStay given mid
+    → (untouched → IsUntouched (levels_in task.form) (opening_of given folders out) (after_of folders_new now out_new))
+    → FirstSync untouched task (before_of folders mid out) mid (after_of folders_new now out_new) why line
+    → SyncEnds task (opening_of given folders out) (before_of folders mid out) (after_of folders_new now out_new) why line
+ends_here untouched task given mid now folders folders_new out out_new _ _ is calls changes drafts still (synced ending ends) =
+    let reading = ends.syncs in
+    sync_ends ending reading ends.made (λ _. stays_then (MayStand mid.files (copies_of mid) reading.start task.now reading.readings) given mid now calls.goes_on.tells changes ends.changes (stands_still mid.files (copies_of mid) reading.start task.now reading.readings))
+ends_here untouched task given mid now folders folders_new out out_new _ _ is calls changes drafts still (failed fault by) =
+    sync_fails fault by.cause (leaves_here untouched task fault given mid now folders folders_new out out_new is calls changes drafts still by.leaves)
+ends_here untouched task given mid now folders folders_new out out_new _ _ is calls changes drafts still (failed_till_memory fault named by) =
+    sync_till_memory fault named by.cause (leaves_here untouched task fault given mid now folders folders_new out out_new is calls changes drafts still by.leaves)
 
 same_told : (is_told : Bool) (levels : ℕ) (held given : VaultView) → VaultIsGiven is_told levels 1 held given → IsTrue is_told → SameVault true held given
 same_told is_told levels held given is told = subst (λ b. SameVault b held given) told is.same
@@ -168,13 +207,20 @@ touched_held is_told levels held given now is one = record {
   calls = λ told. added_held held given now (same_told is_told levels held given is told) (one.calls refl);
 }
 
+first_held : (held given now : VaultView) (calls : List VaultDone) → SameVault true held given → LoadsFirst given now calls → LoadsFirst held now calls
+first_held held given now calls same one = record {
+  done = one.done;
+  each = subst (λ (n : ℕ). All (WentWell (IsReadBelow n)) one.done) (ap length (same.drafts refl)) one.each;
+  made = λ told. one.made told ∙ ap (λ cs. cs ++ one.done) (same.calls refl);
+}
+
 starts_held : (is_told : Bool) (levels : ℕ) (held given now : VaultView) (folders : List FolderView) (out : SinkView) (start : Before) → VaultIsGiven is_told levels 1 held given → StartsSync true given now folders out start → StartsSync is_told held now folders out start
 starts_held is_told levels held given now folders out start is one = record {
   folders_are = one.folders_are;
   files_are = λ told tells. let same = same_told is_told levels held given is told in one.files_are refl (same.tells refl ∙ tells) ∙ same.files refl;
   copies_are = one.copies_are;
   later = omega (arith, is.same.faults, one.later);
-  loaded = λ told. let first = one.loaded refl in record { done = first.done; each = first.each; made = λ now_told. first.made now_told ∙ ap (λ cs. cs ++ first.done) ((same_told is_told levels held given is told).calls refl) };
+  loaded = λ told. first_held held given now start.calls (same_told is_told levels held given is told) (one.loaded refl);
   out_is = one.out_is;
 }
 
@@ -194,29 +240,54 @@ changes_held step held given now same changes =
       };
     }
 
-leaves_held : (is_told : Bool) (task : Task) (why : Why) (held given : VaultView) (opened : List FolderView) (out : SinkView) (start : Before) (after : After) → VaultIsGiven is_told (levels_in task.form) 1 held given
-    → SyncLeaves task (opening_of given opened out) why start after → SyncLeaves task (record { is_told = is_told; held = held; given = opened; out = out }) why start after
-leaves_held is_told task why held given opened out start after is (sync_leaves_all read same) = sync_leaves_all (read_held is_told (levels_in task.form) held given after.vault is read) same
-leaves_held is_told task why held given opened out start after is (sync_leaves_some ended only progress none changes) =
-    sync_leaves_some ended only progress none (λ told. changes_held (MayStand start.files start.copies progress.start task.now progress.readings) held given after.vault (same_told is_told (levels_in task.form) held given is told) (changes refl))
+-- the opening, of an opener that tells what it holds or not
+abbrev pub held_by : Bool → VaultView → List FolderView → SinkView → Opening
+held_by is_told held opened out = record { is_told = is_told; held = held; given = opened; out = out }
+
+cut_off_held : (is_told : Bool) (task : Task) (held given : VaultView) (opened : List FolderView) (out : SinkView) (start : Before) (after : After) → VaultIsGiven is_told (levels_in task.form) 1 held given
+    → IsCutOff task (opening_of given opened out) start after → IsCutOff task (held_by is_told held opened out) start after
+cut_off_held is_told task held given opened out start after is one = record {
+  progress = one.progress;
+  no_draft = one.no_draft;
+  changes = λ told. changes_held (MayStand start.files start.copies one.progress.start task.now one.progress.readings) held given after.vault (same_told is_told (levels_in task.form) held given is told) (one.changes refl);
+}
+
+untouched_held : (is_told : Bool) (levels : ℕ) (held given : VaultView) (opened : List FolderView) (out : SinkView) (after : After) → VaultIsGiven is_told levels 1 held given
+    → IsUntouched levels (opening_of given opened out) after → IsUntouched levels (held_by is_told held opened out) after
+untouched_held is_told levels held given opened out after is one = record { vault = read_held is_told levels held given after.vault is one.vault; out = one.out }
+
+leaves_held : (is_told : Bool) (task : Task) (fault : SyncFault) (held given : VaultView) (opened : List FolderView) (out : SinkView) (start : Before) (after : After) → VaultIsGiven is_told (levels_in task.form) 1 held given
+    → SyncLeaves task (opening_of given opened out) start after fault → SyncLeaves task (held_by is_told held opened out) start after fault
+leaves_held is_told task (faults.Full blocks files) held given opened out start after is left = untouched_held is_told (levels_in task.form) held given opened out after is left
+leaves_held is_told task (faults.Folder disk) held given opened out start after is left = untouched_held is_told (levels_in task.form) held given opened out after is left
+leaves_held is_told task faults.Vault held given opened out start after is left = cut_off_held is_told task held given opened out start after is left
+leaves_held is_told task faults.Memory held given opened out start after is (inl left) = inl (untouched_held is_told (levels_in task.form) held given opened out after is left.0, left.1)
+leaves_held is_told task faults.Memory held given opened out start after is (inr left) = inr (cut_off_held is_told task held given opened out start after is left)
+
+sync_ends_held : (is_told : Bool) (task : Task) (held given : VaultView) (opened : List FolderView) (out : SinkView) (start : Before) (after : After) (why : Why) (line : List ℕ) → VaultIsGiven is_told (levels_in task.form) 1 held given
+    → SyncEnds task (opening_of given opened out) start after why line → SyncEnds task (held_by is_told held opened out) start after why line
+sync_ends_held is_told task held given opened out start after _ _ is (sync_ends ending syncs made changes) =
+    sync_ends ending syncs made (λ told. changes_held (MayStand start.files start.copies syncs.start task.now syncs.readings) held given after.vault (same_told is_told (levels_in task.form) held given is told) (changes refl))
+sync_ends_held is_told task held given opened out start after _ _ is (sync_fails fault causes left) = sync_fails fault causes (leaves_held is_told task fault held given opened out start after is left)
+sync_ends_held is_told task held given opened out start after _ _ is (sync_till_memory fault named causes left) = sync_till_memory fault named causes (leaves_held is_told task fault held given opened out start after is left)
 
 -- how work on what was given ends, said of what was held
 pub works_held : (is_told : Bool) (held given : VaultView) (task : Task) (opened : List FolderView) (out : SinkView) (vault : VaultView) (folders : List FolderView) (out_new : SinkView) (why : Why) (line : List ℕ)
     → VaultIsGiven is_told (levels_in task.form) 1 held given → Works task (opening_of given opened out) vault folders out_new why line
-    → Works task (record { is_told = is_told; held = held; given = opened; out = out }) vault folders out_new why line
-works_held is_told held given task opened out vault folders out_new _ _ is (works_unloaded why read not same) =
-    works_unloaded why (read_held is_told (levels_in task.form) held given vault is read) (loads_not_held is_told (levels_in task.form) held given vault why is not) same
-works_held is_told held given task opened out vault folders out_new _ _ is (works_differs table why line read loads differs same) =
-    works_differs table why line (read_held is_told (levels_in task.form) held given vault is read) (λ told. loads_held held given vault (Some table) (same_told is_told (levels_in task.form) held given is told) (loads refl)) differs same
-works_held is_told held given task opened out vault folders out_new _ _ is (works_list command table why read loads matches prints) =
-    works_list command table why (read_held is_told (levels_in task.form) held given vault is read) (λ told. loads_held held given vault table (same_told is_told (levels_in task.form) held given is told) (loads refl)) matches prints
-works_held is_told held given task opened out vault folders out_new _ _ is (works_not_over_content command table read loads matches same) =
-    works_not_over_content command table (read_held is_told (levels_in task.form) held given vault is read) (λ told. loads_held held given vault (Some table) (same_told is_told (levels_in task.form) held given is told) (loads refl)) matches same
-works_held is_told held given task opened out vault folders out_new _ _ is (works_sync command why line none touched start starts ends early untold leaves) =
-    works_sync command why line (no_content_held is_told (levels_in task.form) held given is none) (touched_held is_told (levels_in task.form) held given vault is touched) start (starts_held is_told (levels_in task.form) held given vault opened out start is starts) ends
-    (λ is_early. read_held is_told (levels_in task.form) held given vault is (early is_early)) untold (leaves_held is_told task why held given opened out start (after_of folders vault out_new) is leaves)
-works_held is_told held given task opened out vault folders out_new _ _ is (works_till_memory why line works) =
-    works_till_memory why line (works_held is_told held given task opened out vault folders out_new why line is works)
+    → Works task (held_by is_told held opened out) vault folders out_new why line
+works_held is_told held given task opened out vault folders out_new _ _ is (works_unloaded why read not asked same) =
+    works_unloaded why (read_held is_told (levels_in task.form) held given vault is read) (loads_not_held is_told (levels_in task.form) held given vault why is not) asked same
+works_held is_told held given task opened out vault folders out_new _ _ is (works_differs table why line read loads differs asked same) =
+    works_differs table why line (read_held is_told (levels_in task.form) held given vault is read) (λ told. loads_held held given vault (Some table) (same_told is_told (levels_in task.form) held given is told) (loads refl)) differs asked same
+works_held is_told held given task opened out vault folders out_new _ _ is (works_differs_till_memory table why line read loads differs asked same) =
+    works_differs_till_memory table why line (read_held is_told (levels_in task.form) held given vault is read) (λ told. loads_held held given vault (Some table) (same_told is_told (levels_in task.form) held given is told) (loads refl)) differs asked same
+works_held is_told held given task opened out vault folders out_new _ _ is (works_list command table why read loads matches asked prints) =
+    works_list command table why (read_held is_told (levels_in task.form) held given vault is read) (λ told. loads_held held given vault table (same_told is_told (levels_in task.form) held given is told) (loads refl)) matches asked prints
+works_held is_told held given task opened out vault folders out_new _ _ is (works_not_over_content command table read loads matches asked same) =
+    works_not_over_content command table (read_held is_told (levels_in task.form) held given vault is read) (λ told. loads_held held given vault (Some table) (same_told is_told (levels_in task.form) held given is told) (loads refl)) matches asked same
+works_held is_told held given task opened out vault folders out_new _ _ is (works_sync command why line none touched start starts ends) =
+    works_sync command why line (no_content_held is_told (levels_in task.form) held given is none) (touched_held is_told (levels_in task.form) held given vault is touched) start (starts_held is_told (levels_in task.form) held given vault opened out start is starts)
+    (sync_ends_held is_told task held given opened out start (after_of folders vault out_new) why line is ends)
 
 -- the end of a run by an equal cause and line
 pub works_same : (task : Task) (before : Opening) (vault : VaultView) (folders : List FolderView) (out : SinkView) (why other : Why) (line text : List ℕ) → other ≡ why → text ≡ line
@@ -224,11 +295,14 @@ pub works_same : (task : Task) (before : Opening) (vault : VaultView) (folders :
 works_same task before vault folders out why other line text why_is line_is works =
     subst (λ w. Works task before vault folders out w text) (sym why_is) (subst (λ l. Works task before vault folders out why l) (sym line_is) works)
 
--- an end with its line, or for want of memory
-pub works_with : (task : Task) (before : Opening) (vault : VaultView) (folders : List FolderView) (out : SinkView) (why : Why) (line : List ℕ) (end : End) → Works task before vault folders out why line
+-- an end that says a difference, or wants memory for that
+pub works_other : (task : Task) (before : Opening) (vault : VaultView) (folders : List FolderView) (out : SinkView) (table : TableValue) (why : Why) (line : List ℕ) (end : End)
+    → IsReadWhereTold before.is_told (levels_in task.form) before.held vault → (IsTrue before.is_told → Loads before.held vault (Some table)) → Differs task.form table why line → folders ≡ before.given → out ≡ before.out
     → IsEndWith why line end ⊎ IsEndWith NoMemory (plain_line NoMemory) end → Works task before vault folders out end.why (line_of end)
-works_with task before vault folders out why line end works (inl same) = works_same task before vault folders out why end.why line (line_of end) same.why_is same.line_is works
-works_with task before vault folders out why line end works (inr memory) = works_same task before vault folders out NoMemory end.why (plain_line NoMemory) (line_of end) memory.why_is memory.line_is (works_till_memory why line works)
+works_other task before vault folders out table why line end read loads differs asked same (inl said) =
+    works_same task before vault folders out why end.why line (line_of end) said.why_is said.line_is (works_differs table why line read loads differs asked same)
+works_other task before vault folders out table why line end read loads differs asked same (inr memory) =
+    works_same task before vault folders out NoMemory end.why (plain_line NoMemory) (line_of end) memory.why_is memory.line_is (works_differs_till_memory table why line read loads differs asked same)
 
 -- loading of what is a table
 pub loads_some : (old new : VaultView) (loaded : Option TableValue) (table : TableValue) → loaded ≡ Some table → Loads old new loaded → Loads old new (Some table)

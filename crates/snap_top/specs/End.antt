@@ -1,5 +1,5 @@
 -- How a run ended, as it is kept: its cause, and its line where that names something.
-use Rattle.std.specs.Prelude.{◌≡◌, ℕ, List, Option, None, Some, IsTrue, Vec}
+use Rattle.std.specs.Prelude.{◌≡◌, ℕ, List, None, Some, IsTrue}
 use Rattle.snap_top.specs.Lines.{plain_line, is_plain}
 use Rattle.snap_top.specs.declared.end.End.{End}
 use Rattle.snap_top.specs.declared.why.Why.{Why}

@@ -1,5 +1,5 @@
 -- What a run is to do with what was opened.
-use Rattle.std.specs.Prelude.{◌≡◌, ℕ, List, length, Bool, true, false}
+use Rattle.std.specs.Prelude.{◌≡◌, List, length, Bool, true, false}
 use Rattle.disk_model.specs.Folder.{FolderView}
 use Rattle.snap_top.specs.FirstForm.{IsForm}
 use Rattle.snap_top.specs.FormSetup.{form_of, Holds}

@@ -8,6 +8,7 @@ pub mod Print
 pub mod Matching
 pub mod Opening
 pub mod Run
+pub mod FirstSync
 pub mod End
 pub mod Job
 pub mod Difference

@@ -1,5 +1,5 @@
 -- The status of each end of a run, and its line on `err`.
-use Rattle.std.specs.Prelude.{ℕ, List, [], ◌++◌, ◌∷◌, codes, get_or, Bool, true, false, Option, None, Some, slice_get, map}
+use Rattle.std.specs.Prelude.{ℕ, List, [], ◌++◌, codes, get_or, Bool, true, false, Option, None, Some, slice_get, map}
 use Rattle.std.specs.Fmt.{decimal}
 use Rattle.file_table.specs.Table.{Column, TableValue}
 use Rattle.snap_report.specs.Text.{printed}

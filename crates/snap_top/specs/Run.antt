@@ -1,7 +1,7 @@
 -- What a run leaves, and why it ended so.
 use Rattle.std.specs.Prelude.{◌≡◌, ◌⊎◌, ℕ, ◌<◌, ◌≤◌, ◌==◌, List, [], ◌∷◌, ◌++◌, Bool, true, false, IsTrue, if◌then◌else◌}
 use Rattle.std.specs.Prelude.{Option, None, Some}
-use Rattle.std.specs.List.{All, AllByRecursion}
+use Rattle.std.specs.List.{All}
 use Rattle.disk_model.specs.Calls.{WentWell, MakesOnly}
 use Rattle.disk_model.specs.Cause.{Rose, Grows}
 use Rattle.disk_model.specs.Files.{Files, content_of}
@@ -13,14 +13,14 @@ use Rattle.disk_model.specs.Vault.{VaultView, VaultDone, copies_of, ChangesBy, I
 use Rattle.file_table.specs.Table.{TableValue}
 use Rattle.content_file.specs.Load.{IsReadBelow, Loads, LoadFails, LoadIsDamaged}
 use Rattle.content_file.specs.Save.{HasNoDraft}
-use Rattle.snap_sync.specs.Calls.{MakesSince, IsSyncCall}
-use Rattle.snap_sync.specs.Stops.{Progress, MayStand, Leaves}
-use Rattle.snap_sync.specs.Sync.{Names, Before, After, after_of, Ending, AllReadOnly, Syncs}
+use Rattle.snap_sync.specs.Calls.{MakesSince, AreWhole}
+use Rattle.snap_sync.specs.Stops.{Progress, MayStand}
+use Rattle.snap_sync.specs.Sync.{Before, After, after_of, Ending, AllReadOnly, FirstListedOnce, Syncs}
 use Rattle.snap_sync.specs.SyncFault.{Causes}
 use Rattle.snap_sync.specs.declared.fault.SyncFault.{SyncFault}
 use Rattle.snap_sync.specs.declared.fault.SyncFault.TheVariants as faults
 use Rattle.snap_top.specs.FirstForm.{FormValue}
-use Rattle.snap_top.specs.Lines.{status_of, plain_line, config_line, full_line, folder_line, form_names}
+use Rattle.snap_top.specs.Lines.{status_of, is_plain, plain_line, config_line, full_line, folder_line, form_names}
 use Rattle.snap_top.specs.ListText.{list_text}
 use Rattle.snap_top.specs.Matching.{Matches, Differs, names_in, levels_in, empty_table}
 use Rattle.snap_top.specs.Opening.{IsOpened, Refuses}
@@ -79,10 +79,10 @@ MatchesLoaded form (Some table) = Matches form table
 abbrev pub HasNoContent : Bool → VaultView → Type 0
 HasNoContent is_told held = IsTrue is_told → IsTrue held.tells → (copy : ℕ) → copy < copies_of held → content_of held.files copy ≡ None
 
--- no call of the loading failed, and these were the calls of the vault when the sync began
+-- The calls of the vault when the sync began: since it was held its copies alone were read, and none of these calls failed.
 pub record LoadsFirst (held now : VaultView) (calls : List VaultDone) : Type 0 where
   pub done : List VaultDone
-  pub each : AllByRecursion (λ (d : VaultDone). d.failed ≡ false) done
+  pub each : All (WentWell (IsReadBelow (copies_of held))) done
   pub made : IsTrue now.tells_calls → calls ≡ held.calls ++ done
 
 -- a sync began with the folders that were opened, with the files that the opener held, and after the loading
@@ -126,33 +126,6 @@ pub record Task : Type 0 where
   pub now : ℕ
   pub seed : List ℕ
 
--- How a first sync ended, and its line on `err`.
-pub data SyncEnds (task : Task) (start : Before) (after : After) : Why → List ℕ → Type 0 where
-  sync_ends : (ending : Ending) → Syncs (names_in task.form) (empty_table task.form task.seed) task.now start after ending → MakesSince (All (WentWell IsSyncCall)) start.calls after.vault
-      → SyncEnds task start after (ending_why ending) (plain_line (ending_why ending))
-  sync_fails : (fault : SyncFault) → Causes (names_in task.form) (empty_table task.form task.seed) start after fault
-      → SyncEnds task start after (fault_why fault) (fault_line task.form fault)
-  sync_till_memory : (why : Why) (line : List ℕ) → SyncEnds task start after why line → SyncEnds task start after NoMemory (plain_line NoMemory)
-
--- ends of a sync that come before it touches the vault and tells anything
-abbrev pub is_early_why : Why → Bool
-is_early_why (Full blocks files) = true
-is_early_why (FolderFailed disk) = true
-is_early_why _ = false
-
--- ends of a sync that ended
-abbrev pub is_ended_why : Why → Bool
-is_ended_why Synced = true
-is_ended_why Found = true
-is_ended_why OutputFailed = true
-is_ended_why _ = false
-
--- what a sync leaves that is called so
-pub record LeavesBy (why : Why) (names : Names) (old : TableValue) (now : ℕ) (before : Before) (vault : VaultView) (after : After) : Type 0 where
-  pub ended : Bool
-  pub only : IsTrue ended → IsTrue (is_ended_why why)
-  pub leaves : Leaves ended names old now before vault after
-
 -- What was opened and what it is afterwards: the vault as the opener held it, the folders as they were given, the sink.
 pub record Opening : Type 1 where
   pub is_told : Bool
@@ -163,13 +136,36 @@ pub record Opening : Type 1 where
 abbrev pub opening_of : VaultView → List FolderView → SinkView → Opening
 opening_of held given out = record { is_told = true; held = held; given = given; out = out }
 
--- What a sync leaves, whatever its end and whenever it is stopped: all as it was, or the steps that it came to. Each image at each moment since the opening is as these say.
--- The last line was printed, or a front of it, only where the sync ended.
-pub data SyncLeaves (task : Task) (before : Opening) (why : Why) (start : Before) (after : After) : Type 0 where
-  sync_leaves_all : IsReadWhereTold before.is_told (levels_in task.form) before.held after.vault → after.out ≡ before.out → SyncLeaves task before why start after
-  sync_leaves_some : (ended : Bool) → (IsTrue ended → IsTrue (is_ended_why why)) → (progress : Progress ended (names_in task.form) (empty_table task.form task.seed) start after) → HasNoDraft after.vault
-      → (IsTrue before.is_told → ChangesBy (MayStand start.files start.copies progress.start task.now progress.readings) before.held after.vault)
-      → SyncLeaves task before why start after
+-- A sync that was cut off before it made a call of the vault: of that the copies alone were read, and nothing was printed.
+pub record IsUntouched (levels : ℕ) (before : Opening) (after : After) : Type 0 where
+  pub vault : IsReadWhereTold before.is_told levels before.held after.vault
+  pub out : after.out ≡ before.out
+
+-- A sync that was cut off later: the steps that it came to, and no draft. Each image at each moment since the opening is as these say.
+pub record IsCutOff (task : Task) (before : Opening) (start : Before) (after : After) : Type 0 where
+  pub progress : Progress (names_in task.form) (empty_table task.form task.seed) task.now start after
+  pub no_draft : HasNoDraft after.vault
+  pub changes : IsTrue before.is_told → ChangesBy (MayStand start.files start.copies progress.start task.now progress.readings) before.held after.vault
+
+-- What a sync leaves that did not end, by its fault. Want of memory before the vault was touched finds the first folders listed once, which did not fail, and the others not asked for anything.
+abbrev pub SyncLeaves : Task → Opening → Before → After → SyncFault → Type 0
+SyncLeaves task before start after (faults.Full blocks files) = IsUntouched (levels_in task.form) before after
+SyncLeaves task before start after (faults.Folder disk) = IsUntouched (levels_in task.form) before after
+SyncLeaves task before start after faults.Vault = IsCutOff task before start after
+SyncLeaves task before start after faults.Memory = (IsUntouched (levels_in task.form) before after × FirstListedOnce start.folders after.folders) ⊎ IsCutOff task before start after
+
+-- How a first sync ended, its line on `err`, and what it leaves. One that ended made all its calls of the vault in their order, and each image at each moment since the opening
+-- is as the one reading says by which it ended. One that did not end has a fault, with its cause. Where memory was wanting for the line that names what was refused
+-- or failed, the run says that instead; all else is as after that fault.
+pub data SyncEnds (task : Task) (before : Opening) (start : Before) (after : After) : Why → List ℕ → Type 0 where
+  sync_ends : (ending : Ending) → (syncs : Syncs (names_in task.form) (empty_table task.form task.seed) task.now start after ending)
+      → MakesSince (AreWhole after.vault.tells start.files start.copies syncs.start task.now syncs.readings) start.calls after.vault
+      → (IsTrue before.is_told → ChangesBy (MayStand start.files start.copies syncs.start task.now syncs.readings) before.held after.vault)
+      → SyncEnds task before start after (ending_why ending) (plain_line (ending_why ending))
+  sync_fails : (fault : SyncFault) → Causes (names_in task.form) (empty_table task.form task.seed) start after fault → SyncLeaves task before start after fault
+      → SyncEnds task before start after (fault_why fault) (fault_line task.form fault)
+  sync_till_memory : (fault : SyncFault) → is_plain (fault_why fault) ≡ false → Causes (names_in task.form) (empty_table task.form task.seed) start after fault → SyncLeaves task before start after fault
+      → SyncEnds task before start after NoMemory (plain_line NoMemory)
 
 -- a vault as it was given: of so many levels and one copy, without a draft and with nothing unsynced
 pub record IsGivenOne (levels : ℕ) (v : VaultView) : Type 0 where
@@ -177,25 +173,26 @@ pub record IsGivenOne (levels : ℕ) (v : VaultView) : Type 0 where
   pub drafts : v.drafts ≡ Absent ∷ []
   pub settled : IsSettled v
 
--- Why a run ended that opened its array, and its line on `err`: one case for each cause. Where the opener tells what it holds, the loaded table is what that spells.
+-- Why a run ended that opened its array, and its line on `err`: one case for each cause. Where the opener tells what it holds, the loaded table is what that spells. A folder
+-- is asked for something only by a sync. Where memory was wanting for the line that names a difference, the run says that instead; all else is as after that difference.
 pub data Works (task : Task) (before : Opening) (vault : VaultView) (folders : List FolderView) (out : SinkView) : Why → List ℕ → Type 0 where
-  works_unloaded : (why : Why) → IsReadWhereTold before.is_told (levels_in task.form) before.held vault → LoadsNot before.is_told before.held vault why → out ≡ before.out
+  works_unloaded : (why : Why) → IsReadWhereTold before.is_told (levels_in task.form) before.held vault → LoadsNot before.is_told before.held vault why → folders ≡ before.given → out ≡ before.out
       → Works task before vault folders out why (plain_line why)
   works_differs : (table : TableValue) (why : Why) (line : List ℕ) → IsReadWhereTold before.is_told (levels_in task.form) before.held vault
-      → (IsTrue before.is_told → Loads before.held vault (Some table)) → Differs task.form table why line → out ≡ before.out
+      → (IsTrue before.is_told → Loads before.held vault (Some table)) → Differs task.form table why line → folders ≡ before.given → out ≡ before.out
       → Works task before vault folders out why line
+  works_differs_till_memory : (table : TableValue) (why : Why) (line : List ℕ) → IsReadWhereTold before.is_told (levels_in task.form) before.held vault
+      → (IsTrue before.is_told → Loads before.held vault (Some table)) → Differs task.form table why line → folders ≡ before.given → out ≡ before.out
+      → Works task before vault folders out NoMemory (plain_line NoMemory)
   works_list : task.command ≡ commands.List → (table : Option TableValue) (why : Why) → IsReadWhereTold before.is_told (levels_in task.form) before.held vault
-      → (IsTrue before.is_told → Loads before.held vault table) → MatchesLoaded task.form table → PrintsAll (text_of table) before.out out why
+      → (IsTrue before.is_told → Loads before.held vault table) → MatchesLoaded task.form table → folders ≡ before.given → PrintsAll (text_of table) before.out out why
       → Works task before vault folders out why (plain_line why)
   works_not_over_content : task.command ≡ commands.Sync → (table : TableValue) → IsReadWhereTold before.is_told (levels_in task.form) before.held vault
-      → (IsTrue before.is_told → Loads before.held vault (Some table)) → Matches task.form table → out ≡ before.out
+      → (IsTrue before.is_told → Loads before.held vault (Some table)) → Matches task.form table → folders ≡ before.given → out ≡ before.out
       → Works task before vault folders out HasContent (plain_line HasContent)
   works_sync : task.command ≡ commands.Sync → (why : Why) (line : List ℕ) → HasNoContent before.is_told before.held → IsTouched before.is_told (levels_in task.form) before.held vault
-      → (start : Before) → StartsSync before.is_told before.held vault before.given before.out start → SyncEnds task start (after_of folders vault out) why line
-      → (IsTrue (is_early_why why) → IsReadWhereTold before.is_told (levels_in task.form) before.held vault) → (IsTrue (is_early_why why) → out ≡ before.out)
-      → SyncLeaves task before why start (after_of folders vault out)
+      → (start : Before) → StartsSync before.is_told before.held vault before.given before.out start → SyncEnds task before start (after_of folders vault out) why line
       → Works task before vault folders out why line
-  works_till_memory : (why : Why) (line : List ℕ) → Works task before vault folders out why line → Works task before vault folders out NoMemory (plain_line NoMemory)
 
 -- What a run began with, and what it left: all that it touched but `err`. Where nothing was opened, the vault is the one that the opener still holds.
 pub record Entry : Type 1 where
@@ -231,14 +228,16 @@ abbrev pub opened_with : Entry → List FolderView → Opening
 opened_with before given = record { is_told = before.opener.tells; held = before.opener.vault; given = given; out = before.out }
 
 -- Why a run ended so, and its line on `err`. Either nothing was opened or printed, and the opener holds what it held; or all that was opened goes back, the folders only read.
+-- Where memory was wanting for the line that names a refused configuration, the run says that instead; all else is as after that refusal.
 pub data Ends (words : List (List ℕ)) (before : Entry) (after : Exit) : Why → List ℕ → Type 0 where
   ends_refused : (why : Why) → Refuses words before.opener after.opener why → HoldsSame before.opener after.opener → after.folders ≡ [] → after.has_vault ≡ false → after.out ≡ before.out
       → Ends words before after why (refused_line words why)
+  ends_refused_till_memory : Refuses words before.opener after.opener BadConfig → HoldsSame before.opener after.opener → after.folders ≡ [] → after.has_vault ≡ false → after.out ≡ before.out
+      → Ends words before after NoMemory (plain_line NoMemory)
   ends_opened : (command : Command) (form : FormValue) (given : List FolderView) (why : Why) (line : List ℕ) → IsOpened words before.opener after.opener command form given
       → after.has_vault ≡ true → AllReadOnly given after.folders
       → Works (record { command = command; form = form; now = before.now; seed = before.seed }) (opened_with before given) after.vault after.folders after.out why line
       → Ends words before after why line
-  ends_till_memory : (why : Why) (line : List ℕ) → Ends words before after why line → Ends words before after NoMemory (plain_line NoMemory)
 
 -- A line on `err`: nothing where there is none, else the whole line, or a front of it where the sink failed.
 pub record IsSaid (line : List ℕ) (old new : SinkView) : Type 0 where

@@ -1,5 +1,5 @@
 // The first sync of an array.
-ghost use Rattle.std.specs.Prelude.{◌≡◌, ◌⊎◌, map, IfOk, IsTrue};
+ghost use Rattle.std.specs.Prelude.{◌≡◌, ◌⊎◌, map, false, IfOk, IsTrue};
 ghost use Rattle.disk_model.specs.Vault.{SomeCalls};
 ghost use Rattle.snap_sync.specs.Sync.{AllReadOnly, before_of, after_of};
 ghost use Rattle.snap_sync.specs.Ending.{ending_of};
@@ -9,7 +9,8 @@ ghost use Rattle.snap_top.specs.FormSetup.{form_of, Holds};
 ghost use Rattle.snap_top.specs.Job.{IsJob, task_of};
 ghost use Rattle.snap_top.specs.Lines.{full_line, folder_line, is_plain, plain_line};
 ghost use Rattle.snap_top.specs.Matching.{empty_table, levels_in, names_in};
-ghost use Rattle.snap_top.specs.Run.{SyncEnds, LeavesBy, ending_why, fault_why, fault_line, is_early_why};
+ghost use Rattle.snap_top.specs.FirstSync.{FirstSync};
+ghost use Rattle.snap_top.specs.Run.{ending_why, fault_why, fault_line};
 
 use crate::Why;
 use crate::end::End;
@@ -103,7 +104,7 @@ fn folder_text(alloc: Global, names: &[Text], disk: u32) -> Result<Vec<u8>, Allo
 // The end of a run whose sync failed.
 fn fault_end(alloc: Global, setup: &Setup, fault: SyncFault) -> End
     requires { Holds setup.now (form_of setup.now) }
-    ensures said { IsEndWith (fault_why fault) (fault_line (form_of setup.now) fault) result ⊎ IsEndWith Why.NoMemory (plain_line Why.NoMemory) result }
+    ensures said { IsEndWith (fault_why fault) (fault_line (form_of setup.now) fault) result ⊎ ((is_plain (fault_why fault) ≡ false) × IsEndWith Why.NoMemory (plain_line Why.NoMemory) result) }
     ensures end { IsEnd result }
 {
     match fault {
@@ -132,11 +133,7 @@ pub(crate) fn sync_first<F: Folder, V: Vault, W: Sink>(
     ensures folders { AllReadOnly (map F.view folders.old) (map F.view folders.new) }
     ensures calls { SomeCalls (V.view vault.old) (V.view vault.new) }
     ensures end { IsEnd result }
-    ensures ended { SyncEnds (task_of job.now) (before_of (map F.view folders.old) (V.view vault.old) (W.view out.old)) (after_of (map F.view folders.new) (V.view vault.new) (W.view out.new)) result.why (line_of result) }
-    ensures leaves { ((vault.new ≡ vault.old) × (out.new ≡ out.old)) ⊎ LeavesBy result.why (names_in (form_of job.now.setup)) (empty_table (form_of job.now.setup) job.now.seed) job.now.moment
-        (before_of (map F.view folders.old) (V.view vault.old) (W.view out.old)) (V.view vault.old) (after_of (map F.view folders.new) (V.view vault.new) (W.view out.new)) }
-    ensures untouched { IsTrue (is_early_why result.why) → vault.new ≡ vault.old }
-    ensures untold { IsTrue (is_early_why result.why) → out.new ≡ out.old }
+    ensures ended { FirstSync ((vault.new ≡ vault.old) × (out.new ≡ out.old)) (task_of job.now) (before_of (map F.view folders.old) (V.view vault.old) (W.view out.old)) (V.view vault.old) (after_of (map F.view folders.new) (V.view vault.new) (W.view out.new)) result.why (line_of result) }
 {
     let Ok(old) = empty(alloc, &job.setup, job.seed) else {
         return End::plain(Why::NoMemory);

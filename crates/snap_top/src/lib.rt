@@ -1,7 +1,8 @@
 //! One run of the tool, from its words to its status.
 //!
 //! Start at `run` in `running.rt`; what it leaves and why is `specs/Run.antt`, what `list` prints `specs/ListText.antt`,
-//! and what its configuration says `specs/FirstForm.antt`. What `sync` leaves is snap_sync's `specs/Sync.antt`.
+//! and what its configuration says `specs/FirstForm.antt`. What `sync` leaves is in snap_sync: `specs/Sync.antt` where it
+//! ends, and `specs/Stops.antt` whenever it is stopped.
 //! Proved: the status, the line on `err` and what is printed are those of the one cause by which the run ended; the
 //! opener is asked for what the words and the configuration name, and for nothing else; all that was opened goes back,
 //! the folders only read, and the vault as it was but for what a sync wrote.

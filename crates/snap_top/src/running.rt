@@ -1,5 +1,5 @@
 // A run.
-ghost use Rattle.std.specs.Prelude.{◌≡◌, ◌⊎◌, map, is_some, string_bytes, IsTrue, IfOk, IfSome, MatchOption};
+ghost use Rattle.std.specs.Prelude.{◌≡◌, ◌⊎◌, map, false, is_some, string_bytes, IsTrue, IfOk, IfSome, MatchOption};
 ghost use Rattle.snap_sync.specs.Sync.{AllReadOnly};
 ghost use Rattle.snap_top.specs.End.{IsEnd, IsEndWith, line_of};
 ghost use Rattle.snap_top.specs.Job.{IsJob, task_of, is_refusal};
@@ -123,7 +123,7 @@ fn config_text(alloc: Global, words: &[String]) -> Result<Vec<u8>, AllocError>
 // The end of a run that opened nothing.
 fn refused_end(alloc: Global, words: &[String], why: Why) -> End
     requires { IsTrue (is_refusal why) }
-    ensures said { IsEndWith why (refused_line (map string_bytes words.now) why) result ⊎ IsEndWith Why.NoMemory (plain_line Why.NoMemory) result }
+    ensures said { IsEndWith why (refused_line (map string_bytes words.now) why) result ⊎ ((is_plain why ≡ false) × IsEndWith Why.NoMemory (plain_line Why.NoMemory) result) }
     ensures end { IsEnd result }
 {
     if why == Why::BadConfig {

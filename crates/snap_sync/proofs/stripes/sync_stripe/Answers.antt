@@ -1,6 +1,6 @@
 use Rattle.std.proofs.Common.{List, sym, ◌∙◌, subst}
 use Rattle.disk_model.specs.Vault.{VaultCall}
-use Rattle.disk_model.proofs.CallsLemmas.{among_fails}
+use Rattle.disk_model.proofs.CallsLemmas.{makes_none, among_fails}
 use Rattle.disk_model.proofs.VaultLemmas.{on_any}
 use Rattle.snap_sync.specs.Calls.{IsSyncCall, MakesSuch, AreFront}
 use Rattle.snap_sync.specs.Found.{reading_in}
@@ -43,3 +43,8 @@ returns-in_err-close_stripe-clause-failed g c =
     handed_on c.from_residual-in_err-close_stripe.result _ _
     (λ fault same. subst (IsLate (vault c.args.vault.now) (vault c.close_stripe.new.vault)) (sym same) (among_fails IsSyncCall _ _ _ (all_sums _ _ _ _) c.in_err-close_stripe.ensures.cause))
     c.from_residual-in_err-close_stripe.ensures.1
+
+pub returns-in_err-tell_stripe-clause-failed : goal.returns-in_err-tell_stripe-clause-failed
+returns-in_err-tell_stripe-clause-failed g c =
+    let vault = g.V.Vault.view c.args.vault.now in
+    handed_on c.from_residual.result _ _ (λ fault same. subst (IsLate vault vault) (sym same) (makes_none IsSyncCall vault)) c.from_residual.ensures.1

@@ -3,6 +3,7 @@ use Rattle.std.proofs.lemmas.List.{length-map, get_or_read}
 use Rattle.snap_sync.specs.Ending.{names_of}
 use Rattle.snap_sync.specs.Listing.{files_of, lists_of}
 use Rattle.snap_sync.specs.Steps.{EndsListings}
+use Rattle.snap_sync.specs.declared.fault.SyncFault.TheVariants.{Memory}
 use Rattle.snap_sync.proofs.FaultLemmas.{handed_on, listing_lent}
 use Rattle.snap_sync.proofs.FoldersLemmas.{all_read_nothing, all_read_lent}
 use Rattle.snap_sync.proofs.ListingLemmas.{ListsSome, lists_none, lists_lent, lists_all}
@@ -28,6 +29,14 @@ returns-in_err-listing-clause-failed g c =
 pub returns-in_err-push-clause-folders : goal.returns-in_err-push-clause-folders
 returns-in_err-push-clause-folders g c =
     all_read_lent g.F.Folder.view _ c.loop-disk.folders c.loop-disk.disk _ _ (omega arith) c.loop-disk.invariant.read c.list_folder.ensures.folder
+
+pub returns-in_err-push-clause-failed : goal.returns-in_err-push-clause-failed
+returns-in_err-push-clause-failed g c =
+    let olds = map g.F.Folder.view c.args.folders.now in
+    handed_on c.from_residual-in_err-push.result _ _
+    (λ fault same. subst (EndsListings olds (map g.F.Folder.view _)) (sym same)
+    (listing_lent g.F.Folder.view olds c.loop-disk.folders c.loop-disk.disk _ _ Memory (omega arith) (omega (arith, length-map c.args.folders.now g.F.Folder.view)) c.loop-disk.invariant.read c.loop-disk.invariant.calls c.loop-disk.invariant.others c.in_ok-listing.ensures.listed.calls))
+    c.from_residual-in_err-push.ensures.1
 
 pub loop-disk-preserved : goal.loop-disk-preserved
 loop-disk-preserved g c =

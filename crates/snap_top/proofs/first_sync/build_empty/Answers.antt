@@ -1,4 +1,4 @@
-use Rattle.std.proofs.Common.{IfOk, Result, Ok, Err, ◌∙◌, ap, length, sym, arith}
+use Rattle.std.proofs.Common.{IfOk, Result, Ok, Err, ◌∙◌, ap, length, arith}
 use Rattle.snap_top.specs.FormSetup.{form_of}
 use Rattle.snap_top.proofs.EmptyLemmas.{empty_built}
 use Rattle.snap_top.proofs.first_sync.build_empty.Goals as goal

@@ -1,4 +1,4 @@
-use Rattle.std.proofs.Common.{rules, string_bytes, sym, ◌∙◌}
+use Rattle.std.proofs.Common.{rules, string_bytes}
 use Rattle.snap_top.proofs.WordsLemmas.{asks_four}
 use Rattle.snap_top.proofs.words.asked.Goals as goal
 

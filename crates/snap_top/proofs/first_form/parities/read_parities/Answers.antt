@@ -1,6 +1,6 @@
-use Rattle.std.proofs.Common.{◌∙◌, ◌≡◌, ◌≤◌, length, arith, rules}
+use Rattle.std.proofs.Common.{◌∙◌, arith, rules}
 use Rattle.std.proofs.lemmas.Bool.Decides.{nat_tests}
-use Rattle.snap_top.proofs.LevelLemmas.{levels_more, levels_done, levels_empty, level_shorter}
+use Rattle.snap_top.proofs.LevelLemmas.{levels_more, levels_done, levels_empty}
 use Rattle.snap_top.proofs.first_form.parities.read_parities.Goals as goal
 
 pub loop-file-preserved : goal.loop-file-preserved
