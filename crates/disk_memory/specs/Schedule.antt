@@ -28,7 +28,12 @@ pub record Obeys (failed : Bool) (old new : Plan) : Type 0 where
   pub counts : new ≡ counted old
   pub due : IsDue (counted old) → failed ≡ true
 
--- It failed just where it was to fail, or where memory refused the entry of the call, so that calls are told no more.
-pub record ObeysExactly (failed : Bool) (old new : Plan) (told told_now : Bool) : Type 0 where
+-- Of an object that tells its calls: it failed too where memory refused the entry of the call, so that calls are told no more.
+pub record ObeysOnRecord (failed : Bool) (old new : Plan) (told told_now : Bool) : Type 0 where
   pub obeys : Obeys failed old new
+  pub lost : told ≡ true → told_now ≡ false → failed ≡ true
+
+-- It failed nowhere else.
+pub record ObeysExactly (failed : Bool) (old new : Plan) (told told_now : Bool) : Type 0 where
+  pub obeys : ObeysOnRecord failed old new told told_now
   pub only : failed ≡ true → IsDue (counted old) ⊎ ((told ≡ true) × (told_now ≡ false))

@@ -113,7 +113,7 @@ impl Folder for MemFolder {
     ghost use Rattle.disk_model.specs.Stamp.{IsStamp};
     ghost use Rattle.disk_model.specs.Tree.{file_of, meta_of, path_of, IsListing, listed, listing_of};
     ghost use Rattle.disk_model.specs.Folder.{ListFiles, Look, ReadAt, IsFolderReading, MissingExactly, listing_failed, file_failed};
-    ghost use Rattle.disk_memory.specs.Schedule.{Obeys, ObeysExactly};
+    ghost use Rattle.disk_memory.specs.Schedule.{ObeysOnRecord, ObeysExactly};
     ghost use Rattle.disk_memory.specs.Folder.{folder_view, folder_plan, folder_well_formed};
 
     ghost view = { folder_view };
@@ -150,7 +150,7 @@ impl Folder for MemFolder {
         ensures missing { MissingExactly result (folder_view self.old) (path_of path.now lost) }
         ensures stamp { IfOk result (λ meta. IsStamp meta.stamp) }
         ensures found { IsTrue (folder_view self.old).tells → IfOk result (λ meta. option_map meta_of (file_of (folder_view self.old).tree (path_of path.now lost)) ≡ Some meta) }
-        ensures scheduled { Obeys (file_failed result) (folder_plan self.old) (folder_plan self.new) }
+        ensures scheduled { ObeysOnRecord (file_failed result) (folder_plan self.old) (folder_plan self.new) (folder_view self.old).tells_calls (folder_view self.new).tells_calls }
     {
         let entry = look_entry(path, lost);
         if !begin(&mut self.schedule, &mut self.past, entry) {
@@ -182,7 +182,7 @@ impl Folder for MemFolder {
         ensures missing { MissingExactly result (folder_view self.old) (path_of path.now lost) }
         ensures bound { IfOk result (λ n. n ≤ length out.new) }
         ensures found { IsTrue (folder_view self.old).tells → IfOk result (λ n. IfSome (file_of (folder_view self.old).tree (path_of path.now lost)) (λ file. take n out.new ≡ read_from file.bytes at (length out.old))) }
-        ensures scheduled { Obeys (file_failed result) (folder_plan self.old) (folder_plan self.new) }
+        ensures scheduled { ObeysOnRecord (file_failed result) (folder_plan self.old) (folder_plan self.new) (folder_view self.old).tells_calls (folder_view self.new).tells_calls }
     {
         let entry = read_entry(path, lost, at, out.len());
         if !begin(&mut self.schedule, &mut self.past, entry) {

@@ -3,8 +3,9 @@
 //! Start at `folder.rt` and `vault.rt`. Each object keeps a `Schedule`, which of its calls are to fail
 //! and how many failed, and all but a sink a `Past`, the record of its calls. A call counts where it
 //! takes `&mut self` in its trait; the first has the number 1. Where memory refuses a growth, that call
-//! fails as the object's device would. Where it refuses the entry in the record, the call does nothing
-//! else than fail, and from then on the object tells its calls no more.
+//! fails as the object's device would, or answers want of memory where it has that answer. Where it refuses
+//! the entry in the record, the call does nothing else than fail, and from then on the object tells its
+//! calls no more.
 //! Proved: the objects meet their traits, and the calls of their own do what their clauses say.
 //! Not here: what a stop may leave of a vault. It tells no images.
 #![tactic(auto)]

@@ -65,10 +65,10 @@ impl<F: Folder, V: Vault> Opener for MemOpener<F, V> {
 
     type Vault = V;
 
-    ghost use Rattle.std.specs.Prelude.{◌≡◌, ◌<◌, ℕ, map, length, take, get_or, vec_len, true, false, IsTrue, IfOk, OnErr};
+    ghost use Rattle.std.specs.Prelude.{◌≡◌, ◌<◌, ℕ, map, length, take, get_or, vec_len, true, false, IsTrue, IfOk, OnOk, OnErr, None, is_err};
     ghost use Rattle.disk_model.specs.Folder.{quiet_folder};
     ghost use Rattle.disk_model.specs.Opener.{Config, Open, IsOpenerCall, HoldsSame, FolderIsGiven, VaultIsGiven, folder_held, has_failed};
-    ghost use Rattle.disk_memory.specs.Schedule.{Obeys, plan_of};
+    ghost use Rattle.disk_memory.specs.Schedule.{ObeysOnRecord, plan_of};
     ghost use Rattle.disk_memory.specs.Calls.{opener_calls};
     ghost use Rattle.disk_memory.specs.Opener.{opener_view, folders_left, vault_left};
 
@@ -85,7 +85,7 @@ impl<F: Folder, V: Vault> Opener for MemOpener<F, V> {
         ensures call { IsOpenerCall (Config name.now) result (⟦<MemOpener<F, V> as Opener>⟧.view self.old) (⟦<MemOpener<F, V> as Opener>⟧.view self.new) }
         ensures same { HoldsSame (⟦<MemOpener<F, V> as Opener>⟧.view self.old) (⟦<MemOpener<F, V> as Opener>⟧.view self.new) }
         ensures found { IsTrue (⟦<MemOpener<F, V> as Opener>⟧.view self.old).tells → IfOk result (λ bytes. bytes.items ≡ take 1048577 (⟦<MemOpener<F, V> as Opener>⟧.view self.old).config) }
-        ensures scheduled { Obeys (has_failed result) (plan_of self.old.schedule) (plan_of self.new.schedule) }
+        ensures scheduled { ObeysOnRecord (has_failed result) (plan_of self.old.schedule) (plan_of self.new.schedule) (⟦<MemOpener<F, V> as Opener>⟧.view self.old).tells_calls (⟦<MemOpener<F, V> as Opener>⟧.view self.new).tells_calls }
     {
         let entry = config_entry(alloc, name);
         if !begin(&mut self.schedule, &mut self.past, entry) {
@@ -106,7 +106,9 @@ impl<F: Folder, V: Vault> Opener for MemOpener<F, V> {
             VaultIsGiven (⟦<MemOpener<F, V> as Opener>⟧.view self.old).tells (vec_len places.now.parities) (vec_len places.now.contents) (⟦<MemOpener<F, V> as Opener>⟧.view self.old).vault (V.view opened.vault)) }
         ensures kept { OnErr result (HoldsSame (⟦<MemOpener<F, V> as Opener>⟧.view self.old) (⟦<MemOpener<F, V> as Opener>⟧.view self.new)) }
         ensures failed { OnErr result (has_failed result ≡ true) }
-        ensures scheduled { Obeys (has_failed result) (plan_of self.old.schedule) (plan_of self.new.schedule) }
+        ensures given { OnOk result (self.new.held ≡ None) }
+        ensures empty { self.old.held ≡ None → is_err result ≡ true }
+        ensures scheduled { ObeysOnRecord (has_failed result) (plan_of self.old.schedule) (plan_of self.new.schedule) (⟦<MemOpener<F, V> as Opener>⟧.view self.old).tells_calls (⟦<MemOpener<F, V> as Opener>⟧.view self.new).tells_calls }
     {
         let entry = open_entry(alloc, places);
         let may = begin(&mut self.schedule, &mut self.past, entry);

@@ -49,6 +49,7 @@ impl<C: Drop> Past<C> {
         ensures noted { IfSome call (λ c. Notes c true self.old self.new) }
         ensures refused { IfNone call (Loses self.old self.new) }
         ensures cause { result ≡ false → LosesNow self.old self.new }
+        ensures lost { self.old.lost ≡ false → self.new.lost ≡ true → result ≡ false }
     {
         if self.lost {
             return true;
@@ -69,6 +70,7 @@ pub fn begin<C: Drop>(schedule: &mut Schedule, past: &mut Past<C>, call: Option<
     ensures counts { plan_of schedule.new ≡ counted (plan_of schedule.old) }
     ensures due { OnTrue result (¬ (IsDue (plan_of schedule.new))) }
     ensures cause { result ≡ false → IsDue (plan_of schedule.new) ⊎ LosesNow past.old past.new }
+    ensures lost { past.old.lost ≡ false → past.new.lost ≡ true → result ≡ false }
     ensures noted { IfSome call (λ c. Notes c true past.old past.new) }
     ensures refused { IfNone call (Loses past.old past.new) }
 {

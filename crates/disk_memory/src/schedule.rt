@@ -1,6 +1,6 @@
 // When the calls of an object fail.
 ghost use Rattle.std.specs.Prelude.{◌≡◌, ◌↔◌, ◌⊎◌, ◌+◌, ◌-◌, ◌^◌, ◌<◌, ◌≤◌, [], ◌∷◌, ◌++◌, min, IsTrue, OnOk, OnErr, Contains};
-ghost use Rattle.disk_model.specs.Cause.{Rose};
+ghost use Rattle.disk_model.specs.Cause.{Rose, AtMostOnce};
 ghost use Rattle.disk_memory.specs.Schedule.{plan_of, IsDue, counted, fresh_plan};
 
 use disk_model::{Failed, NoMemory};
@@ -62,6 +62,7 @@ impl Schedule {
         ensures plan { plan_of self.new ≡ plan_of self.old }
         ensures later { self.old.faults ≤ self.new.faults }
         ensures cause { Rose self.old.faults self.new.faults }
+        ensures once { AtMostOnce self.old.faults self.new.faults }
     {
         self.faults = self.faults.saturating_add(1);
         Failed

@@ -62,7 +62,7 @@ fn absent_drafts(alloc: Global, count: u32) -> Result<Vec<Draft>, NoMemory>
 
 impl MemVault {
     ghost use Rattle.std.specs.Prelude.{◌<◌, ◌≤◌, [], ◌∷◌, ◌++◌, set, IfOk, OnOk, OnErr};
-    ghost use Rattle.disk_model.specs.Cause.{Rose};
+    ghost use Rattle.disk_model.specs.Cause.{Rose, AtMostOnce};
     ghost use Rattle.std.specs.Option.{option_copied};
     ghost use Rattle.disk_model.specs.Files.{with_parity, with_content};
     ghost use Rattle.disk_model.specs.Vault.{copies_of, IsSettled};
@@ -132,6 +132,7 @@ impl MemVault {
         requires { copy < copies_of (vault_view self.old) }
         ensures cause { Rose (vault_state self.old).faults (vault_state self.new).faults }
         ensures later { (vault_state self.old).faults ≤ (vault_state self.new).faults }
+        ensures once { AtMostOnce (vault_state self.old).faults (vault_state self.new).faults }
         ensures plan { vault_plan self.new ≡ vault_plan self.old }
         ensures lost { vault_state self.new ≡ record (vault_state self.old) {
           faults = (vault_state self.new).faults;
@@ -170,7 +171,7 @@ impl Vault for MemVault {
     ghost use Rattle.disk_model.specs.Files.{parity_of, content_of, TearsParity, StretchesParity, MayPublish, Stays};
     ghost use Rattle.disk_model.specs.Vault.{ParityLen, ParityRead, ParityWrite, ParitySetLen, ParitySync, ContentSize, ContentRead, DraftBegin, DraftAppend, DraftSeal, Publish};
     ghost use Rattle.disk_model.specs.Vault.{copies_of, draft_of, staged_of, is_sealed, IsCall, IsReading, ChangesBy, Reads, Holds, DraftIs, DraftsStay};
-    ghost use Rattle.disk_memory.specs.Schedule.{Obeys, ObeysExactly};
+    ghost use Rattle.disk_memory.specs.Schedule.{ObeysOnRecord, ObeysExactly};
     ghost use Rattle.disk_memory.specs.Vault.{vault_view, vault_state, vault_plan};
     ghost use Rattle.disk_memory.specs.VaultLaws.{vault_well_formed};
 
@@ -226,7 +227,7 @@ impl Vault for MemVault {
         ensures written { OnOk result (Reads (λ files. parity_of files level ≡ put (parity_of (vault_view self.old).files level) at bytes.now) (vault_view self.new)) }
         ensures changes { ChangesBy (TearsParity level at (length bytes.now)) (vault_view self.old) (vault_view self.new) }
         ensures drafts { DraftsStay (vault_view self.old) (vault_view self.new) }
-        ensures scheduled { Obeys (is_err result) (vault_plan self.old) (vault_plan self.new) }
+        ensures scheduled { ObeysOnRecord (is_err result) (vault_plan self.old) (vault_plan self.new) (vault_state self.old).tells_calls (vault_state self.new).tells_calls }
     {
         let entry = write_entry(self.alloc, level, at, bytes);
         if !begin(&mut self.schedule, &mut self.past, entry) {
@@ -247,7 +248,7 @@ impl Vault for MemVault {
         ensures written { OnOk result (Reads (λ files. parity_of files level ≡ resized (parity_of (vault_view self.old).files level) len) (vault_view self.new)) }
         ensures changes { ChangesBy (StretchesParity level len) (vault_view self.old) (vault_view self.new) }
         ensures drafts { DraftsStay (vault_view self.old) (vault_view self.new) }
-        ensures scheduled { Obeys (is_err result) (vault_plan self.old) (vault_plan self.new) }
+        ensures scheduled { ObeysOnRecord (is_err result) (vault_plan self.old) (vault_plan self.new) (vault_state self.old).tells_calls (vault_state self.new).tells_calls }
     {
         let entry = Some(VaultEntry::ParitySetLen(level, len));
         if !begin(&mut self.schedule, &mut self.past, entry) {
@@ -339,7 +340,7 @@ impl Vault for MemVault {
         ensures appended { OnOk result (DraftIs copy Draft.Open (staged_of (vault_view self.old) copy ++ bytes.now) (vault_view self.old) (vault_view self.new)) }
         ensures gone { OnErr result (DraftIs copy Draft.Absent [] (vault_view self.old) (vault_view self.new)) }
         ensures changes { ChangesBy Stays (vault_view self.old) (vault_view self.new) }
-        ensures scheduled { Obeys (is_err result) (vault_plan self.old) (vault_plan self.new) }
+        ensures scheduled { ObeysOnRecord (is_err result) (vault_plan self.old) (vault_plan self.new) (vault_state self.old).tells_calls (vault_state self.new).tells_calls }
     {
         let entry = append_entry(self.alloc, copy, bytes);
         if !begin(&mut self.schedule, &mut self.past, entry) {

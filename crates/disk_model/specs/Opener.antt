@@ -1,6 +1,6 @@
 -- What is known of an opener, and what its calls do.
 use Rattle.std.specs.Prelude.{◌≡◌, ◌↔◌, ℕ, ◌≤◌, List, [], ◌∷◌, replicate, get_or, Bool, true, false, IsTrue, Result, Ok, Err}
-use Rattle.disk_model.specs.Cause.{Rose, Grows}
+use Rattle.disk_model.specs.Cause.{Rose, AtMostOnce, Grows}
 use Rattle.disk_model.specs.Files.{Files}
 use Rattle.disk_model.specs.Folder.{FolderView, quiet_folder}
 use Rattle.disk_model.specs.Vault.{VaultView, IsSettled}
@@ -41,10 +41,12 @@ pub record OpenerGoesOn (old new : OpenerView) (done : List OpenerDone) : Type 0
   pub tells : new.tells ≡ old.tells
   pub calls : Grows old.tells_calls old.calls new.tells_calls new.calls done
 
--- one call, with its cause where it failed
+-- one call: the count rises by one where it failed, and there alone
 pub record IsOpenerCall {T : Type 0} (call : OpenerCall) (result : Result T OpenFault) (old new : OpenerView) : Type 0 where
   pub goes_on : OpenerGoesOn old new (record { call = call; failed = has_failed result } ∷ [])
   pub cause : IsTrue (has_failed result) → Rose old.faults new.faults
+  pub unfailed : has_failed result ≡ false → new.faults ≡ old.faults
+  pub once : IsTrue (has_failed result) → AtMostOnce old.faults new.faults
 
 -- the folder of a column that it holds, of one that tells none a new one
 abbrev pub folder_held : OpenerView → ℕ → FolderView

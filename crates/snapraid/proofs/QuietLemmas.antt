@@ -2,22 +2,22 @@
 use Rattle.std.proofs.Common.{◌≡◌, ◌∙◌, ℕ, ◌≤◌, List, map, set, get_or, Result, Ok, Err, OnOk, OnErr, is_err, sym, ap, subst, rules}
 use Rattle.std.proofs.lemmas.List.{map-set}
 use Rattle.std.proofs.Math.Seq.{map-set_same}
-use Rattle.disk_model.specs.Cause.{Rose}
+use Rattle.disk_model.specs.Cause.{Rose, AtMostOnce}
 use Rattle.disk_model.specs.Vault.{VaultCall, IsReading, DraftIs, quiet_vault}
 use Rattle.disk_model.specs.declared.draft.Draft.{Draft}
 use Rattle.disk_model.specs.declared.fault.Failed.{Failed}
 
-still_reading : {T : Type 0} (call : VaultCall) (result : Result T Failed) (before after levels : ℕ) (drafts : List Draft) → before ≤ after → OnErr result (Rose before after)
+still_reading : {T : Type 0} (call : VaultCall) (result : Result T Failed) (before after levels : ℕ) (drafts : List Draft) → before ≤ after → OnErr result (Rose before after) → OnOk result (after ≡ before) → OnErr result (AtMostOnce before after)
     → IsReading call result (quiet_vault before levels drafts) (quiet_vault after levels drafts)
-still_reading call result before after levels drafts later cause = search rules
+still_reading call result before after levels drafts later cause unfailed once = search rules
 
 -- a copy is replaced by one with the same draft
 pub reading : {X T : Type 0} (draft_in : X → Draft) (copies : List X) (i : ℕ) (copy d : X) (call : VaultCall) (result : Result T Failed) (before after levels : ℕ)
-    → draft_in copy ≡ draft_in (get_or copies i d) → before ≤ after → OnErr result (Rose before after)
+    → draft_in copy ≡ draft_in (get_or copies i d) → before ≤ after → OnErr result (Rose before after) → OnOk result (after ≡ before) → OnErr result (AtMostOnce before after)
     → IsReading call result (quiet_vault before levels (map draft_in copies)) (quiet_vault after levels (map draft_in (set copies i copy)))
-reading draft_in copies i copy d call result before after levels same later cause =
+reading draft_in copies i copy d call result before after levels same later cause unfailed once =
     subst (λ (drafts : List Draft). IsReading call result (quiet_vault before levels (map draft_in copies)) (quiet_vault after levels drafts)) (sym (map-set_same draft_in copies i copy d same))
-    (still_reading call result before after levels (map draft_in copies) later cause)
+    (still_reading call result before after levels (map draft_in copies) later cause unfailed once)
 
 -- a copy is replaced by one with this draft
 pub draft_is : {X : Type 0} (draft_in : X → Draft) (copies : List X) (i : ℕ) (copy : X) (draft : Draft) (content : List ℕ) (before after levels : ℕ)

@@ -1,6 +1,6 @@
 // How failures of the system are counted.
-ghost use Rattle.std.specs.Prelude.{◌≡◌, ◌+◌, ◌-◌, ◌^◌, ◌≤◌, min, IfOk, OnOk, OnErr, IsTrue, IsErrOf, None, Some, false, is_err};
-ghost use Rattle.disk_model.specs.Cause.{Rose};
+ghost use Rattle.std.specs.Prelude.{◌≡◌, ◌≤◌, IfOk, OnOk, OnErr, IsTrue, IsErrOf, None, Some, false, is_err};
+ghost use Rattle.disk_model.specs.Cause.{Rose, AtMostOnce};
 ghost use Rattle.disk_model.specs.Folder.{file_failed, listing_failed};
 
 use disk_model::{Failed, FileFault, ListFault};
@@ -11,7 +11,7 @@ use std::io::ErrorKind;
 pub(crate) fn raise(faults: &mut u64)
     ensures later { faults.old ≤ faults.new }
     ensures rose { Rose faults.old faults.new }
-    ensures one { faults.new ≡ min (faults.old + 1) (2 ^ 64 - 1) }
+    ensures once { AtMostOnce faults.old faults.new }
 {
     *faults = faults.saturating_add(1);
 }
@@ -23,6 +23,7 @@ pub(crate) fn counted<T: Drop>(faults: &mut u64, answer: io::Result<T>) -> Resul
     ensures same { is_err result ≡ is_err answer }
     ensures kept { OnOk result (faults.new ≡ faults.old) }
     ensures cause { OnErr result (Rose faults.old faults.new) }
+    ensures once { OnErr result (AtMostOnce faults.old faults.new) }
 {
     match answer {
         Ok(value) => Ok(value),
@@ -44,6 +45,7 @@ pub(crate) fn counted_file<T: Drop>(
     ensures same { file_failed result ≡ is_err answer }
     ensures kept { file_failed result ≡ false → faults.new ≡ faults.old }
     ensures cause { IsTrue (file_failed result) → Rose faults.old faults.new }
+    ensures once { IsTrue (file_failed result) → AtMostOnce faults.old faults.new }
 {
     match answer {
         Ok(Some(value)) => Ok(value),
@@ -65,6 +67,7 @@ pub(crate) fn counted_listing<T: Drop>(
     ensures same { is_err result ≡ is_err answer }
     ensures kept { listing_failed result ≡ false → faults.new ≡ faults.old }
     ensures cause { IsTrue (listing_failed result) → Rose faults.old faults.new }
+    ensures once { IsTrue (listing_failed result) → AtMostOnce faults.old faults.new }
 {
     match answer {
         Ok(value) => Ok(value),

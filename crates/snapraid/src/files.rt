@@ -62,7 +62,7 @@ pub(crate) fn sync_folder_of<R: Files>(rt: &R, name: &str) -> io::Result<()> {
 }
 
 // The folder in which a name stands.
-fn folder_of(name: &str) -> &str {
+pub(crate) fn folder_of(name: &str) -> &str {
     match name.rsplit_once('/') {
         Some(("", _)) => "/",
         Some((folder, _)) => folder,

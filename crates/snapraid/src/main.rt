@@ -3,7 +3,7 @@
 //! Start at `main`. `opener.rt`, `folder.rt`, `vault.rt` and `sink.rt` make the system what `disk_model`
 //! asks for, each in a few lines. Under the folder stand `listing.rt`, `order.rt` and `places.rt`, under
 //! the vault `parity.rt`, `contents.rt` and `drafts.rt`.
-//! Proved: they meet their traits, and count each failure of the system; what a folder lists is in order,
+//! Proved: they meet their traits, and count each call that fails; what a folder lists is in order,
 //! whatever the system gave. They tell nothing of what files hold, since no contract can; `tests.rt`
 //! runs them over real files.
 #![tactic(auto)]

@@ -1,76 +1,103 @@
 // A stand-in for the system that lets syncs and renames pass in one order alone.
-use std::alloc::Allocator;
-use std::cell::Cell;
+use std::alloc::{AllocError, Allocator, Global};
 use std::fs::{Metadata, OpenFile, OpenOptions};
 use std::io::{ErrorKind, Read, Seek, SeekFrom, Write};
 use std::os::unix::fs::FileExt;
 use std::rt::Files;
+use std::sync::Arc;
+use std::sync::atomic::{AtomicUsize, Ordering};
 use std::{fs, io};
 
-// What is wanted of the system next: the name of a call, and of the file that it is for.
+// A call that hands something to the disk, and the file that it is for.
+#[derive(Clone, Copy, Debug, PartialEq, Eq)]
+pub(super) enum Step {
+    Sync(Name),
+    Rename(Name),
+}
+
+// What a path names.
+#[derive(Clone, Copy, Debug, PartialEq, Eq)]
+pub(super) enum Name {
+    Content,
+    Draft,
+    Parity,
+    Folder,
+    Other,
+}
+
+// What is wanted of the system in the folder of a test, one step after another. One of them may be to fail.
 #[derive(Drop)]
 pub(super) struct Steps {
-    wanted: &'static [(&'static str, &'static str)],
-    taken: Cell<usize>,
+    folder: String,
+    wanted: Vec<Step>,
+    failing: Option<usize>,
+    taken: AtomicUsize,
 }
 
 impl Steps {
-    pub(super) fn new(wanted: &'static [(&'static str, &'static str)]) -> Steps {
-        Steps {
-            wanted,
-            taken: Cell::new(0),
-        }
+    pub(super) fn new(
+        alloc: Global,
+        folder: &str,
+        wanted: &[Step],
+        failing: Option<usize>,
+    ) -> Result<Steps, AllocError> {
+        Ok(Steps {
+            folder: String::from_str(alloc, folder)?,
+            wanted: Vec::from_slice(alloc, wanted)?,
+            failing,
+            taken: AtomicUsize::new(0),
+        })
     }
 
-    pub(super) fn are_taken(&self) -> bool {
-        self.taken.get() == self.wanted.len()
+    // How many steps were taken, one that failed too.
+    pub(super) fn taken(&self) -> usize {
+        self.taken.load(Ordering::SeqCst)
     }
 
-    fn take(&self, call: &str, name: &str) -> io::Result<()> {
-        let taken = self.taken.get();
-        match self.wanted.get(taken) {
-            Some((next, of)) if *next == call && *of == name => {
-                self.taken.set(taken.saturating_add(1));
-                Ok(())
-            }
-            _ => Err(io::Error::from(ErrorKind::InvalidInput)),
+    fn take(&self, step: Step) -> io::Result<()> {
+        let taken = self.taken();
+        self.taken.store(taken.saturating_add(1), Ordering::SeqCst);
+        if self.wanted.get(taken) == Some(&step) && self.failing != Some(taken) {
+            return Ok(());
         }
+        Err(io::Error::from(ErrorKind::InvalidInput))
     }
-}
 
-// The name at the end of a path.
-fn known_name(path: &str) -> &'static str {
-    for name in ["content.tmp", "content", "parity"] {
-        if path.ends_with(name) {
-            return name;
+    fn name_of(&self, path: &str) -> Name {
+        let folder = self.folder.as_str();
+        match path.strip_prefix(folder) {
+            Some("") => Name::Folder,
+            Some("/content") => Name::Content,
+            Some("/content.tmp") => Name::Draft,
+            Some("/parity") => Name::Parity,
+            _ => Name::Other,
         }
     }
-    "folder"
 }
 
 #[derive(Drop)]
-pub(super) struct Watched<'a, R> {
-    pub(super) rt: &'a R,
-    pub(super) steps: &'a Steps,
+pub(super) struct Watched<R> {
+    pub(super) rt: R,
+    pub(super) steps: Arc<Steps, Global>,
 }
 
 #[derive(Drop)]
-pub(super) struct WatchedFile<'a, F> {
+pub(super) struct WatchedFile<F> {
     file: F,
-    name: &'static str,
-    steps: &'a Steps,
+    name: Name,
+    steps: Arc<Steps, Global>,
 }
 
-impl<'a, R: Files> Files for Watched<'a, R> {
-    type File = WatchedFile<'a, R::File>;
+impl<R: Files> Files for Watched<R> {
+    type File = WatchedFile<R::File>;
 
     type Dir = R::Dir;
 
-    fn open_file(&self, how: &OpenOptions, path: &str) -> io::Result<WatchedFile<'a, R::File>> {
+    fn open_file(&self, how: &OpenOptions, path: &str) -> io::Result<WatchedFile<R::File>> {
         Ok(WatchedFile {
             file: self.rt.open_file(how, path)?,
-            name: known_name(path),
-            steps: self.steps,
+            name: self.steps.name_of(path),
+            steps: Arc::try_clone(&self.steps)?,
         })
     }
 
@@ -91,11 +118,15 @@ impl<'a, R: Files> Files for Watched<'a, R> {
     }
 
     fn rename(&self, from: &str, to: &str) -> io::Result<()> {
-        self.steps.take("rename", known_name(from))?;
+        self.steps.take(Step::Rename(self.steps.name_of(from)))?;
         self.rt.rename(from, to)
     }
 
+    // A copy is never without a file.
     fn remove_file(&self, path: &str) -> io::Result<()> {
+        if self.steps.name_of(path) == Name::Content {
+            return Err(io::Error::from(ErrorKind::InvalidInput));
+        }
         self.rt.remove_file(path)
     }
 
@@ -112,13 +143,13 @@ impl<'a, R: Files> Files for Watched<'a, R> {
     }
 }
 
-impl<'a, F: Read> Read for WatchedFile<'a, F> {
+impl<F: Read> Read for WatchedFile<F> {
     fn read(&mut self, buf: &mut [u8]) -> io::Result<usize> {
         self.file.read(buf)
     }
 }
 
-impl<'a, F: Write> Write for WatchedFile<'a, F> {
+impl<F: Write> Write for WatchedFile<F> {
     fn write(&mut self, buf: &[u8]) -> io::Result<usize> {
         self.file.write(buf)
     }
@@ -128,13 +159,13 @@ impl<'a, F: Write> Write for WatchedFile<'a, F> {
     }
 }
 
-impl<'a, F: Seek> Seek for WatchedFile<'a, F> {
+impl<F: Seek> Seek for WatchedFile<F> {
     fn seek(&mut self, to: SeekFrom) -> io::Result<u64> {
         self.file.seek(to)
     }
 }
 
-impl<'a, F: OpenFile> OpenFile for WatchedFile<'a, F> {
+impl<F: OpenFile> OpenFile for WatchedFile<F> {
     fn metadata(&self) -> io::Result<Metadata> {
         self.file.metadata()
     }
@@ -144,7 +175,7 @@ impl<'a, F: OpenFile> OpenFile for WatchedFile<'a, F> {
     }
 
     fn sync_all(&self) -> io::Result<()> {
-        self.steps.take("sync", self.name)?;
+        self.steps.take(Step::Sync(self.name))?;
         self.file.sync_all()
     }
 
@@ -153,7 +184,7 @@ impl<'a, F: OpenFile> OpenFile for WatchedFile<'a, F> {
     }
 }
 
-impl<'a, F: FileExt> FileExt for WatchedFile<'a, F> {
+impl<F: FileExt> FileExt for WatchedFile<F> {
     fn read_at(&self, buf: &mut [u8], offset: u64) -> io::Result<usize> {
         self.file.read_at(buf, offset)
     }

@@ -1,4 +1,4 @@
-use Rattle.std.proofs.Common.{inl, refl, ◌∙◌, ap}
+use Rattle.std.proofs.Common.{refl, ◌∙◌, ap}
 use Rattle.snap_top.specs.Lines.{plain_line}
 use Rattle.snap_top.specs.FirstSync.{failed}
 use Rattle.snap_sync.specs.declared.fault.SyncFault.TheVariants.{Memory}

@@ -28,11 +28,11 @@ returns-then-not-may-clause-call g c =
     let places = c.args.places.now in
     let call = Open places.dirs.items places.parities.items places.contents.items in
     let grows = grows_failed opener_call done c.open_entry-entry.result call c.args.self.now.past c.begin-may.new.past c.begin-may.ensures.noted c.begin-may.ensures.refused c.open_entry-entry.ensures in
-    record { goes_on = record { later = search rules; tells = refl; calls = grows }; cause = search rules }
+    record { goes_on = record { later = search rules; tells = refl; calls = grows }; cause = search rules; unfailed = search rules; once = search rules }
 
 pub returns-in-Some-take-clause-call : goal.returns-in-Some-take-clause-call
 returns-in-Some-take-clause-call g c =
     let places = c.args.places.now in
     let call = Open places.dirs.items places.parities.items places.contents.items in
     let grows = grows_done opener_call done c.open_entry-entry.result call c.args.self.now.past c.begin-may.new.past c.succeed.new.self c.begin-may.ensures.noted c.begin-may.ensures.refused c.succeed.ensures c.open_entry-entry.ensures in
-    record { goes_on = record { later = search rules; tells = refl; calls = grows }; cause = search rules }
+    record { goes_on = record { later = search rules; tells = refl; calls = grows }; cause = search rules; unfailed = search rules; once = search rules }

@@ -19,6 +19,8 @@ returns-in-Ok-clause-call c =
     record {
       goes_on = record { later = omega arith; levels = refl; copies = refl; tells = refl; calls = grows };
       cause = search rules;
+      unfailed = search rules;
+      once = search rules;
       remembers = search rules;
     }
 
@@ -35,5 +37,7 @@ returns-in-Err-clause-call c =
     record {
       goes_on = record { later = search rules; levels = refl; copies = refl; tells = refl; calls = grows };
       cause = search rules;
+      unfailed = search rules;
+      once = search rules;
       remembers = search rules;
     }

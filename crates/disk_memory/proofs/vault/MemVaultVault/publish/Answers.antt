@@ -27,5 +27,7 @@ returns-clause-call c =
     record {
       goes_on = record { later = omega arith; levels = refl; copies = length-set c.args.self.now.drafts.items c.args.copy _; tells = refl; calls = grows };
       cause = search rules;
+      unfailed = search rules;
+      once = search rules;
       remembers = search rules;
     }
