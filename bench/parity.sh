@@ -1,6 +1,7 @@
 #!/bin/sh
-# Times a memory copy, add_column and solve over blocks of 256 KiB, in milliseconds. 1,000 rounds of add_column or of the
-# copy go over 250 MiB, and of solve with six columns over 1,500 MiB. It builds a small program over crates/cauchy in a
+# Times a memory copy, add_column and solve over blocks of 256 KiB, in milliseconds: add_column by level 0, whose
+# coefficients are 1, by level 1 at column 1, which is 2, and by level 2. 1,000 rounds of add_column or of the copy go over
+# 250 MiB, and of solve with six columns over 1,500 MiB. It builds a small program over crates/cauchy in a
 # folder of its own, outside the repository, since what it prints differs from run to run.
 # Usage: bench/parity.sh [rounds], 1,000 where nothing is given.
 set -eu
@@ -22,8 +23,8 @@ cauchy: gf256
 parity_speed: cauchy
 CRATES
 cat >"$scratch/crates/parity_speed/src/main.rt" <<'PROGRAM'
-//! Times the parity of blocks of 256 KiB beside a memory copy. The number of rounds is the only argument; without it
-//! nothing is done.
+//! Times the parity of blocks of 256 KiB beside a memory copy. The arguments are the number of rounds and the
+//! level of add_column; without them nothing is done.
 #![tactic(auto)]
 
 use cauchy::{add_column, is_choice, solve};
@@ -41,11 +42,11 @@ fn copy_rounds(rounds: u32, block: &[u8], out: &mut [u8]) {
     }
 }
 
-/// Adds the block to level 2, as column 1, once a round.
-fn add_rounds(rounds: u32, block: &[u8], out: &mut [u8]) {
-    if block.len() == out.len() {
+/// Adds the block to a level, as column 1, once a round.
+fn add_rounds(level: u32, rounds: u32, block: &[u8], out: &mut [u8]) {
+    if block.len() == out.len() && level < 6 {
         for _ in 0..rounds {
-            add_column(2, 1, block, out);
+            add_column(level, 1, block, out);
         }
     }
 }
@@ -72,6 +73,10 @@ fn main(rt: HostRuntime) -> io::Result<()> {
         return Ok(());
     };
     let rounds = word.parse::<u32>().unwrap_or(0);
+    let Some(level_word) = words.next() else {
+        return Ok(());
+    };
+    let level = level_word.parse::<u32>().unwrap_or(0);
     let block = vec![in alloc; 0xa5u8; BLOCK]?;
     let mut out = vec![in alloc; 0x3cu8; BLOCK]?;
     let mut work = vec![in alloc; 0x96u8; 6 * BLOCK]?;
@@ -82,9 +87,9 @@ fn main(rt: HostRuntime) -> io::Result<()> {
     println!(rt; "copy {} ms", copied.as_millis())?;
 
     let start = Instant::now(&rt)?;
-    add_rounds(rounds, &block, &mut out);
+    add_rounds(level, rounds, &block, &mut out);
     let added = start.elapsed(&rt)?;
-    println!(rt; "add_column {} ms", added.as_millis())?;
+    println!(rt; "add_column, level {}: {} ms", level, added.as_millis())?;
 
     let start = Instant::now(&rt)?;
     solve_rounds(rounds, 6, &mut work);
@@ -104,4 +109,6 @@ rt run >"$scratch/log" 2>&1 || {
     cat "$scratch/log" >&2
     exit 1
 }
-./out/parity_speed "$rounds"
+for level in 0 1 2; do
+    ./out/parity_speed "$rounds" "$level"
+done

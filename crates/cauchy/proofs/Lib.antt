@@ -1,10 +1,14 @@
 mod CauchyForm
 mod EliminationLemmas
 mod Factors
+mod LaneLemmas
 mod MatrixLemmas
 mod ParityLemmas
+mod ProductLemmas
 mod PlaceLemmas
 mod RecoveryLemmas
 mod RowLemmas
+mod RowsLemmas
+mod SolvingLemmas
 mod Sums
 mod WorkedExamples

@@ -3,11 +3,11 @@ use Rattle.std.proofs.Common.{◌≡◌, ◌≢◌, ℕ, zero, suc, ◌+◌, ◌
 use Rattle.std.specs.Int.Bits.{bit_xor, xor_zero_r}
 use Rattle.std.proofs.lemmas.Nat.{xor_lt}
 use Rattle.gf256.specs.Field.{sum_below, product, power, inverse, quotient, remainder, carryless_product}
-use Rattle.gf256.proofs.Theorems.{product_lt, product_comm, one_times, zero_times, times_one, product_inverse, inverse_times, inverse_unique, inverse_lt, inverse_positive, power_lt, power_positive, powers_apart, product_of_powers, order_of_two}
+use Rattle.gf256.proofs.Theorems.{product_lt, one_times, zero_times, times_one, product_inverse, inverse_times, inverse_unique, inverse_lt, inverse_positive, power_lt, power_positive, powers_apart, product_of_powers, order_of_two}
 use Rattle.cauchy.specs.Matrix.{entry_of}
 use Rattle.cauchy.proofs.CauchyForm.{IsCauchy, denominator, cross, xor_positive, denominator_lt, IsEliminable-cauchy}
 use Rattle.cauchy.specs.System.{IsChoice, chosen, IsSolution}
-use Rattle.cauchy.specs.Elimination.{cell, table_cell, IsMatrix, IsVector, IsEliminable, Solves, unit}
+use Rattle.cauchy.specs.Elimination.{IsMatrix, IsVector, IsEliminable, Solves, unit}
 use Rattle.cauchy.proofs.Sums.{sum_below-same}
 use Rattle.cauchy.proofs.EliminationLemmas.{some_solution, only_solution, superposed, superposed_lt}
 
@@ -254,12 +254,3 @@ entry_lt r c hr hc =
     let value_lt = product_lt (product (factor_of r) 1) (inverse (denominator (slope_of r) (shift_of r) (place_of c)))
     (product_lt (factor_of r) 1 (factor_lt r hr) (omega arith)) (inverse_lt _ (form_denominator_positive c hc r hr) d) in
     omega (arith, entry_form c r hr, value_lt)
-
--- a sum of products that were looked up
-pub table_sum : (n : ℕ) (tables : List (List (List ℕ))) (inverse : List (List ℕ)) (given : ℕ → ℕ) (j : ℕ) → n ≤ 6 → j < n
-    → ((i : ℕ) → i < n → cell inverse i j < 256) → ((i : ℕ) → i < n → given i < 256)
-    → ((i j b : ℕ) → i < 6 → j < 6 → b < 256 → table_cell tables i j b ≡ product (cell inverse i j) b)
-    → sum_below (λ i. table_cell tables i j (given i)) n ≡ sum_below (λ i. product (given i) (cell inverse i j)) n
-table_sum n tables inverse given j most hj elements bytes made =
-    sum_below-same (λ i. table_cell tables i j (given i)) (λ i. product (given i) (cell inverse i j)) n
-    (λ i hi. made i j (given i) (omega arith) (omega arith) (bytes i hi) ∙ product_comm (cell inverse i j) (given i) (elements i hi) (bytes i hi))

@@ -1,14 +1,24 @@
 -- Systems of n linear equations over the field. The unknown n is eliminated with the equation n, from the last on down.
-use Rattle.std.specs.Prelude.{◌≡◌, ℕ, zero, suc, ◌<◌, ◌==◌, List, [], slice_index, slice_index_or, if◌then◌else◌}
+use Rattle.std.specs.Prelude.{◌≡◌, ℕ, zero, suc, ◌<◌, ◌==◌, List, [], map, length, slice_index, slice_index_or, if◌then◌else◌}
+use Rattle.arrayvec.specs.ArrayVec.{ArrayVec, array_vec_len}
 use Rattle.gf256.specs.Field.{field_sum, sum_below, product}
 
 -- the entry of a matrix at a row and a column
 abbrev pub cell : List (List ℕ) → ℕ → ℕ → ℕ
 cell matrix i j = slice_index (slice_index_or matrix i []) j
 
--- the entry of a table of tables
-abbrev pub table_cell : List (List (List ℕ)) → ℕ → ℕ → ℕ → ℕ
-table_cell tables i j b = cell (slice_index_or tables i []) j b
+-- the rows of a matrix as lists
+abbrev pub rows_of : ArrayVec (ArrayVec ℕ) → List (List ℕ)
+rows_of matrix = map (λ row. row.items) matrix.items
+
+-- the coefficients of a matrix
+abbrev pub entries : ArrayVec (ArrayVec ℕ) → ℕ → ℕ → ℕ
+entries matrix = cell (rows_of matrix)
+
+-- so many rows, each with so many entries
+pub record HasShape (rows columns : ℕ) (matrix : ArrayVec (ArrayVec ℕ)) : Type 0 where
+  pub row_count : array_vec_len matrix ≡ rows
+  pub lengths : (i : ℕ) → i < rows → length (slice_index_or (rows_of matrix) i []) ≡ columns
 
 -- what equation i becomes, so that the unknown n is gone: M(n,n) times equation i plus M(i,n) times equation n
 abbrev pub reduced : (ℕ → ℕ → ℕ) → ℕ → ℕ → ℕ → ℕ

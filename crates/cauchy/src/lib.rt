@@ -14,8 +14,10 @@
 mod choice;
 mod elimination;
 mod inverse;
+mod lanes;
 pub mod laws;
 mod matrix;
+mod products;
 mod recovery;
 
 pub use choice::is_choice;

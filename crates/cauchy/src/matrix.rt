@@ -1,10 +1,10 @@
 //! The entries of the matrix, and one column's part of a level.
 
-ghost use Rattle.std.specs.Prelude.{◌≡◌, ◌+◌, ◌<◌, ◌++◌, ◌∷◌, [], ℕ, List, length, slice_index};
-ghost use Rattle.gf256.specs.Field.{product};
+ghost use Rattle.std.specs.Prelude.{◌≡◌, ◌+◌, ◌<◌, ◌++◌, ◌∷◌, [], ℕ, List, length};
 ghost use Rattle.cauchy.specs.Matrix.{entry_of, parity_of, AddsTerm};
 
-use gf256::{div, inv, mul, pow2};
+use crate::products::add_products;
+use gf256::{div, inv, pow2};
 
 /// The entry of the matrix at a level and a column.
 pub fn entry(r: u32, c: u32) -> u8
@@ -19,17 +19,6 @@ pub fn entry(r: u32, c: u32) -> u8
     }
 }
 
-/// The products of `coefficient` with each byte.
-pub fn products_of(coefficient: u8) -> [u8; 256]
-    ensures { (k : ℕ) → k < 256 → slice_index result k ≡ product coefficient k }
-{
-    let mut products = [0; 256];
-    for k in 0..256usize {
-        products[k] = mul(coefficient, k as u8);
-    }
-    products
-}
-
 /// Adds a column's part of a level to `out`: the entry there times the block.
 pub fn add_column(level: u32, column: u32, block: &[u8], out: &mut [u8])
     requires level { level < 6 }
@@ -40,8 +29,5 @@ pub fn add_column(level: u32, column: u32, block: &[u8], out: &mut [u8])
     ensures next_block { (row : List (List ℕ)) → length row ≡ column → out.old ≡ parity_of level (length out.old) row →
         out.new ≡ parity_of level (length out.old) (row ++ block.now ∷ []) }
 {
-    let products = products_of(entry(level, column));
-    for i in 0..out.len() {
-        out[i] ^= products[block[i] as usize];
-    }
+    add_products(entry(level, column), block, out);
 }

@@ -1,8 +1,9 @@
-//! Values of the published code, and every choice of levels at a handful of columns.
+//! Values of the published code, every choice of levels at a handful of columns, and the lanes beside the plain sum.
 
 ghost use Rattle.std.specs.Prelude.{◌≤◌};
 ghost use Rattle.cauchy.specs.System.{IsChoice};
 
+use crate::products::{add_bytes, add_products};
 use crate::{add_column, entry, is_choice, solve};
 use std::test::Fail;
 
@@ -72,27 +73,30 @@ fn picked(numbers: &[u32; 6], mask: u32) -> ([u32; 6], usize)
     (picks, count)
 }
 
-/// Three bytes of a column.
-fn block_of(column: u32) -> [u8; 3] {
-    [
-        (column % 251) as u8,
-        (column % 7 * 36) as u8,
-        255 - (column % 256) as u8,
-    ]
+/// How many bytes the blocks below have: a group of 32, and one more.
+const SIZE: usize = 33;
+
+/// A block of a column.
+fn block_of(column: u32) -> [u8; SIZE] {
+    let mut block = [0; SIZE];
+    for i in 0..SIZE {
+        block[i] = ((column as usize + 7) * (i + 36) % 256) as u8;
+    }
+    block
 }
 
-/// The chosen levels of the chosen columns' blocks, each of three bytes.
-fn levels_of(columns: &[u32], levels: &[u32]) -> [u8; 18]
+/// The chosen levels of the chosen columns' blocks.
+fn levels_of(columns: &[u32], levels: &[u32]) -> [u8; 6 * SIZE]
     requires { IsChoice columns.now levels.now }
 {
-    let mut work = [0; 18];
+    let mut work = [0; 6 * SIZE];
     for i in 0..levels.len() {
         for column in columns {
             add_column(
                 levels[i],
                 *column,
                 &block_of(*column),
-                &mut work[3 * i..3 * i + 3],
+                &mut work[SIZE * i..SIZE * i + SIZE],
             );
         }
     }
@@ -104,9 +108,9 @@ fn come_back(columns: &[u32], levels: &[u32]) -> bool
     requires { IsChoice columns.now levels.now }
 {
     let mut work = levels_of(columns, levels);
-    solve(columns, levels, 3, &mut work[..3 * columns.len()]);
+    solve(columns, levels, SIZE, &mut work[..SIZE * columns.len()]);
     for j in 0..columns.len() {
-        if work[3 * j..3 * j + 3] != block_of(columns[j])[..] {
+        if work[SIZE * j..SIZE * j + SIZE] != block_of(columns[j])[..] {
             return false;
         }
     }
@@ -127,5 +131,35 @@ fn every_choice_of_levels_comes_back(rt: HostRuntime) -> Result<(), Fail> {
         }
     }
     assert_eq!(rt; choices, 923);
+    Ok(())
+}
+
+/// Lengths around one, two and three groups of 32.
+const LENGTHS: [usize; 9] = [0, 1, 31, 32, 33, 63, 64, 65, 97];
+
+/// Bytes that differ from their neighbours.
+fn scattered(factor: usize) -> [u8; 97]
+    requires { factor ≤ 256 }
+{
+    let mut bytes = [0; 97];
+    for i in 0..97usize {
+        bytes[i] = ((i + 1) * factor % 256) as u8;
+    }
+    bytes
+}
+
+#[test]
+fn lanes_add_what_the_plain_sum_adds(rt: HostRuntime) -> Result<(), Fail> {
+    let block = scattered(107);
+    for coefficient in 0..=255u8 {
+        for k in 0..9usize {
+            let length = LENGTHS[k].min(97);
+            let mut fast = scattered(59);
+            let mut slow = scattered(59);
+            add_products(coefficient, &block[..length], &mut fast[..length]);
+            add_bytes(0, coefficient, &block[..length], &mut slow[..length]);
+            assert_eq!(rt; fast, slow);
+        }
+    }
     Ok(())
 }

@@ -1,4 +1,5 @@
 mod Additive
+mod HalfLemmas
 mod InverseLemmas
 mod PowerLemmas
 mod ProductLemmas

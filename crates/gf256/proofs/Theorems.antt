@@ -4,3 +4,5 @@ pub use Rattle.gf256.proofs.InverseLemmas.{inverse_lt, inverse_positive, product
 pub use Rattle.gf256.proofs.PowerLemmas.{power_lt, product_of_powers, power_of_order, power_mod}
 pub use Rattle.gf256.proofs.TableLemmas.{order_of_two}
 pub use Rattle.gf256.proofs.Additive.{xor_exchange}
+pub use Rattle.gf256.proofs.ShiftLemmas.{twice_small, twice_large}
+pub use Rattle.gf256.proofs.HalfLemmas.{product_by_parts}

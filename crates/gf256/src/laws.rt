@@ -1,7 +1,8 @@
 //! The laws of the field, each the contract of a function that does nothing.
 
-ghost use Rattle.std.specs.Prelude.{◌≡◌, ◌↔◌, ℕ, ◌+◌, ◌%◌, ◌<◌};
+ghost use Rattle.std.specs.Prelude.{◌≡◌, ◌↔◌, ℕ, ◌+◌, ◌*◌, ◌/◌, ◌%◌, ◌<◌, ◌≤◌, List};
 ghost use Rattle.gf256.specs.Field.{field_sum, carryless_product, modulus, product, power, inverse, quotient};
+ghost use Rattle.gf256.specs.Halves.{AreHalves, halves_sum};
 
 /// Elements form a group under the sum, in which each element is its own negative.
 pub fn sums()
@@ -43,4 +44,16 @@ pub fn powers()
 /// The product is what the product without carries leaves when it is divided by the modulus.
 pub fn reduction()
     ensures { (a b : ℕ) → (q : ℕ) × (field_sum (carryless_product modulus q) (product a b) ≡ carryless_product a b) }
+{}
+
+/// Twice an element is its coefficients moved up by one, and the modulus takes that of x^8 away.
+pub fn doubling()
+    ensures small { (a : ℕ) → a < 128 → product 2 a ≡ a * 2 }
+    ensures large { (a : ℕ) → 128 ≤ a → a < 256 → product 2 a ≡ field_sum (a * 2) modulus }
+{}
+
+/// The product with a byte is the sum of the products with its halves, so two tables of sixteen products give it.
+pub fn by_halves()
+    ensures halves { (k a : ℕ) → field_sum (product k (a % 16)) (product k (16 * (a / 16))) ≡ product k a }
+    ensures tables { (k a : ℕ) (tables : List (List ℕ)) → AreHalves k tables → a < 256 → halves_sum tables a ≡ product k a }
 {}

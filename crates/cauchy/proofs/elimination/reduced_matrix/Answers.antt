@@ -1,11 +1,19 @@
-use Rattle.std.proofs.Common.{◌≢◌, ◌<◌, length, arith, length-set, get_or-set_other, get_or-set_same, below_more}
+use Rattle.std.proofs.Common.{get_or, arith, ap, ◌∙◌, List, ℕ, below_more, sym}
+use Rattle.cauchy.proofs.RowsLemmas.{row_before, row_here, HasShape-push}
 use Rattle.cauchy.proofs.elimination.reduced_matrix.Goals as goal
 
 pub loop-i-preserved : goal.loop-i-preserved
 loop-i-preserved c =
+    let sofar = c.loop-i.invariant in
+    let row = c.reduced_row.result in
+    let new = c.push.new.self in
     record {
-      long = simp length-set c.loop-i.invariant.long;
+      shape = HasShape-push c.loop-i.rows new row c.push.ensures.items _ _ sofar.shape c.reduced_row.ensures.long;
       made = below_more _ _
-          (λ i h j hj. let other : i ≢ c.loop-i.i = omega arith in rw get_or-set_other (c.loop-i.invariant.made i h j hj))
-          (λ j hj. let within : c.loop-i.i < length c.loop-i.rows = omega arith in rw get_or-set_same (c.reduced_row.ensures j hj));
+          (λ i h j hj.
+          ap (λ (r : List ℕ). get_or r j 0) (row_before c.loop-i.rows new row c.push.ensures.items i (omega (arith, sofar.shape.row_count)))
+          ∙ sofar.made i h j hj)
+          (λ j hj.
+          ap (λ (r : List ℕ). get_or r j 0) (row_here c.loop-i.rows new row c.push.ensures.items c.loop-i.i (sym sofar.shape.row_count))
+          ∙ c.reduced_row.ensures.made j hj);
     }

@@ -1,12 +1,12 @@
-use Rattle.std.proofs.Common.{◌≡◌, ◌<◌, ℕ, length}
-use Rattle.cauchy.specs.Elimination.{cell, unit, IsVector, Solves}
+use Rattle.std.proofs.Common.{◌<◌, ℕ, length}
+use Rattle.cauchy.specs.Elimination.{entries, unit, HasShape, IsVector, Solves}
 use Rattle.cauchy.specs.System.{chosen}
 use Rattle.cauchy.proofs.inverse.inverse_columns.Given as goal
 
 abbrev pub invariant-loop-i : goal.invariant-loop-i
 invariant-loop-i l =
     record {
-      long : length l.rows ≡ 6;
-      elements : (i : ℕ) → i < l.i → IsVector (length l.levels) (cell l.rows i);
-      units : (i : ℕ) → i < l.i → Solves (length l.levels) (chosen l.columns l.levels) (unit i) (cell l.rows i);
+      shape : HasShape l.i (length l.levels) l.rows;
+      elements : (i : ℕ) → i < l.i → IsVector (length l.levels) (entries l.rows i);
+      units : (i : ℕ) → i < l.i → Solves (length l.levels) (chosen l.columns l.levels) (unit i) (entries l.rows i);
     }

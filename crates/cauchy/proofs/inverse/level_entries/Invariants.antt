@@ -5,6 +5,6 @@ use Rattle.cauchy.proofs.inverse.level_entries.Given as goal
 abbrev pub invariant-loop-j : goal.invariant-loop-j
 invariant-loop-j l =
     record {
-      long : length l.entries ≡ 6;
-      made : (k : ℕ) → k < l.j → get_or l.entries k 0 ≡ entry_of l.level (get_or l.columns k 0);
+      long : length l.row.items ≡ l.j;
+      made : (k : ℕ) → k < l.j → get_or l.row.items k 0 ≡ entry_of l.level (get_or l.columns k 0);
     }
