@@ -1,17 +1,16 @@
 -- What the code of the builder reads and tests, in the words of its contracts.
-use Rattle.std.proofs.Common.{◌≡◌, ◌≢◌, ◌↔◌, ℕ, ◌+◌, ◌-◌, ◌<◌, ◌≤◌, List, [], ◌∷◌, ◌++◌, length, get_or, set, sym, ap, ◌∙◌, subst, arith, Bool, true, false, IsTrue, length-append}
+use Rattle.std.proofs.Common.{◌≡◌, ◌≢◌, ℕ, ◌+◌, ◌-◌, ◌<◌, ◌≤◌, List, [], ◌∷◌, ◌++◌, length, get_or, set, sym, ap, ◌∙◌, subst, arith, Bool, length-append}
 use Rattle.std.specs.List.{All}
 use Rattle.std.proofs.lemmas.List.{get_or_default, set-get_or}
-use Rattle.disk_model.specs.Path.{IsRecordPath}
 use Rattle.disk_model.specs.declared.meta.Meta.{Meta}
 use Rattle.file_table.specs.declared.block.Block.{Block}
 use Rattle.file_table.specs.Table.{Record, Column, block_count, records_of, column_blocks, blocks_of, blocks_due, no_column, no_record}
-use Rattle.file_table.specs.Valid.{IsColumn, IsWhole, most_records, most_blocks}
-use Rattle.file_table.specs.Building.{BuildingValue, LacksBlock, IsGreatest, IsNested, HasRoom, Uses, last_column, last_record, with_last_column, with_record, with_block, records_with_block}
+use Rattle.file_table.specs.Valid.{IsColumn, IsWhole, most_blocks}
+use Rattle.file_table.specs.Building.{BuildingValue, Uses, last_column, last_record, with_last_column, with_record, with_block, records_with_block}
 use Rattle.file_table.specs.Counted.{IsCounted}
 use Rattle.file_table.proofs.ListFacts.{split_last, set_last}
 use Rattle.file_table.proofs.BuildingLemmas.{front_columns, split_columns, flat_map-push, blocks_in, blocks_in-push}
-use Rattle.file_table.proofs.CountLemmas.{Lacks, front_records, lacks_none, blocks_due-push, blocks_of-records, length-whole}
+use Rattle.file_table.proofs.CountLemmas.{Lacks, front_records, blocks_due-push, blocks_of-records, length-whole}
 
 -- what is read at the number of the last column, and what a write there gives
 module _ (columns : List Column) (n : ℕ) (column : Column) (last : n ≡ length columns - 1) (some : 0 < length columns) (is : column ≡ get_or columns n column) where
@@ -55,48 +54,6 @@ blocks_and_lacking block_size lacking columns some whole lacks =
     let front_long : length (blocks_in front) ≡ blocks_due block_size front = length-whole block_size front whole in
     let due : blocks_due block_size rs ≡ blocks_due block_size front + block_count block_size last.meta.size = ap (blocks_due block_size) split ∙ blocks_due-push block_size front last in
     omega arith
-
--- the tests of a record by themselves
-pub record PassesPath (built : BuildingValue) (path : List ℕ) : Type 0 where
-  pub whole : ¬ (LacksBlock built)
-  pub record_path : IsRecordPath path
-  pub order : IsGreatest (last_column built.columns) path
-  pub not_nested : ¬ (IsNested (last_column built.columns) path)
-
-pub passes_path : (built : BuildingValue) (used : List ℕ) (unhashed : List Bool) (records due lacking end : ℕ) (path : List ℕ) (first second : Column) (nested : Bool)
-    → IsCounted built used unhashed records due lacking end → lacking ≤ 0 → first ≡ last_column built.columns → second ≡ last_column built.columns
-    → IsRecordPath path → IsGreatest first path → (IsTrue nested ↔ IsNested second path) → nested ≡ false → PassesPath built path
-passes_path built used unhashed records due lacking end path first second nested is none first_is second_is path_is greatest nested_is no_nest =
-    let zero_left : lacking ≡ 0 = omega arith in
-    record {
-      whole = lacks_none built (subst (λ (n : ℕ). Lacks built.shape.block_size n (records_of built.columns)) zero_left is.last_lacks);
-      record_path = path_is;
-      order = subst (λ (c : Column). IsGreatest c path) first_is greatest;
-      not_nested = λ held. let there : nested ≡ true = nested_is.1 (subst (λ (c : Column). IsNested c path) (sym second_is) held) in apart nested no_nest there;
-    }
-  where
-    apart : (b : Bool) → b ≡ false → b ≡ true → ⊥
-    apart b off on = cc
-
--- the test of room
-pub has_room : (built : BuildingValue) (used : List ℕ) (unhashed : List Bool) (records due lacking end blocks size : ℕ) → IsCounted built used unhashed records due lacking end → blocks ≡ block_count built.shape.block_size size
-    → (records < most_records) × (due + blocks ≤ most_blocks) → HasRoom built size
-has_room built used unhashed records due lacking end blocks size is count room =
-    record {
-      records = omega (arith, is.record_count, room.0);
-      blocks = omega (arith, is.due_count, room.1);
-    }
-
-pub no_room : (built : BuildingValue) (used : List ℕ) (unhashed : List Bool) (records due lacking end blocks size : ℕ) (test : Bool) → IsCounted built used unhashed records due lacking end → blocks ≡ block_count built.shape.block_size size
-    → (IsTrue test ↔ ((records < most_records) × (due + blocks ≤ most_blocks))) → test ≡ false → ¬ (HasRoom built size)
-no_room built used unhashed records due lacking end blocks size test is count says off room =
-    let few : records < most_records = omega (arith, is.record_count, room.records) in
-    let short : due + blocks ≤ most_blocks = omega (arith, is.due_count, room.blocks) in
-    let on : test ≡ true = says.1 (few, short) in
-    apart test off on
-  where
-    apart : (b : Bool) → b ≡ false → b ≡ true → ⊥
-    apart b no_one one = cc
 
 -- a record that the code appends to the last column
 pub put_record : (columns : List Column) (n : ℕ) (column new : Column) (path : List ℕ) (meta : Meta) → n ≡ length columns - 1 → 0 < length columns → column ≡ get_or columns n column

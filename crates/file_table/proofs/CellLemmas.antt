@@ -1,6 +1,6 @@
 -- A position stands in one block of a column.
 use Rattle.std.proofs.Common.{◌≡◌, ◌≢◌, inl, inr, ℕ, ◌+◌, ◌<◌, ◌≤◌, List, length, get_or, take, sym, ap, ◌∙◌, arith, Some}
-use Rattle.std.specs.List.{All, AllPairs, sum_by}
+use Rattle.std.specs.List.{AllPairs, sum_by}
 use Rattle.std.proofs.lemmas.List.{get_or-map, length-map, take-take}
 use Rattle.std.proofs.lemmas.List.Concat.{length-flat_map, get_or-flat_map}
 use Rattle.std.proofs.lemmas.List.Sums.{sum_by_more, sum_by_more_le, sum_by-take-le}
@@ -86,10 +86,6 @@ cell_once column position i a j b once at_i at_j =
             (equal, omega arith)
       ]
     ]
-
--- where no record has a block at a position, the column has none
-pub no_cell : (column : Column) (position : ℕ) → ((i : ℕ) → i < length column.records → All (λ (b : Block). b.position ≢ position) (record_in column i).blocks) → (i index : ℕ) → ¬ (IsAt column position i index)
-no_cell column position none i index at = none i at.within index no_block at.index_within at.position_is
 
 -- the cell that is found is the only one
 pub only_cell : (column : Column) (position : ℕ) (cell : Cell) → AllPairs (λ x y. x ≢ y) (positions_of (column_blocks column)) → IsAt column position cell.rec cell.index → (i index : ℕ) → IsAt column position i index → Some cell ≡ Some (let other : Cell = record { rec = i; index = index } in other)

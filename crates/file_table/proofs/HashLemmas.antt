@@ -86,7 +86,7 @@ module _ (column : Column) (i index : ℕ) (hash : Digest16) (i_in : i < length 
   column_within : place_in_column < length (column_blocks column)
   column_within = flat_map_within (λ (r : Record). r.blocks) column.records i index no_record i_in index_in
 
-  column_positions : positions_of (column_blocks (column_with_hash column i index hash)) ≡ positions_of (column_blocks column)
+  pub column_positions : positions_of (column_blocks (column_with_hash column i index hash)) ≡ positions_of (column_blocks column)
   column_positions = ap positions_of column_blocks-set ∙ positions-set (column_blocks column) place_in_column new_block column_within (ap (λ (b : Block). b.position) (sym column_reads))
 
   record_digest : IsSixteenBytes hash.0 → IsRecord (record_in column i) → IsRecord (record_with_hash (record_in column i) index hash)

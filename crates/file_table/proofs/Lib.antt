@@ -11,6 +11,11 @@ pub mod NestedLemmas
 pub mod CountedLemmas
 pub mod CallLemmas
 pub mod CellLemmas
+pub mod CellInLemmas
+pub mod ViewLemmas
+pub mod IndexLemmas
+pub mod IndexedLemmas
+pub mod PlaceLemmas
 pub mod SetLemmas
 pub mod HashLemmas
 pub mod DiskHashLemmas

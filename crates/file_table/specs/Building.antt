@@ -1,5 +1,5 @@
 -- A table while it is built, and what each call of the builder asks and does.
-use Rattle.std.specs.Prelude.{◌≡◌, ◌≢◌, ℕ, ◌+◌, ◌-◌, ◌<◌, ◌≤◌, List, [], ◌∷◌, ◌++◌, length, take, slice_index_or, Contains, All, Any, Bool, true, false}
+use Rattle.std.specs.Prelude.{◌≡◌, ◌≢◌, ℕ, ◌+◌, ◌-◌, ◌<◌, ◌≤◌, List, [], ◌∷◌, ◌++◌, length, take, slice_index_or, Contains, All, Any, Bool, true, false, Option, None, Some}
 use Rattle.disk_model.specs.Path.{IsRecordPath, IsDirectoryOf}
 use Rattle.disk_model.specs.declared.meta.Meta.{Meta}
 use Rattle.file_table.specs.declared.shape.Shape.{Shape}
@@ -89,6 +89,25 @@ Uses column position = Contains (positions_of (column_blocks column)) position
 -- the length is one more than the greatest position, or 0 where there is none
 abbrev pub IsLength : BuildingValue → Type 0
 IsLength building = building.length ≡ end_of (positions_of (blocks_of building.columns))
+
+-- the fault that a path would be refused for: it is no record path, else it is out of order, else nested
+abbrev pub IsPathFault : List Column → List ℕ → Option BuildFault → Type 0
+IsPathFault columns path None =
+    IsRecordPath path × IsGreatest (last_column columns) path × ¬ (IsNested (last_column columns) path)
+IsPathFault columns path (Some Name) = ¬ (IsRecordPath path)
+IsPathFault columns path (Some Order) = IsRecordPath path × ¬ (IsGreatest (last_column columns) path)
+IsPathFault columns path (Some Nested) =
+    IsRecordPath path × IsGreatest (last_column columns) path × IsNested (last_column columns) path
+IsPathFault columns path (Some _) = ⊥
+
+-- the fault that a position would be refused for: it isn't below the length, else the last column has it
+abbrev pub IsPositionFault : BuildingValue → ℕ → Option BuildFault → Type 0
+IsPositionFault building position None =
+    (position < building.length) × ¬ (Uses (last_column building.columns) position)
+IsPositionFault building position (Some Range) = building.length ≤ position
+IsPositionFault building position (Some Repeated) =
+    (position < building.length) × Uses (last_column building.columns) position
+IsPositionFault building position (Some _) = ⊥
 
 -- a column was pushed, and why it might be
 pub record PushesDisk (old : BuildingValue) (name : List ℕ) (new : BuildingValue) : Type 0 where

@@ -3,7 +3,7 @@ use Rattle.std.specs.Prelude.{◌≡◌, ℕ, ◌+◌, ◌≤◌, List, [], ◌�
 use Rattle.file_table.specs.declared.block.Block.{Block}
 use Rattle.file_table.specs.declared.disk.File.{File}
 use Rattle.file_table.specs.declared.disk.Disk.TheInside.{Inside}
-use Rattle.file_table.specs.Table.{Record, Column}
+use Rattle.file_table.specs.Table.{Record, Column, no_meta}
 use Rattle.file_table.specs.Valid.{most_records, most_blocks}
 
 -- a record, with its blocks taken from the list
@@ -15,6 +15,10 @@ records_from blocks files = map (record_of blocks) files
 
 abbrev pub column_of : Inside → Column
 column_of disk = record { name = disk.name; records = records_from disk.blocks.items disk.files.items }
+
+-- what stands for a file that is not there
+abbrev pub no_file : File
+no_file = record { path = []; meta = no_meta; first = 0; count = 0 }
 
 -- the blocks of these files stand one after another, from one place to another
 abbrev pub AreCut : ℕ → List File → ℕ → Type 0

@@ -3,6 +3,8 @@ pub mod Valid
 pub mod Building
 pub mod Disk
 pub mod Kept
+pub mod Cells
+pub mod Index
 pub mod RecordPath
 pub mod Marks
 pub mod Counted

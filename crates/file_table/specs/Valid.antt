@@ -8,6 +8,7 @@ use Rattle.std.specs.declared.cmp.Ordering.TheVariants.{Less}
 use Rattle.disk_model.specs.Path.{IsRecordPath, IsDirectoryOf}
 use Rattle.disk_model.specs.declared.meta.Meta.{Meta}
 use Rattle.block_hash.specs.declared.Digest16.{Digest16}
+use Rattle.file_table.specs.declared.limits.TheConstants.{MOST_COLUMNS, MOST_LEVELS, MOST_RECORDS, MOST_BLOCKS, LEAST_BLOCK_SIZE, MOST_BLOCK_SIZE}
 use Rattle.file_table.specs.declared.shape.Shape.{Shape}
 use Rattle.file_table.specs.declared.block.Block.{Block}
 use Rattle.file_table.specs.declared.info.Info.{Info}
@@ -16,13 +17,13 @@ use Rattle.file_table.specs.Table.{Record, Column, TableValue, block_count, reco
 
 -- the limits of a table: data disks, files, and blocks of one column or of all together
 abbrev pub most_columns : ℕ
-most_columns = 251
+most_columns = MOST_COLUMNS
 
 abbrev pub most_records : ℕ
-most_records = 16777216
+most_records = MOST_RECORDS
 
 abbrev pub most_blocks : ℕ
-most_blocks = 67108864
+most_blocks = MOST_BLOCKS
 
 -- the bytes of a digest or a seed
 pub record IsSixteenBytes (bytes : List ℕ) : Type 0 where
@@ -31,14 +32,14 @@ pub record IsSixteenBytes (bytes : List ℕ) : Type 0 where
 
 -- a block size: 1 to 4,096 KiB
 pub record IsBlockSize (bytes : ℕ) : Type 0 where
-  pub least : 1024 ≤ bytes
-  pub most : bytes ≤ 4194304
-  pub kibibytes : bytes % 1024 ≡ 0
+  pub least : LEAST_BLOCK_SIZE ≤ bytes
+  pub most : bytes ≤ MOST_BLOCK_SIZE
+  pub kibibytes : bytes % LEAST_BLOCK_SIZE ≡ 0
 
 -- a number of parity files
 pub record IsLevelCount (levels : ℕ) : Type 0 where
   pub least : 1 ≤ levels
-  pub most : levels ≤ 6
+  pub most : levels ≤ MOST_LEVELS
 
 pub record IsShape (shape : Shape) : Type 0 where
   pub block_size : IsBlockSize shape.block_size

@@ -1,24 +1,19 @@
 // Building a table: the only way to make one.
-ghost use Rattle.std.specs.Prelude.{◌≡◌, ◌+◌, ◌<◌, ◌≤◌, [], length, OnOk, OnErr, IfOk, IfErr, IsErrOf, IsTrue, ◌↔◌};
+ghost use Rattle.std.specs.Prelude.{◌≡◌, ◌<◌, ◌≤◌, [], length, OnOk, OnErr, IfOk, IfErr, IsErrOf, IsTrue, ◌↔◌};
 ghost use Rattle.disk_model.specs.Path.{IsRecordPath};
-ghost use Rattle.file_table.specs.Valid.{IsBlockSize, IsLevelCount, IsState, IsHashedAt, IsValid, most_records, most_blocks};
+ghost use Rattle.file_table.specs.Valid.{IsBlockSize, IsLevelCount, IsState, IsHashedAt, IsValid, most_blocks};
 ghost use Rattle.file_table.specs.Building.{new_building, last_column, IsBuilding, LacksBlock, IsNewName, IsGreatest, IsNested, HasRoom, Uses, IsLength};
 ghost use Rattle.file_table.specs.Building.{PushesDisk, PushesRecord, PushesBlock, PushesInfo, Finishes};
 ghost use Rattle.file_table.specs.Building.{is_disk_fault, is_record_fault, is_block_fault, is_info_fault, is_finish_fault};
 ghost use Rattle.file_table.specs.declared.info.Mark.TheVariants.{Synced};
 
+mod queries;
+
 use crate::count::blocks_for;
 use crate::disk::Disk;
+use crate::limits::{MOST_COLUMNS, MOST_RECORDS};
 use crate::name::{has_name, is_name};
-use crate::record_path::is_record_path;
 use crate::{Block, BuildFault, Info, Mark, Shape, Table};
-
-const MOST_COLUMNS: usize = 251;
-
-const MOST_RECORDS: u32 = 16_777_216;
-
-const MOST_BLOCKS: u32 = 67_108_864;
-
 use block_hash::Digest16;
 use disk_model::{Meta, NoMemory, Path, Text};
 use std::alloc::Global;
@@ -96,7 +91,7 @@ impl Builder {
         if self.lacking > 0 {
             return Err(BuildFault::Blocks);
         }
-        if self.disks.len() >= MOST_COLUMNS
+        if self.disks.len() >= MOST_COLUMNS as usize
             || !is_name(name.as_str())
             || has_name(&self.disks, name.as_str())
         {
@@ -119,7 +114,8 @@ impl Builder {
         ensures building { IsBuilding self.new }
 
         ensures blocks { IsErrOf result BuildFault.Blocks → LacksBlock self.old }
-        ensures name { IsErrOf result BuildFault.Name → ¬ (LacksBlock self.old) × ¬ (IsRecordPath path) }
+        ensures name { IsErrOf result BuildFault.Name →
+            ¬ (LacksBlock self.old) × ¬ (IsRecordPath path) }
         ensures order { IsErrOf result BuildFault.Order →
             ¬ (LacksBlock self.old) × IsRecordPath path
             × ¬ (IsGreatest (last_column self.old.columns) path) }
@@ -138,21 +134,14 @@ impl Builder {
         if self.lacking > 0 {
             return Err(BuildFault::Blocks);
         }
-        if !is_record_path(&path) {
-            return Err(BuildFault::Name);
+        if let Some(fault) = self.path_fault(&path) {
+            return Err(fault);
         }
-        let last = self.disks.len() - 1;
-        if !self.disks[last].is_greatest(&path) {
-            return Err(BuildFault::Order);
-        }
-        if self.disks[last].has_directory_of(&path) {
-            return Err(BuildFault::Nested);
-        }
-        let blocks = blocks_for(self.shape.block_size, meta.size);
-        if !has_room(self.records, self.due, blocks) {
+        if self.records >= MOST_RECORDS || !self.size_fits(meta.size) {
             return Err(BuildFault::Full);
         }
-        let blocks = blocks as u32;
+        let blocks = blocks_for(self.shape.block_size, meta.size) as u32;
+        let last = self.disks.len() - 1;
         self.disks[last].push_file(path, meta)?;
         self.records += 1;
         self.due += blocks;
@@ -165,11 +154,13 @@ impl Builder {
     pub fn push_block(&mut self, position: u32, hash: Option<Digest16>) -> Result<(), BuildFault>
         requires before_infos { self.old.infos ≡ [] }
         requires rec { 0 < length (last_column self.old.columns).records }
-        ensures ok { OnOk result (PushesBlock self.old (record { position = position; hash = hash }) self.new) }
+        ensures ok { OnOk result (PushesBlock self.old
+            (record { position = position; hash = hash }) self.new) }
         ensures building { IsBuilding self.new }
 
         ensures blocks { IsErrOf result BuildFault.Blocks → ¬ (LacksBlock self.old) }
-        ensures range { IsErrOf result BuildFault.Range → LacksBlock self.old × (self.old.length ≤ position) }
+        ensures range { IsErrOf result BuildFault.Range →
+            LacksBlock self.old × (self.old.length ≤ position) }
         ensures repeated { IsErrOf result BuildFault.Repeated →
             LacksBlock self.old × (position < self.old.length)
             × Uses (last_column self.old.columns) position }
@@ -179,14 +170,11 @@ impl Builder {
         if self.lacking == 0 {
             return Err(BuildFault::Blocks);
         }
-        if position >= self.length {
-            return Err(BuildFault::Range);
+        if let Some(fault) = self.position_fault(position) {
+            return Err(fault);
         }
         let at = position as usize;
         let column = self.disks.len();
-        if usize::from(self.used[at]) == column {
-            return Err(BuildFault::Repeated);
-        }
         let unhashed = self.unhashed[at] || hash.is_none();
         let block = Block::new(position, hash);
         self.disks[column - 1].push_block(block)?;
@@ -205,7 +193,8 @@ impl Builder {
         ensures building { IsBuilding self.new }
 
         ensures blocks { IsErrOf result BuildFault.Blocks → LacksBlock self.old }
-        ensures state { IsErrOf result BuildFault.State → ¬ (LacksBlock self.old) × ¬ (IsState info) }
+        ensures state { IsErrOf result BuildFault.State →
+            ¬ (LacksBlock self.old) × ¬ (IsState info) }
         ensures length { IsErrOf result BuildFault.Length →
             ¬ (LacksBlock self.old) × IsState info × (length self.old.infos ≡ self.old.length) }
         ensures hash { IsErrOf result BuildFault.Hash →
@@ -220,11 +209,10 @@ impl Builder {
         if !is_state(&info) {
             return Err(BuildFault::State);
         }
-        let stripe = self.infos.len();
-        if stripe >= self.length as usize {
+        if self.infos.len() >= self.length as usize {
             return Err(BuildFault::Length);
         }
-        if info.mark == Mark::Synced && self.unhashed[stripe] {
+        if info.mark == Mark::Synced && !self.next_has_hashes() {
             return Err(BuildFault::Hash);
         }
         self.infos.push(info)?;
@@ -239,7 +227,8 @@ impl Builder {
         ensures valid { IfOk result IsValid }
 
         ensures name { IsErrOf result BuildFault.Name → self.columns ≡ [] }
-        ensures blocks { IsErrOf result BuildFault.Blocks → (0 < length self.columns) × LacksBlock self }
+        ensures blocks { IsErrOf result BuildFault.Blocks →
+            (0 < length self.columns) × LacksBlock self }
         ensures state { IsErrOf result BuildFault.State →
             (0 < length self.columns) × ¬ (LacksBlock self) × (length self.infos < self.length) }
         ensures length { IsErrOf result BuildFault.Length →
@@ -256,7 +245,7 @@ impl Builder {
         if self.infos.len() < self.length as usize {
             return Err(BuildFault::State);
         }
-        if self.length != self.end {
+        if !self.length_fits() {
             return Err(BuildFault::Length);
         }
         let Builder {
@@ -266,7 +255,7 @@ impl Builder {
             due,
             ..
         } = self;
-        Ok(Table::new(shape, disks, infos, due))
+        Ok(Table::new(shape, disks, infos, due)?)
     }
 }
 
@@ -275,12 +264,4 @@ fn is_state(info: &Info) -> bool
     ensures { IsTrue result ↔ IsState info.now }
 {
     info.mark == Mark::Synced || (info.last == 0 && !info.bad && !info.fresh)
-}
-
-// Whether one more record, with so many blocks, keeps a table within its limits.
-fn has_room(records: u32, due: u32, blocks: u64) -> bool
-    requires { due ≤ most_blocks }
-    ensures { IsTrue result ↔ ((records < most_records) × (due + blocks ≤ most_blocks)) }
-{
-    records < MOST_RECORDS && blocks <= u64::from(MOST_BLOCKS - due)
 }

@@ -1,9 +1,11 @@
 // A data disk as it is kept: its records, and the blocks of all of them in one list.
-ghost use Rattle.std.specs.Prelude.{◌≡◌, ℕ, ◌++◌, ◌∷◌, [], ◌<◌, ◌≤◌, ◌↔◌, length, OnOk, OnErr, IfSome, IsTrue, Some, All, AllPairs, ◌≢◌, MatchOption};
+ghost use Rattle.std.specs.Prelude.{◌≡◌, ℕ, ◌++◌, ◌∷◌, [], ◌<◌, ◌≤◌, ◌↔◌, length, OnOk, OnErr, IfSome, IsTrue, Some, AllPairs, ◌+◌, slice_index_or};
 ghost use Rattle.std.specs.Ordering.{nat_cmp};
 ghost use Rattle.std.specs.Cmp.Lexicographic.{slice_cmp};
-ghost use Rattle.std.specs.List.Sorted.{IsBinarySearchResult, IsSearchInRange};
-ghost use Rattle.file_table.specs.Table.{record_in, column_blocks, positions_of, column_with_hash, HasPath, IsAt, IsBlockAt};
+ghost use Rattle.std.specs.List.Sorted.{IsBinarySearchResult, IsNonDecreasingBy, IsSearchInRange};
+ghost use Rattle.file_table.specs.Table.{record_in, column_blocks, column_with_hash, HasPath};
+ghost use Rattle.file_table.specs.Cells.{IsCellOf};
+ghost use Rattle.file_table.specs.Disk.{no_file};
 ghost use Rattle.file_table.specs.Valid.{most_records, most_blocks, ComesBefore};
 ghost use Rattle.file_table.specs.Building.{records_with_block, IsGreatest, IsNested};
 ghost use Rattle.file_table.specs.declared.disk.File.{File};
@@ -123,7 +125,9 @@ impl Disk {
     pub fn push_block(&mut self, block: Block) -> Result<(), NoMemory>
         requires some { 0 < length self.old.records }
         requires room { length (column_blocks self.old) < most_blocks }
-        ensures ok { OnOk result (self.new ≡ record self.old { records = records_with_block self.old.records block }) }
+        ensures ok { OnOk result (self.new ≡ record self.old {
+          records = records_with_block self.old.records block;
+        }) }
         ensures err { OnErr result (self.new ≡ self.old) }
     {
         self.blocks.push(block)?;
@@ -164,19 +168,24 @@ impl Disk {
         }
     }
 
-    /// The one block that stands at this position.
-    pub fn cell(&self, position: u32) -> Option<Cell>
-        requires { AllPairs (λ a b. a ≢ b) (positions_of (column_blocks self.now)) }
-        ensures found { IfSome result (λ cell. IsAt self.now position cell.rec cell.index) }
-        ensures only { (i index : ℕ) → IsAt self.now position i index →
-            result ≡ Some (record { rec = i; index = index }) }
+    /// The blocks of all records, one record after another.
+    pub fn all_blocks(&self) -> &[Block]
+        ensures value { result.now ≡ column_blocks self.now }
+        ensures few { length result.now ≤ most_blocks }
     {
-        for rec in 0..self.len() {
-            if let Some(index) = index_of(self.blocks(rec), position) {
-                return Some(Cell { rec, index });
-            }
+        &self.blocks
+    }
+
+    /// The record and the number in it of the block at a place in the list of all blocks.
+    pub fn cell_at(&self, place: u32) -> Cell
+        requires { place < length (column_blocks self.now) }
+        ensures { IsCellOf self.now place result }
+    {
+        let rec = file_with(&self.files, place);
+        Cell {
+            rec: rec as u32,
+            index: place - self.files[rec].first,
         }
-        None
     }
 
     /// Whether the path of a record is a directory of this path.
@@ -197,21 +206,21 @@ impl Disk {
 // Where a path stands among those of files in order, or where it would.
 fn place_of(files: &[File], path: &[u8]) -> Result<usize, usize>
     ensures bound { IsSearchInRange result (length files.now) }
-    ensures place { IsBinarySearchResult (λ (file : File). slice_cmp nat_cmp file.path path.now) files.now result }
+    ensures place { IsBinarySearchResult (λ (file : File). slice_cmp nat_cmp file.path path.now)
+        files.now result }
 {
     files.binary_search_by(|file| file.path.as_str().as_bytes().cmp(&path))
 }
 
-// The number of the first block at this position.
-fn index_of(blocks: &[Block], position: u32) -> Option<u32>
-    requires { length blocks.now ≤ most_blocks }
-    ensures { MatchOption result (All (λ (block : Block). block.position ≢ position) blocks.now)
-        (λ index. IsBlockAt blocks.now position index) }
+// The number of the last file whose blocks begin at this place or before it.
+fn file_with(files: &[File], place: u32) -> usize
+    requires some { 0 < length files.now }
+    requires start { (slice_index_or files.now 0 no_file).first ≤ place }
+    requires rise { IsNonDecreasingBy (λ (file : File). file.first) files.now }
+    ensures within { result < length files.now }
+    ensures begins { (slice_index_or files.now result no_file).first ≤ place }
+    ensures last { result + 1 < length files.now →
+        place < (slice_index_or files.now (result + 1) no_file).first }
 {
-    for (index, block) in blocks.iter().enumerate() {
-        if block.position == position {
-            return Some(index as u32);
-        }
-    }
-    None
+    files.partition_point(|file| file.first <= place) - 1
 }

@@ -3,7 +3,9 @@
 //!
 //! Start at `Table` in `table.rt`, and at `Builder` in `builder.rt`, the only way to make one.
 //! Proved: a table is valid (`specs/Valid.antt`), the builder refuses exactly what would break
-//! that (`specs/Building.antt`), and each query reads what was pushed.
+//! that and says so beforehand (`specs/Building.antt`), each query reads what was pushed, and
+//! closing a stripe leaves what is seen of the others (`laws.rt`, `specs/Cells.antt`).
+//! How large a table may be stands in `limits.rt` alone.
 //! Not here: how a table is spelled in a content file.
 #![tactic(auto)]
 
@@ -12,7 +14,10 @@ mod builder;
 mod count;
 mod disk;
 mod fault;
+mod index;
 mod info;
+pub mod laws;
+pub mod limits;
 mod name;
 mod record_path;
 mod shape;
@@ -22,6 +27,7 @@ mod tests;
 
 pub use block::{Block, Cell};
 pub use builder::Builder;
+pub use count::blocks_for;
 pub use fault::BuildFault;
 pub use info::{Info, Mark};
 pub use name::is_name;

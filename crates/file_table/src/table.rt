@@ -1,13 +1,17 @@
 // A table, and what it answers.
-ghost use Rattle.std.specs.Prelude.{◌≡◌, ℕ, ◌<◌, length, slice_set, IfSome, Some};
+ghost use Rattle.std.specs.Prelude.{◌≡◌, ℕ, ◌<◌, length, slice_set, IfOk, IfSome, Some};
 ghost use Rattle.file_table.specs.Table.{column_at, record_at, info_at, blocks_of, HasPath, IsAt, with_hash};
+ghost use Rattle.file_table.specs.Cells.{cell_in};
+ghost use Rattle.file_table.specs.Index.{AreIndexes};
 ghost use Rattle.file_table.specs.Valid.{IsValid, IsState, IsHashedAt};
 ghost use Rattle.file_table.specs.declared.info.Mark.TheVariants.{Synced};
 
 use crate::disk::Disk;
+use crate::index::Index;
 use crate::{Block, Cell, Info, Shape};
 use block_hash::Digest16;
-use disk_model::{Meta, Path};
+use disk_model::{Meta, NoMemory, Path};
+use std::alloc::Global;
 use std::marker::Model;
 
 /// The files of all columns, the positions and hashes of their blocks, and what is known of each stripe.
@@ -16,6 +20,8 @@ use std::marker::Model;
 pub struct Table {
     shape: Shape,
     disks: Vec<Disk>,
+    // One for each disk.
+    indexes: Vec<Index>,
     infos: Vec<Info>,
     total: u32,
 }
@@ -34,17 +40,32 @@ impl Model for Table {
 
 impl Table {
     // The table of what a builder was given.
-    pub(crate) fn new(shape: Shape, disks: Vec<Disk>, infos: Vec<Info>, total: u32) -> Table
-        requires valid { IsValid (record { shape = shape; columns = disks.items; infos = infos.items }) }
+    pub(crate) fn new(
+        shape: Shape,
+        disks: Vec<Disk>,
+        infos: Vec<Info>,
+        total: u32,
+    ) -> Result<Table, NoMemory>
+        requires valid { IsValid (record {
+          shape = shape;
+          columns = disks.items;
+          infos = infos.items;
+        }) }
         requires total { total ≡ length (blocks_of disks.items) }
-        ensures { result ≡ record { shape = shape; columns = disks.items; infos = infos.items } }
+        ensures { IfOk result (λ made. made ≡ record {
+          shape = shape;
+          columns = disks.items;
+          infos = infos.items;
+        }) }
     {
-        Table {
+        let indexes = indexes_of(&disks, *disks.allocator())?;
+        Ok(Table {
             shape,
             disks,
+            indexes,
             infos,
             total,
-        }
+        })
     }
 
     pub fn shape(&self) -> Shape
@@ -117,20 +138,26 @@ impl Table {
     pub fn find(&self, d: u32, path: &Path) -> Option<u32>
         requires { d < length self.now.columns }
         ensures found { IfSome result (λ i. HasPath (column_at self.now.columns d) i path.now) }
-        ensures only { (i : ℕ) → HasPath (column_at self.now.columns d) i path.now → result ≡ Some i }
+        ensures only { (i : ℕ) →
+            HasPath (column_at self.now.columns d) i path.now → result ≡ Some i }
     {
         self.disks[d as usize].find(path.as_str().as_bytes())
     }
 
-    /// The one block of a column that a stripe holds.
+    /// The one block of a column that a stripe holds. It is looked up in O(log n) steps.
     pub fn cell(&self, s: u32, d: u32) -> Option<Cell>
         requires stripe { s < length self.now.infos }
         requires column { d < length self.now.columns }
-        ensures found { IfSome result (λ cell. IsAt (column_at self.now.columns d) s cell.rec cell.index) }
+        ensures value { result ≡ cell_in (column_at self.now.columns d) s }
+        ensures found { IfSome result (λ cell.
+            IsAt (column_at self.now.columns d) s cell.rec cell.index) }
         ensures only { (i index : ℕ) → IsAt (column_at self.now.columns d) s i index →
             result ≡ Some (record { rec = i; index = index }) }
     {
-        self.disks[d as usize].cell(s)
+        match self.indexes[d as usize].place(s) {
+            Some(place) => Some(self.disks[d as usize].cell_at(place)),
+            None => None,
+        }
     }
 
     /// What is known of a stripe.
@@ -153,7 +180,9 @@ impl Table {
         requires column { d < length self.old.columns }
         requires rec { i < length (column_at self.old.columns d).records }
         requires block { index < length (record_at self.old.columns d i).blocks }
-        ensures { self.new ≡ record self.old { columns = with_hash self.old.columns d i index hash } }
+        ensures { self.new ≡ record self.old {
+          columns = with_hash self.old.columns d i index hash;
+        } }
     {
         self.disks[d as usize].set_hash(i, index, hash);
     }
@@ -167,4 +196,15 @@ impl Table {
     {
         self.infos[s as usize] = info;
     }
+}
+
+// The index of each disk.
+fn indexes_of(disks: &[Disk], alloc: Global) -> Result<Vec<Index>, NoMemory>
+    ensures { IfOk result (λ indexes. AreIndexes disks.now indexes.items) }
+{
+    let mut indexes = Vec::with_capacity(alloc, disks.len())?;
+    for disk in disks {
+        indexes.push(Index::new(alloc, disk.all_blocks())?)?;
+    }
+    Ok(indexes)
 }

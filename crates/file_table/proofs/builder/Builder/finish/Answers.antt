@@ -1,7 +1,8 @@
-use Rattle.std.proofs.Common.{◌≡◌, ◌≢◌, ℕ, subst, sym, arith}
+use Rattle.std.proofs.Common.{◌≡◌, ◌≢◌, ◌∙◌, ℕ, subst, sym, refl, arith}
 use Rattle.std.proofs.lemmas.Bool.{eqb-false}
 use Rattle.std.specs.Vec.{vec_len}
 use Rattle.file_table.specs.Builder.{building_of}
+use Rattle.file_table.specs.Building.{IsLength}
 use Rattle.file_table.specs.Counted.{IsCounted}
 use Rattle.file_table.proofs.CountedLemmas.{finished}
 use Rattle.file_table.proofs.builder.Builder.finish.Goals as goal
@@ -12,7 +13,8 @@ new-requires-clause-valid c =
     let none : b.lacking ≡ 0 = omega arith in
     let is : IsCounted (building_of b) b.used.items b.unhashed.items b.records b.due 0 b.end = subst (λ (n : ℕ). IsCounted (building_of b) b.used.items b.unhashed.items b.records b.due n b.end) none c.self.invariant in
     let other : vec_len b.disks ≢ 0 = eqb-false (vec_len b.disks) 0 (sym c.if-is_empty.ensures) in
-    (finished (building_of b) b.used.items b.unhashed.items b.records b.due b.end is (omega arith) (omega arith) c.if-self.false).0
+    let fits : IsLength (building_of b) = subst IsLength (sym c.self.view_is) (c.if-not-length_fits.ensures.0 refl) in
+    (finished (building_of b) b.used.items b.unhashed.items b.records b.due b.end is (omega arith) (omega arith) (fits ∙ sym is.end_is)).0
 
 pub new-requires-clause-total : goal.new-requires-clause-total
 new-requires-clause-total c =
@@ -20,4 +22,5 @@ new-requires-clause-total c =
     let none : b.lacking ≡ 0 = omega arith in
     let is : IsCounted (building_of b) b.used.items b.unhashed.items b.records b.due 0 b.end = subst (λ (n : ℕ). IsCounted (building_of b) b.used.items b.unhashed.items b.records b.due n b.end) none c.self.invariant in
     let other : vec_len b.disks ≢ 0 = eqb-false (vec_len b.disks) 0 (sym c.if-is_empty.ensures) in
-    (finished (building_of b) b.used.items b.unhashed.items b.records b.due b.end is (omega arith) (omega arith) c.if-self.false).1
+    let fits : IsLength (building_of b) = subst IsLength (sym c.self.view_is) (c.if-not-length_fits.ensures.0 refl) in
+    (finished (building_of b) b.used.items b.unhashed.items b.records b.due b.end is (omega arith) (omega arith) (fits ∙ sym is.end_is)).1

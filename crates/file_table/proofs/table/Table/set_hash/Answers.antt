@@ -5,6 +5,7 @@ use Rattle.file_table.specs.Table.{Column, TableValue, record_in, record_at, col
 use Rattle.file_table.specs.Valid.{IsSixteenBytes}
 use Rattle.file_table.specs.Kept.{table_of}
 use Rattle.file_table.proofs.HashLemmas.{valid-set_hash, length-blocks_of-hash}
+use Rattle.file_table.proofs.IndexedLemmas.{AreIndexes-hash}
 use Rattle.file_table.proofs.table.Table.set_hash.Goals as goal
 
 pub set_hash-requires-clause-rec : goal.set_hash-requires-clause-rec
@@ -34,6 +35,7 @@ invariant_of-self c =
     let digest : IsSixteenBytes c.args.hash.0 = record { sixteen = search rules; in_range = All-from_get_or (λ (byte : ℕ). byte < 256) c.args.hash.0 0 bytes } in
     record {
       valid = rw written (valid-set_hash t.disks.items c.args.d c.args.i c.args.index c.args.hash within rec_in index_in (table_of t) refl digest c.self.invariant.valid);
+      indexed = rw written (AreIndexes-hash t.disks.items t.indexes.items c.args.d c.args.i c.args.index c.args.hash within rec_in index_in c.self.invariant.indexed);
       total = rw written (c.self.invariant.total ∙ sym (length-blocks_of-hash t.disks.items c.args.d c.args.i c.args.index c.args.hash within rec_in index_in));
     }
 

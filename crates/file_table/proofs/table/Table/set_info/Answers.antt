@@ -13,5 +13,6 @@ invariant_of-self c =
     let info : IsInfo c.args.info = record { state = c.requires.state; last = search rules } in
     record {
       valid = valid-set_info (table_of c.self.inside) c.args.s c.args.info c.self.invariant.valid within info hashed;
+      indexed = c.self.invariant.indexed;
       total = c.self.invariant.total;
     }
