@@ -1,0 +1,3 @@
+mod LowestLemmas
+mod TreeLemmas
+mod WordLemmas
