@@ -1,0 +1,12 @@
+mod BoolLemmas
+mod ComponentsLemmas
+mod GivenLemmas
+mod GlobLemmas
+mod KeepsLemmas
+mod MatchingLemmas
+mod NumberLemmas
+mod OptionValueLemmas
+mod PathLemmas
+mod TextLemmas
+mod WordsLemmas
+mod WorkedExamples

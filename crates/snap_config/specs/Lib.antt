@@ -1,0 +1,13 @@
+pub mod FlatCommand
+pub mod Given
+pub mod Glob
+pub mod Keeps
+pub mod Matching
+pub mod Number
+pub mod OptionTable
+pub mod OptionValues
+pub mod Pattern
+pub mod Setup
+pub mod Walk
+pub mod Why
+pub mod Words
