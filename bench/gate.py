@@ -1,0 +1,89 @@
+"""Runs the gate from nothing in a copy of the repository, and prints what each crate costs: its proofs, its tests and its must-fail edits,
+in processor seconds.
+
+usage: bench/gate.sh            the whole gate
+       bench/gate.sh NAME ..    these crates and those below them
+
+Each process of the prover is looked at five times a second. It tells which crate it is for, and whether for its tests; one that works in a folder
+for an edit is counted to the edits. What is left (reading, linking, running tests and programs) is the last line but one.
+"""
+
+import os
+import re
+import resource
+import shutil
+import subprocess
+import sys
+import tempfile
+import time
+
+TOP = os.path.dirname(os.path.dirname(os.path.abspath(__file__)))
+TICKS = os.sysconf("SC_CLK_TCK")
+PARTS = ("proofs", "tests", "edits")
+
+
+def read(path):
+    with open(path, "rb") as file:
+        return file.read()
+
+
+def part_of(words, folder):
+    """The crate and the part that a process of the prover works on, by its words and the folder that it works in."""
+    crate = words[words.index(b"--crate-name") + 1].decode()
+    if "/rt-edit-" in folder:
+        return crate, "edits"
+    return crate, "tests" if b"--test" in words else "proofs"
+
+
+def look(seen):
+    """Notes the processor seconds of each process of the prover, with those of the copies of itself that it has waited for."""
+    for process in filter(str.isdigit, os.listdir("/proc")):
+        at = f"/proc/{process}"
+        try:
+            words = read(f"{at}/cmdline").split(b"\0")
+            if os.path.basename(words[0]) != b"rattle" or b"--crate-name" not in words:
+                continue
+            fields = read(f"{at}/stat").rpartition(b")")[2].split()
+            parent = read(f"/proc/{int(fields[1])}/cmdline").split(b"\0")[0]
+            if os.path.basename(parent) == b"rattle":
+                continue
+            spent = sum(map(int, fields[11:15])) / TICKS
+            seen[process, fields[19]] = (*part_of(words, os.readlink(f"{at}/cwd")), spent)
+        except (OSError, ValueError, IndexError):
+            # it has ended meanwhile
+            continue
+
+
+def print_table(seen, whole, minutes):
+    with open(f"{TOP}/crates.txt", encoding="utf-8") as file:
+        names = re.findall(r"^(\w+)[^#\n]*:", file.read(), re.M)
+    cost = {}
+    for crate, part, spent in seen.values():
+        cost[crate, part] = cost.get((crate, part), 0) + spent
+    rows = [(name, *(cost.get((name, part), 0) for part in PARTS)) for name in names]
+    rows = [(*row, sum(row[1:])) for row in rows if sum(row[1:])]
+    sums = [sum(column) for column in list(zip(*rows))[1:]] or [0] * 4
+    print("| crate | proofs | tests | edits | together |\n|---|---|---|---|---|")
+    for name, *spent in [*rows, ("all", *sums)]:
+        print(f"| {name} | " + " | ".join(f"{seconds:.0f}" for seconds in spent) + " |")
+    print(f"\nprocessor seconds; besides these {whole - sums[3]:.0f} for all else; {minutes:.1f} minutes by the clock on {os.cpu_count()} processors")
+
+
+def main(names):
+    room = tempfile.mkdtemp(prefix="gate-")
+    try:
+        to = f"{room}/copy"
+        shutil.copytree(TOP, to, ignore=lambda folder, found: {"out", ".git"} & set(found))
+        begun, seen = time.monotonic(), {}
+        gate = subprocess.Popen(["rt", "ci", "--anew", *names], cwd=to)
+        while gate.poll() is None:
+            look(seen)
+            time.sleep(0.2)
+        spent = resource.getrusage(resource.RUSAGE_CHILDREN)
+        print_table(seen, spent.ru_utime + spent.ru_stime, (time.monotonic() - begun) / 60)
+        return gate.returncode
+    finally:
+        shutil.rmtree(room, ignore_errors=True)
+
+
+sys.exit(main(sys.argv[1:]))
