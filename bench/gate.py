@@ -4,8 +4,8 @@ in processor seconds.
 usage: bench/gate.sh            the whole gate
        bench/gate.sh NAME ..    these crates and those below them
 
-Each process of the prover is looked at five times a second. It tells which crate it is for, and whether for its tests; one that works in a folder
-for an edit is counted to the edits. What is left (reading, linking, running tests and programs) is the last line but one.
+Each process of the prover that this gate began is looked at five times a second. It tells which crate it is for, and whether for its tests; one
+that works in a folder for an edit is counted to the edits. What is left (reading, linking, running tests and programs) is the last line but one.
 """
 
 import os
@@ -35,8 +35,21 @@ def part_of(words, folder):
     return crate, "tests" if b"--test" in words else "proofs"
 
 
-def look(seen):
-    """Notes the processor seconds of each process of the prover, with those of the copies of itself that it has waited for."""
+def parent_of(process):
+    return int(read(f"/proc/{process}/stat").rpartition(b")")[2].split()[1])
+
+
+def is_below(process, gate):
+    """Whether a process was begun by the gate, or by one that the gate began."""
+    while process > 1:
+        if process == gate:
+            return True
+        process = parent_of(process)
+    return False
+
+
+def look(seen, gate):
+    """Notes the processor seconds of each of the gate's processes of the prover, with those of the copies of itself that it has waited for."""
     for process in filter(str.isdigit, os.listdir("/proc")):
         at = f"/proc/{process}"
         try:
@@ -45,7 +58,7 @@ def look(seen):
                 continue
             fields = read(f"{at}/stat").rpartition(b")")[2].split()
             parent = read(f"/proc/{int(fields[1])}/cmdline").split(b"\0")[0]
-            if os.path.basename(parent) == b"rattle":
+            if os.path.basename(parent) == b"rattle" or not is_below(int(process), gate):
                 continue
             spent = sum(map(int, fields[11:15])) / TICKS
             seen[process, fields[19]] = (*part_of(words, os.readlink(f"{at}/cwd")), spent)
@@ -77,7 +90,7 @@ def main(names):
         begun, seen = time.monotonic(), {}
         gate = subprocess.Popen(["rt", "ci", "--anew", *names], cwd=to)
         while gate.poll() is None:
-            look(seen)
+            look(seen, gate.pid)
             time.sleep(0.2)
         spent = resource.getrusage(resource.RUSAGE_CHILDREN)
         print_table(seen, spent.ru_utime + spent.ru_stime, (time.monotonic() - begun) / 60)

@@ -29,8 +29,10 @@ pub fn coefficient(matrix: &Matrix, row: usize, column: usize) -> u8
 /// One side of equation `i`, as far as there are values.
 fn sum_of_products(matrix: &Matrix, i: usize, values: &Row) -> u8
     requires row { i < array_vec_len matrix.now }
-    requires columns { array_vec_len values.now ≤ length (slice_index_or (rows_of matrix.now) i []) }
-    ensures { result ≡ row_sum (entries matrix.now) (array_vec_len values.now) (slice_index values.now.items) i }
+    requires columns { array_vec_len values.now
+        ≤ length (slice_index_or (rows_of matrix.now) i []) }
+    ensures { result
+        ≡ row_sum (entries matrix.now) (array_vec_len values.now) (slice_index values.now.items) i }
 {
     let mut sum = 0;
     for j in 0..values.len() {
@@ -45,7 +47,8 @@ fn reduced_row(matrix: &Matrix, n: usize, i: usize) -> Row
     requires last { n < 6 }
     requires row { i < n }
     ensures long { array_vec_len result ≡ n }
-    ensures made { (j : ℕ) → j < n → slice_index result.items j ≡ reduced (entries matrix.now) n i j }
+    ensures made { (j : ℕ) → j < n →
+        slice_index result.items j ≡ reduced (entries matrix.now) n i j }
 {
     let mut row = Row::new();
     for j in 0..n {
@@ -60,7 +63,8 @@ fn reduced_matrix(matrix: &Matrix, n: usize) -> Matrix
     requires shape { HasShape (n + 1) (n + 1) matrix.now }
     requires last { n < 6 }
     ensures shape { HasShape n n result }
-    ensures made { (i j : ℕ) → i < n → j < n → entries result i j ≡ reduced (entries matrix.now) n i j }
+    ensures made { (i j : ℕ) → i < n → j < n →
+        entries result i j ≡ reduced (entries matrix.now) n i j }
 {
     let mut rows = Matrix::new();
     for i in 0..n {
@@ -76,7 +80,8 @@ fn reduced_sums(matrix: &Matrix, given: &Row, n: usize) -> Row
     requires last { n < 6 }
     ensures long { array_vec_len result ≡ n }
     ensures made { (i : ℕ) → i < n →
-        slice_index result.items i ≡ reduced_given (entries matrix.now) n (slice_index given.now.items) i }
+        slice_index result.items i
+        ≡ reduced_given (entries matrix.now) n (slice_index given.now.items) i }
 {
     let mut sums = Row::new();
     for i in 0..n {
@@ -95,7 +100,8 @@ pub fn solve_system(matrix: &Matrix, given: &Row) -> Row
     requires sums { IsVector (array_vec_len given.now) (slice_index given.now.items) }
     ensures long { array_vec_len result ≡ array_vec_len given.now }
     ensures elements { IsVector (array_vec_len given.now) (slice_index result.items) }
-    ensures solves { Solves (array_vec_len given.now) (entries matrix.now) (slice_index given.now.items) (slice_index result.items) }
+    ensures solves { Solves (array_vec_len given.now) (entries matrix.now)
+        (slice_index given.now.items) (slice_index result.items) }
 {
     if given.is_empty() {
         return Row::new();

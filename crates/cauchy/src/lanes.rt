@@ -65,7 +65,8 @@ pub fn lane_tables(coefficient: u8) -> LaneTables
 /// The products of the tables' coefficient with each lane.
 #[inline(always)]
 pub fn products(tables: &LaneTables, bytes: u8x32) -> u8x32
-    ensures { (k : ℕ) → AreLaneTables k tables.now → HasLanes result (λ i. product k (slice_index bytes i)) }
+    ensures { (k : ℕ) → AreLaneTables k tables.now →
+        HasLanes result (λ i. product k (slice_index bytes i)) }
 {
     let low = tables[0].swizzle_dyn_within::<16>(bytes & u8x32::splat(15));
     let high = tables[1].swizzle_dyn_within::<16>(bytes >> u8x32::splat(4));

@@ -7,6 +7,8 @@
 //!
 //! Why it can always be solved: each entry is u / (q x + p), with x for its column and u, q and p for its row, and such a
 //! matrix keeps this form when an unknown is eliminated (`proofs/CauchyForm.antt`).
+//! Products are looked up 32 bytes at a time, by two tables of sixteen for each coefficient (`lanes.rt`), and what is left of
+//! a block is done byte by byte.
 //! Proved: `entry` and `add_column` give the entries and the levels; `solve` gives back the blocks of up to six columns from
 //! as many levels; for every choice of these the solution exists and is the only one (module `laws`).
 #![tactic(auto)]

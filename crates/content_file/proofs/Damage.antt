@@ -8,7 +8,7 @@ use Rattle.std.proofs.lemmas.Str.Ascii.{IsAscii-from_all}
 use Rattle.disk_model.specs.Path.{IsRecordPath, IsValidPath}
 use Rattle.disk_model.specs.declared.fault.PathFault.{PathFault}
 use Rattle.disk_model.specs.declared.fault.PathFault.TheVariants as paths
-use Rattle.file_table.specs.Valid.{IsName, is_name_byte}
+use Rattle.disk_model.specs.Name.{IsName, is_name_byte}
 use Rattle.content_file.specs.declared.fault.DecodeFault.{DecodeFault}
 use Rattle.content_file.specs.declared.fault.DecodeFault.TheVariants as faults
 use Rattle.content_file.specs.Fault.{of_path_fault}

@@ -10,7 +10,8 @@ use Rattle.file_table.specs.declared.info.Info.{Info}
 use Rattle.file_table.specs.declared.info.Mark.{Mark}
 use Rattle.file_table.specs.declared.info.Mark.TheVariants.{Pending, Synced}
 use Rattle.file_table.specs.Table.{Record, Column, records_of, blocks_due, info_at, no_info}
-use Rattle.file_table.specs.Valid.{AreColumns, IsColumn, IsName, IsWhole, AreInfos, IsInfo, IsState, IsHashedAt, most_records, most_blocks}
+use Rattle.file_table.specs.Valid.{AreColumns, IsColumn, IsWhole, AreInfos, IsInfo, IsState, IsHashedAt, most_records, most_blocks}
+use Rattle.disk_model.specs.Name.{IsName}
 use Rattle.content_file.specs.declared.head.Head.{Head}
 use Rattle.content_file.specs.Spelling.{short_text, record_bytes, column_bytes, info_bytes, flags}
 use Rattle.content_file.specs.Tests.{is_pending, is_hashed}

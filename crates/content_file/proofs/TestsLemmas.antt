@@ -17,7 +17,8 @@ use Rattle.std.proofs.lemmas.Str.{IsUtf8-from_is_utf8, is_utf8-from_IsUtf8}
 use Rattle.disk_model.specs.Path.{IsRecordPath, IsComponent, IsDirectoryOf, EndsWith, lost_suffix, components}
 use Rattle.file_table.specs.declared.block.Block.{Block}
 use Rattle.file_table.specs.Table.{Record, Column, positions_of, blocks_of}
-use Rattle.file_table.specs.Valid.{IsName, IsHashedAt, is_name_byte, level_names}
+use Rattle.file_table.specs.Valid.{IsHashedAt}
+use Rattle.disk_model.specs.Name.{IsName, is_name_byte, level_names}
 use Rattle.file_table.specs.Building.{last_record, IsGreatest, IsNested}
 use Rattle.content_file.specs.Tests.{is_name, is_named, is_part, is_record_path, is_greatest, is_nested, is_used, is_hashed}
 use Rattle.content_file.proofs.Columns.{column_of}

@@ -5,7 +5,8 @@ use Rattle.disk_model.specs.Path.{IsRecordPath}
 use Rattle.file_table.specs.declared.block.Block.{Block}
 use Rattle.file_table.specs.declared.info.Info.{Info}
 use Rattle.file_table.specs.Table.{Record, Column, records_of, block_count}
-use Rattle.file_table.specs.Valid.{AreColumns, AreInfos, IsWhole, IsName}
+use Rattle.file_table.specs.Valid.{AreColumns, AreInfos, IsWhole}
+use Rattle.disk_model.specs.Name.{IsName}
 use Rattle.file_table.specs.Building.{BuildingValue, IsBuilding, last_column, newest_record, with_last_records}
 use Rattle.content_file.specs.Spelling.{short_text, long_text, block_bytes, record_bytes, column_bytes, info_bytes}
 

@@ -9,7 +9,7 @@ use Rattle.file_table.specs.declared.block.Block.{Block}
 use Rattle.file_table.specs.declared.info.Mark.{Mark}
 use Rattle.file_table.specs.declared.info.Mark.TheVariants.{Pending, Synced}
 use Rattle.file_table.specs.Table.{Record, Column, blocks_of, positions_of}
-use Rattle.file_table.specs.Valid.{is_name_byte, level_names}
+use Rattle.disk_model.specs.Name.{is_name_byte, level_names}
 use Rattle.file_table.specs.Building.{last_record}
 
 -- an allowed name of a disk

@@ -26,6 +26,3 @@ pub use encoding::encode;
 pub use fault::DecodeFault;
 pub use loading::{LoadFault, load};
 pub use saving::{SaveFault, save};
-
-#[cfg(test)]
-mod tests;

@@ -1,9 +1,10 @@
 -- Bytes that are put over others, or cut, or extended.
 use Rattle.std.proofs.Common.{◌≡◌, inl, inr, ⊎_elim, ℕ, ◌+◌, ◌-◌, ◌<◌, ◌≤◌, List, [], ◌++◌, length, take, drop, replicate, get_or, refl, sym, ◌∙◌, ap, arith, append_assoc, length-append, length-drop}
 use Rattle.std.proofs.lemmas.List.{append-nil, length-take, length-replicate, take-append-le, take-replicate, take_all, drop_all, get_or-take, get_or-drop, get_or_append_left, get_or-append_right}
+use Rattle.std.proofs.lemmas.List.Elements.{All-append, All-take, All-drop, All-replicate, All-nil, All-from_get_or}
 use Rattle.std.proofs.Math.Seq.{take-append-add}
 use Rattle.std.proofs.lemmas.Bool.{cases_lt}
-use Rattle.disk_model.specs.Bytes.{put, resized, Torn, Stretched}
+use Rattle.disk_model.specs.Bytes.{AreBytes, put, resized, Torn, Stretched}
 
 -- a front of bytes that zeros follow
 take-zeros : (file : List ℕ) (at more : ℕ) → at ≤ length file + more → take at (file ++ replicate more 0) ≡ take at file ++ replicate (at - length file) 0
@@ -102,3 +103,26 @@ stretched_by_resized file len =
 
 pub stretched_not : (file : List ℕ) (len : ℕ) → Stretched len file file
 stretched_not file len = record { same = λ i within left below. refl; no_shorter = omega arith; no_longer = omega arith }
+
+pub no_bytes : AreBytes []
+no_bytes = All-nil (λ byte. byte < 256)
+
+pub bytes-append : (first second : List ℕ) → AreBytes first → AreBytes second → AreBytes (first ++ second)
+bytes-append first second one two = All-append (λ byte. byte < 256) first second one two
+
+zeros : (n : ℕ) → AreBytes (replicate n 0)
+zeros n = All-replicate (λ byte. byte < 256) n 0 (omega arith)
+
+pub bytes-put : (file : List ℕ) (at : ℕ) (bytes : List ℕ) → AreBytes file → AreBytes bytes → AreBytes (put file at bytes)
+bytes-put file at bytes one two =
+    bytes-append ((take at file ++ replicate (at - length file) 0) ++ bytes) (drop (at + length bytes) file)
+    (bytes-append (take at file ++ replicate (at - length file) 0) bytes
+    (bytes-append (take at file) (replicate (at - length file) 0) (All-take (λ byte. byte < 256) at file one) (zeros (at - length file))) two)
+    (All-drop (λ byte. byte < 256) (at + length bytes) file one)
+
+pub bytes-resized : (file : List ℕ) (len : ℕ) → AreBytes file → AreBytes (resized file len)
+bytes-resized file len one = bytes-append (take len file) (replicate (len - length file) 0) (All-take (λ byte. byte < 256) len file one) (zeros (len - length file))
+
+-- a slice of bytes
+pub slice_bytes : (bytes : List ℕ) → ((i : ℕ) → get_or bytes i 0 < 256) → AreBytes bytes
+slice_bytes bytes fits = All-from_get_or (λ byte. byte < 256) bytes 0 (λ i below. fits i)

@@ -11,7 +11,7 @@ use Rattle.std.specs.Cmp.{eq_by_cmp_equiv}
 use Rattle.std.specs.Cmp.Lexicographic.{nat_list_cmp_total}
 use Rattle.std.specs.declared.cmp.Ordering.{Ordering}
 use Rattle.std.specs.declared.cmp.Ordering.TheVariants.{Less, Equal, Greater}
-use Rattle.disk_model.specs.Tree.{Tree, File, file_of, is_directory_of, IsTree, IsFile}
+use Rattle.disk_model.specs.Tree.{Tree, File, file_of, is_directory_of, IsTree, IsFile, IsApart}
 use Rattle.disk_memory.specs.Files.{IsRising, IsKept, tree_of, entries_of, file_in, EndsDirectory, HasNoDirectory}
 use Rattle.disk_memory.specs.declared.files.MemFile.{MemFile}
 use Rattle.disk_memory.proofs.OrderLemmas.{path_cmp, tied_paths, entries_rise}
@@ -76,6 +76,7 @@ insert_tree tree path file trees new other there found = elim (got tree path fil
       record {
         valid = as_new.valid;
         stamp = as_new.stamp;
+        bytes = as_new.bytes;
         size = as_new.size;
         apart = λ third f at. elim (got tree path file third f at) [
           | inl same ↦
@@ -91,6 +92,7 @@ insert_tree tree path file trees new other there found = elim (got tree path fil
       record {
         valid = as_old.valid;
         stamp = as_old.stamp;
+        bytes = as_old.bytes;
         size = as_old.size;
         apart = λ third f at. elim (got tree path file third f at) [
           | inl same ↦
@@ -113,7 +115,21 @@ left_over tree path other there found = by_cases (eq_by_cmp path_cmp other path)
 pub remove_tree : (tree : Tree) (path : List ℕ) → IsTree tree → IsTree (map.remove tree path)
 remove_tree tree path trees other there found =
     let as_old = trees other there (left_over tree path other there found) in
-    record { valid = as_old.valid; stamp = as_old.stamp; size = as_old.size; apart = λ third f at. as_old.apart third f (left_over tree path third f at) }
+    record { valid = as_old.valid; stamp = as_old.stamp; bytes = as_old.bytes; size = as_old.size; apart = λ third f at. as_old.apart third f (left_over tree path third f at) }
+
+-- a path that a tree has room for, it has room for without a file of its own
+pub apart_without : (tree : Tree) (from path : List ℕ) → IsApart tree path → IsApart (map.remove tree from) path
+apart_without tree from path apart other there found = apart other there (left_over tree from other there found)
+
+-- to set a file as it is changes nothing
+pub set_same : (tree : Tree) (path : List ℕ) (file : File) → file_of tree path ≡ Some file → tree ≡ map.insert tree path file
+set_same tree path file found = map.same_map nat_list_cmp_total (slice_cmp-IsAntisymmetric nat_cmp-IsAntisymmetric) tree (map.insert tree path file) (λ q.
+    by_cases q (path_cmp q path) refl ∙ sym (map.get-insert nat_list_cmp_total tree path file q))
+  where
+    by_cases : (q : List ℕ) (o : Ordering) → path_cmp q path ≡ o → file_of tree q ≡ cond (eq_by_cmp path_cmp q path) (Some file) (file_of tree q)
+    by_cases q Less at = sym (ap (λ r. cond (is_eq r) (Some file) (file_of tree q)) at)
+    by_cases q Equal at = ap (file_of tree) (tied_paths q path at) ∙ found ∙ sym (ap (λ r. cond (is_eq r) (Some file) (file_of tree q)) at)
+    by_cases q Greater at = sym (ap (λ r. cond (is_eq r) (Some file) (file_of tree q)) at)
 
 pub tree_find : (files : List MemFile) → IsRising files → (path : List ℕ) → file_of (tree_of files) path ≡ find path_cmp path (entries_of files)
 tree_find files rising path = map.get-from_sorted path_cmp (entries_of files) path (entries_rise files rising)

@@ -10,7 +10,7 @@ use Rattle.disk_memory.specs.declared.past.Made.{Made}
 use Rattle.disk_memory.specs.declared.calls.VaultEntry.{VaultEntry}
 use Rattle.disk_memory.specs.declared.calls.VaultEntry.TheVariants.{ParityLen, ParityRead, ParityWrite, ParitySetLen, ParitySync, ContentSize, ContentRead, DraftBegin, DraftAppend, DraftSeal, Publish}
 use Rattle.disk_memory.specs.declared.calls.FolderEntry.{FolderEntry}
-use Rattle.disk_memory.specs.declared.calls.FolderEntry.TheVariants.{ListFiles, Look, ReadAt}
+use Rattle.disk_memory.specs.declared.calls.FolderEntry.TheVariants.{ListFiles, Look, ReadAt, Make, WriteAt, SetSize, SetStamp, Rename}
 use Rattle.disk_memory.specs.declared.calls.OpenerEntry.{OpenerEntry}
 use Rattle.disk_memory.specs.declared.calls.OpenerEntry.TheVariants.{Config, Open}
 
@@ -58,6 +58,11 @@ abbrev pub folder_call : FolderEntry → FolderCall
 folder_call ListFiles = folder.ListFiles
 folder_call (Look path lost) = folder.Look path lost
 folder_call (ReadAt path lost at n) = folder.ReadAt path lost at n
+folder_call (Make path) = folder.Make path
+folder_call (WriteAt path at bytes) = folder.WriteAt path at bytes
+folder_call (SetSize path size) = folder.SetSize path size
+folder_call (SetStamp path stamp) = folder.SetStamp path stamp
+folder_call (Rename path lost) = folder.Rename path lost
 
 -- with what became of it
 abbrev pub folder_done : Made FolderEntry → FolderDone

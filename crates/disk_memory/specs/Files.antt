@@ -1,5 +1,8 @@
 -- Files in the order of their paths, as a tree.
-use Rattle.std.specs.Prelude.{◌≡◌, ◌≢◌, ℕ, ◌<◌, ◌≤◌, List, ◌∷◌, [], length, take, map as list_map, slice_index, slice_index_or, IsSome, Some, false}
+use Rattle.std.specs.Prelude.{◌≡◌, ◌≢◌, ℕ, ◌<◌, ◌≤◌, List, ◌∷◌, [], length, take, map as list_map, slice_index, slice_index_or, Option, None, IsSome, IsSomeAnd, Some, Bool, false, if◌then◌else◌, pos}
+use Rattle.std.specs.Global.{Vec}
+use Rattle.std.specs.Vec.{vec_len, vec_capacity}
+use Rattle.std.specs.Option.{option_map}
 use Rattle.std.specs.List.{AllByRecursion}
 use Rattle.std.specs.FinMap as map
 use Rattle.std.specs.Ordering.{nat_cmp}
@@ -7,6 +10,7 @@ use Rattle.std.specs.Cmp.Lexicographic.{slice_cmp}
 use Rattle.std.specs.declared.cmp.Ordering.TheVariants.{Less}
 use Rattle.disk_model.specs.Tree.{Tree, File, file_of, is_directory_of, meta_of, IsTree}
 use Rattle.disk_model.specs.declared.meta.Meta.{Meta}
+use Rattle.disk_model.specs.declared.meta.Stamp.{Stamp}
 use Rattle.disk_memory.specs.declared.files.MemFile.{MemFile}
 
 -- a file without its path
@@ -61,6 +65,33 @@ HasNoDirectory tree path = (other : List ℕ) (file : File) → file_of tree oth
 -- the path is a directory of no file
 abbrev pub HoldsNone : Tree → List ℕ → Type 0
 HoldsNone tree path = (other : List ℕ) (file : File) → file_of tree other ≡ Some file → is_directory_of path other ≡ false
+
+-- there is room for one file more
+abbrev pub HasRoom : Vec MemFile → Type 0
+HasRoom files = vec_len files < vec_capacity files
+
+abbrev pub set_found : Option File → List ℕ → Tree → Tree
+set_found None path tree = tree
+set_found (Some file) path tree = map.insert tree path file
+
+-- the file with this path became another, where there is one
+abbrev pub changed : (File → File) → List ℕ → Tree → Tree
+changed step path tree = set_found (option_map step (file_of tree path)) path tree
+
+-- the stamp of a file that was made: 1970 began
+abbrev pub first_stamp : Stamp
+first_stamp = record { seconds = pos 0; nanos = 0 }
+
+abbrev pub with_bytes : (List ℕ → List ℕ) → File → File
+with_bytes step file = record file { bytes = step file.bytes }
+
+-- with another stamp, where stamps are kept
+abbrev pub with_stamp : Bool → Stamp → File → File
+with_stamp keeps stamp file = record file { stamp = (if keeps then stamp else file.stamp) }
+
+-- there is such a file, and it has fewer bytes
+abbrev pub IsShorter : Tree → List ℕ → ℕ → Type 0
+IsShorter tree path size = IsSomeAnd (file_of tree path) (λ file. length file.bytes < size)
 
 -- a file as it is listed
 abbrev pub info_of : MemFile → List ℕ × Meta

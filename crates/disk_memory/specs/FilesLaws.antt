@@ -1,12 +1,12 @@
 -- That files are a tree in order can be shown in one way only.
-use Rattle.std.specs.Prelude.{◌≡◌, ℕ, List, [], ◌∷◌, Bool, false, IsUtf8}
+use Rattle.std.specs.Prelude.{◌≡◌, ℕ, ◌<◌, List, [], ◌∷◌, Bool, false, IsUtf8}
 use Rattle.std.specs.Ordering.{nat_cmp}
 use Rattle.std.specs.Cmp.Lexicographic.{slice_cmp}
 use Rattle.std.specs.declared.cmp.Ordering.{Ordering}
 use Rattle.std.specs.declared.cmp.Ordering.TheVariants.{Less}
 use Rattle.std.proofs.Props.{props}
 use Rattle.std.specs.Coded.{le_prop}
-use Rattle.std.specs.List.{AllByRecursion-prop}
+use Rattle.std.specs.List.{AllByRecursion-prop, All}
 use Rattle.disk_model.specs.Path.{IsComponent, IsValidPath, components}
 use Rattle.disk_model.specs.Tree.{Tree, File, IsFile, IsTree, IsApart, is_directory_of}
 use Rattle.disk_memory.specs.Files.{IsKept, IsRising, tree_of}
@@ -23,6 +23,9 @@ orders_prop a b = Prim.hlevel props
 
 utf8_prop : (bytes : List ℕ) → IsProp (IsUtf8 bytes)
 utf8_prop bytes = Prim.hlevel props
+
+All-prop : {X : Type 0} (P : X → Type 0) → ((x : X) → IsProp (P x)) → (xs : List X) → IsProp (All P xs)
+All-prop P p xs x y i = λ k d below. p _ (x k d below) (y k d below) i
 
 IsComponent-prop : (part : List ℕ) → IsProp (IsComponent part)
 IsComponent-prop part x y i = record { some = not_prop _ x.some y.some i; not_dot = not_prop _ x.not_dot y.not_dot i; not_dots = not_prop _ x.not_dots y.not_dots i }
@@ -45,6 +48,7 @@ IsFile-prop : (tree : Tree) (path : List ℕ) (file : File) → IsProp (IsFile t
 IsFile-prop tree path file x y i = record {
   valid = IsValidPath-prop path x.valid y.valid i;
   stamp = le_prop x.stamp y.stamp i;
+  bytes = All-prop (λ byte. byte < 256) (λ byte p q. le_prop p q) file.bytes x.bytes y.bytes i;
   size = le_prop x.size y.size i;
   apart = IsApart-prop tree path x.apart y.apart i;
 }

@@ -37,6 +37,14 @@ pub record IsFreshOpener (config : List ℕ) (folders : List FolderView) (vault 
   pub tells_calls : v.tells_calls ≡ true
   pub calls : v.calls ≡ []
 
+-- an opener that tells that it holds these, and no calls
+pub record IsCalmFresh (config : List ℕ) (folders : List FolderView) (vault : VaultView) (v : OpenerView) : Type 0 where
+  pub faults : v.faults ≡ 0
+  pub tells : v.tells ≡ true
+  pub config_is : v.config ≡ config
+  pub folders_are : v.folders ≡ folders
+  pub vault_is : SameVault true vault v.vault
+
 -- all that is known of an opener is as it was
 pub record SameOpener (old new : OpenerView) : Type 0 where
   pub faults : new.faults ≡ old.faults

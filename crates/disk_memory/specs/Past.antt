@@ -7,14 +7,16 @@ use Rattle.disk_memory.specs.declared.past.Past.{Past}
 abbrev pub made : {C : Type 0} → C → Bool → Made C
 made call failed = record { call = call; failed = failed }
 
--- a call was written down at the end, or the record is lost
+-- a call was written down at the end, or the record is lost, and what was written down stays
 pub record Notes {C : Type 0} (call : C) (failed : Bool) (old new : Past C) : Type 0 where
   pub told : new.lost ≡ false → old.lost ≡ false
   pub entry : new.lost ≡ false → new.made.items ≡ old.made.items ++ made call failed ∷ []
+  pub kept : new.lost ≡ true → new.made.items ≡ old.made.items
 
--- the record is lost
+-- the record is lost, and what was written down stays
 pub record Loses {C : Type 0} (old new : Past C) : Type 0 where
   pub lost : new.lost ≡ true
+  pub kept : new.made.items ≡ old.made.items
 
 -- the record was not lost before, and is now
 pub record LosesNow {C : Type 0} (old new : Past C) : Type 0 where
@@ -25,3 +27,4 @@ pub record LosesNow {C : Type 0} (old new : Past C) : Type 0 where
 pub record Corrects {C : Type 0} (old new : Past C) : Type 0 where
   pub lost : new.lost ≡ old.lost
   pub last : new.lost ≡ false → (before : List (Made C)) (call : C) → old.made.items ≡ before ++ made call true ∷ [] → new.made.items ≡ before ++ made call false ∷ []
+  pub kept : new.lost ≡ true → new.made.items ≡ old.made.items

@@ -1,16 +1,31 @@
 -- Sinks in memory.
-use Rattle.std.specs.Prelude.{[], true}
-use Rattle.disk_model.specs.Sink.{SinkView}
-use Rattle.disk_memory.specs.Schedule.{Plan, plan_of}
+use Rattle.std.specs.Prelude.{[], ℕ, List, map, Bool, true, not}
+use Rattle.disk_model.specs.Sink.{SinkView, SinkDone}
+use Rattle.disk_memory.specs.Schedule.{Plan, plan_of, ObeysOnRecord}
+use Rattle.disk_memory.specs.declared.past.Made.{Made}
 use Rattle.disk_memory.specs.declared.sink.MemSink.{MemSink}
 
--- it tells what was written
+-- a write with what became of it
+abbrev pub sink_done : Made (List ℕ) → SinkDone
+sink_done m = record { bytes = m.call; failed = m.failed }
+
+-- it tells what was written, and its writes until memory refuses an entry
 abbrev pub sink_view : MemSink → SinkView
-sink_view s = record { faults = s.schedule.faults; tells = true; written = s.written.items }
+sink_view s = record {
+  faults = s.schedule.faults;
+  tells = true;
+  written = s.written.items;
+  tells_calls = not s.past.lost;
+  calls = map sink_done s.past.made.items;
+}
 
 abbrev pub sink_plan : MemSink → Plan
 sink_plan s = plan_of s.schedule
 
+-- one write was counted, and failed where it was to, or memory refused it
+abbrev pub SinkObeys : Bool → MemSink → MemSink → Type 0
+SinkObeys failed old new = ObeysOnRecord failed (sink_plan old) (sink_plan new) (not old.past.lost) (not new.past.lost)
+
 -- nothing written, and no failure
 abbrev pub fresh_sink : SinkView
-fresh_sink = record { faults = 0; tells = true; written = [] }
+fresh_sink = record { faults = 0; tells = true; written = []; tells_calls = true; calls = [] }

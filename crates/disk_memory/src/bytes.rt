@@ -21,7 +21,7 @@ impl Model for Bytes {
 
 impl Bytes {
     ghost use Rattle.std.specs.Prelude.{◌≡◌, ◌+◌, ◌-◌, ◌^◌, ◌<◌, ◌≤◌, [], ◌++◌, length, take, replicate, IfOk, OnOk, OnErr};
-    ghost use Rattle.disk_model.specs.Bytes.{put, resized, read_from};
+    ghost use Rattle.disk_model.specs.Bytes.{AreBytes, put, resized, read_from};
 
     pub fn new(alloc: Global) -> Bytes
         ensures { result ≡ [] }
@@ -32,11 +32,31 @@ impl Bytes {
     }
 
     pub fn from_slice(alloc: Global, bytes: &[u8]) -> Result<Bytes, NoMemory>
-        ensures { IfOk result (λ made. made ≡ bytes.now) }
+        ensures same { IfOk result (λ made. made ≡ bytes.now) }
+        ensures bytes { IfOk result AreBytes }
     {
         Ok(Bytes {
             bytes: Vec::from_slice(alloc, bytes)?,
         })
+    }
+
+    pub fn of(bytes: Vec<u8>) -> Bytes
+        ensures { result ≡ bytes.items }
+    {
+        Bytes { bytes }
+    }
+
+    // Others like these.
+    pub fn copy(&self, alloc: Global) -> Result<Bytes, NoMemory>
+        ensures { IfOk result (λ made. made ≡ self.now) }
+    {
+        Bytes::from_slice(alloc, self.bytes.as_slice())
+    }
+
+    pub fn as_slice(&self) -> &[u8]
+        ensures { result.now ≡ self.now }
+    {
+        self.bytes.as_slice()
     }
 
     pub fn len(&self) -> u64
@@ -62,6 +82,7 @@ impl Bytes {
         requires { at + length bytes.now < 2 ^ 64 }
         ensures ok { OnOk result (self.new ≡ put self.old at bytes.now) }
         ensures err { OnErr result (self.new ≡ self.old) }
+        ensures full { OnErr result (length self.old < at + length bytes.now) }
     {
         let start = at as usize;
         self.reach(start + bytes.len())?;
@@ -73,6 +94,7 @@ impl Bytes {
     fn reach(&mut self, len: usize) -> Result<(), NoMemory>
         ensures ok { OnOk result (self.new ≡ self.old ++ replicate (len - length self.old) 0) }
         ensures err { OnErr result (self.new ≡ self.old) }
+        ensures full { OnErr result (length self.old < len) }
     {
         if self.bytes.len() < len {
             self.bytes.resize(len, 0)?;
@@ -84,8 +106,14 @@ impl Bytes {
     pub fn set_len(&mut self, len: u64) -> Result<(), NoMemory>
         ensures ok { OnOk result (self.new ≡ resized self.old len) }
         ensures err { OnErr result (self.new ≡ self.old) }
+        ensures full { OnErr result (length self.old < len) }
     {
-        self.bytes.resize(len as usize, 0)?;
+        let size = len as usize;
+        if size <= self.bytes.len() {
+            self.bytes.truncate(size);
+            return Ok(());
+        }
+        self.bytes.resize(size, 0)?;
         Ok(())
     }
 

@@ -1,6 +1,6 @@
 // The calls of each kind of object, as its record keeps them.
 ghost use Rattle.std.specs.Prelude.{◌≡◌, position, IfSome, IfOk};
-ghost use Rattle.disk_model.specs.Folder.{Look, ReadAt};
+ghost use Rattle.disk_model.specs.Folder.{Look, ReadAt, Make, WriteAt, SetSize, SetStamp, Rename};
 ghost use Rattle.disk_model.specs.Opener.{Config, Open};
 ghost use Rattle.disk_model.specs.Vault.{VaultDone, ParityWrite, DraftAppend};
 ghost use Rattle.disk_memory.specs.declared.past.Made.{Made};
@@ -9,7 +9,7 @@ ghost use Rattle.disk_memory.specs.Calls.{vault_call, vault_calls, is_write, fol
 
 use crate::bytes::Bytes;
 use crate::past::Made;
-use disk_model::{NoMemory, Path, Places, Text};
+use disk_model::{NoMemory, Path, Places, Stamp, Text};
 use std::alloc::Global;
 
 /// A call of a vault.
@@ -59,6 +59,11 @@ pub enum FolderEntry {
     ListFiles,
     Look(Path, bool),
     ReadAt(Path, bool, u64, usize),
+    Make(Path),
+    WriteAt(Path, u64, Bytes),
+    SetSize(Path, u64),
+    SetStamp(Path, Stamp),
+    Rename(Path, bool),
 }
 
 // None where memory refused it.
@@ -77,6 +82,69 @@ pub fn read_entry(path: &Path, lost: bool, at: u64, count: usize) -> Option<Fold
 {
     match path.copy() {
         Ok(path) => Some(FolderEntry::ReadAt(path, lost, at, count)),
+        Err(NoMemory) => None,
+    }
+}
+
+// None where memory refused it.
+pub fn make_entry(path: &Path) -> Option<FolderEntry>
+    ensures { IfSome result (λ entry. folder_call entry ≡ Make path.now) }
+{
+    match path.copy() {
+        Ok(path) => Some(FolderEntry::Make(path)),
+        Err(NoMemory) => None,
+    }
+}
+
+// None where memory refused it.
+pub fn write_at_entry(alloc: Global, path: &Path, at: u64, bytes: &[u8]) -> Option<FolderEntry>
+    ensures { IfSome result (λ entry. folder_call entry ≡ WriteAt path.now at bytes.now) }
+{
+    let Ok(path) = path.copy() else {
+        return None;
+    };
+    match Bytes::from_slice(alloc, bytes) {
+        Ok(bytes) => Some(FolderEntry::WriteAt(path, at, bytes)),
+        Err(NoMemory) => None,
+    }
+}
+
+// None where memory refused it.
+pub fn set_size_entry(path: &Path, size: u64) -> Option<FolderEntry>
+    ensures { IfSome result (λ entry. folder_call entry ≡ SetSize path.now size) }
+{
+    match path.copy() {
+        Ok(path) => Some(FolderEntry::SetSize(path, size)),
+        Err(NoMemory) => None,
+    }
+}
+
+// None where memory refused it.
+pub fn set_stamp_entry(path: &Path, stamp: Stamp) -> Option<FolderEntry>
+    ensures { IfSome result (λ entry. folder_call entry ≡ SetStamp path.now stamp) }
+{
+    match path.copy() {
+        Ok(path) => Some(FolderEntry::SetStamp(path, stamp)),
+        Err(NoMemory) => None,
+    }
+}
+
+// None where memory refused it.
+pub fn rename_entry(path: &Path, lost: bool) -> Option<FolderEntry>
+    ensures { IfSome result (λ entry. folder_call entry ≡ Rename path.now lost) }
+{
+    match path.copy() {
+        Ok(path) => Some(FolderEntry::Rename(path, lost)),
+        Err(NoMemory) => None,
+    }
+}
+
+// A write to a sink. None where memory refused it.
+pub fn sink_entry(alloc: Global, bytes: &[u8]) -> Option<Bytes>
+    ensures { IfSome result (λ entry. entry ≡ bytes.now) }
+{
+    match Bytes::from_slice(alloc, bytes) {
+        Ok(bytes) => Some(bytes),
         Err(NoMemory) => None,
     }
 }

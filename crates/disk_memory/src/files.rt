@@ -1,5 +1,5 @@
 // The files of a folder in memory, in the order of their paths.
-ghost use Rattle.std.specs.Prelude.{◌≡◌, ◌↔◌, ◌<◌, length, IfOk, IfErr, IsTrue, nat_eq, map};
+ghost use Rattle.std.specs.Prelude.{◌≡◌, ◌↔◌, ◌<◌, length, IfOk, IfErr, IsTrue, nat_eq, map, if◌then◌else◌};
 ghost use Rattle.std.specs.List.{starts_with};
 ghost use Rattle.disk_model.specs.Tree.{listed};
 ghost use Rattle.disk_memory.specs.Files.{IsKept, IsRising, IsPlace, HasPath, LacksPath, info_of};
@@ -10,6 +10,12 @@ use disk_model::{FileInfo, Meta, NoMemory, Path, Stamp};
 use std::alloc::Global;
 
 const SLASH: u8 = b'/';
+
+// The stamp of a file that was made.
+const FIRST_STAMP: Stamp = Stamp {
+    seconds: 0,
+    nanos: 0,
+};
 
 /// A file of a folder.
 #[derive(Drop)]
@@ -27,11 +33,15 @@ pub struct Files {
 }
 
 impl Files {
-    ghost use Rattle.std.specs.Prelude.{[], OnOk, OnErr, false};
+    ghost use Rattle.std.specs.Prelude.{[], ◌+◌, ◌^◌, OnOk, OnErr, IfNone, IfSome, None, false};
+    ghost use Rattle.disk_model.specs.Path.{IsValidPath};
     ghost use Rattle.std.specs.FinMap as map;
     ghost use Rattle.std.specs.Option.{option_map, option_copied};
+    ghost use Rattle.disk_model.specs.Bytes.{put, resized};
+    ghost use Rattle.disk_model.specs.Stamp.{IsStamp};
+    ghost use Rattle.disk_model.specs.Writing.{made, renamed};
     ghost use Rattle.disk_model.specs.Tree.{file_of, listing_of, IsApart, IsFile, IsListing};
-    ghost use Rattle.disk_memory.specs.Files.{file_in, tree_of, EndsDirectory, HasNoDirectory, HoldsNone};
+    ghost use Rattle.disk_memory.specs.Files.{file_in, tree_of, changed, with_bytes, with_stamp, first_stamp, HasRoom, IsShorter, EndsDirectory, HasNoDirectory, HoldsNone};
 
     pub fn new(alloc: Global) -> Files
         ensures { result.list.items ≡ [] }
@@ -51,11 +61,12 @@ impl Files {
         }
     }
 
-    // Sets a file. Memory may refuse the room.
+    // Sets a file. Memory may refuse the room, where there is none.
     pub fn put(&mut self, path: Path, stamp: Stamp, bytes: Bytes) -> Result<(), NoMemory>
         requires { IsFile (tree_of self.old.list.items) path (record { stamp = stamp; bytes = bytes }) }
         ensures ok { OnOk result (tree_of self.new.list.items ≡ map.insert (tree_of self.old.list.items) path (record { stamp = stamp; bytes = bytes })) }
         ensures err { OnErr result (self.new.list.items ≡ self.old.list.items) }
+        ensures full { OnErr result (¬ (HasRoom self.old.list)) }
     {
         match place_of(&self.list, path.as_str().as_bytes()) {
             Ok(place) => {
@@ -68,18 +79,89 @@ impl Files {
         Ok(())
     }
 
-    // Takes a file away. Was it there?
-    pub fn remove(&mut self, path: &[u8]) -> bool
-        ensures there { result ≡ map.contains_key (tree_of self.old.list.items) path.now }
-        ensures removed { tree_of self.new.list.items ≡ map.remove (tree_of self.old.list.items) path.now }
-        ensures missing { result ≡ false → self.new.list.items ≡ self.old.list.items }
+    // Takes a file away, which leaves room for another.
+    pub fn take(&mut self, path: &[u8]) -> Option<MemFile>
+        ensures there { option_map file_in result ≡ file_of (tree_of self.old.list.items) path.now }
+        ensures taken { tree_of self.new.list.items ≡ map.remove (tree_of self.old.list.items) path.now }
+        ensures missing { IfNone result (self.new.list.items ≡ self.old.list.items) }
+        ensures room { IfSome result (λ file. HasRoom self.new.list) }
     {
         match place_of(&self.list, path) {
-            Ok(place) => {
-                self.list.remove(place);
-                true
-            }
-            Err(_) => false,
+            Ok(place) => Some(self.list.remove(place)),
+            Err(_) => None,
+        }
+    }
+
+    // Writes bytes into a file, after zeros where it was shorter. Was it there? Memory may refuse the room.
+    pub fn write(&mut self, path: &[u8], at: u64, bytes: &[u8]) -> Result<bool, NoMemory>
+        requires { at + length bytes.now < 2 ^ 64 }
+        ensures there { IfOk result (λ there. there ≡ map.contains_key (tree_of self.old.list.items) path.now) }
+        ensures written { OnOk result (tree_of self.new.list.items ≡ changed (with_bytes (λ old. put old at bytes.now)) path.now (tree_of self.old.list.items)) }
+        ensures err { OnErr result (tree_of self.new.list.items ≡ tree_of self.old.list.items) }
+        ensures full { OnErr result (IsShorter (tree_of self.old.list.items) path.now (at + length bytes.now)) }
+    {
+        let Ok(place) = place_of(&self.list, path) else {
+            return Ok(false);
+        };
+        self.list[place].bytes.put(at, bytes)?;
+        Ok(true)
+    }
+
+    // Cuts a file, or extends it with zeros. Was it there? Memory may refuse the room.
+    pub fn resize(&mut self, path: &[u8], size: u64) -> Result<bool, NoMemory>
+        ensures there { IfOk result (λ there. there ≡ map.contains_key (tree_of self.old.list.items) path.now) }
+        ensures resized { OnOk result (tree_of self.new.list.items ≡ changed (with_bytes (λ old. resized old size)) path.now (tree_of self.old.list.items)) }
+        ensures err { OnErr result (tree_of self.new.list.items ≡ tree_of self.old.list.items) }
+        ensures full { OnErr result (IsShorter (tree_of self.old.list.items) path.now size) }
+    {
+        let Ok(place) = place_of(&self.list, path) else {
+            return Ok(false);
+        };
+        self.list[place].bytes.set_len(size)?;
+        Ok(true)
+    }
+
+    // Sets the stamp of a file, where stamps are kept. Was the file there?
+    pub fn stamp(&mut self, path: &[u8], stamp: Stamp, keeps: bool) -> bool
+        requires { IsStamp stamp }
+        ensures there { result ≡ map.contains_key (tree_of self.old.list.items) path.now }
+        ensures stamped { tree_of self.new.list.items ≡ changed (with_stamp keeps stamp) path.now (tree_of self.old.list.items) }
+    {
+        let Ok(place) = place_of(&self.list, path) else {
+            return false;
+        };
+        let file = &mut self.list[place];
+        file.stamp = chosen(keeps, stamp, file.stamp);
+        true
+    }
+
+    // Makes an empty file, where there is none. Memory may refuse the room.
+    pub fn make(&mut self, alloc: Global, path: &Path) -> Result<(), NoMemory>
+        requires valid { IsValidPath path.now }
+        requires apart { IsApart (tree_of self.old.list.items) path.now }
+        ensures ok { OnOk result (tree_of self.new.list.items ≡ made path.now first_stamp (tree_of self.old.list.items)) }
+        ensures err { OnErr result (self.new.list.items ≡ self.old.list.items) }
+        ensures full { OnErr result (file_of (tree_of self.old.list.items) path.now ≡ None) }
+    {
+        if self.get(path.as_str().as_bytes()).is_some() {
+            return Ok(());
+        }
+        self.put(path.copy()?, FIRST_STAMP, Bytes::new(alloc))
+    }
+
+    // Puts a file under another path, over one of that name. Was it there?
+    pub fn rename(&mut self, from: &[u8], to: Path) -> bool
+        requires valid { IsValidPath to }
+        requires apart { IsApart (map.remove (tree_of self.old.list.items) from.now) to }
+        ensures there { result ≡ map.contains_key (tree_of self.old.list.items) from.now }
+        ensures renamed { tree_of self.new.list.items ≡ renamed from.now to (tree_of self.old.list.items) }
+    {
+        match self.take(from) {
+            Some(file) => match self.put(to, file.stamp, file.bytes) {
+                Ok(()) => true,
+                Err(NoMemory) => unreachable!(),
+            },
+            None => false,
         }
     }
 
@@ -133,6 +215,12 @@ impl Files {
     {
         infos_of(alloc, &self.list)
     }
+}
+
+fn chosen(keeps: bool, stamp: Stamp, old: Stamp) -> Stamp
+    ensures { result ≡ (if keeps then stamp else old) }
+{
+    if keeps { stamp } else { old }
 }
 
 // The first place from which on no path is less than this one, and whether the file there has this path.

@@ -1,14 +1,18 @@
 // A folder in memory.
-ghost use Rattle.std.specs.Prelude.{◌≡◌, [], if◌then◌else◌, IfOk};
-ghost use Rattle.disk_model.specs.Path.{lost_suffix};
-ghost use Rattle.disk_model.specs.Tree.{path_of};
+ghost use Rattle.std.specs.Prelude.{◌≡◌, if◌then◌else◌, Ok, Err};
 
 use crate::bytes::Bytes;
-use crate::calls::{FolderEntry, look_entry, read_entry};
+use crate::calls::{
+    FolderEntry, look_entry, make_entry, read_entry, rename_entry, set_size_entry, set_stamp_entry,
+    write_at_entry,
+};
 use crate::files::Files;
+use crate::name::{name_of, path_named, text_of};
 use crate::past::{Past, begin};
 use crate::schedule::Schedule;
-use disk_model::{FileFault, FileInfo, Folder, ListFault, Meta, NoMemory, Path, Stamp};
+use disk_model::{
+    Failed, FileFault, FileInfo, Folder, ListFault, Meta, NoMemory, Path, Stamp, is_valid_path,
+};
 use std::alloc::Global;
 
 /// A tree of files, in memory.
@@ -22,9 +26,10 @@ pub struct MemFolder {
 }
 
 impl MemFolder {
-    ghost use Rattle.std.specs.Prelude.{◌↔◌, ◌∷◌, ◌++◌, OnOk, OnErr, IsTrue, false};
+    ghost use Rattle.std.specs.Prelude.{[], ◌↔◌, ◌∷◌, ◌++◌, OnOk, OnErr, IfOk, IsTrue, false};
     ghost use Rattle.std.specs.FinMap as map;
     ghost use Rattle.disk_model.specs.Folder.{Allows};
+    ghost use Rattle.disk_model.specs.Tree.{path_of};
     ghost use Rattle.disk_model.specs.Stamp.{IsStamp};
     ghost use Rattle.disk_memory.specs.Schedule.{fresh_plan};
     ghost use Rattle.disk_memory.specs.Folder.{folder_view, folder_plan, fresh_folder};
@@ -61,6 +66,17 @@ impl MemFolder {
         Ok(true)
     }
 
+    /// Whether the tree takes a file of this name: no file stands in its way.
+    pub fn allows(&self, path: &Path, lost: bool) -> Result<bool, NoMemory>
+        ensures { IfOk result (λ yes. IsTrue yes ↔ Allows (folder_view self.now) (path_of path.now lost)) }
+    {
+        let text = text_of(self.alloc, path, lost)?;
+        if !is_valid_path(text.as_str()) {
+            return Ok(false);
+        }
+        self.files.is_apart(self.alloc, text.as_str().as_bytes())
+    }
+
     /// Takes a file away. False exactly where it isn't there.
     pub fn remove(&mut self, path: &Path) -> bool
         ensures there { result ≡ map.contains_key (folder_view self.old).tree path.now }
@@ -68,7 +84,7 @@ impl MemFolder {
         ensures missing { result ≡ false → folder_view self.new ≡ folder_view self.old }
         ensures plan { folder_plan self.new ≡ folder_plan self.old }
     {
-        self.files.remove(path.as_str().as_bytes())
+        self.files.take(path.as_str().as_bytes()).is_some()
     }
 
     /// Adds a number to the list of failing calls.
@@ -89,32 +105,29 @@ impl MemFolder {
     }
 }
 
-// What follows the path of a file in its name.
-fn suffix_of(lost: bool) -> &'static [u8]
-    ensures { result.now ≡ (if lost then lost_suffix else []) }
+// What a call on one file answers that did its work where the file was there.
+pub fn found(there: bool) -> Result<(), FileFault>
+    ensures { result ≡ (if there then Ok tt else Err FileFault.Missing) }
 {
-    if lost { b".unrecoverable" } else { b"" }
-}
-
-// The path of a file, or of what was lost of it.
-fn name_of(alloc: Global, path: &Path, lost: bool) -> Result<Vec<u8>, NoMemory>
-    ensures { IfOk result (λ name. name.items ≡ path_of path.now lost) }
-{
-    let mut name = Vec::from_slice(alloc, path.as_str().as_bytes())?;
-    name.extend_from_slice(suffix_of(lost))?;
-    Ok(name)
+    if there {
+        Ok(())
+    } else {
+        Err(FileFault::Missing)
+    }
 }
 
 // Each call meets the trait's clauses, and fails as its schedule says (`scheduled`).
 impl Folder for MemFolder {
-    ghost use Rattle.std.specs.Prelude.{◌≡◌, ◌≤◌, length, take, IfOk, IfSome, IsTrue, Some};
+    ghost use Rattle.std.specs.Prelude.{◌≡◌, ◌≤◌, ◌<◌, ◌+◌, ◌^◌, length, take, not, IfOk, IfSome, IsTrue, Some, None, is_err};
     ghost use Rattle.std.specs.Option.{option_map};
     ghost use Rattle.disk_model.specs.Bytes.{read_from};
     ghost use Rattle.disk_model.specs.Stamp.{IsStamp};
     ghost use Rattle.disk_model.specs.Tree.{file_of, meta_of, path_of, IsListing, listed, listing_of};
-    ghost use Rattle.disk_model.specs.Folder.{ListFiles, Look, ReadAt, IsFolderReading, MissingExactly, listing_failed, file_failed};
-    ghost use Rattle.disk_memory.specs.Schedule.{ObeysOnRecord, ObeysExactly};
-    ghost use Rattle.disk_memory.specs.Folder.{folder_view, folder_plan, folder_well_formed};
+    ghost use Rattle.disk_model.specs.Folder.{ListFiles, Look, ReadAt, Make, WriteAt, SetSize, SetStamp, Rename};
+    ghost use Rattle.disk_model.specs.Folder.{IsFolderReading, MissingExactly, MayHold, listing_failed, file_failed};
+    ghost use Rattle.disk_model.specs.Writing.{IsFolderWrite};
+    ghost use Rattle.disk_memory.specs.Folder.{folder_view, FolderObeys, FolderObeysExactly, FolderObeysUnless, folder_well_formed};
+    ghost use Rattle.disk_memory.specs.Files.{IsShorter};
 
     ghost view = { folder_view };
 
@@ -128,7 +141,7 @@ impl Folder for MemFolder {
         ensures call { IsFolderReading ListFiles (listing_failed result) (folder_view self.old) (folder_view self.new) }
         ensures listing { IfOk result (λ files. IsListing (listed files.items)) }
         ensures found { IsTrue (folder_view self.old).tells → IfOk result (λ files. listed files.items ≡ listing_of (folder_view self.old).tree) }
-        ensures scheduled { ObeysExactly (listing_failed result) (folder_plan self.old) (folder_plan self.new) (folder_view self.old).tells_calls (folder_view self.new).tells_calls }
+        ensures scheduled { FolderObeysExactly (listing_failed result) self.old self.new }
     {
         if !begin(
             &mut self.schedule,
@@ -150,17 +163,14 @@ impl Folder for MemFolder {
         ensures missing { MissingExactly result (folder_view self.old) (path_of path.now lost) }
         ensures stamp { IfOk result (λ meta. IsStamp meta.stamp) }
         ensures found { IsTrue (folder_view self.old).tells → IfOk result (λ meta. option_map meta_of (file_of (folder_view self.old).tree (path_of path.now lost)) ≡ Some meta) }
-        ensures scheduled { ObeysOnRecord (file_failed result) (folder_plan self.old) (folder_plan self.new) (folder_view self.old).tells_calls (folder_view self.new).tells_calls }
+        ensures scheduled { FolderObeysExactly (file_failed result) self.old self.new }
     {
         let entry = look_entry(path, lost);
         if !begin(&mut self.schedule, &mut self.past, entry) {
             self.schedule.fail();
             return Err(FileFault::Failed);
         }
-        let Ok(name) = name_of(self.alloc, path, lost) else {
-            self.schedule.fail();
-            return Err(FileFault::Failed);
-        };
+        let name = name_of(path, lost);
         self.past.succeed();
         match self.files.get(name.as_slice()) {
             Some(file) => Ok(Meta {
@@ -182,21 +192,117 @@ impl Folder for MemFolder {
         ensures missing { MissingExactly result (folder_view self.old) (path_of path.now lost) }
         ensures bound { IfOk result (λ n. n ≤ length out.new) }
         ensures found { IsTrue (folder_view self.old).tells → IfOk result (λ n. IfSome (file_of (folder_view self.old).tree (path_of path.now lost)) (λ file. take n out.new ≡ read_from file.bytes at (length out.old))) }
-        ensures scheduled { ObeysOnRecord (file_failed result) (folder_plan self.old) (folder_plan self.new) (folder_view self.old).tells_calls (folder_view self.new).tells_calls }
+        ensures scheduled { FolderObeysExactly (file_failed result) self.old self.new }
     {
         let entry = read_entry(path, lost, at, out.len());
         if !begin(&mut self.schedule, &mut self.past, entry) {
             self.schedule.fail();
             return Err(FileFault::Failed);
         }
-        let Ok(name) = name_of(self.alloc, path, lost) else {
-            self.schedule.fail();
-            return Err(FileFault::Failed);
-        };
+        let name = name_of(path, lost);
         self.past.succeed();
         match self.files.get(name.as_slice()) {
             Some(file) => Ok(file.bytes.read(at, out)),
             None => Err(FileFault::Missing),
         }
+    }
+
+    fn make(&mut self, path: &Path) -> Result<(), Failed>
+        requires { MayHold (folder_view self.old) path.now }
+        ensures call { IsFolderWrite (Make path.now) (is_err result)
+            (folder_view self.old) (folder_view self.new) }
+        ensures scheduled { FolderObeysUnless (file_of (folder_view self.old).tree path.now ≡ None) (is_err result) self.old self.new }
+    {
+        let entry = make_entry(path);
+        if !begin(&mut self.schedule, &mut self.past, entry) {
+            return Err(self.schedule.fail());
+        }
+        match self.files.make(self.alloc, path) {
+            Ok(()) => {
+                self.past.succeed();
+                Ok(())
+            }
+            Err(NoMemory) => Err(self.schedule.fail()),
+        }
+    }
+
+    fn write_at(&mut self, path: &Path, at: u64, bytes: &[u8]) -> Result<(), FileFault>
+        requires { at + length bytes.now < 2 ^ 64 }
+        ensures call { IsFolderWrite (WriteAt path.now at bytes.now) (file_failed result)
+            (folder_view self.old) (folder_view self.new) }
+        ensures missing { MissingExactly result (folder_view self.old) path.now }
+        ensures scheduled { FolderObeysUnless (IsShorter (folder_view self.old).tree path.now (at + length bytes.now)) (file_failed result) self.old self.new }
+    {
+        let entry = write_at_entry(self.alloc, path, at, bytes);
+        if !begin(&mut self.schedule, &mut self.past, entry) {
+            self.schedule.fail();
+            return Err(FileFault::Failed);
+        }
+        let Ok(there) = self.files.write(path.as_str().as_bytes(), at, bytes) else {
+            self.schedule.fail();
+            return Err(FileFault::Failed);
+        };
+        self.past.succeed();
+        found(there)
+    }
+
+    fn set_size(&mut self, path: &Path, size: u64) -> Result<(), FileFault>
+        ensures call { IsFolderWrite (SetSize path.now size) (file_failed result)
+            (folder_view self.old) (folder_view self.new) }
+        ensures missing { MissingExactly result (folder_view self.old) path.now }
+        ensures scheduled { FolderObeysUnless (IsShorter (folder_view self.old).tree path.now size) (file_failed result) self.old self.new }
+    {
+        let entry = set_size_entry(path, size);
+        if !begin(&mut self.schedule, &mut self.past, entry) {
+            self.schedule.fail();
+            return Err(FileFault::Failed);
+        }
+        let Ok(there) = self.files.resize(path.as_str().as_bytes(), size) else {
+            self.schedule.fail();
+            return Err(FileFault::Failed);
+        };
+        self.past.succeed();
+        found(there)
+    }
+
+    fn set_stamp(&mut self, path: &Path, stamp: Stamp) -> Result<bool, FileFault>
+        requires { IsStamp stamp }
+        ensures call { IsFolderWrite (SetStamp path.now stamp) (file_failed result)
+            (folder_view self.old) (folder_view self.new) }
+        ensures missing { MissingExactly result (folder_view self.old) path.now }
+        ensures kept { IfOk result (λ kept. kept ≡ (folder_view self.old).keeps_stamps) }
+        ensures scheduled { FolderObeysExactly (file_failed result) self.old self.new }
+    {
+        let entry = set_stamp_entry(path, stamp);
+        if !begin(&mut self.schedule, &mut self.past, entry) {
+            self.schedule.fail();
+            return Err(FileFault::Failed);
+        }
+        self.past.succeed();
+        let name = path.as_str().as_bytes();
+        if !self.files.stamp(name, stamp, self.keeps_stamps) {
+            return Err(FileFault::Missing);
+        }
+        Ok(self.keeps_stamps)
+    }
+
+    fn rename(&mut self, path: &Path, lost: bool) -> Result<(), FileFault>
+        requires { MayHold (folder_view self.old) (path_of path.now lost) }
+        ensures call { IsFolderWrite (Rename path.now lost) (file_failed result)
+            (folder_view self.old) (folder_view self.new) }
+        ensures missing { MissingExactly result (folder_view self.old) (path_of path.now (not lost)) }
+        ensures scheduled { FolderObeys (file_failed result) self.old self.new }
+    {
+        let entry = rename_entry(path, lost);
+        if !begin(&mut self.schedule, &mut self.past, entry) {
+            self.schedule.fail();
+            return Err(FileFault::Failed);
+        }
+        let Ok(to) = path_named(self.alloc, path, lost) else {
+            self.schedule.fail();
+            return Err(FileFault::Failed);
+        };
+        self.past.succeed();
+        found(self.files.rename(name_of(path, !lost).as_slice(), to))
     }
 }

@@ -1,7 +1,7 @@
 // An opener in memory.
-ghost use Rattle.std.specs.Prelude.{◌≡◌, take, IfSome, IfOk, OnErr};
+ghost use Rattle.std.specs.Prelude.{◌≡◌, ◌↔◌, take, IsTrue, IfSome, IfOk, OnErr};
 ghost use Rattle.std.proofs.Props.{props};
-ghost use Rattle.disk_memory.specs.Given.{CanGive};
+ghost use Rattle.disk_memory.specs.Given.{AreSoMany, CanGive};
 
 use crate::calls::{OpenerEntry, config_entry, open_entry};
 use crate::past::{Past, begin};
@@ -22,7 +22,7 @@ pub struct MemOpener<F: Folder, V: Vault> {
 }
 
 impl<F: Folder, V: Vault> MemOpener<F, V> {
-    ghost use Rattle.std.specs.Prelude.{◌≡◌, [], ◌∷◌, ◌++◌, map, OnOk, OnErr};
+    ghost use Rattle.std.specs.Prelude.{◌≡◌, [], ◌∷◌, ◌++◌, map, None, OnOk, OnErr};
     ghost use Rattle.disk_memory.specs.Schedule.{fresh_plan, plan_of};
     ghost use Rattle.disk_memory.specs.Opener.{IsFreshOpener, SameOpener};
 
@@ -47,6 +47,7 @@ impl<F: Folder, V: Vault> MemOpener<F, V> {
         ensures same { SameOpener (⟦<MemOpener<F, V> as Opener>⟧.view self.old) (⟦<MemOpener<F, V> as Opener>⟧.view self.new) }
         ensures added { OnOk result (plan_of self.new.schedule ≡ record (plan_of self.old.schedule) { failing = (plan_of self.old.schedule).failing ++ call ∷ [] }) }
         ensures err { OnErr result (plan_of self.new.schedule ≡ plan_of self.old.schedule) }
+        ensures spent { self.old.held ≡ None → self.new.held ≡ None }
     {
         self.schedule.fail_at(call)
     }
@@ -55,6 +56,7 @@ impl<F: Folder, V: Vault> MemOpener<F, V> {
     pub fn stop_after(&mut self, calls: u64)
         ensures same { SameOpener (⟦<MemOpener<F, V> as Opener>⟧.view self.old) (⟦<MemOpener<F, V> as Opener>⟧.view self.new) }
         ensures plan { plan_of self.new.schedule ≡ record (plan_of self.old.schedule) { stop = calls } }
+        ensures spent { self.old.held ≡ None → self.new.held ≡ None }
     {
         self.schedule.stop_after(calls);
     }
@@ -68,8 +70,9 @@ impl<F: Folder, V: Vault> Opener for MemOpener<F, V> {
     ghost use Rattle.std.specs.Prelude.{◌≡◌, ◌<◌, ℕ, map, length, take, get_or, vec_len, true, false, IsTrue, IfOk, OnOk, OnErr, None, is_err};
     ghost use Rattle.disk_model.specs.Folder.{quiet_folder};
     ghost use Rattle.disk_model.specs.Opener.{Config, Open, IsOpenerCall, HoldsSame, FolderIsGiven, VaultIsGiven, folder_held, has_failed};
-    ghost use Rattle.disk_memory.specs.Schedule.{ObeysOnRecord, plan_of};
+    ghost use Rattle.disk_memory.specs.Schedule.{ObeysExactly, ObeysUnless, plan_of};
     ghost use Rattle.disk_memory.specs.Calls.{opener_calls};
+    ghost use Rattle.disk_memory.specs.Given.{Fits};
     ghost use Rattle.disk_memory.specs.Opener.{opener_view, folders_left, vault_left};
 
     ghost view = { λ s. opener_view s.schedule.faults s.config.items
@@ -85,7 +88,8 @@ impl<F: Folder, V: Vault> Opener for MemOpener<F, V> {
         ensures call { IsOpenerCall (Config name.now) result (⟦<MemOpener<F, V> as Opener>⟧.view self.old) (⟦<MemOpener<F, V> as Opener>⟧.view self.new) }
         ensures same { HoldsSame (⟦<MemOpener<F, V> as Opener>⟧.view self.old) (⟦<MemOpener<F, V> as Opener>⟧.view self.new) }
         ensures found { IsTrue (⟦<MemOpener<F, V> as Opener>⟧.view self.old).tells → IfOk result (λ bytes. bytes.items ≡ take 1048577 (⟦<MemOpener<F, V> as Opener>⟧.view self.old).config) }
-        ensures scheduled { ObeysOnRecord (has_failed result) (plan_of self.old.schedule) (plan_of self.new.schedule) (⟦<MemOpener<F, V> as Opener>⟧.view self.old).tells_calls (⟦<MemOpener<F, V> as Opener>⟧.view self.new).tells_calls }
+        ensures scheduled { ObeysExactly (has_failed result) (plan_of self.old.schedule) (plan_of self.new.schedule) (⟦<MemOpener<F, V> as Opener>⟧.view self.old).tells_calls (⟦<MemOpener<F, V> as Opener>⟧.view self.new).tells_calls }
+        ensures spent { self.old.held ≡ None → self.new.held ≡ None }
     {
         let entry = config_entry(alloc, name);
         if !begin(&mut self.schedule, &mut self.past, entry) {
@@ -108,15 +112,15 @@ impl<F: Folder, V: Vault> Opener for MemOpener<F, V> {
         ensures failed { OnErr result (has_failed result ≡ true) }
         ensures given { OnOk result (self.new.held ≡ None) }
         ensures empty { self.old.held ≡ None → is_err result ≡ true }
-        ensures scheduled { ObeysOnRecord (has_failed result) (plan_of self.old.schedule) (plan_of self.new.schedule) (⟦<MemOpener<F, V> as Opener>⟧.view self.old).tells_calls (⟦<MemOpener<F, V> as Opener>⟧.view self.new).tells_calls }
+        ensures scheduled { ObeysUnless (¬ (Fits V.view places.now self.old.held)) (has_failed result) (plan_of self.old.schedule) (plan_of self.new.schedule) (⟦<MemOpener<F, V> as Opener>⟧.view self.old).tells_calls (⟦<MemOpener<F, V> as Opener>⟧.view self.new).tells_calls }
+        ensures spent { self.old.held ≡ None → self.new.held ≡ None }
     {
         let entry = open_entry(alloc, places);
         let may = begin(&mut self.schedule, &mut self.past, entry);
         let fits = match &self.held {
             Some(held) => {
-                held.folders.len() == places.dirs.len()
-                    && held.vault.levels() as usize == places.parities.len()
-                    && held.vault.copies() as usize == places.contents.len()
+                let levels = held.vault.levels();
+                are_so_many(places, held.folders.len(), levels, held.vault.copies())
             }
             None => false,
         };
@@ -137,11 +141,20 @@ impl<F: Folder, V: Vault> Opener for MemOpener<F, V> {
     }
 }
 
+// Whether there are so many places of each kind.
+pub fn are_so_many(places: &Places, folders: usize, levels: u32, copies: u32) -> bool
+    ensures { IsTrue result ↔ AreSoMany places.now folders levels copies }
+{
+    folders == places.dirs.len()
+        && levels as usize == places.parities.len()
+        && copies as usize == places.contents.len()
+}
+
 const LONGEST_CONFIG: usize = 1_048_577;
 
 // As many of the configuration's bytes as are given.
 #[tactic(auto, using(std::proofs::lemmas::List::take_min))]
-fn front_of(alloc: Global, bytes: &[u8]) -> Result<Vec<u8>, OpenFault>
+pub fn front_of(alloc: Global, bytes: &[u8]) -> Result<Vec<u8>, OpenFault>
     ensures copied { IfOk result (λ front. front.items ≡ take LONGEST_CONFIG bytes.now) }
     ensures memory { OnErr result (result ≡ Err OpenFault.Memory) }
 {

@@ -41,6 +41,16 @@ impl<C> Past<C> {
             self.made[count - 1].failed = false;
         }
     }
+
+    // How the call of the last entry ended.
+    pub fn end(&mut self, done: bool)
+        ensures done { done ≡ true → Corrects self.old self.new }
+        ensures failed { done ≡ false → self.new ≡ self.old }
+    {
+        if done {
+            self.succeed();
+        }
+    }
 }
 
 impl<C: Drop> Past<C> {
@@ -61,6 +71,18 @@ impl<C: Drop> Past<C> {
         }
         self.lost = true;
         false
+    }
+
+    // Writes a call down that may do its work or not. Does it? If so, it ends so.
+    pub fn admit(&mut self, may: bool, call: Option<C>) -> bool
+        ensures noted { IfSome call (λ c. Notes c true self.old self.new) }
+        ensures refused { IfNone call (Loses self.old self.new) }
+        ensures may { may ≡ false → result ≡ false }
+        ensures lost { self.old.lost ≡ false → self.new.lost ≡ true → result ≡ false }
+        ensures cause { result ≡ false → (may ≡ false) ⊎ LosesNow self.old self.new }
+    {
+        let noted = self.note(call);
+        noted && may
     }
 }
 

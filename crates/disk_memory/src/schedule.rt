@@ -1,7 +1,7 @@
 // When the calls of an object fail.
-ghost use Rattle.std.specs.Prelude.{◌≡◌, ◌↔◌, ◌⊎◌, ◌+◌, ◌-◌, ◌^◌, ◌<◌, ◌≤◌, [], ◌∷◌, ◌++◌, min, IsTrue, OnOk, OnErr, Contains};
+ghost use Rattle.std.specs.Prelude.{◌≡◌, ◌↔◌, ◌⊎◌, ◌+◌, ◌-◌, ◌^◌, ◌<◌, ◌≤◌, [], ◌∷◌, ◌++◌, min, IsTrue, OnOk, OnErr, Contains, true, false};
 ghost use Rattle.disk_model.specs.Cause.{Rose, AtMostOnce};
-ghost use Rattle.disk_memory.specs.Schedule.{plan_of, IsDue, counted, fresh_plan};
+ghost use Rattle.disk_memory.specs.Schedule.{plan_of, IsDue, counted, fresh_plan, answer_of};
 
 use disk_model::{Failed, NoMemory};
 use std::alloc::Global;
@@ -55,6 +55,17 @@ impl Schedule {
     {
         self.calls = self.calls.saturating_add(1);
         self.stop < self.calls || self.failing.contains(&self.calls)
+    }
+
+    // What a call answers that did its work or not; a failure counts.
+    pub fn answer(&mut self, done: bool) -> Result<(), Failed>
+        ensures result { result ≡ answer_of done }
+        ensures plan { plan_of self.new ≡ plan_of self.old }
+        ensures done { done ≡ true → self.new.faults ≡ self.old.faults }
+        ensures later { self.old.faults ≤ self.new.faults }
+        ensures cause { done ≡ false → Rose self.old.faults self.new.faults }
+    {
+        if done { Ok(()) } else { Err(self.fail()) }
     }
 
     // One failure more.

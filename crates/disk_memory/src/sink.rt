@@ -1,4 +1,7 @@
 // A sink in memory.
+use crate::bytes::Bytes;
+use crate::calls::sink_entry;
+use crate::past::{Past, begin};
 use crate::schedule::Schedule;
 use disk_model::{Failed, NoMemory, Sink};
 use std::alloc::Global;
@@ -6,7 +9,9 @@ use std::alloc::Global;
 /// Keeps all that is written to it.
 #[derive(Drop)]
 pub struct MemSink {
+    alloc: Global,
     schedule: Schedule,
+    past: Past<Bytes>,
     written: Vec<u8>,
 }
 
@@ -20,7 +25,9 @@ impl MemSink {
         ensures plan { sink_plan result ≡ fresh_plan }
     {
         MemSink {
+            alloc,
             schedule: Schedule::new(alloc),
+            past: Past::new(alloc),
             written: Vec::new(alloc),
         }
     }
@@ -54,8 +61,7 @@ impl MemSink {
 impl Sink for MemSink {
     ghost use Rattle.std.specs.Prelude.{is_err};
     ghost use Rattle.disk_model.specs.Sink.{IsWrite};
-    ghost use Rattle.disk_memory.specs.Schedule.{Obeys};
-    ghost use Rattle.disk_memory.specs.Sink.{sink_view, sink_plan};
+    ghost use Rattle.disk_memory.specs.Sink.{sink_view, SinkObeys};
 
     ghost view = { sink_view };
 
@@ -65,11 +71,16 @@ impl Sink for MemSink {
 
     fn write(&mut self, bytes: &[u8]) -> Result<(), Failed>
         ensures written { IsWrite bytes.now result (sink_view self.old) (sink_view self.new) }
-        ensures scheduled { Obeys (is_err result) (sink_plan self.old) (sink_plan self.new) }
+        ensures scheduled { SinkObeys (is_err result) self.old self.new }
     {
-        if !self.schedule.next_call() && self.written.extend_from_slice(bytes).is_ok() {
-            return Ok(());
+        let entry = sink_entry(self.alloc, bytes);
+        if !begin(&mut self.schedule, &mut self.past, entry) {
+            return Err(self.schedule.fail());
         }
-        Err(self.schedule.fail())
+        if self.written.extend_from_slice(bytes).is_err() {
+            return Err(self.schedule.fail());
+        }
+        self.past.succeed();
+        Ok(())
     }
 }

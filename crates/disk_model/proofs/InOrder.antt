@@ -94,7 +94,7 @@ range_in_two a (suc m) n =
     ∙ ap (λ b. a ∷ (range_with_len (a + 1) m ++ b ∷ range_with_len (b + 1) n)) there
 
 -- one of the numbers stands between those before it and those after it
-range_split : (k n : ℕ) → k < n → range_with_len 0 k ++ k ∷ range_with_len (k + 1) (n - suc k) ≡ range_with_len 0 n
+pub range_split : (k n : ℕ) → k < n → range_with_len 0 k ++ k ∷ range_with_len (k + 1) (n - suc k) ≡ range_with_len 0 n
 range_split k n below =
     let whole : k + suc (n - suc k) ≡ n = omega (arith, below) in
     let here : 0 + k ≡ k = omega arith in

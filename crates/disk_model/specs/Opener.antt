@@ -1,8 +1,9 @@
 -- What is known of an opener, and what its calls do.
 use Rattle.std.specs.Prelude.{◌≡◌, ◌↔◌, ℕ, ◌≤◌, List, [], ◌∷◌, replicate, get_or, Bool, true, false, IsTrue, Result, Ok, Err}
-use Rattle.disk_model.specs.Cause.{Rose, AtMostOnce, Grows}
+use Rattle.disk_model.specs.Cause.{Rose, Grows}
 use Rattle.disk_model.specs.Files.{Files}
 use Rattle.disk_model.specs.Folder.{FolderView, quiet_folder}
+use Rattle.disk_model.specs.Moments.{Images}
 use Rattle.disk_model.specs.Vault.{VaultView, IsSettled}
 use Rattle.disk_model.specs.declared.draft.Draft.TheVariants.{Absent}
 use Rattle.disk_model.specs.declared.fault.OpenFault.{OpenFault}
@@ -41,12 +42,10 @@ pub record OpenerGoesOn (old new : OpenerView) (done : List OpenerDone) : Type 0
   pub tells : new.tells ≡ old.tells
   pub calls : Grows old.tells_calls old.calls new.tells_calls new.calls done
 
--- one call: the count rises by one where it failed, and there alone
+-- one call: it fails only where the count rose
 pub record IsOpenerCall {T : Type 0} (call : OpenerCall) (result : Result T OpenFault) (old new : OpenerView) : Type 0 where
   pub goes_on : OpenerGoesOn old new (record { call = call; failed = has_failed result } ∷ [])
   pub cause : IsTrue (has_failed result) → Rose old.faults new.faults
-  pub unfailed : has_failed result ≡ false → new.faults ≡ old.faults
-  pub once : IsTrue (has_failed result) → AtMostOnce old.faults new.faults
 
 -- the folder of a column that it holds, of one that tells none a new one
 abbrev pub folder_held : OpenerView → ℕ → FolderView
@@ -71,6 +70,12 @@ pub record SameVault (is_told : Bool) (held other : VaultView) : Type 0 where
   pub tells_images : IsTrue is_told → other.images.told ≡ held.images.told
   pub moment : IsTrue is_told → other.images.moment ≡ held.images.moment
   pub since : IsTrue is_told → (t : ℕ) (files : Files) → other.images.since t files ↔ held.images.since t files
+
+-- a stop leaves the same of both
+pub record SameImages (held other : Images) : Type 0 where
+  pub told : other.told ≡ held.told
+  pub moment : other.moment ≡ held.moment
+  pub since : (t : ℕ) (files : Files) → other.since t files ↔ held.since t files
 
 -- the vault is given as it was held, with nothing unsynced and no draft
 pub record VaultIsGiven (is_told : Bool) (parities contents : ℕ) (held given : VaultView) : Type 0 where

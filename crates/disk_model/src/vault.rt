@@ -8,14 +8,14 @@ ghost use Rattle.disk_model.specs.Vault.{copies_of, draft_of, staged_of, is_seal
 
 use crate::{Draft, Failed};
 
-/// Parity files, numbered by level, and content copies. `faults` rises by one in each call that answers `Failed`, and
-/// in no other. Where a vault tells what a stop may leave, `changes` says it of each moment within the call and of its end.
+/// Parity files, numbered by level, and content copies. A call answers `Failed` only where `faults` rose in it.
+/// Where a vault tells what a stop may leave, `changes` says it of each moment within the call and of its end.
 pub trait Vault: Send {
     ghost view: { Self → VaultView };
 
     ghost well_formed: { (vault : Self) → IsWellFormed (view vault) };
 
-    /// How many of its calls failed. It never falls, and stays at the greatest u64.
+    /// A count of faults. It never falls, and stays at the greatest u64.
     fn faults(&self) -> u64
         ensures { result ≡ (view self.now).faults };
 

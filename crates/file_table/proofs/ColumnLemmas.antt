@@ -8,7 +8,8 @@ use Rattle.std.proofs.lemmas.List.Quantifiers.{all_pairs_push}
 use Rattle.std.proofs.lemmas.Bool.Decides.{eqb_tells}
 use Rattle.file_table.specs.declared.block.Block.{Block}
 use Rattle.file_table.specs.Table.{Record, Column, records_of, column_blocks, positions_of, blocks_due, no_column, no_record}
-use Rattle.file_table.specs.Valid.{IsRecord, HasDigest, IsLessPath, ComesBefore, IsColumn, AreColumns, IsName, most_columns, most_records, most_blocks}
+use Rattle.file_table.specs.Valid.{IsRecord, HasDigest, IsLessPath, ComesBefore, IsColumn, AreColumns, most_columns, most_records, most_blocks}
+use Rattle.disk_model.specs.Name.{IsName}
 use Rattle.file_table.specs.Building.{last_column, last_record, with_last_column, with_column, records_with_block, record_with_block, IsNewName, IsGreatest, IsNested, Uses}
 use Rattle.file_table.proofs.ListFacts.{AllPairs-take}
 use Rattle.file_table.proofs.BuildingLemmas.{front_columns, blocks_in-push, blocks_in-with_block, records_of-with_column, length-with_last}

@@ -1,7 +1,6 @@
 pub mod ListFacts
 pub mod DiskLemmas
 pub mod NameLemmas
-pub mod RecordPathLemmas
 pub mod BuildingLemmas
 pub mod ColumnLemmas
 pub mod CountLemmas

@@ -9,7 +9,8 @@ use Rattle.file_table.specs.declared.info.Mark.TheVariants.{Synced}
 use Rattle.file_table.specs.declared.fault.BuildFault.{BuildFault}
 use Rattle.file_table.specs.declared.fault.BuildFault.TheVariants.{Name, Order, Nested, Range, Repeated, Blocks, Full, Length, Hash, State, Memory}
 use Rattle.file_table.specs.Table.{Record, Column, TableValue, block_count, records_of, column_blocks, blocks_of, positions_of, blocks_due, end_of, no_column, no_record}
-use Rattle.file_table.specs.Valid.{IsShape, AreColumns, IsWhole, AreInfos, IsHashedAt, IsName, IsState, IsLessPath, most_columns, most_records, most_blocks}
+use Rattle.file_table.specs.Valid.{IsShape, AreColumns, IsWhole, AreInfos, IsHashedAt, IsState, IsLessPath, most_columns, most_records, most_blocks}
+use Rattle.disk_model.specs.Name.{IsName}
 
 -- what was pushed so far, of a table that is to have this length
 pub record BuildingValue : Type 0 where

@@ -5,7 +5,6 @@ pub mod Disk
 pub mod Kept
 pub mod Cells
 pub mod Index
-pub mod RecordPath
 pub mod Marks
 pub mod Counted
 pub mod Builder

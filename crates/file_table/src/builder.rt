@@ -12,10 +12,10 @@ mod queries;
 use crate::count::blocks_for;
 use crate::disk::Disk;
 use crate::limits::{MOST_COLUMNS, MOST_RECORDS};
-use crate::name::{has_name, is_name};
+use crate::name::has_name;
 use crate::{Block, BuildFault, Info, Mark, Shape, Table};
 use block_hash::Digest16;
-use disk_model::{Meta, NoMemory, Path, Text};
+use disk_model::{Meta, NoMemory, Path, Text, is_name};
 use std::alloc::Global;
 use std::marker::Model;
 

@@ -19,18 +19,13 @@ mod info;
 pub mod laws;
 pub mod limits;
 mod name;
-mod record_path;
 mod shape;
 mod table;
-#[cfg(test)]
-mod tests;
 
 pub use block::{Block, Cell};
 pub use builder::Builder;
 pub use count::blocks_for;
 pub use fault::BuildFault;
 pub use info::{Info, Mark};
-pub use name::is_name;
-pub use record_path::is_record_path;
 pub use shape::Shape;
 pub use table::Table;

@@ -54,6 +54,8 @@ pub fn doubling()
 
 /// The product with a byte is the sum of the products with its halves, so two tables of sixteen products give it.
 pub fn by_halves()
-    ensures halves { (k a : ℕ) → field_sum (product k (a % 16)) (product k (16 * (a / 16))) ≡ product k a }
-    ensures tables { (k a : ℕ) (tables : List (List ℕ)) → AreHalves k tables → a < 256 → halves_sum tables a ≡ product k a }
+    ensures halves { (k a : ℕ) →
+        field_sum (product k (a % 16)) (product k (16 * (a / 16))) ≡ product k a }
+    ensures tables { (k a : ℕ) (tables : List (List ℕ)) → AreHalves k tables → a < 256 →
+        halves_sum tables a ≡ product k a }
 {}

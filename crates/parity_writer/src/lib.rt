@@ -11,8 +11,6 @@
 mod lengths;
 mod settling;
 mod stripe;
-#[cfg(test)]
-mod tests;
 
 pub use lengths::set_lengths;
 pub use settling::settle;

@@ -9,6 +9,7 @@ ghost use Rattle.position_alloc.specs.Lowest.{lowest_free, IsLowestFree};
 /// taken ones.
 pub fn lowest()
     ensures is_lowest { (taken : set.FinSet nat_cmp) → IsLowestFree taken (lowest_free taken) }
-    ensures only { (taken : set.FinSet nat_cmp) (p : ℕ) → IsLowestFree taken p → p ≡ lowest_free taken }
+    ensures only { (taken : set.FinSet nat_cmp) (p : ℕ) →
+        IsLowestFree taken p → p ≡ lowest_free taken }
     ensures at_most { (taken : set.FinSet nat_cmp) → lowest_free taken ≤ set.len taken }
 {}

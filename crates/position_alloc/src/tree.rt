@@ -85,7 +85,8 @@ pub fn tree_of(alloc: Global, words: &[u64]) -> Result<Vec<u32>, AllocError>
 /// The words with free ones after them, `count` in all.
 pub fn longer(alloc: Global, words: &[u64], count: usize) -> Result<Vec<u64>, AllocError>
     requires { length words.now ≤ count }
-    ensures { IfOk result (λ longer. longer.items ≡ words.now ++ replicate (count - length words.now) 0) }
+    ensures { IfOk result (λ longer. longer.items
+        ≡ words.now ++ replicate (count - length words.now) 0) }
 {
     let mut longer = Vec::with_capacity(alloc, count)?;
     longer.extend_from_slice(words)?;

@@ -1,5 +1,5 @@
 -- Lemmas on tests.
-use Rattle.std.proofs.Common.{◌≡◌, Bool, true, false, ◌&&◌, ◌||◌, refl, sym}
+use Rattle.std.proofs.Common.{◌≡◌, Bool, true, false, ◌&&◌, ◌||◌, not, Decides, refl, sym}
 
 pub first_false : (a b : Bool) → a || b ≡ false → a ≡ false
 first_false true b h = h
@@ -45,3 +45,18 @@ or_and a false d = refl
 pub and_assoc : (a b c : Bool) → (a && (b && c)) ≡ ((a && b) && c)
 and_assoc true b c = refl
 and_assoc false b c = refl
+
+-- two tests that tell the same
+pub same_tests : {P Q : Type 0} (a b : Bool) → Decides a P → Decides b Q → (P → Q) → (Q → P) → a ≡ b
+same_tests true b p q onward back = sym (q.1 (onward (p.0 refl)))
+same_tests false true p q onward back = p.1 (back (q.0 refl))
+same_tests false false p q onward back = refl
+
+-- the other test
+pub not_Decides : {P : Type 0} (b : Bool) → Decides b P → Decides (not b) (¬ P)
+not_Decides true is = ((λ (wrong : false ≡ true). absurd (cc)), λ none. absurd (none (is.0 refl)))
+not_Decides false is = ((λ _. λ holds. let wrong : false ≡ true = is.1 holds in cc), λ _. refl)
+
+pub not_true : (b : Bool) → (b ≡ true → ⊥) → b ≡ false
+not_true true wrong = absurd (wrong refl)
+not_true false wrong = refl

@@ -1,6 +1,5 @@
 -- The components and the directories of a path, cut at a slash.
-use Rattle.std.proofs.Common.{◌≡◌, ℕ, suc, ◌+◌, List, [], ◌∷◌, ◌++◌, length, map, Bool, true, false, ◌==◌, ◌&&◌, ◌||◌, if◌then◌else◌, refl, sym, ap, ◌∙◌, arith, append_assoc}
-use Rattle.std.proofs.lemmas.List.{append-nil}
+use Rattle.std.proofs.Common.{◌≡◌, ℕ, List, [], ◌∷◌, ◌++◌, map, Bool, true, false, ◌==◌, if◌then◌else◌, refl, sym, ap}
 use Rattle.disk_model.specs.Path.{components, with_front}
 use Rattle.snap_config.proofs.BoolLemmas.{first_false, rest_false}
 use Rattle.snap_config.specs.Matching.{last_part, parts_before_last, directories}

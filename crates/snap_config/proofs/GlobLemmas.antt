@@ -1,5 +1,5 @@
 -- How a pattern is walked: from one star to the next, and from one slash to the next.
-use Rattle.std.proofs.Common.{◌≡◌, ◌≢◌, ℕ, zero, suc, ◌+◌, List, [], ◌∷◌, ◌++◌, length, drop, Bool, true, false, ◌==◌, ◌&&◌, ◌||◌, not, if◌then◌else◌, Option, None, Some, is_some, chars, IsUtf8, refl, sym, ap, ◌∙◌, arith, zero-add, suc-add}
+use Rattle.std.proofs.Common.{◌≡◌, ℕ, zero, suc, ◌+◌, List, [], ◌∷◌, ◌++◌, length, drop, Bool, true, false, ◌==◌, ◌&&◌, ◌||◌, not, if◌then◌else◌, Option, None, Some, is_some, chars, IsUtf8, refl, sym, ap, ◌∙◌, arith, zero-add, suc-add}
 use Rattle.std.proofs.lemmas.Bool.Decides.{nat_tests}
 use Rattle.std.proofs.lemmas.List.{append-nil, drop-drop}
 use Rattle.snap_config.proofs.TextLemmas.{has_byte-append, has_byte-chars, chars-cut_star}

@@ -1,13 +1,13 @@
 -- The array's own names, hidden files, and paths of records.
-use Rattle.std.proofs.Common.{◌≡◌, ◌≢◌, ℕ, suc, ◌+◌, ◌≤◌, List, [], ◌∷◌, ◌++◌, length, take, drop, map, Bool, true, false, ◌==◌, ◌&&◌, ◌||◌, not, nat_le, nat_eq, bytes_eq, codes, Option, None, Some, option_to_list, IsTrue, ◌↔◌, IsUtf8, refl, sym, ap, ◌∙◌, arith, append_assoc, Decides}
+use Rattle.std.proofs.Common.{◌≡◌, ◌≢◌, ℕ, ◌≤◌, List, [], ◌∷◌, ◌++◌, length, take, drop, map, Bool, true, false, ◌==◌, ◌&&◌, ◌||◌, not, nat_le, nat_eq, bytes_eq, codes, option_to_list, IsTrue, ◌↔◌, IsUtf8, refl, sym, ap, ◌∙◌, arith, append_assoc, Decides}
 use Rattle.std.proofs.lemmas.Bool.Decides.{nat_tests, Decides-eqb}
 use Rattle.std.proofs.lemmas.List.{append_cancel_right}
 use Rattle.std.proofs.lemmas.Slice.Eq.{bytes_eq-Decides, ends_is}
-use Rattle.std.specs.Cmp.Lexicographic.{pointwise}
 use Rattle.std.specs.List.{list_all, list_any, ends_with, AllByRecursion}
 use Rattle.disk_model.specs.Path.{components, IsValidPath, IsRecordPath, EndsWith, lost_suffix}
+use Rattle.snap_config.proofs.BoolLemmas.{same_tests, not_Decides}
 use Rattle.snap_config.proofs.ComponentsLemmas.{components-alone, components-slash}
-use Rattle.snap_config.specs.Keeps.{is_recordable, draft_name, own_names, full_name, has_name, starts_with_dot, is_hidden}
+use Rattle.snap_config.specs.Keeps.{is_recordable, draft_name, own_names, has_name, starts_with_dot, is_hidden}
 use Rattle.snap_config.specs.Pattern.{has_byte}
 use Rattle.snap_config.specs.Setup.{SetupValue}
 use Rattle.snap_config.specs.Walk.{IsCut}
@@ -37,12 +37,6 @@ full-begins name front back begins = bytes_eq-append name front back ∙ ap (λ 
 
 pub full-other : (name front back : List ℕ) → bytes_eq (take (length front) name) front ≡ false → bytes_eq name (front ++ back) ≡ false
 full-other name front back other = bytes_eq-append name front back ∙ ap (λ b. b && bytes_eq (drop (length front) name) back) other
-
--- two tests that tell the same
-same_tests : {P Q : Type 0} (a b : Bool) → Decides a P → Decides b Q → (P → Q) → (Q → P) → a ≡ b
-same_tests true b p q onward back = sym (q.1 (onward (p.0 refl)))
-same_tests false true p q onward back = p.1 (back (q.0 refl))
-same_tests false false p q onward back = refl
 
 draft_name-same : (content name : List ℕ) → bytes_eq (draft_name content) (name ++ codes ".tmp") ≡ bytes_eq content name
 draft_name-same content name =
@@ -138,10 +132,6 @@ pub hidden-here : (path rest : List ℕ) → IsHiddenLeft path rest → starts_w
 hidden-here path rest is dot = is.same ∙ dot_first rest dot
 
 -- ---- paths of records
-
-not_Decides : {P : Type 0} (b : Bool) → Decides b P → Decides (not b) (¬ P)
-not_Decides true is = ((λ (wrong : false ≡ true). absurd (cc)), λ none. absurd (none (is.0 refl)))
-not_Decides false is = ((λ _. λ holds. let wrong : false ≡ true = is.1 holds in cc), λ _. refl)
 
 part_Decides : (part : List ℕ) → Decides (not (ends_with nat_eq part lost_suffix)) (¬ (EndsWith lost_suffix part))
 part_Decides part =

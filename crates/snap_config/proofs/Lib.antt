@@ -1,9 +1,13 @@
 mod BoolLemmas
+mod BuilderLemmas
 mod ComponentsLemmas
+mod ConfigLemmas
 mod GivenLemmas
 mod GlobLemmas
 mod KeepsLemmas
+mod LineLemmas
 mod MatchingLemmas
+mod NamesLemmas
 mod NumberLemmas
 mod OptionValueLemmas
 mod PathLemmas

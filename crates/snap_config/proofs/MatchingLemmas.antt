@@ -1,17 +1,16 @@
 -- How a pattern with slashes is walked along a path.
-use Rattle.std.proofs.Common.{◌≡◌, ◌≢◌, ℕ, suc, ◌+◌, ◌-◌, List, [], ◌∷◌, ◌++◌, length, take, map, Bool, true, false, ◌==◌, ◌&&◌, ◌||◌, not, if◌then◌else◌, chars, IsUtf8, bytes_eq, codes, IsTrue, refl, sym, ap, ◌∙◌, arith, append_assoc, length-append}
+use Rattle.std.proofs.Common.{◌≡◌, ◌≢◌, ℕ, ◌-◌, List, [], ◌∷◌, ◌++◌, length, take, map, Bool, true, false, ◌==◌, ◌&&◌, ◌||◌, if◌then◌else◌, chars, IsUtf8, IsTrue, refl, ap, ◌∙◌, arith, append_assoc, length-append}
 use Rattle.std.proofs.lemmas.Bool.Decides.{nat_tests}
 use Rattle.std.proofs.lemmas.Str.{chars-nil, chars-append}
 use Rattle.std.proofs.Math.Seq.{take-append_seam}
 use Rattle.std.specs.List.{list_any}
-use Rattle.snap_config.proofs.BoolLemmas.{first_false, rest_false, and_false}
+use Rattle.snap_config.proofs.BoolLemmas.{first_false, rest_false}
 use Rattle.snap_config.proofs.ComponentsLemmas.{directories-alone, directories-slash}
 use Rattle.snap_config.proofs.GlobLemmas.{fits-no_slash_in_name, fits-no_slash_in_pattern, fits-slash, fits-nil}
 use Rattle.snap_config.proofs.TextLemmas.{has_byte-chars, cut_parts, chars-slash}
 use Rattle.snap_config.specs.Glob.{fits, fits_text}
-use Rattle.snap_config.specs.Matching.{directories, matches, matches_below, matches_directory, matches_name, matches_whole, matches_whole_directory, parts_before_last}
-use Rattle.snap_config.specs.Pattern.{has_byte, has_pair, is_pattern, has_slash_inside, starts_with_slash, ends_with_slash}
-use Rattle.snap_config.specs.Walk.{IsCut}
+use Rattle.snap_config.specs.Matching.{directories, matches, matches_below, matches_name, matches_whole, matches_whole_directory, parts_before_last}
+use Rattle.snap_config.specs.Pattern.{has_byte, is_pattern, starts_with_slash, ends_with_slash}
 use Rattle.disk_model.specs.Path.{components}
 
 -- ---- some of a list
@@ -55,7 +54,7 @@ ends-none (b ∷ []) none = first_false (b == 47) false none
 ends-none (a ∷ b ∷ text) none = ends-none (b ∷ text) (rest_false (a == 47) (has_byte 47 (b ∷ text)) none)
 
 -- a text that ends with a slash has a front
-ends_front : (text : List ℕ) → ends_with_slash text ≡ true → (front : List ℕ) × (text ≡ front ++ 47 ∷ [])
+pub ends_front : (text : List ℕ) → ends_with_slash text ≡ true → (front : List ℕ) × (text ≡ front ++ 47 ∷ [])
 ends_front [] ends = absurd (cc)
 ends_front (b ∷ []) ends = let is : b ≡ 47 = grind (arith, nat_tests) in ([], rw is refl)
 ends_front (a ∷ b ∷ text) ends = let found = ends_front (b ∷ text) ends in (a ∷ found.0, ap (λ t. a ∷ t) found.1)

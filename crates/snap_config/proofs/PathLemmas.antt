@@ -1,5 +1,5 @@
 -- The steps along a path.
-use Rattle.std.proofs.Common.{◌≡◌, ◌≢◌, ℕ, ◌+◌, ◌<◌, List, [], ◌∷◌, ◌++◌, length, get_or, take, drop, Bool, true, false, ◌==◌, ◌&&◌, ◌||◌, None, Some, IsUtf8, IsCharBoundary, refl, sym, ap, ◌∙◌, arith, add-one, length-drop, get_or-drop, drop-cons}
+use Rattle.std.proofs.Common.{◌≡◌, ◌≢◌, ℕ, ◌+◌, ◌<◌, List, [], ◌∷◌, ◌++◌, length, get_or, take, drop, true, false, ◌==◌, ◌&&◌, ◌||◌, None, Some, IsUtf8, IsCharBoundary, refl, sym, ap, ◌∙◌, arith, add-one, length-drop, get_or-drop, drop-cons}
 use Rattle.memchr.specs.Find.{IsLastByte, is_byte}
 use Rattle.std.proofs.lemmas.Bool.Decides.{nat_tests}
 use Rattle.std.proofs.lemmas.List.{take-append-drop}

@@ -1,5 +1,5 @@
 -- Texts as their characters.
-use Rattle.std.proofs.Common.{◌≡◌, ◌≢◌, ℕ, zero, suc, ◌+◌, ◌<◌, List, [], ◌∷◌, ◌++◌, length, get_or, take, drop, ◌≤◌, Bool, true, false, ◌==◌, ◌||◌, Option, None, Some, MatchOption, Bor, encode_utf8, encode_utf8_all, IsUtf8, refl, sym, ap, ◌∙◌, arith, ne_eqb, length-append}
+use Rattle.std.proofs.Common.{◌≡◌, ◌≢◌, ℕ, suc, ◌+◌, ◌<◌, List, [], ◌∷◌, ◌++◌, length, get_or, take, drop, ◌≤◌, Bool, true, false, ◌==◌, ◌||◌, Option, None, Some, MatchOption, Bor, encode_utf8, encode_utf8_all, IsUtf8, refl, sym, ap, ◌∙◌, arith, ne_eqb, length-append}
 use Rattle.std.proofs.lemmas.Bool.Decides.{nat_tests}
 use Rattle.std.proofs.lemmas.List.{append-nil}
 use Rattle.std.proofs.lemmas.Str.{chars-nil, chars-append, chars_past_char, encodes-chars, encode_ascii, length-encode, len_utf8_bounds, IsUtf8-take, IsUtf8-drop, IsUtf8-past_char, IsCharBoundary-from_take, IsCharBoundary-before_ascii, IsCharBoundary-after_ascii}

@@ -1,5 +1,5 @@
 -- Which files of a data disk are kept.
-use Rattle.std.specs.Prelude.{ℕ, ◌-◌, List, [], ◌∷◌, ◌++◌, length, map, find, get_or, slice_get, Bool, false, true, ◌==◌, ◌&&◌, not, nat_le, nat_eq, bytes_eq, codes, if◌then◌else◌, Option, None, Some, unwrap_or, option_map, option_to_list}
+use Rattle.std.specs.Prelude.{ℕ, ◌-◌, List, [], ◌∷◌, ◌++◌, length, map, find, get_or, slice_get, Bool, false, true, ◌==◌, ◌&&◌, not, nat_le, nat_eq, bytes_eq, codes, if◌then◌else◌, unwrap_or, option_map, option_to_list}
 use Rattle.std.specs.List.{list_all, list_any, ends_with}
 use Rattle.disk_model.specs.Path.{components, lost_suffix}
 use Rattle.snap_config.specs.Matching.{matches}
@@ -41,13 +41,15 @@ keeps_unmatched rules = unwrap_or (option_map (λ (rule : Rule). not rule.includ
 
 -- the first rule that matches decides
 abbrev pub filter_keeps : List Rule → List ℕ → Bool
-filter_keeps rules path = unwrap_or (option_map (λ (rule : Rule). rule.include) (find (λ (rule : Rule). matches rule.pattern path) rules)) (keeps_unmatched rules)
+filter_keeps rules path =
+    unwrap_or (option_map (λ (rule : Rule). rule.include) (find (λ (rule : Rule). matches rule.pattern path) rules)) (keeps_unmatched rules)
 
 -- the folder of a column
 abbrev pub dir_of : SetupValue → ℕ → List ℕ
 dir_of setup column = get_or (map (λ (disk : Disk). disk.dir) setup.disks) column []
 
--- A file of a column is kept: a record may have its path, it is none of the array's own files, it is not hidden where hidden files are left out, and the rules keep it.
+-- A file of a column is kept: a record may have its path, it is none of the array's own files,
+-- it is not hidden where hidden files are left out, and the rules keep it.
 abbrev pub keeps : SetupValue → ℕ → List ℕ → Bool
 keeps setup column path =
     is_recordable path && not (has_name (own_names setup) (full_name (dir_of setup column) path)) && not (setup.nohidden && is_hidden path)

@@ -115,7 +115,8 @@ pub(crate) fn cut(text: &str, at: char) -> Option<(&str, &str)>
 
 // The first character, and the text after it.
 fn first_of(text: &str) -> Option<(char, &str)>
-    ensures { MatchOption result (chars text.now ≡ []) (λ found. IsFirstOf text.now found.0 found.1.now) }
+    ensures { MatchOption result (chars text.now ≡ [])
+        (λ found. IsFirstOf text.now found.0 found.1.now) }
 {
     let mut chars = text.chars();
     let first = chars.next()?;
@@ -124,7 +125,8 @@ fn first_of(text: &str) -> Option<(char, &str)>
 
 // The text before the last character, and that character.
 fn last_of(text: &str) -> Option<(&str, char)>
-    ensures { MatchOption result (chars text.now ≡ []) (λ found. IsLastOf text.now found.0.now found.1) }
+    ensures { MatchOption result (chars text.now ≡ [])
+        (λ found. IsLastOf text.now found.0.now found.1) }
 {
     let mut chars = text.chars();
     let last = chars.next_back()?;

@@ -6,8 +6,7 @@ ghost use Rattle.snap_config.specs.Setup.{setup_value};
 
 use crate::glob::cut;
 use crate::{Rule, Setup, matches};
-use disk_model::{Path, Text};
-use file_table::is_record_path;
+use disk_model::{Path, Text, is_record_path};
 
 const DRAFT: &[u8; 4] = b".tmp";
 

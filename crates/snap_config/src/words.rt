@@ -5,9 +5,6 @@ ghost use Rattle.snap_config.specs.OptionValues.{AreInBounds, first_option, valu
 ghost use Rattle.snap_config.specs.Words.{Answers, IsAmong, IsOptions, IsWay, log_of, name_of_command, reading, reading_among};
 ghost use Rattle.snap_config.specs.Words.{command_of, is_unfit, named, options_of, selection};
 
-#[cfg(test)]
-mod tests;
-
 use crate::flat_command::matches_of;
 use crate::given::{command_text, is_given, value_of, values_of};
 use crate::option_values::{OptionValues, read_values};
@@ -29,7 +26,25 @@ pub fn read_words(alloc: Global, words: &[String]) -> Result<Options, WordsFault
     ensures valid { IfOk result IsOptions }
     ensures built { IfOk result (IsAmong BUILT_COMMANDS) }
 {
-    read_among(alloc, &BUILT_COMMANDS, words)
+    read_words_among(alloc, &BUILT_COMMANDS, words)
+}
+
+/// The same, where these commands are built: the word of any other is an unknown command.
+pub fn read_words_among(
+    alloc: Global,
+    built: &[CommandName],
+    words: &[String],
+) -> Result<Options, WordsFault>
+    ensures answers { Answers result (reading_among built.now (map string_bytes words.now)) }
+    ensures valid { IfOk result IsOptions }
+    ensures built { IfOk result (IsAmong built.now) }
+{
+    let matches = matches_of(alloc, words)?;
+    let word = command_text(&matches);
+    match named(built, word) {
+        Some(command) => options_of(alloc, command, &matches),
+        None => Err(WordsFault::Command(Text::new(alloc, word)?)),
+    }
 }
 
 /// The log that the words name. There is none where they are refused.
@@ -40,20 +55,6 @@ pub fn log_name(alloc: Global, words: &[String]) -> Result<Option<Text>, NoMemor
         Ok(asked) => Ok(asked.log),
         Err(WordsFault::Memory) => Err(NoMemory),
         Err(_) => Ok(None),
-    }
-}
-
-// What the words ask for, where these commands are built.
-fn read_among(alloc: Global, built: &[CommandName], words: &[String]) -> Result<Options, WordsFault>
-    ensures answers { Answers result (reading_among built.now (map string_bytes words.now)) }
-    ensures valid { IfOk result IsOptions }
-    ensures built { IfOk result (IsAmong built.now) }
-{
-    let matches = matches_of(alloc, words)?;
-    let word = command_text(&matches);
-    match named(built, word) {
-        Some(command) => options_of(alloc, command, &matches),
-        None => Err(WordsFault::Command(Text::new(alloc, word)?)),
     }
 }
 

@@ -8,8 +8,6 @@
 mod event;
 mod lines;
 mod printing;
-#[cfg(test)]
-mod tests;
 
 pub use event::{Event, push_event};
 pub use lines::put;

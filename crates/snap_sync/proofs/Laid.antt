@@ -12,7 +12,8 @@ use Rattle.disk_model.specs.Stamp.{IsStamp}
 use Rattle.disk_model.specs.Tree.{IsListedBefore, is_directory_of}
 use Rattle.file_table.specs.declared.block.Block.{Block}
 use Rattle.file_table.specs.Table.{Record, Column, block_count, records_of, blocks_of, positions_of, blocks_due, end_of}
-use Rattle.file_table.specs.Valid.{AreColumns, IsColumn, IsRecord, IsName, ComesBefore, HasDigest, most_records, most_blocks}
+use Rattle.file_table.specs.Valid.{AreColumns, IsColumn, IsRecord, ComesBefore, HasDigest, most_records, most_blocks}
+use Rattle.disk_model.specs.Name.{IsName}
 use Rattle.content_file.proofs.Fronts.{positions_in, due-append}
 use Rattle.snap_sync.specs.Kept.{ListedFile}
 use Rattle.snap_sync.specs.Listing.{IsKeptListing}

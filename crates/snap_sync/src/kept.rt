@@ -5,8 +5,7 @@ ghost use Rattle.disk_model.specs.Tree.{IsListing, listed};
 ghost use Rattle.snap_sync.specs.Kept.{draft_name, full_name, has_name, keeps, kept_files, own_names};
 ghost use Rattle.snap_sync.specs.Listing.{files_of, IsKeptListing};
 
-use disk_model::{FileInfo, NoMemory, Path, Places, Text};
-use file_table::is_record_path;
+use disk_model::{FileInfo, NoMemory, Path, Places, Text, is_record_path};
 use std::alloc::Global;
 
 /// The files of a folder that are kept, as they were listed.

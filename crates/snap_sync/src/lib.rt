@@ -15,14 +15,10 @@ mod fault;
 mod kept;
 pub mod laws;
 mod layout;
-#[cfg(test)]
-mod layout_tests;
 mod reading;
 mod stripes;
 mod syncing;
 mod telling;
-#[cfg(test)]
-mod tests;
 mod told;
 
 pub use fault::SyncFault;

@@ -5,7 +5,8 @@ use Rattle.std.proofs.lemmas.List.Elements.{All-push, All-head, All-tail}
 use Rattle.std.proofs.lemmas.List.Quantifiers.{all_pairs_push}
 use Rattle.std.proofs.lemmas.List.Concat.{flat_map-append}
 use Rattle.std.specs.List.{flat_map}
-use Rattle.file_table.specs.Valid.{IsName, most_columns}
+use Rattle.file_table.specs.Valid.{most_columns}
+use Rattle.disk_model.specs.Name.{IsName}
 use Rattle.snap_top.specs.FirstForm.{FormDisk, disk_line, IsFileName}
 use Rattle.snap_top.specs.FormLines.{StartsDataLine, HasDisks, disks_of}
 use Rattle.snap_top.proofs.LineLemmas.{disks_unique, line-append}

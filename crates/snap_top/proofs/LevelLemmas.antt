@@ -4,7 +4,7 @@ use Rattle.std.proofs.Math.Seq.{drop-cons}
 use Rattle.std.proofs.lemmas.List.Elements.{All-push, All-head, All-tail, All-contains, Contains-append_right}
 use Rattle.std.proofs.lemmas.List.Sums.{AllPass-from_list_all}
 use Rattle.std.specs.List.{list_all}
-use Rattle.file_table.specs.Valid.{level_names}
+use Rattle.disk_model.specs.Name.{level_names}
 use Rattle.snap_top.specs.FirstForm.{line, file_lines, IsFileName}
 use Rattle.snap_top.specs.FormLines.{StartsFileLine, HasNoFileLine, StartsLevelLine, HasNoLevelLine, StartsParityLines}
 use Rattle.snap_top.proofs.LineLemmas.{files_unique, line-append}

@@ -9,7 +9,7 @@ use Rattle.std.proofs.lemmas.Slice.Eq.{bytes_eq-Decides}
 use Rattle.std.specs.List.{list_all}
 use Rattle.std.specs.Result.{result_ok}
 use Rattle.std.specs.Str.Parse.{ParsesUnsigned}
-use Rattle.file_table.specs.Valid.{IsName, is_name_byte}
+use Rattle.disk_model.specs.Name.{IsName, is_name_byte}
 use Rattle.snap_top.specs.FirstForm.{FormDisk, line, IsFileName}
 use Rattle.snap_top.specs.FormLines.{StartsLine, SpellsKibibytes, StartsSizeLine, StartsFileLine, StartsDataLine}
 

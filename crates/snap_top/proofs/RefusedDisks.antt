@@ -3,7 +3,8 @@ use Rattle.std.proofs.Common.{◌≡◌, ◌≢◌, ◌⊎◌, inl, inr, ℕ, su
 use Rattle.std.proofs.lemmas.List.{get_or-map, length-map, get_or_append_left, get_or_at}
 use Rattle.std.proofs.lemmas.List.Elements.{All-contains, Contains-append_right}
 use Rattle.std.specs.List.{flat_map}
-use Rattle.file_table.specs.Valid.{IsName, most_columns}
+use Rattle.file_table.specs.Valid.{most_columns}
+use Rattle.disk_model.specs.Name.{IsName}
 use Rattle.snap_top.specs.FirstForm.{FormDisk, disk_line, IsFileName}
 use Rattle.snap_top.specs.FormLines.{StartsDataLine, HasDisks, disks_of}
 use Rattle.snap_top.proofs.LineLemmas.{disks_unique}

@@ -1,7 +1,7 @@
 -- What a configuration says, by the lines that it begins with and the disks after them.
 use Rattle.std.proofs.Common.{◌≡◌, ℕ, ◌≤◌, ◌*◌, ◌/◌, List, [], ◌∷◌, ◌++◌, length, get_or, IsUtf8, refl, sym, ap, ◌∙◌, subst, arith, append_assoc, codes, decimal}
 use Rattle.std.specs.List.{flat_map}
-use Rattle.file_table.specs.Valid.{level_names}
+use Rattle.disk_model.specs.Name.{level_names}
 use Rattle.snap_top.specs.FirstForm.{FormDisk, FormValue, line, file_lines, disk_line, Says}
 use Rattle.snap_top.specs.FormLines.{StartsSizeLine, StartsFileLine, HasNoLevelLine, StartsParityLines, StartsHead, HasDisks, disks_of}
 use Rattle.snap_top.proofs.LineLemmas.{sizes_unique, files_unique}

@@ -2,7 +2,8 @@
 use Rattle.std.specs.Prelude.{◌≡◌, ◌≢◌, ℕ, ◌≤◌, List, [], ◌∷◌, ◌++◌, length, codes, Contains, All, AllPairs, IsUtf8}
 use Rattle.std.specs.Fmt.{decimal}
 use Rattle.std.specs.List.{flat_map}
-use Rattle.file_table.specs.Valid.{IsName, IsLevelCount, level_names, most_columns}
+use Rattle.file_table.specs.Valid.{IsLevelCount, most_columns}
+use Rattle.disk_model.specs.Name.{IsName, level_names}
 
 -- a data disk: its name and its folder
 pub record FormDisk : Type 0 where

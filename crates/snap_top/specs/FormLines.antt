@@ -2,7 +2,8 @@
 use Rattle.std.specs.Prelude.{◌≡◌, ◌≢◌, ℕ, ◌<◌, ◌≤◌, List, [], ◌∷◌, ◌++◌, length, get_or, codes, Contains, All, AllPairs}
 use Rattle.std.specs.Fmt.{decimal}
 use Rattle.std.specs.List.{flat_map}
-use Rattle.file_table.specs.Valid.{IsName, IsLevelCount, level_names, most_columns}
+use Rattle.file_table.specs.Valid.{IsLevelCount, most_columns}
+use Rattle.disk_model.specs.Name.{IsName, level_names}
 use Rattle.snap_top.specs.FirstForm.{FormDisk, line, file_lines, disk_line, IsFileName}
 
 -- a text begins with a line of this keyword and this argument

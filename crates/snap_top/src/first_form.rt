@@ -2,8 +2,6 @@
 mod disks;
 mod line;
 mod parities;
-#[cfg(test)]
-mod tests;
 
 ghost use Rattle.std.specs.Prelude.{◌≡◌, [], ◌∷◌, IfOk, IfErr, IsErrOf};
 ghost use Rattle.snap_top.specs.declared.first_form.FormFault.TheVariants.{Memory};

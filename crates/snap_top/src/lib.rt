@@ -6,7 +6,7 @@
 //! Proved: the status, the line on `err` and what is printed are those of the one cause by which the run ended; the
 //! opener is asked for what the words and the configuration name, and for nothing else; all that was opened goes back,
 //! the folders only read, and the vault as it was but for what a sync wrote.
-//! Not here: real files. They are the program's.
+//! Not here: real files. They are `disk_host`'s.
 #![tactic(auto)]
 
 mod end;
@@ -23,6 +23,3 @@ mod words;
 pub use list::Cut;
 pub use running::{Outcome, run};
 pub use why::Why;
-
-#[cfg(test)]
-mod tests;

@@ -1,31 +1,14 @@
 //! The program: the words, files and streams of the system, handed to `snap_top::run`.
 //!
-//! Start at `main`. `opener.rt`, `folder.rt`, `vault.rt` and `sink.rt` make the system what `disk_model`
-//! asks for, each in a few lines. Under the folder stand `listing.rt`, `order.rt` and `places.rt`, under
-//! the vault `parity.rt`, `contents.rt` and `drafts.rt`.
-//! Proved: they meet their traits, and count each call that fails; what a folder lists is in order,
-//! whatever the system gave. They tell nothing of what files hold, since no contract can; `tests.rt`
-//! runs them over real files.
+//! Start at `main`. It opens the standard streams, reads words, clock and seed, and hands `run` the objects of
+//! `disk_host`. Proved: it is safe and ends. What a command does is the contract of `run`.
 #![tactic(auto)]
 
-mod contents;
-mod drafts;
-mod faults;
-mod files;
-mod folder;
-mod listing;
-mod opener;
-mod order;
-mod parity;
-mod places;
-mod sink;
 #[cfg(test)]
 mod tests;
-mod vault;
 
+use disk_host::{DiskOpener, StreamSink};
 use disk_model::{NoMemory, Sink};
-use opener::DiskOpener;
-use sink::StreamSink;
 use snap_top::Outcome;
 use std::fs::OpenOptions;
 use std::io::ErrorKind;
@@ -40,22 +23,22 @@ const FAILED: u8 = 3;
 const OUT_OF_MEMORY: u8 = 4;
 
 fn main(rt: HostRuntime) -> ExitCode {
+    let mut err = StreamSink::new(rt.stderr());
     let Ok(_streams) = open_streams(&rt) else {
-        return ExitCode::from(FAILED);
+        return ends(&mut err, b"snapraid: /dev/null cannot be opened\n", FAILED);
     };
     let mut out = StreamSink::new(rt.stdout());
-    let mut err = StreamSink::new(rt.stderr());
     let words = match words(&rt) {
         Ok(words) => words,
-        Err(NoMemory) => {
-            let _ = err.write(b"snapraid: out of memory\n");
-            return ExitCode::from(OUT_OF_MEMORY);
-        }
+        Err(NoMemory) => return ends(&mut err, b"snapraid: out of memory\n", OUT_OF_MEMORY),
     };
     let mut seed = [0; 16];
     if rt.fill_bytes(&mut seed).is_err() {
-        let _ = err.write(b"snapraid: the system gave no random bytes\n");
-        return ExitCode::from(FAILED);
+        return ends(
+            &mut err,
+            b"snapraid: the system gave no random bytes\n",
+            FAILED,
+        );
     }
     let now = seconds_since_1970(&rt);
     let mut opener = DiskOpener::new(rt);
@@ -72,6 +55,12 @@ fn main(rt: HostRuntime) -> ExitCode {
         now,
         seed,
     );
+    ExitCode::from(status)
+}
+
+// Ends before anything was opened, with one line where that can be written.
+fn ends<W: Sink>(err: &mut W, line: &[u8], status: u8) -> ExitCode {
+    let _ = err.write(line);
     ExitCode::from(status)
 }
 

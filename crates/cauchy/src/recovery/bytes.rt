@@ -28,7 +28,8 @@ fn bytes_at(work: &[u8], block: usize, p: usize, count: usize) -> Row
 fn recovered_byte(inverse: &Matrix, given: &Row, j: usize) -> u8
     requires shape { HasShape (array_vec_len given.now) (array_vec_len given.now) inverse.now }
     requires column { j < array_vec_len given.now }
-    ensures { result ≡ recovered (entries inverse.now) (array_vec_len given.now) (slice_index given.now.items) j }
+    ensures { result
+        ≡ recovered (entries inverse.now) (array_vec_len given.now) (slice_index given.now.items) j }
 {
     let mut sum = 0;
     for i in 0..given.len() {

@@ -17,7 +17,8 @@ fn row_tables(inverse: &Matrix, i: usize, count: usize) -> [LaneTables; MOST]
     requires shape { HasShape count count inverse.now }
     requires row { i < count }
     requires count { count ≤ 6 }
-    ensures { (j : ℕ) → j < count → AreLaneTables (entries inverse.now i j) (slice_index_or result j []) }
+    ensures { (j : ℕ) → j < count →
+        AreLaneTables (entries inverse.now i j) (slice_index_or result j []) }
 {
     let mut tables = [[u8x32::splat(0); 2]; MOST];
     for j in 0..count {
@@ -43,7 +44,8 @@ fn lanes_at(work: &[u8], block: usize, p: usize, count: usize) -> [u8x32; MOST]
     requires count { count ≤ 6 }
     requires size { length work.now ≡ count * block }
     requires place { p + 32 ≤ block }
-    ensures { (i : ℕ) → i < count → HasLanes (slice_index_or result i []) (λ k. byte_in block work.now (p + k) i) }
+    ensures { (i : ℕ) → i < count →
+        HasLanes (slice_index_or result i []) (λ k. byte_in block work.now (p + k) i) }
 {
     let mut lanes = [u8x32::splat(0); MOST];
     for i in 0..count {
@@ -89,7 +91,8 @@ pub fn recover_groups(inverse: &Matrix, block: usize, count: usize, work: &mut [
     requires count { count ≤ 6 }
     requires shape { HasShape count count inverse.now }
     requires size { length work.old ≡ count * block }
-    ensures recovered { RecoversWithin 0 (32 * (block / 32)) count block count (entries inverse.now) work.old work.new }
+    ensures recovered { RecoversWithin 0 (32 * (block / 32)) count block count
+        (entries inverse.now) work.old work.new }
     ensures given { (k : ℕ) → slice_index work.old k < 256 }
 {
     let tables = tables_of(inverse, count);

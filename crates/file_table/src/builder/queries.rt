@@ -8,8 +8,7 @@ use super::Builder;
 use crate::BuildFault;
 use crate::count::blocks_for;
 use crate::limits::MOST_BLOCKS;
-use crate::record_path::is_record_path;
-use disk_model::Path;
+use disk_model::{Path, is_record_path};
 
 impl Builder {
     /// The `Name`, `Order` or `Nested` that `push_record` would answer for a path where no record lacks a

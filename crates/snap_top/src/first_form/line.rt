@@ -5,7 +5,7 @@ ghost use Rattle.snap_top.specs.FormLines.{StartsLine, HasNoLine, SpellsKibibyte
 ghost use Rattle.snap_top.specs.FormLines.{StartsSizeLine, HasNoSizeLine, StartsFileLine, HasNoFileLine};
 ghost use Rattle.snap_top.specs.FormLines.{StartsDataLine, HasNoDataLine};
 
-use file_table::is_name;
+use disk_model::is_name;
 use itoa::Buffer;
 
 const MOST_KIBIBYTES: u32 = 4096;

@@ -1,7 +1,21 @@
-use Rattle.std.proofs.Common.{◌∙◌, refl, subst}
+use Rattle.std.proofs.Common.{◌∙◌, ℕ, length, ◌<◌, ◌^◌, refl, sym, subst, arith, rules}
+use Rattle.disk_model.specs.Bytes.{AreBytes}
 use Rattle.disk_model.specs.Tree.{IsApart}
 use Rattle.disk_memory.specs.Files.{tree_of}
+use Rattle.disk_memory.proofs.BytesLemmas.{slice_bytes}
 use Rattle.disk_memory.proofs.folder.MemFolder.put.Goals as goal
+
+pub put-requires : goal.put-requires
+put-requires c =
+    let tree = tree_of c.args.self.now.files.list.items in
+    let same = c.as_bytes.ensures.value ∙ c.as_str.ensures.value in
+    record {
+      valid = c.as_str.ensures.valid;
+      stamp = c.requires;
+      bytes = subst AreBytes (sym c.in_ok-held.ensures.same) (slice_bytes c.args.bytes.now (λ i. omega (arith, c.type_inv.bytes i)));
+      size = search rules;
+      apart = subst (IsApart tree) same (c.in_ok-is_apart.ensures.0 c.if-not-branch.false);
+    }
 
 pub returns-clause-allowed : goal.returns-clause-allowed
 returns-clause-allowed c =

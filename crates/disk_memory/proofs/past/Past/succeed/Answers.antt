@@ -11,6 +11,7 @@ last_place xs before y n e long = omega (arith, long, ap length e, length_push b
 pub returns-then-count-gt0 : goal.returns-then-count-gt0
 returns-then-count-gt0 g c = record {
   lost = refl;
+  kept = λ lost. absurd (let a = c.if-not-self.true in cc);
   last = λ told before call e.
       let n = c.len-count.result in
       let place : length before ≡ n - 1 = last_place c.args.self.now.made.items before (made call true) n e (c.len-count.ensures ∙ c.args.self.now.made.ok.0) in

@@ -1,15 +1,23 @@
-use Rattle.std.proofs.Common.{◌∙◌, List, ℕ, ap}
-use Rattle.disk_model.specs.Bytes.{resized}
-use Rattle.disk_memory.specs.Vault.{vault_state}
-use Rattle.disk_memory.proofs.VaultLemmas.{changes_by, stretches_not, stretches_by_resized, parity_read}
+use Rattle.std.proofs.Common.{Bool, true, false, not, ℕ, List, [], ◌++◌, length, take, is_err, Some, None, Ok, Err, refl, sym, ◌∙◌, ap, subst, arith, rules}
+use Rattle.disk_model.specs.Vault as vault
+use Rattle.disk_memory.specs.Schedule.{plan_of}
+use Rattle.disk_memory.specs.Store.{held}
+use Rattle.disk_memory.proofs.ScheduleLemmas.{obeys_on_record}
+use Rattle.disk_memory.proofs.VaultLemmas.{is_call, err_of, counts_from, on_ok, on_err, set_len_changes, set_len_keeps, set_len_reads}
 use Rattle.disk_memory.proofs.vault.MemVaultVault.parity_set_len.Goals as goal
 
-pub returns-then-not-begin-clause-changes : goal.returns-then-not-begin-clause-changes
-returns-then-not-begin-clause-changes c = changes_by _ (vault_state c.args.self.now) _ (stretches_not (vault_state c.args.self.now).files c.args.level c.args.len)
+pub returns-clause-call : goal.returns-clause-call
+returns-clause-call c = is_call c.args.self.now.schedule.faults c.answer.new.self.faults c.args.self.now.recorded c.parity_set_len-done.new.self (vault.ParitySetLen c.args.level c.args.len) (not c.parity_set_len-done.result) c.parity_set_len-done.ensures.goes c.answer.result (err_of c.parity_set_len-done.result c.answer.result c.answer.ensures.result) (counts_from c.parity_set_len-done.result c.args.self.now.schedule.faults c.next_call-fails.new.self.faults c.answer.new.self.faults c.next_call-fails.ensures.faults c.answer.ensures.later c.answer.ensures.done c.answer.ensures.cause)
 
-pub returns-in-Ok-clause-changes : goal.returns-in-Ok-clause-changes
-returns-in-Ok-clause-changes c =
-    let v = c.args.self.now in
-    let was = parity_read v c.args.level c.index_mut.result.now c.requires c.index_mut.ensures.value in
-    let is = c.in-Ok.ensures.ok ∙ ap (λ (file : List ℕ). resized file c.args.len) was in
-    changes_by _ (vault_state v) _ (stretches_by_resized (vault_state v).files c.args.level c.args.len c.set_len.new.self is)
+pub returns-clause-scheduled : goal.returns-clause-scheduled
+returns-clause-scheduled c =
+    obeys_on_record c.next_call-fails.result c.parity_set_len-done.result (is_err c.answer.result) (plan_of c.args.self.now.schedule) (plan_of c.next_call-fails.new.self) (plan_of c.answer.new.self) c.args.self.now.recorded.past.lost c.parity_set_len-done.new.self.past.lost (err_of c.parity_set_len-done.result c.answer.result c.answer.ensures.result) c.next_call-fails.ensures.plan c.answer.ensures.plan c.next_call-fails.ensures.due c.parity_set_len-done.ensures.answer.refused c.parity_set_len-done.ensures.answer.lost
+
+pub returns-clause-changes : goal.returns-clause-changes
+returns-clause-changes c = set_len_changes c.args.self.now.schedule.faults c.answer.new.self.faults c.args.self.now.recorded c.parity_set_len-done.new.self (not c.parity_set_len-done.result) c.args.level c.args.len c.parity_set_len-done.ensures.goes c.requires
+
+pub returns-clause-drafts : goal.returns-clause-drafts
+returns-clause-drafts c = set_len_keeps c.args.self.now.schedule.faults c.answer.new.self.faults c.args.self.now.recorded c.parity_set_len-done.new.self (not c.parity_set_len-done.result) c.args.level c.args.len c.parity_set_len-done.ensures.goes
+
+pub returns-clause-written : goal.returns-clause-written
+returns-clause-written c = on_ok c.answer.result (not c.parity_set_len-done.result) _ (err_of c.parity_set_len-done.result c.answer.result c.answer.ensures.result) (set_len_reads c.args.self.now.schedule.faults c.answer.new.self.faults c.args.self.now.recorded c.parity_set_len-done.new.self (not c.parity_set_len-done.result) c.args.level c.args.len c.parity_set_len-done.ensures.goes c.requires)

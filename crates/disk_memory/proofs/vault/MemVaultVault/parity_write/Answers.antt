@@ -1,43 +1,23 @@
-use Rattle.std.proofs.Common.{◌∙◌, List, ℕ, Bool, refl, ap, arith, rules}
-use Rattle.disk_model.specs.Bytes.{put}
-use Rattle.disk_model.specs.Vault.{VaultCall, VaultDone, ParityWrite}
-use Rattle.disk_memory.specs.Calls.{vault_call}
-use Rattle.disk_memory.specs.Vault.{vault_state}
-use Rattle.disk_memory.proofs.PastLemmas.{grows_failed, grows_done}
-use Rattle.disk_memory.proofs.VaultLemmas.{changes_by, tears_not, tears_by_put, parity_read}
+use Rattle.std.proofs.Common.{Bool, true, false, not, ℕ, List, [], ◌++◌, length, take, is_err, Some, None, Ok, Err, refl, sym, ◌∙◌, ap, subst, arith, rules}
+use Rattle.disk_model.specs.Vault as vault
+use Rattle.disk_memory.specs.Schedule.{plan_of}
+use Rattle.disk_memory.specs.Store.{held}
+use Rattle.disk_memory.proofs.ScheduleLemmas.{obeys_on_record}
+use Rattle.disk_memory.proofs.VaultLemmas.{is_call, err_of, counts_from, on_ok, on_err, write_changes, write_keeps, write_reads}
 use Rattle.disk_memory.proofs.vault.MemVaultVault.parity_write.Goals as goal
 
-pub returns-then-not-begin-clause-changes : goal.returns-then-not-begin-clause-changes
-returns-then-not-begin-clause-changes c = changes_by _ (vault_state c.args.self.now) _ (tears_not (vault_state c.args.self.now).files c.args.level c.args.at _)
+pub returns-clause-call : goal.returns-clause-call
+returns-clause-call c = is_call c.args.self.now.schedule.faults c.answer.new.self.faults c.args.self.now.recorded c.parity_write-done.new.self (vault.ParityWrite c.args.level c.args.at c.args.bytes.now) (not c.parity_write-done.result) c.parity_write-done.ensures.goes c.answer.result (err_of c.parity_write-done.result c.answer.result c.answer.ensures.result) (counts_from c.parity_write-done.result c.args.self.now.schedule.faults c.next_call-fails.new.self.faults c.answer.new.self.faults c.next_call-fails.ensures.faults c.answer.ensures.later c.answer.ensures.done c.answer.ensures.cause)
 
-abbrev done : VaultCall → Bool → VaultDone
-done call failed = record { call = call; failed = failed }
+pub returns-clause-scheduled : goal.returns-clause-scheduled
+returns-clause-scheduled c =
+    obeys_on_record c.next_call-fails.result c.parity_write-done.result (is_err c.answer.result) (plan_of c.args.self.now.schedule) (plan_of c.next_call-fails.new.self) (plan_of c.answer.new.self) c.args.self.now.recorded.past.lost c.parity_write-done.new.self.past.lost (err_of c.parity_write-done.result c.answer.result c.answer.ensures.result) c.next_call-fails.ensures.plan c.answer.ensures.plan c.next_call-fails.ensures.due c.parity_write-done.ensures.answer.refused c.parity_write-done.ensures.answer.lost
 
-pub returns-in-Ok-clause-call : goal.returns-in-Ok-clause-call
-returns-in-Ok-clause-call c =
-    let grows = grows_done vault_call done c.write_entry-entry.result (ParityWrite c.args.level c.args.at c.args.bytes.now) c.args.self.now.past c.begin.new.past c.succeed.new.self c.begin.ensures.noted c.begin.ensures.refused c.succeed.ensures c.write_entry-entry.ensures in
-    record {
-      goes_on = record { later = omega arith; levels = refl; copies = refl; tells = refl; calls = grows };
-      cause = search rules;
-      unfailed = search rules;
-      once = search rules;
-      remembers = search rules;
-    }
+pub returns-clause-changes : goal.returns-clause-changes
+returns-clause-changes c = write_changes c.args.self.now.schedule.faults c.answer.new.self.faults c.args.self.now.recorded c.parity_write-done.new.self (not c.parity_write-done.result) c.args.level c.args.at c.args.bytes.now c.parity_write-done.ensures.goes c.requires.level
 
-pub returns-in-Ok-clause-changes : goal.returns-in-Ok-clause-changes
-returns-in-Ok-clause-changes c =
-    let v = c.args.self.now in
-    let was = parity_read v c.args.level c.index_mut.result.now c.requires.level c.index_mut.ensures.value in
-    let is = c.in-Ok.ensures.ok ∙ ap (λ (file : List ℕ). put file c.args.at c.args.bytes.now) was in
-    changes_by _ (vault_state v) _ (tears_by_put (vault_state v).files c.args.level c.args.at c.args.bytes.now c.put.new.self is)
+pub returns-clause-drafts : goal.returns-clause-drafts
+returns-clause-drafts c = write_keeps c.args.self.now.schedule.faults c.answer.new.self.faults c.args.self.now.recorded c.parity_write-done.new.self (not c.parity_write-done.result) c.args.level c.args.at c.args.bytes.now c.parity_write-done.ensures.goes
 
-pub returns-in-Err-clause-call : goal.returns-in-Err-clause-call
-returns-in-Err-clause-call c =
-    let grows = grows_failed vault_call done c.write_entry-entry.result (ParityWrite c.args.level c.args.at c.args.bytes.now) c.args.self.now.past c.begin.new.past c.begin.ensures.noted c.begin.ensures.refused c.write_entry-entry.ensures in
-    record {
-      goes_on = record { later = search rules; levels = refl; copies = refl; tells = refl; calls = grows };
-      cause = search rules;
-      unfailed = search rules;
-      once = search rules;
-      remembers = search rules;
-    }
+pub returns-clause-written : goal.returns-clause-written
+returns-clause-written c = on_ok c.answer.result (not c.parity_write-done.result) _ (err_of c.parity_write-done.result c.answer.result c.answer.ensures.result) (write_reads c.args.self.now.schedule.faults c.answer.new.self.faults c.args.self.now.recorded c.parity_write-done.new.self (not c.parity_write-done.result) c.args.level c.args.at c.args.bytes.now c.parity_write-done.ensures.goes c.requires.level)

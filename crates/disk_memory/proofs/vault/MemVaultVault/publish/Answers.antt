@@ -1,33 +1,26 @@
-use Rattle.std.proofs.Common.{Bool, Some, refl, sym, subst, rules, arith}
-use Rattle.std.proofs.lemmas.List.{length-set}
-use Rattle.disk_model.specs.Files.{MayPublish}
-use Rattle.disk_model.specs.Vault.{VaultCall, VaultDone, is_sealed, draft_of, staged_of}
+use Rattle.std.proofs.Common.{Bool, true, false, not, ℕ, List, [], ◌++◌, length, take, is_err, Some, None, Ok, Err, refl, sym, ◌∙◌, ap, subst, arith, rules}
 use Rattle.disk_model.specs.Vault as vault
-use Rattle.disk_memory.specs.Calls.{vault_call}
-use Rattle.disk_memory.specs.declared.calls.VaultEntry.TheVariants.{Publish}
-use Rattle.disk_memory.specs.Vault.{VaultState, vault_state, vault_view}
-use Rattle.disk_memory.proofs.PastLemmas.{grows_done}
-use Rattle.disk_memory.proofs.VaultLemmas.{changes_by, publishes_not}
+use Rattle.disk_memory.specs.Schedule.{plan_of}
+use Rattle.disk_memory.specs.Store.{held}
+use Rattle.disk_memory.proofs.ScheduleLemmas.{obeys_exactly}
+use Rattle.disk_memory.proofs.VaultLemmas.{copy_below, is_call, err_of, counts_from, on_ok, on_err, publish_changes, publish_gone, published_holds}
 use Rattle.disk_memory.proofs.vault.MemVaultVault.publish.Goals as goal
 
-pub returns-then-not-begin-clause-changes : goal.returns-then-not-begin-clause-changes
-returns-then-not-begin-clause-changes c =
-    let v = c.args.self.now in
-    let sealed = is_sealed (draft_of (vault_view v) c.args.copy) in
-    let bytes = staged_of (vault_view v) c.args.copy in
-    changes_by _ (vault_state v) (vault_state c.lose_draft.new.self)
-    (subst (λ (s : VaultState). MayPublish c.args.copy sealed bytes (vault_state v).files s.files) (sym c.lose_draft.ensures.lost) (publishes_not (vault_state v).files c.args.copy sealed bytes))
-
-abbrev done : VaultCall → Bool → VaultDone
-done call failed = record { call = call; failed = failed }
-
 pub returns-clause-call : goal.returns-clause-call
-returns-clause-call c =
-    let grows = grows_done vault_call done (Some (Publish c.args.copy)) (vault.Publish c.args.copy) c.args.self.now.past c.begin.new.past c.succeed.new.self c.begin.ensures.noted c.begin.ensures.refused c.succeed.ensures refl in
-    record {
-      goes_on = record { later = omega arith; levels = refl; copies = length-set c.args.self.now.drafts.items c.args.copy _; tells = refl; calls = grows };
-      cause = search rules;
-      unfailed = search rules;
-      once = search rules;
-      remembers = search rules;
-    }
+returns-clause-call c = is_call c.args.self.now.schedule.faults c.answer.new.self.faults c.args.self.now.recorded c.publish-done.new.self (vault.Publish c.args.copy) (not c.publish-done.result) c.publish-done.ensures.goes c.answer.result (err_of c.publish-done.result c.answer.result c.answer.ensures.result) (counts_from c.publish-done.result c.args.self.now.schedule.faults c.next_call-fails.new.self.faults c.answer.new.self.faults c.next_call-fails.ensures.faults c.answer.ensures.later c.answer.ensures.done c.answer.ensures.cause)
+
+pub returns-clause-scheduled : goal.returns-clause-scheduled
+returns-clause-scheduled c =
+    obeys_exactly c.next_call-fails.result c.publish-done.result (is_err c.answer.result) (plan_of c.args.self.now.schedule) (plan_of c.next_call-fails.new.self) (plan_of c.answer.new.self) c.args.self.now.recorded.past.lost c.publish-done.new.self.past.lost (err_of c.publish-done.result c.answer.result c.answer.ensures.result) c.next_call-fails.ensures.plan c.answer.ensures.plan c.next_call-fails.ensures.due c.publish-done.ensures.answer.may_answer.refused c.publish-done.ensures.answer.may_answer.lost c.publish-done.ensures.answer.only
+
+pub returns-clause-changes : goal.returns-clause-changes
+returns-clause-changes c = publish_changes c.args.self.now.schedule.faults c.answer.new.self.faults c.args.self.now.recorded c.publish-done.new.self (not c.publish-done.result) c.args.copy c.publish-done.ensures.goes (copy_below c.args.self.now.recorded.store c.args.copy c.requires.copy)
+
+pub returns-clause-gone : goal.returns-clause-gone
+returns-clause-gone c = publish_gone c.args.self.now.schedule.faults c.answer.new.self.faults c.args.self.now.recorded c.publish-done.new.self (not c.publish-done.result) c.args.copy c.publish-done.ensures.goes
+
+pub returns-clause-published : goal.returns-clause-published
+returns-clause-published c = on_ok c.answer.result (not c.publish-done.result) _ (err_of c.publish-done.result c.answer.result c.answer.ensures.result) (λ went sealed. published_holds c.args.self.now.schedule.faults c.answer.new.self.faults c.args.self.now.recorded c.publish-done.new.self (not c.publish-done.result) c.args.copy c.publish-done.ensures.goes (copy_below c.args.self.now.recorded.store c.args.copy c.requires.copy) went sealed)
+
+pub publish-done-requires : goal.publish-done-requires
+publish-done-requires c = copy_below c.args.self.now.recorded.store c.args.copy c.requires.copy

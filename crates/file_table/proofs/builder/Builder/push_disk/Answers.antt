@@ -1,5 +1,5 @@
 use Rattle.std.proofs.Common.{◌≡◌, ◌∙◌, ℕ, [], subst, ap, arith, refl}
-use Rattle.file_table.specs.Valid.{IsName}
+use Rattle.disk_model.specs.Name.{IsName}
 use Rattle.file_table.specs.Builder.{building_of}
 use Rattle.file_table.specs.Building.{BuildingValue, IsNewName}
 use Rattle.file_table.specs.Counted.{IsCounted}

@@ -1,6 +1,6 @@
 use Rattle.std.proofs.Common.{Some, None, rules, arith, subst}
 use Rattle.std.proofs.lemmas.Str.Pattern.{split_parts}
-use Rattle.file_table.specs.Valid.{IsName}
+use Rattle.disk_model.specs.Name.{IsName}
 use Rattle.snap_top.specs.FirstForm.{IsFileName}
 use Rattle.snap_top.proofs.LineLemmas.{data_is_line, lines_unique, lacking_is_not_cut, argument_parts}
 use Rattle.snap_top.proofs.first_form.line.data_line.Goals as goal

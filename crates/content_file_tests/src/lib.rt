@@ -1,0 +1,6 @@
+//! Tests of `content_file`: whole files, damaged ones, and copies of them.
+//! They stand in a crate of their own, since a crate's tests prove the crate once more.
+#![tactic(auto)]
+
+#[cfg(test)]
+mod tests;

@@ -1,0 +1,196 @@
+// A data folder of the system.
+ghost use Rattle.std.specs.Prelude.{◌≡◌, ◌≤◌, length, IfOk, IfSome};
+ghost use Rattle.disk_model.specs.Stamp.{IsStamp};
+ghost use Rattle.disk_model.specs.Folder.{quiet_folder, quiet_folder-is_folder};
+
+use crate::changing::{make_file, rename_file};
+use crate::faults::{counted, counted_file, counted_listing};
+use crate::files::{read_front, write_whole};
+use crate::kept::{Access, KeptFile, close_unless_seen, kept_open};
+use crate::listing::listing;
+use crate::places::{meta_of, place_of};
+use crate::stamps::{keeps_stamps, set_stamp_of};
+use disk_model::{Failed, FileFault, FileInfo, Folder, ListFault, Meta, Path, Stamp, Text};
+use std::alloc::Global;
+use std::fs::OpenFile;
+use std::io;
+use std::os::unix::fs::FileExt;
+use std::rt::Files;
+
+/// The folder of the system that is named by a DIR. One of its files is kept open to be read, and one to be written.
+#[derive(Drop)]
+pub struct DiskFolder<R: Files> {
+    rt: R,
+    dir: Text,
+    keeps_stamps: bool,
+    read: Option<KeptFile<R::File>>,
+    written: Option<KeptFile<R::File>>,
+    faults: u64,
+}
+
+impl<R: Files> DiskFolder<R> {
+    /// Looks at the folder alone, for whether stamps are kept there to the nanosecond. Where its own times leave that open,
+    /// a time is tried on it and set back.
+    pub fn new(rt: R, dir: Text) -> DiskFolder<R>
+        ensures { result.faults ≡ 0 }
+    {
+        let keeps_stamps = keeps_stamps(&rt, dir.as_str());
+        DiskFolder {
+            rt,
+            dir,
+            keeps_stamps,
+            read: None,
+            written: None,
+            faults: 0,
+        }
+    }
+}
+
+impl<R: Files + AllocGlobal> DiskFolder<R>
+where
+    R::File: FileExt,
+{
+    // Looks at a file. One that was kept open is closed where there is another in its place now, or none.
+    fn look_anew(&mut self, path: &Path, lost: bool) -> io::Result<Option<Meta>>
+        ensures faults { self.new.faults ≡ self.old.faults }
+        ensures keeps { self.new.keeps_stamps ≡ self.old.keeps_stamps }
+        ensures stamp { IfOk result (λ found. IfSome found (λ meta. IsStamp meta.stamp)) }
+    {
+        let found = place_of(&self.rt, self.dir.as_str(), path, lost);
+        close_unless_seen(&mut self.read, path, lost, &found);
+        close_unless_seen(&mut self.written, path, lost, &found);
+        match found? {
+            Some(place) => Ok(Some(meta_of(&place.seen)?)),
+            None => Ok(None),
+        }
+    }
+
+    fn read_kept(
+        &mut self,
+        path: &Path,
+        lost: bool,
+        at: u64,
+        out: &mut [u8],
+    ) -> io::Result<Option<usize>>
+        ensures faults { self.new.faults ≡ self.old.faults }
+        ensures keeps { self.new.keeps_stamps ≡ self.old.keeps_stamps }
+        ensures bound { IfOk result (λ found. IfSome found (λ n. n ≤ length out.new)) }
+    {
+        let access = Access::Read { lost };
+        match kept_open(&mut self.read, &self.rt, self.dir.as_str(), path, access)? {
+            Some(file) => Ok(Some(read_front(file, at, out)?)),
+            None => Ok(None),
+        }
+    }
+
+    fn write_kept(&mut self, path: &Path, at: u64, bytes: &[u8]) -> io::Result<Option<()>>
+        ensures faults { self.new.faults ≡ self.old.faults }
+        ensures keeps { self.new.keeps_stamps ≡ self.old.keeps_stamps }
+    {
+        let dir = self.dir.as_str();
+        match kept_open(&mut self.written, &self.rt, dir, path, Access::Write)? {
+            Some(file) => Ok(Some(write_whole(file, at, bytes)?)),
+            None => Ok(None),
+        }
+    }
+
+    fn resize_kept(&mut self, path: &Path, size: u64) -> io::Result<Option<()>>
+        ensures faults { self.new.faults ≡ self.old.faults }
+        ensures keeps { self.new.keeps_stamps ≡ self.old.keeps_stamps }
+    {
+        let dir = self.dir.as_str();
+        match kept_open(&mut self.written, &self.rt, dir, path, Access::Write)? {
+            Some(file) => Ok(Some(file.set_len(size)?)),
+            None => Ok(None),
+        }
+    }
+
+    // Where stamps are not kept the file is looked at alone.
+    fn stamp_kept(&mut self, path: &Path, stamp: Stamp) -> io::Result<Option<bool>>
+        ensures faults { self.new.faults ≡ self.old.faults }
+        ensures keeps { self.new.keeps_stamps ≡ self.old.keeps_stamps }
+        ensures kept { IfOk result (λ found. IfSome found (λ kept. kept ≡ self.old.keeps_stamps)) }
+    {
+        let dir = self.dir.as_str();
+        if !self.keeps_stamps {
+            let found = place_of(&self.rt, dir, path, false)?;
+            return Ok(found.map(|_| false));
+        }
+        match kept_open(&mut self.written, &self.rt, dir, path, Access::Write)? {
+            Some(file) => {
+                set_stamp_of(file, stamp)?;
+                Ok(Some(true))
+            }
+            None => Ok(None),
+        }
+    }
+
+    // What is kept open is closed, since its name is another now, or another file has it.
+    fn rename_closed(&mut self, path: &Path, lost: bool) -> io::Result<Option<()>>
+        ensures faults { self.new.faults ≡ self.old.faults }
+        ensures keeps { self.new.keeps_stamps ≡ self.old.keeps_stamps }
+    {
+        self.read = None;
+        self.written = None;
+        rename_file(&self.rt, self.dir.as_str(), path, lost)
+    }
+}
+
+impl<R: Files + AllocGlobal + Clone + Drop + Send> Folder for DiskFolder<R>
+where
+    R::File: FileExt + Send,
+{
+    ghost view = { λ s. quiet_folder s.faults s.keeps_stamps };
+
+    ghost well_formed = { λ s. quiet_folder-is_folder s.faults s.keeps_stamps };
+
+    fn faults(&self) -> u64 {
+        self.faults
+    }
+
+    fn list(&mut self, alloc: Global) -> Result<Vec<FileInfo>, ListFault> {
+        let answer = listing(&self.rt, alloc, self.dir.as_str());
+        counted_listing(&mut self.faults, answer)
+    }
+
+    fn look(&mut self, path: &Path, lost: bool) -> Result<Meta, FileFault> {
+        let answer = self.look_anew(path, lost);
+        counted_file(&mut self.faults, answer)
+    }
+
+    fn read_at(
+        &mut self,
+        path: &Path,
+        lost: bool,
+        at: u64,
+        out: &mut [u8],
+    ) -> Result<usize, FileFault> {
+        let answer = self.read_kept(path, lost, at, out);
+        counted_file(&mut self.faults, answer)
+    }
+
+    fn make(&mut self, path: &Path) -> Result<(), Failed> {
+        let answer = make_file(&self.rt, self.dir.as_str(), path);
+        counted(&mut self.faults, answer)
+    }
+
+    fn write_at(&mut self, path: &Path, at: u64, bytes: &[u8]) -> Result<(), FileFault> {
+        let answer = self.write_kept(path, at, bytes);
+        counted_file(&mut self.faults, answer)
+    }
+
+    fn set_size(&mut self, path: &Path, size: u64) -> Result<(), FileFault> {
+        let answer = self.resize_kept(path, size);
+        counted_file(&mut self.faults, answer)
+    }
+
+    fn set_stamp(&mut self, path: &Path, stamp: Stamp) -> Result<bool, FileFault> {
+        let answer = self.stamp_kept(path, stamp);
+        counted_file(&mut self.faults, answer)
+    }
+
+    fn rename(&mut self, path: &Path, lost: bool) -> Result<(), FileFault> {
+        let answer = self.rename_closed(path, lost);
+        counted_file(&mut self.faults, answer)
+    }
+}

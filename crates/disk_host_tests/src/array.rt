@@ -1,0 +1,83 @@
+// What is opened in a scene, and the steps of its parts.
+use crate::answer::{Answer, is_done};
+use crate::folder::folder_step;
+use crate::outside::{config_step, opener_faults};
+use crate::system::{Host, Plan};
+use crate::vault::{copy_step, level_step, vault_faults};
+use crate::words::place_of;
+use disk_host::{DiskFolder, DiskOpener, DiskVault};
+use disk_model::{Opened, Opener, Places};
+use std::alloc::Global;
+
+#[derive(Drop)]
+pub struct Array {
+    system: Host,
+    opener: DiskOpener<Host>,
+    folders: Vec<DiskFolder<Host>>,
+    vault: DiskVault<Host>,
+}
+
+/// A part of it, by the first word of a step.
+#[derive(Clone, Copy)]
+pub enum Part {
+    Folder,
+    Level,
+    Copy,
+    Config,
+    OpenerFaults,
+    VaultFaults,
+    /// How many calls the system took that change something.
+    Calls,
+    /// Whether the last of these calls is the one that was to fail.
+    Stopped,
+}
+
+/// The part that a first word names.
+pub fn part_of(verb: &str) -> Option<Part> {
+    match verb {
+        "folder" => Some(Part::Folder),
+        "level" => Some(Part::Level),
+        "copy" => Some(Part::Copy),
+        "config" => Some(Part::Config),
+        "opener-faults" => Some(Part::OpenerFaults),
+        "vault-faults" => Some(Part::VaultFaults),
+        "calls" => Some(Part::Calls),
+        "stopped" => Some(Part::Stopped),
+        _ => None,
+    }
+}
+
+impl Array {
+    pub fn open(rt: HostRuntime, plan: Plan, places: &Places) -> Option<Array> {
+        let system = Host::new(rt, plan).ok()?;
+        let mut opener = DiskOpener::new(system.clone().ok()?);
+        let Opened { folders, vault } = opener.open(rt.alloc(), places).ok()?;
+        Some(Array {
+            system,
+            opener,
+            folders,
+            vault,
+        })
+    }
+
+    pub fn play(&mut self, alloc: Global, part: Part, step: &str) -> Option<Answer> {
+        match part {
+            Part::Folder => column_step(alloc, &mut self.folders, step),
+            Part::Level => level_step(alloc, &mut self.vault, step),
+            Part::Copy => copy_step(alloc, &mut self.vault, step),
+            Part::Config => Some(config_step(alloc, &mut self.opener, step)),
+            Part::OpenerFaults => Some(opener_faults(&self.opener)),
+            Part::VaultFaults => Some(vault_faults(&self.vault)),
+            Part::Calls => Some(Answer::Number(self.system.made() as u64)),
+            Part::Stopped => Some(is_done(self.system.is_stopped())),
+        }
+    }
+}
+
+fn column_step(alloc: Global, folders: &mut [DiskFolder<Host>], step: &str) -> Option<Answer> {
+    let (column, rest) = place_of(step)?;
+    match folders.get_mut(column as usize) {
+        Some(folder) => folder_step(alloc, folder, rest),
+        None => Some(Answer::Missing),
+    }
+}

@@ -1,0 +1,93 @@
+-- How the writing calls of a folder in memory change its tree.
+use Rattle.std.proofs.Common.{◌≡◌, ◌≢◌, inl, inr, ℕ, ◌≤◌, List, [], ◌∷◌, length, get_or, arith, Bool, true, false, not, is_some, IsTrue, if◌then◌else◌, Option, None, Some, Result, Ok, Err, refl, sym, ◌∙◌, ap, subst}
+use Rattle.std.proofs.lemmas.List.{get_or_past}
+use Rattle.std.specs.Option.{option_map}
+use Rattle.std.specs.FinMap as map
+use Rattle.disk_model.specs.Bytes.{put, resized}
+use Rattle.disk_model.specs.Cause.{Rose, Grows}
+use Rattle.disk_model.specs.Tree.{Tree, File, file_of}
+use Rattle.disk_model.specs.Folder.{FolderView, FolderCall, FolderDone, file_failed}
+use Rattle.disk_model.specs.Writing.{Does, MayDo, IsFolderWrite, ChangesFile, Writes, WritesPart, Resizes, Stamps}
+use Rattle.disk_model.specs.declared.meta.Stamp.{Stamp}
+use Rattle.disk_model.specs.declared.fault.FileFault.{FileFault}
+use Rattle.disk_model.specs.declared.fault.FileFault.TheVariants.{Missing}
+use Rattle.disk_memory.specs.Calls.{folder_calls}
+use Rattle.disk_memory.specs.Files.{tree_of, changed, set_found, with_bytes, with_stamp}
+use Rattle.disk_memory.specs.Folder.{folder_view}
+use Rattle.disk_memory.specs.declared.calls.FolderEntry.{FolderEntry}
+use Rattle.disk_memory.specs.declared.folder.MemFolder.{MemFolder}
+use Rattle.disk_memory.specs.declared.past.Past.{Past}
+use Rattle.disk_memory.proofs.BytesLemmas.{torn_not}
+use Rattle.disk_memory.proofs.TreeLemmas.{set_same}
+
+-- the folder after a call
+abbrev pub view_after : MemFolder → ℕ → Past FolderEntry → Tree → FolderView
+view_after f faults now tree = record {
+  faults = faults;
+  keeps_stamps = f.keeps_stamps;
+  closed = false;
+  tells = true;
+  tree = tree;
+  tells_calls = not now.lost;
+  calls = folder_calls now.made.items;
+}
+
+abbrev pub done : FolderCall → Bool → FolderDone
+done call failed = record { call = call; failed = failed }
+
+module _ (f : MemFolder) (faults : ℕ) (now : Past FolderEntry) (tree : Tree) (call : FolderCall) where
+  pub wrote : faults ≡ f.schedule.faults → Grows (not f.past.lost) (folder_calls f.past.made.items) (not now.lost) (folder_calls now.made.items) (done call false ∷ [])
+      → Does f.keeps_stamps call (tree_of f.files.list.items) tree → IsFolderWrite call false (folder_view f) (view_after f faults now tree)
+  wrote same grows does = record {
+    called = record { goes_on = record { later = subst (λ n. f.schedule.faults ≤ n) (sym same) (omega arith); keeps_stamps = refl; closed = refl; tells = refl; calls = grows }; cause = λ (no : false ≡ true). absurd (cc) };
+    does = λ unfailed told. does;
+    may = λ (no : false ≡ true). absurd (cc);
+  }
+
+  pub failed : f.schedule.faults ≤ faults → Rose f.schedule.faults faults → Grows (not f.past.lost) (folder_calls f.past.made.items) (not now.lost) (folder_calls now.made.items) (done call true ∷ [])
+      → MayDo f.keeps_stamps call (tree_of f.files.list.items) tree → IsFolderWrite call true (folder_view f) (view_after f faults now tree)
+  failed later rose grows may = record {
+    called = record { goes_on = record { later = later; keeps_stamps = refl; closed = refl; tells = refl; calls = grows }; cause = λ failed. rose };
+    does = λ (no : true ≡ false). absurd (cc);
+    may = λ failed told. may;
+  }
+
+abbrev answer_of : Bool → Result (Unit {0}) FileFault
+answer_of there = if there then Ok tt else Err Missing
+
+-- a call that did its work where the file was there
+pub wrote_found : (there : Bool) (result : Result (Unit {0}) FileFault) → result ≡ answer_of there → (f : MemFolder) (faults : ℕ) (now : Past FolderEntry) (tree : Tree) (call : FolderCall)
+    → faults ≡ f.schedule.faults → Grows (not f.past.lost) (folder_calls f.past.made.items) (not now.lost) (folder_calls now.made.items) (done call false ∷ [])
+    → Does f.keeps_stamps call (tree_of f.files.list.items) tree → IsFolderWrite call (file_failed result) (folder_view f) (view_after f faults now tree)
+wrote_found there result answer f faults now tree call same grows does =
+    subst (λ b. IsFolderWrite call b (folder_view f) (view_after f faults now tree)) (sym (unfailed there) ∙ ap (λ (r : Result (Unit {0}) FileFault). file_failed r) (sym answer)) (wrote f faults now tree call same grows does)
+  where
+    unfailed : (there : Bool) → file_failed (answer_of there) ≡ false
+    unfailed true = refl
+    unfailed false = refl
+
+-- a change of one file
+pub changes_file : (step : File → File) (R : File → File → Type 0) (path : List ℕ) (old new : Tree) → ((file : File) → R file (step file)) → new ≡ changed step path old → ChangesFile path R old new
+changes_file step R path old new follows is = record {
+  none = λ none. is ∙ ap (λ (o : Option File). set_found (option_map step o) path old) none;
+  some = λ before found. (step before, follows before, is ∙ ap (λ (o : Option File). set_found (option_map step o) path old) found);
+}
+
+pub writes : (path : List ℕ) (at : ℕ) (bytes : List ℕ) (old new : Tree) → new ≡ changed (with_bytes (λ (before : List ℕ). put before at bytes)) path old → ChangesFile path (Writes at bytes) old new
+writes path at bytes old new is = changes_file (with_bytes (λ (before : List ℕ). put before at bytes)) (Writes at bytes) path old new (λ file. refl) is
+
+pub resizes : (path : List ℕ) (size : ℕ) (old new : Tree) → new ≡ changed (with_bytes (λ (before : List ℕ). resized before size)) path old → ChangesFile path (Resizes size) old new
+resizes path size old new is = changes_file (with_bytes (λ (before : List ℕ). resized before size)) (Resizes size) path old new (λ file. refl) is
+
+pub stamps : (keeps : Bool) (path : List ℕ) (stamp : Stamp) (old new : Tree) → new ≡ changed (with_stamp keeps stamp) path old → ChangesFile path (Stamps keeps stamp) old new
+stamps keeps path stamp old new is = changes_file (with_stamp keeps stamp) (Stamps keeps stamp) path old new (λ file. refl) is
+
+-- a write of which nothing was done
+pub writes_nothing : (path : List ℕ) (at n : ℕ) (old new : Tree) → new ≡ old → ChangesFile path (WritesPart at n) old new
+writes_nothing path at n old new is = record {
+  none = λ none. is;
+  some = λ before found. (before, record { torn = torn_not before.bytes at n; zeros = λ i past under. zero_past before.bytes i past }, is ∙ set_same old path before found);
+}
+  where
+    zero_past : (bytes : List ℕ) (i : ℕ) → length bytes ≤ i → get_or bytes i 0 ≡ 0
+    zero_past bytes i past = get_or_past bytes i 0 past

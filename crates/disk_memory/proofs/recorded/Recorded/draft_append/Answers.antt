@@ -1,0 +1,35 @@
+use Rattle.std.proofs.Common.{Some, None, ℕ, not, refl, sym, ◌∙◌, ap, subst, arith, rules}
+use Rattle.disk_model.specs.Vault as vault
+use Rattle.disk_memory.specs.Calls.{vault_call}
+use Rattle.disk_memory.specs.Store.{held}
+use Rattle.disk_memory.specs.declared.calls.VaultEntry.TheVariants as entries
+use Rattle.disk_memory.proofs.BytesLemmas.{slice_bytes}
+use Rattle.disk_memory.proofs.RecordedLemmas.{IsWritten, written_grows, written_kept, recorded_on, quiet_held, quiet_gives}
+use Rattle.disk_memory.proofs.recorded.Recorded.draft_append.Goals as goal
+
+pub invariant_of-self : goal.invariant_of-self
+invariant_of-self c =
+    let r = c.args.self.now in
+    let entry = c.append_entry-entry.result in
+    let call = vault.DraftAppend c.args.copy c.args.bytes.now in
+    let written : IsWritten entry c.append_draft-done.result r.past c.admit-may.new.self c.end.new.self = record { noted = c.admit-may.ensures.noted; refused = c.admit-may.ensures.refused; ok = c.end.ensures.done; failed = c.end.ensures.failed } in
+    let grows = written_grows entry call c.append_draft-done.result r.past c.admit-may.new.self c.end.new.self written c.append_entry-entry.ensures in
+    record {
+      same_levels = (c.append_draft-done.ensures.same.levels ∙ r.same_levels);
+      same_copies = (c.append_draft-done.ensures.same.copies ∙ r.same_copies);
+      recorded = recorded_on call (not c.append_draft-done.result) r.base (held r.opened) (held r.store) (held c.append_draft-done.new.store) r.past c.end.new.self grows (written_kept entry c.append_draft-done.result r.past c.admit-may.new.self c.end.new.self written) (slice_bytes c.args.bytes.now (λ i. omega (arith, c.type_inv.bytes i))) r.recorded c.append_draft-done.ensures.now;
+    }
+
+pub returns-clause-goes : goal.returns-clause-goes
+returns-clause-goes c =
+    let r = c.args.self.now in
+    let entry = c.append_entry-entry.result in
+    let call = vault.DraftAppend c.args.copy c.args.bytes.now in
+    let written : IsWritten entry c.append_draft-done.result r.past c.admit-may.new.self c.end.new.self = record { noted = c.admit-may.ensures.noted; refused = c.admit-may.ensures.refused; ok = c.end.ensures.done; failed = c.end.ensures.failed } in
+    record {
+      calls = written_grows entry call c.append_draft-done.result r.past c.admit-may.new.self c.end.new.self written c.append_entry-entry.ensures;
+      now = c.append_draft-done.ensures.now;
+      base = refl;
+      opened = refl;
+      same = c.append_draft-done.ensures.same;
+    }

@@ -1,0 +1,35 @@
+use Rattle.std.proofs.Common.{Some, None, ℕ, not, refl, sym, ◌∙◌, ap, subst, arith, rules}
+use Rattle.disk_model.specs.Vault as vault
+use Rattle.disk_memory.specs.Calls.{vault_call}
+use Rattle.disk_memory.specs.Store.{held}
+use Rattle.disk_memory.specs.declared.calls.VaultEntry.TheVariants as entries
+use Rattle.disk_memory.proofs.BytesLemmas.{slice_bytes}
+use Rattle.disk_memory.proofs.RecordedLemmas.{IsWritten, written_grows, written_kept, recorded_on, quiet_held, quiet_gives}
+use Rattle.disk_memory.proofs.recorded.Recorded.parity_write.Goals as goal
+
+pub invariant_of-self : goal.invariant_of-self
+invariant_of-self c =
+    let r = c.args.self.now in
+    let entry = c.write_entry-entry.result in
+    let call = vault.ParityWrite c.args.level c.args.at c.args.bytes.now in
+    let written : IsWritten entry c.write_parity-done.result r.past c.admit-may.new.self c.end.new.self = record { noted = c.admit-may.ensures.noted; refused = c.admit-may.ensures.refused; ok = c.end.ensures.done; failed = c.end.ensures.failed } in
+    let grows = written_grows entry call c.write_parity-done.result r.past c.admit-may.new.self c.end.new.self written c.write_entry-entry.ensures in
+    record {
+      same_levels = (c.write_parity-done.ensures.same.levels ∙ r.same_levels);
+      same_copies = (c.write_parity-done.ensures.same.copies ∙ r.same_copies);
+      recorded = recorded_on call (not c.write_parity-done.result) r.base (held r.opened) (held r.store) (held c.write_parity-done.new.store) r.past c.end.new.self grows (written_kept entry c.write_parity-done.result r.past c.admit-may.new.self c.end.new.self written) (slice_bytes c.args.bytes.now (λ i. omega (arith, c.type_inv.bytes i))) r.recorded c.write_parity-done.ensures.now;
+    }
+
+pub returns-clause-goes : goal.returns-clause-goes
+returns-clause-goes c =
+    let r = c.args.self.now in
+    let entry = c.write_entry-entry.result in
+    let call = vault.ParityWrite c.args.level c.args.at c.args.bytes.now in
+    let written : IsWritten entry c.write_parity-done.result r.past c.admit-may.new.self c.end.new.self = record { noted = c.admit-may.ensures.noted; refused = c.admit-may.ensures.refused; ok = c.end.ensures.done; failed = c.end.ensures.failed } in
+    record {
+      calls = written_grows entry call c.write_parity-done.result r.past c.admit-may.new.self c.end.new.self written c.write_entry-entry.ensures;
+      now = c.write_parity-done.ensures.now;
+      base = refl;
+      opened = refl;
+      same = c.write_parity-done.ensures.same;
+    }

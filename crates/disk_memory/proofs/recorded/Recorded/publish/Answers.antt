@@ -1,0 +1,34 @@
+use Rattle.std.proofs.Common.{Some, None, ℕ, not, refl, sym, ◌∙◌, ap, subst, arith, rules}
+use Rattle.disk_model.specs.Vault as vault
+use Rattle.disk_memory.specs.Calls.{vault_call}
+use Rattle.disk_memory.specs.Store.{held}
+use Rattle.disk_memory.specs.declared.calls.VaultEntry.TheVariants as entries
+use Rattle.disk_memory.proofs.RecordedLemmas.{IsWritten, written_grows, written_kept, recorded_on, quiet_held, quiet_gives}
+use Rattle.disk_memory.proofs.recorded.Recorded.publish.Goals as goal
+
+pub invariant_of-self : goal.invariant_of-self
+invariant_of-self c =
+    let r = c.args.self.now in
+    let entry = Some (entries.Publish c.args.copy) in
+    let call = vault.Publish c.args.copy in
+    let written : IsWritten entry c.admit-done.result r.past c.admit-done.new.self c.end.new.self = record { noted = c.admit-done.ensures.noted; refused = c.admit-done.ensures.refused; ok = c.end.ensures.done; failed = c.end.ensures.failed } in
+    let grows = written_grows entry call c.admit-done.result r.past c.admit-done.new.self c.end.new.self written refl in
+    record {
+      same_levels = (c.publish_draft.ensures.same.levels ∙ r.same_levels);
+      same_copies = (c.publish_draft.ensures.same.copies ∙ r.same_copies);
+      recorded = recorded_on call (not c.admit-done.result) r.base (held r.opened) (held r.store) (held c.publish_draft.new.store) r.past c.end.new.self grows (written_kept entry c.admit-done.result r.past c.admit-done.new.self c.end.new.self written) tt r.recorded c.publish_draft.ensures.now;
+    }
+
+pub returns-clause-goes : goal.returns-clause-goes
+returns-clause-goes c =
+    let r = c.args.self.now in
+    let entry = Some (entries.Publish c.args.copy) in
+    let call = vault.Publish c.args.copy in
+    let written : IsWritten entry c.admit-done.result r.past c.admit-done.new.self c.end.new.self = record { noted = c.admit-done.ensures.noted; refused = c.admit-done.ensures.refused; ok = c.end.ensures.done; failed = c.end.ensures.failed } in
+    record {
+      calls = written_grows entry call c.admit-done.result r.past c.admit-done.new.self c.end.new.self written refl;
+      now = c.publish_draft.ensures.now;
+      base = refl;
+      opened = refl;
+      same = c.publish_draft.ensures.same;
+    }

@@ -1,0 +1,6 @@
+// What no clause says: the worked rows, printed words, and that calls succeed where memory is ample.
+mod config;
+mod filter;
+mod patterns;
+mod usual;
+mod words;

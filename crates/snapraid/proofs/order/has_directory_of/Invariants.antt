@@ -1,7 +1,0 @@
-use Rattle.std.proofs.Common.{◌≡◌, ℕ, ◌<◌, get_or, take}
-use Rattle.snapraid.specs.Listing.{HasPath}
-use Rattle.snapraid.proofs.order.has_directory_of.Given as goal
-
--- no file has a directory of the path that ends before this place
-abbrev pub invariant-loop-end : goal.invariant-loop-end
-invariant-loop-end l = (k : ℕ) → k < l.end → get_or l.path k 0 ≡ 47 → ¬ (HasPath l.files (take k l.path))

@@ -1,9 +1,0 @@
-use Rattle.snapraid.specs.Drafts.{state_of}
-use Rattle.snapraid.proofs.QuietLemmas.{draft_is, ok_too, err_too}
-use Rattle.snapraid.proofs.vault.DiskVaultVault.draft_begin.Goals as goal
-
-pub returns-clause-begun : goal.returns-clause-begun
-returns-clause-begun g c = ok_too _ _ c.counted.ensures.same (draft_is (λ content. state_of content.draft.stage) c.args.self.now.contents.items c.args.copy _ _ _ _ _ _) c.begin-answer.ensures.ok
-
-pub returns-clause-gone : goal.returns-clause-gone
-returns-clause-gone g c = err_too _ _ c.counted.ensures.same (draft_is (λ content. state_of content.draft.stage) c.args.self.now.contents.items c.args.copy _ _ _ _ _ _) c.begin-answer.ensures.err

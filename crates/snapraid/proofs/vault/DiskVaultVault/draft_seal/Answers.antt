@@ -1,9 +1,0 @@
-use Rattle.snapraid.specs.Drafts.{state_of}
-use Rattle.snapraid.proofs.QuietLemmas.{draft_is, ok_too, err_too}
-use Rattle.snapraid.proofs.vault.DiskVaultVault.draft_seal.Goals as goal
-
-pub returns-clause-sealed : goal.returns-clause-sealed
-returns-clause-sealed g c = ok_too _ _ c.counted.ensures.same (draft_is (λ content. state_of content.draft.stage) c.args.self.now.contents.items c.args.copy _ _ _ _ _ _) c.seal-answer.ensures.ok
-
-pub returns-clause-gone : goal.returns-clause-gone
-returns-clause-gone g c = err_too _ _ c.counted.ensures.same (draft_is (λ content. state_of content.draft.stage) c.args.self.now.contents.items c.args.copy _ _ _ _ _ _) c.seal-answer.ensures.err
