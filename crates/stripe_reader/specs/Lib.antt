@@ -1,0 +1,11 @@
+pub mod Starts
+pub mod Reading
+pub mod FolderCalls
+pub mod SlotValue
+pub mod Slot
+pub mod Column
+pub mod WindowValue
+pub mod KeptWindow
+pub mod Columns
+pub mod Run
+pub mod Came

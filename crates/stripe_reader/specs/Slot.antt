@@ -1,0 +1,32 @@
+-- What a slot keeps of a reading.
+use Rattle.std.specs.Prelude.{ℕ, List, length, replicate, Option, None, Some}
+use Rattle.block_hash.specs.Hash.{hash}
+use Rattle.disk_model.specs.Bytes.{resized}
+use Rattle.disk_model.specs.declared.meta.Meta.{Meta}
+use Rattle.file_table.specs.declared.shape.Shape.{Shape}
+use Rattle.stripe_reader.specs.declared.slot.Found.{Found}
+use Rattle.stripe_reader.specs.declared.slot.Found.TheVariants as found
+use Rattle.stripe_reader.specs.Reading.{CellReading, NoBlock, Nowhere, Beyond, Unread, Gone, Part, Whole}
+use Rattle.stripe_reader.specs.SlotValue.{SlotValue}
+
+-- a slot without the whole block: its block is all zeros
+abbrev pub slot_without : ℕ → Found → ℕ → Option Meta → SlotValue
+slot_without block_size what got seen = record { cell = record { found = what; got = got; seen = seen }; digest = None; block = replicate block_size 0 }
+
+-- a slot with the whole block: padded with zeros, and with the digest of its bytes at its real length
+abbrev pub slot_with : Shape → Meta → List ℕ → SlotValue
+slot_with shape seen bytes = record {
+  cell = record { found = found.Bytes; got = length bytes; seen = Some seen };
+  digest = Some (record { 0 = hash shape.kind shape.seed bytes });
+  block = resized bytes shape.block_size;
+}
+
+-- what a slot keeps
+abbrev pub kept : Shape → CellReading → SlotValue
+kept shape NoBlock = slot_without shape.block_size found.Empty 0 None
+kept shape Nowhere = slot_without shape.block_size found.Missing 0 None
+kept shape Beyond = slot_without shape.block_size found.Short 0 None
+kept shape Unread = slot_without shape.block_size found.Unread 0 None
+kept shape (Gone seen) = slot_without shape.block_size found.Missing 0 seen
+kept shape (Part seen got) = slot_without shape.block_size found.Short got (Some seen)
+kept shape (Whole seen bytes) = slot_with shape seen bytes

@@ -1,0 +1,177 @@
+// One column, read by one reader.
+ghost use Rattle.std.specs.Prelude.{◌≡◌, ◌<◌, ◌≤◌, All, length, take};
+ghost use Rattle.file_table.specs.Table.{column_at};
+ghost use Rattle.stripe_reader.specs.Came.{reading_of, HasCome};
+ghost use Rattle.stripe_reader.specs.Column.{ReadsCell, ReadsSlot, ReadsColumn};
+ghost use Rattle.stripe_reader.specs.Reading.{Fetch, block_length as block_length_of, block_task, task_at, tasks_at};
+ghost use Rattle.stripe_reader.specs.Slot.{kept};
+ghost use Rattle.stripe_reader.specs.Starts.{StartsFit, starts_at};
+ghost use Rattle.stripe_reader.specs.WindowValue.{HasBlocks};
+
+use crate::slot::{Found, Slot};
+use crate::starts::{Place, Starts};
+use disk_model::{FileFault, Folder, Meta, Path};
+use file_table::{Cell, Shape, Table};
+
+/// What came of a block that a folder was asked for; its bytes stand at the front of the buffer.
+#[derive(Clone, Copy, Debug, PartialEq, Eq)]
+pub(crate) enum Came {
+    /// The folder failed.
+    Unread,
+    /// No file was there; it may have been seen before.
+    Gone(Option<Meta>),
+    /// The file that was seen, and how many bytes came.
+    Gave(Meta, u32),
+}
+
+// How many bytes the block of a number has, in a file of a size.
+fn block_length(block_size: u32, size: u64, index: u32) -> u32
+    ensures { result ≡ block_length_of block_size size index }
+{
+    let left = size.saturating_sub(u64::from(index) * u64::from(block_size));
+    left.min(u64::from(block_size)) as u32
+}
+
+// Looks at a file, and reads so many bytes of it into the front of a block.
+fn fetch<F: Folder>(
+    folder: &mut F,
+    path: &Path,
+    lost: bool,
+    at: u64,
+    size: u32,
+    block: &mut [u8],
+) -> Came
+    requires { size ≤ length block.old }
+    ensures read { ReadsCell (Fetch path.now lost at size) (reading_of result size block.new)
+        (F.view folder.old) (F.view folder.new) }
+    ensures came { HasCome result size }
+{
+    let seen = match folder.look(path, lost) {
+        Ok(meta) => meta,
+        Err(FileFault::Missing) => return Came::Gone(None),
+        Err(FileFault::Failed) => return Came::Unread,
+    };
+    match folder.read_at(path, lost, at, &mut block[..size as usize]) {
+        Ok(count) => Came::Gave(seen, count as u32),
+        Err(FileFault::Missing) => Came::Gone(Some(seen)),
+        Err(FileFault::Failed) => Came::Unread,
+    }
+}
+
+// Keeps what came into the block of a slot, of so many bytes that were asked for.
+fn keep(slot: &mut Slot, shape: Shape, size: u32, came: Came)
+    requires block { length slot.old.block ≡ shape.block_size }
+    requires most { shape.block_size ≤ 4194304 }
+    requires size { size ≤ shape.block_size }
+    requires came { HasCome came size }
+    ensures { slot.new ≡ kept shape (reading_of came size slot.old.block) }
+{
+    match came {
+        Came::Unread => slot.keep_none(Found::Unread, 0, None),
+        Came::Gone(seen) => slot.keep_none(Found::Missing, 0, seen),
+        Came::Gave(seen, got) => {
+            if got == size {
+                slot.keep_block(shape, seen, got);
+            } else {
+                slot.keep_none(Found::Short, got, Some(seen));
+            }
+        }
+    }
+}
+
+// Reads so many bytes of a file into a slot.
+fn read_file<F: Folder>(
+    folder: &mut F,
+    path: &Path,
+    lost: bool,
+    at: u64,
+    size: u32,
+    shape: Shape,
+    slot: &mut Slot,
+)
+    requires block { length slot.old.block ≡ shape.block_size }
+    requires most { shape.block_size ≤ 4194304 }
+    requires size { size ≤ shape.block_size }
+    ensures { ReadsSlot shape (Fetch path.now lost at size) slot.new
+        (F.view folder.old) (F.view folder.new) }
+{
+    let came = fetch(folder, path, lost, at, size, &mut slot.block);
+    keep(slot, shape, size, came);
+}
+
+// Reads the block of a cell into a slot. Nothing is asked where no file was at the start, or one that ended too early.
+fn read_block<F: Folder>(
+    folder: &mut F,
+    table: &Table,
+    starts: &Starts,
+    d: u32,
+    cell: Cell,
+    slot: &mut Slot,
+)
+    requires column { d < length table.now.columns }
+    requires rec { cell.rec < length (column_at table.now.columns d).records }
+    requires starts { StartsFit table.now starts.now }
+    requires block { length slot.old.block ≡ table.now.shape.block_size }
+    ensures { ReadsSlot table.now.shape
+        (block_task table.now.shape.block_size (column_at table.now.columns d) (starts_at starts.now.columns d) cell)
+        slot.new (F.view folder.old) (F.view folder.new) }
+{
+    let start = starts.at(d, cell.rec);
+    let lost = match start.place {
+        Place::Nowhere => return slot.keep_none(Found::Missing, 0, None),
+        Place::Plain => false,
+        Place::Lost => true,
+    };
+    let shape = table.shape();
+    let size = block_length(shape.block_size, table.meta(d, cell.rec).size, cell.index);
+    let at = u64::from(cell.index) * u64::from(shape.block_size);
+    if at + u64::from(size) > start.size {
+        return slot.keep_none(Found::Short, 0, None);
+    }
+    read_file(folder, table.path(d, cell.rec), lost, at, size, shape, slot);
+}
+
+// Reads a cell into its slot.
+fn read_slot<F: Folder>(
+    folder: &mut F,
+    table: &Table,
+    starts: &Starts,
+    d: u32,
+    stripe: u32,
+    slot: &mut Slot,
+)
+    requires column { d < length table.now.columns }
+    requires stripe { stripe < length table.now.infos }
+    requires starts { StartsFit table.now starts.now }
+    requires block { length slot.old.block ≡ table.now.shape.block_size }
+    ensures { ReadsSlot table.now.shape (task_at table.now starts.now d stripe) slot.new
+        (F.view folder.old) (F.view folder.new) }
+{
+    match table.cell(stripe, d) {
+        Some(cell) => read_block(folder, table, starts, d, cell, slot),
+        None => slot.keep_none(Found::Empty, 0, None),
+    }
+}
+
+/// Reads the cells of a column at these stripes, in their order, each into its slot.
+pub(crate) fn read_slots<F: Folder>(
+    folder: &mut F,
+    table: &Table,
+    starts: &Starts,
+    d: u32,
+    stripes: &[u32],
+    slots: &mut [Slot],
+)
+    requires column { d < length table.now.columns }
+    requires stripes { All (λ stripe. stripe < length table.now.infos) stripes.now }
+    requires starts { StartsFit table.now starts.now }
+    requires enough { length stripes.now ≤ length slots.old }
+    requires blocks { HasBlocks table.now.shape.block_size slots.old }
+    ensures blocks { HasBlocks table.now.shape.block_size slots.new }
+    ensures read { ReadsColumn table.now.shape (tasks_at table.now starts.now d stripes.now)
+        (take (length stripes.now) slots.new) (F.view folder.old) (F.view folder.new) }
+{
+    for i in 0..stripes.len() {
+        read_slot(folder, table, starts, d, stripes[i], &mut slots[i]);
+    }
+}

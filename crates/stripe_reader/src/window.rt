@@ -1,0 +1,123 @@
+// The room that stripes are read into.
+ghost use Rattle.std.specs.Prelude.{◌≡◌, ◌<◌, ◌↔◌, length, IfOk, IsTrue};
+ghost use Rattle.stripe_reader.specs.WindowValue.{Fits, slot_at, stripe_count as stripe_count_of};
+
+use crate::slot::{CellRead, Lane};
+use block_hash::Digest16;
+use disk_model::NoMemory;
+use file_table::Table;
+use std::alloc::Global;
+use std::marker::Model;
+
+/// The most stripes of a run's window.
+pub const MOST_STRIPES: u32 = 16;
+
+/// The most bytes of a run's window with more than one stripe.
+pub const WINDOW_BYTES: u64 = 67_108_864;
+
+/// How many stripes a run's window has: sixteen, or as many as fit into 64 MiB, and at least one.
+pub fn stripe_count(disks: u32, block_size: u32) -> u32
+    requires disks { 0 < disks }
+    requires block_size { 0 < block_size }
+    ensures value { result ≡ stripe_count_of disks block_size }
+    ensures some { 0 < result }
+{
+    let stripe = u64::from(block_size) * u64::from(disks);
+    (WINDOW_BYTES / stripe).clamp(1, u64::from(MOST_STRIPES)) as u32
+}
+
+/// What was read of some stripes, in buffers that are taken once: a lane for each column.
+#[derive(Drop)]
+pub struct Window {
+    pub(crate) room: u32,
+    block_size: u32,
+    pub(crate) lanes: Vec<Lane>,
+    pub(crate) count: u32,
+}
+
+impl Model for Window {
+    ghost use Rattle.stripe_reader.specs.WindowValue.{WindowValue};
+
+    ghost Value = { WindowValue };
+
+    ghost use Rattle.stripe_reader.specs.KeptWindow.{window_of, IsKept};
+
+    ghost view = { window_of };
+
+    ghost invariant = { IsKept };
+}
+
+impl Window {
+    /// Room for so many columns and stripes, of which none was read.
+    pub fn make(
+        alloc: Global,
+        disks: u32,
+        stripes: u32,
+        block_size: u32,
+    ) -> Result<Window, NoMemory>
+        ensures room { IfOk result (λ window. window.room ≡ stripes) }
+        ensures block_size { IfOk result (λ window. window.block_size ≡ block_size) }
+        ensures lanes { IfOk result (λ window. length window.lanes ≡ disks) }
+        ensures count { IfOk result (λ window. window.count ≡ 0) }
+    {
+        let mut lanes = Vec::with_capacity(alloc, disks as usize)?;
+        for _ in 0..disks {
+            lanes.push(Lane::make(alloc, stripes, block_size)?)?;
+        }
+        Ok(Window {
+            room: stripes,
+            block_size,
+            lanes,
+            count: 0,
+        })
+    }
+
+    /// Whether it has a lane for each column of a table, and slots for its blocks.
+    pub fn fits(&self, table: &Table) -> bool
+        ensures { IsTrue result ↔ Fits table.now self.now }
+    {
+        self.lanes.len() == table.disks() as usize && self.block_size == table.shape().block_size
+    }
+
+    /// How many stripes there is room for.
+    pub fn room(&self) -> u32
+        ensures { result ≡ self.now.room }
+    {
+        self.room
+    }
+
+    /// How many stripes were read last.
+    pub fn count(&self) -> u32
+        ensures { result ≡ self.now.count }
+    {
+        self.count
+    }
+
+    /// What was read of a column at the stripe of this number among those that were read last.
+    pub fn cell(&self, i: u32, d: u32) -> CellRead
+        requires stripe { i < self.now.count }
+        requires column { d < length self.now.lanes }
+        ensures { result ≡ (slot_at self.now i d).cell }
+    {
+        self.lanes[d as usize].at(i as usize).cell
+    }
+
+    /// The block there, padded with zeros: all zeros but where the whole block came.
+    pub fn block(&self, i: u32, d: u32) -> &[u8]
+        requires stripe { i < self.now.count }
+        requires column { d < length self.now.lanes }
+        ensures value { result.now ≡ (slot_at self.now i d).block }
+        ensures size { length result.now ≡ self.now.block_size }
+    {
+        self.lanes[d as usize].at(i as usize).block.as_slice()
+    }
+
+    /// The digest of the block there at its real length; `None` but where the whole block came.
+    pub fn digest(&self, i: u32, d: u32) -> Option<Digest16>
+        requires stripe { i < self.now.count }
+        requires column { d < length self.now.lanes }
+        ensures { result ≡ (slot_at self.now i d).digest }
+    {
+        self.lanes[d as usize].at(i as usize).digest
+    }
+}

@@ -1,0 +1,6 @@
+// Each test reads a window of three stripes.
+mod cases;
+mod faults;
+mod gates;
+mod readers;
+mod scene;
