@@ -1,3 +1,15 @@
+pub mod Answer
+pub mod EndLines
+pub mod EventFits
+pub mod EventLines
 pub mod Fits
+pub mod Kind
 pub mod Lines
+pub mod ListText
+pub mod Pieces
+pub mod Report
+pub mod State
+pub mod StatusText
+pub mod Telling
 pub mod Text
+pub mod Told

@@ -7,17 +7,17 @@ use disk_model::{Meta, Path};
 use itoa::{Buffer, Integer};
 use std::alloc::AllocError;
 
-const ZEROS: &[u8; 9] = b"000000000";
+pub(crate) const ZEROS: &[u8; 9] = b"000000000";
 
 // A hexadecimal digit in lower case.
-fn hex_digit(n: u8) -> u8
+pub(crate) fn hex_digit(n: u8) -> u8
     requires { n < 16 }
     ensures { result ≡ hex_digit_of n }
 {
     if n < 10 { b'0' + n } else { b'a' - 10 + n }
 }
 
-fn is_escaped(byte: u8) -> bool
+pub(crate) fn is_escaped(byte: u8) -> bool
     ensures { result ≡ is_escaped_byte byte }
 {
     byte < 32 || byte == 127 || byte == b'\\'
