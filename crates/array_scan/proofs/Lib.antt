@@ -1,0 +1,11 @@
+pub mod ColumnLemmas
+pub mod FatesLemmas
+pub mod KeptLemmas
+pub mod LawLemmas
+pub mod ListingLemmas
+pub mod LostLemmas
+pub mod PlacingLemmas
+pub mod PushingLemmas
+pub mod RefusalLemmas
+pub mod SortedLemmas
+pub mod TwiceLemmas

@@ -1,0 +1,24 @@
+//! What follows from the definition of the layout. The calls do nothing: their contracts are laws.
+ghost use Rattle.std.specs.Prelude.{◌≡◌, List, Bool, None, length};
+ghost use Rattle.file_table.specs.Table.{TableValue};
+ghost use Rattle.file_table.specs.Valid.{IsValid};
+ghost use Rattle.array_scan.specs.Kept.{ListedFile};
+ghost use Rattle.array_scan.specs.Layout.{all_sorted, layout};
+ghost use Rattle.array_scan.specs.Own.{HoldsJust};
+ghost use Rattle.array_scan.specs.Refusals.{refusal};
+
+/// The layout of a valid table whose records are just the kept files is that table, whatever its hashes and what is
+/// known of its stripes, and it is not refused.
+pub fn a_table_of_the_kept_files_is_laid_out_as_it_is()
+    ensures same { (table : TableValue) (kept : List (List ListedFile)) →
+        IsValid table → HoldsJust table kept → layout table kept ≡ table }
+    ensures unrefused { (force_zero force_empty : Bool) (table : TableValue) (kept : List (List ListedFile)) →
+        IsValid table → HoldsJust table kept →
+        refusal force_zero force_empty table (all_sorted table kept) ≡ None }
+{}
+
+/// The records of a layout are just the kept files. So the layout of a layout of the same files is that layout.
+pub fn a_layout_is_of_the_kept_files()
+    ensures { (table : TableValue) (kept : List (List ListedFile)) →
+        length kept ≡ length table.columns → HoldsJust (layout table kept) kept }
+{}

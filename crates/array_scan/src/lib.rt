@@ -1,0 +1,24 @@
+//! The layout: from the files that are listed and the table of the last sync, the table that a sync works on.
+//!
+//! Start at `lay_out` in `layout.rt` with `specs/Layout.antt`. The kept files of each column are unchanged, changed,
+//! moved or new (`sorting.rt`, `specs/Fates.antt`). Blocks of unchanged and moved files stay where they are, and the
+//! others take the lowest free positions (`placing.rt`, `specs/Laying.antt`). `listings` asks each folder once.
+//! Proved: `lay_out` gives that table, and refuses exactly what `specs/Refusals.antt` says, in that order; `laws.rt`:
+//! the layout of a table whose records are just the kept files is that table.
+//! Not here: what the files hold.
+#![tactic(auto)]
+
+mod building;
+mod fault;
+mod kept;
+pub mod laws;
+mod layout;
+mod listing;
+mod lost;
+mod placing;
+mod refusing;
+mod sorting;
+
+pub use fault::ScanFault;
+pub use layout::{Plan, lay_out};
+pub use listing::{Listing, ListingFault, listings};
