@@ -3,6 +3,7 @@ pub mod Appended
 pub mod Columns
 pub mod Damage
 pub mod Drafts
+pub mod EncodingLemmas
 pub mod Fields
 pub mod Fitting
 pub mod FlawLemmas

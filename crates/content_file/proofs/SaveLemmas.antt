@@ -1,14 +1,16 @@
 -- A copy is replaced by its sealed draft, and copies are saved one after another.
-use Rattle.std.proofs.Common.{◌≡◌, ◌⊎◌, inl, inr, ⊎_elim, ℕ, ◌+◌, ◌<◌, List, [], length, None, Some, true, refl, sym, ◌∙◌, ap, subst, arith, below_more, get_or, set}
+use Rattle.std.proofs.Common.{◌≡◌, ◌⊎◌, inl, inr, ⊎_elim, ℕ, ◌+◌, ◌<◌, List, [], length, None, Some, true, IsTrue, Result, OnOk, refl, sym, ◌∙◌, ap, subst, arith, below_more, get_or, set}
 use Rattle.std.proofs.lemmas.List.{set-get_or, get_or-set_same, get_or-set_other, get_or_past, set_past}
 use Rattle.std.proofs.lemmas.Bool.{cases_eq, cases_lt}
 use Rattle.disk_model.specs.Files.{Files, Stays, MayPublish, content_of}
-use Rattle.disk_model.specs.Vault.{VaultView, SomeCalls, ChangesBy, Holds, DraftIs, staged_of, draft_of, copies_of, is_sealed, IsWellFormed}
+use Rattle.disk_model.specs.Vault.{VaultView, SomeCalls, ChangesBy, Holds, DraftIs, staged_of, draft_of, copies_of, state_of, is_sealed, IsWellFormed}
 use Rattle.disk_model.specs.declared.draft.Draft.TheVariants.{Absent, Sealed}
+use Rattle.disk_model.specs.declared.fault.Failed.{Failed}
 use Rattle.disk_model.proofs.MomentsLemmas.{leaves_more}
-use Rattle.disk_model.proofs.VaultLemmas.{no_calls, calls_then, changes_start, changes_then, changes_more, stays_then, draft_state, draft_bytes}
-use Rattle.content_file.specs.Save.{MaySave, HasSaved, HasNoDraft, copy_calls, save_calls}
-use Rattle.disk_model.specs.Calls.{MakesThese}
+use Rattle.disk_model.proofs.VaultLemmas.{on_ok, no_calls, calls_then, changes_start, changes_then, changes_more, stays_then, draft_state, draft_bytes}
+use Rattle.content_file.specs.Save.{MaySave, HasSaved, HasNoDraft, copy_calls, piecewise_calls, save_calls}
+use Rattle.disk_model.specs.Calls.{MakesThese, FailsAmong}
+use Rattle.disk_model.specs.Ran.{RanAll, RanUpTo, vault_done, log_of}
 use Rattle.disk_model.proofs.CallsLemmas.{these_none}
 use Rattle.disk_model.proofs.InOrder.{all_more}
 
@@ -41,6 +43,22 @@ published copy bytes old mid new calls formed within sealed stays changes =
     (λ told a b step. subst (λ d. MayPublish copy (is_sealed d) bytes a b) state (subst (λ xs. MayPublish copy (is_sealed (draft_of mid copy)) xs a b) (draft_bytes copy Sealed bytes old mid told tells (omega (arith, same)) formed sealed) step))
     changes)
     (not_replaced copy bytes)
+
+-- then the copy is the draft
+pub copy_saved : {T : Type 0} (result : Result T Failed) (copy : ℕ) (bytes : List ℕ) (old mid new : VaultView) → SomeCalls old mid → IsWellFormed mid → IsWellFormed new → copy < copies_of old → DraftIs copy Sealed bytes old mid
+    → new.tells ≡ mid.tells → OnOk result (draft_of mid copy ≡ Sealed → Holds (λ files. content_of files copy ≡ Some (staged_of mid copy)) new) → OnOk result (Holds (λ files. content_of files copy ≡ Some bytes) new)
+copy_saved result copy bytes old mid new calls formed new_formed within sealed still published =
+    let tells = calls.goes_on.tells in
+    let same = calls.goes_on.copies in
+    let is : IsTrue mid.tells → Some (staged_of mid copy) ≡ Some bytes = λ told. ap (λ xs. Some xs) (draft_bytes copy Sealed bytes old mid told tells (omega (arith, same)) formed sealed) in
+    on_ok result
+    (λ holds.
+    let held = holds (draft_state copy Sealed bytes old mid within sealed) in
+    record {
+      reads = λ told. held.reads told ∙ is (sym still ∙ told);
+      leaves = λ told files left. held.leaves told files left ∙ is (sym still ∙ new_formed.tells told);
+    })
+    published
 
 -- ---- drafts
 
@@ -94,16 +112,16 @@ has_saved_more copy bytes a b saved may this =
     below_more (λ c. content_of b c ≡ Some bytes) copy (λ c below. ⊎_elim (λ kept. kept ∙ saved c below) (λ is. is) (one_copy copy bytes a b may c)) this
 
 -- the first copies are saved, and have no drafts
-pub record Saving (copy : ℕ) (bytes : List ℕ) (old now : VaultView) : Type 0 where
+pub record Saving (size copy : ℕ) (bytes : List ℕ) (old now : VaultView) : Type 0 where
   pub calls : SomeCalls old now
-  pub made : MakesThese (save_calls copy bytes) old now
+  pub made : MakesThese (piecewise_calls size copy bytes) old now
   pub changes : ChangesBy (MaySave bytes) old now
   pub saved : Holds (HasSaved copy bytes) now
   pub drafts : HasNoDraft old → HasNoDraft now
   pub gone : (k : ℕ) → k < copy → draft_of now k ≡ Absent
 
-pub saving_start : (bytes : List ℕ) (old : VaultView) → Saving 0 bytes old old
-saving_start bytes old = record {
+pub saving_start : (size : ℕ) (bytes : List ℕ) (old : VaultView) → Saving size 0 bytes old old
+saving_start size bytes old = record {
   calls = no_calls old;
   made = these_none old;
   changes = changes_start (MaySave bytes) old (saves_nothing bytes);
@@ -112,25 +130,41 @@ saving_start bytes old = record {
   gone = λ k below. absurd (omega arith);
 }
 
-pub saving_so_far : (copy : ℕ) (bytes : List ℕ) (old mid new : VaultView) → Saving copy bytes old mid → ChangesBy (MayPublish copy true bytes) mid new → ChangesBy (MaySave bytes) old new
-saving_so_far copy bytes old mid new so_far changes =
+pub saving_so_far : (size copy : ℕ) (bytes : List ℕ) (old mid new : VaultView) → Saving size copy bytes old mid → ChangesBy (MayPublish copy true bytes) mid new → ChangesBy (MaySave bytes) old new
+saving_so_far size copy bytes old mid new so_far changes =
     changes_then (MaySave bytes) (MayPublish copy true bytes) (MaySave bytes) old mid new (λ a b s. s) (saves_more copy bytes) so_far.calls.goes_on.tells so_far.changes changes
 
-pub drafts_so_far : (copy : ℕ) (bytes : List ℕ) (old mid new : VaultView) → Saving copy bytes old mid → DraftIs copy Absent [] mid new → HasNoDraft old → HasNoDraft new
-drafts_so_far copy bytes old mid new so_far gone none other = other_draft copy other [] mid new gone (so_far.drafts none other)
+pub drafts_so_far : (size copy : ℕ) (bytes : List ℕ) (old mid new : VaultView) → Saving size copy bytes old mid → DraftIs copy Absent [] mid new → HasNoDraft old → HasNoDraft new
+drafts_so_far size copy bytes old mid new so_far gone none other = other_draft copy other [] mid new gone (so_far.drafts none other)
 
-pub saving_more : (copy : ℕ) (bytes : List ℕ) (old mid new : VaultView) → copy < copies_of mid → Saving copy bytes old mid → SomeCalls mid new → MakesThese (copy_calls bytes copy) mid new → ChangesBy (MayPublish copy true bytes) mid new
-    → Holds (λ files. content_of files copy ≡ Some bytes) new → DraftIs copy Absent [] mid new → Saving (copy + 1) bytes old new
-saving_more copy bytes old mid new within so_far calls made changes holds gone = record {
+pub saving_more : (size copy : ℕ) (bytes : List ℕ) (old mid new : VaultView) → copy < copies_of mid → Saving size copy bytes old mid → SomeCalls mid new → MakesThese (copy_calls size bytes copy) mid new → ChangesBy (MayPublish copy true bytes) mid new
+    → Holds (λ files. content_of files copy ≡ Some bytes) new → DraftIs copy Absent [] mid new → Saving size (copy + 1) bytes old new
+saving_more size copy bytes old mid new within so_far calls made changes holds gone = record {
   calls = calls_then old mid new so_far.calls calls;
-  made = all_more (copy_calls bytes) copy old mid new so_far.made made;
-  changes = saving_so_far copy bytes old mid new so_far changes;
+  made = all_more (copy_calls size bytes) copy old mid new so_far.made made;
+  changes = saving_so_far size copy bytes old mid new so_far changes;
   saved = record {
     reads = λ told. let was = sym calls.goes_on.tells ∙ told in has_saved_more copy bytes mid.files new.files (so_far.saved.reads was) (changes.reads was) (holds.reads told);
     leaves = λ told files left.
         let came = changes.leaves.at_end told files left in
         has_saved_more copy bytes came.0 files (so_far.saved.leaves (changes.leaves.told told) came.0 came.1) came.2 (holds.leaves told files left);
   };
-  drafts = drafts_so_far copy bytes old mid new so_far gone;
+  drafts = drafts_so_far size copy bytes old mid new so_far gone;
   gone = below_more (λ k. draft_of new k ≡ Absent) copy (λ k below. other_draft copy k [] mid new gone (so_far.gone k below)) (draft_state copy Absent [] mid new within gone);
 }
+
+-- ---- by pieces of 65,536 bytes
+
+pub these_of_ran : (size copies : ℕ) (bytes : List ℕ) (old new : VaultView) → size ≡ 65536 → RanAll vault_done (piecewise_calls size copies bytes) (log_of (state_of old)) (log_of (state_of new)) → MakesThese (save_calls copies bytes) old new
+these_of_ran size copies bytes old new is ran = subst (λ n. MakesThese (piecewise_calls n copies bytes) old new) is ran.grown
+
+pub among_of_ran : (size copies : ℕ) (bytes : List ℕ) (old new : VaultView) → size ≡ 65536 → RanUpTo vault_done (piecewise_calls size copies bytes) (log_of (state_of old)) (log_of (state_of new)) → FailsAmong (save_calls copies bytes) old new
+among_of_ran size copies bytes old new is ran =
+    subst (λ n. FailsAmong (piecewise_calls n copies bytes) old new) is (record {
+      rose = ran.rose;
+      earlier = ran.earlier;
+      call = ran.call;
+      later = ran.later;
+      whole = ran.whole;
+      made = ran.grown.more;
+    })

@@ -1,6 +1,9 @@
+pub mod Encoding
+pub mod EncodingState
 pub mod Fault
 pub mod FirstFlaw
 pub mod Flaw
+pub mod Hashed
 pub mod Head
 pub mod Load
 pub mod Pushing

@@ -27,29 +27,33 @@ IsDraftCall (DraftSeal copy) = Unit {0}
 IsDraftCall (Publish copy) = Unit {0}
 IsDraftCall _ = ⊥
 
--- bytes in pieces of 65,536, of which the last may be shorter: the n-th, and how many they are
-abbrev pub piece_of : List ℕ → ℕ → List ℕ
-piece_of bytes n = take 65536 (drop (n * 65536) bytes)
+-- bytes in pieces of a size, of which the last may be shorter: the n-th, and how many they are
+abbrev pub piece_of : ℕ → List ℕ → ℕ → List ℕ
+piece_of size bytes n = take size (drop (n * size) bytes)
 
-abbrev pub piece_count : List ℕ → ℕ
-piece_count bytes = div_ceil (length bytes) 65536
+abbrev pub piece_count : ℕ → List ℕ → ℕ
+piece_count size bytes = div_ceil (length bytes) size
 
 -- the call that appends one of the pieces to the draft of a copy
-abbrev pub append_call : ℕ → List ℕ → ℕ → VaultCall
-append_call copy bytes n = DraftAppend copy (piece_of bytes n)
+abbrev pub append_call : ℕ → ℕ → List ℕ → ℕ → VaultCall
+append_call size copy bytes n = DraftAppend copy (piece_of size bytes n)
 
 -- one such call for each piece, in order
-abbrev pub append_calls : ℕ → List ℕ → List VaultCall
-append_calls copy bytes = map (append_call copy bytes) (range_with_len 0 (piece_count bytes))
+abbrev pub append_calls : ℕ → ℕ → List ℕ → List VaultCall
+append_calls size copy bytes = map (append_call size copy bytes) (range_with_len 0 (piece_count size bytes))
 
--- the calls that make a sealed draft of bytes: it is begun, filled piece by piece and sealed
-abbrev pub draft_calls : List ℕ → ℕ → List VaultCall
-draft_calls bytes copy = DraftBegin copy ∷ (append_calls copy bytes ++ DraftSeal copy ∷ [])
+-- the calls that make a sealed draft of bytes: it is begun, filled by pieces of this size and sealed
+abbrev pub draft_calls : ℕ → List ℕ → ℕ → List VaultCall
+draft_calls size bytes copy = DraftBegin copy ∷ (append_calls size copy bytes ++ DraftSeal copy ∷ [])
 
 -- the calls that save bytes to one copy: those of its draft, and then it is published
-abbrev pub copy_calls : List ℕ → ℕ → List VaultCall
-copy_calls bytes copy = draft_calls bytes copy ++ Publish copy ∷ []
+abbrev pub copy_calls : ℕ → List ℕ → ℕ → List VaultCall
+copy_calls size bytes copy = draft_calls size bytes copy ++ Publish copy ∷ []
 
 -- the calls that save bytes to each of the first copies, in order
+abbrev pub piecewise_calls : ℕ → ℕ → List ℕ → List VaultCall
+piecewise_calls size copies bytes = flat_map (copy_calls size bytes) (range_with_len 0 copies)
+
+-- the same by pieces of 65,536 bytes
 abbrev pub save_calls : ℕ → List ℕ → List VaultCall
-save_calls copies bytes = flat_map (copy_calls bytes) (range_with_len 0 copies)
+save_calls copies bytes = piecewise_calls 65536 copies bytes

@@ -43,8 +43,9 @@ pub fn a_flaw_stays()
         first_flaw bytes ≡ Some damage → damage.why ≢ Short → first_flaw (bytes ++ more) ≡ Some damage }
 {}
 
-/// The pieces in which bytes are saved are these bytes one after another, and each has at least one and at most 65,536.
+/// The pieces in which bytes are saved are these bytes one after another, and each has at least one and at most the size.
 pub fn pieces_are_the_bytes()
-    ensures joined { (bytes : List ℕ) → flat_map (piece_of bytes) (range_with_len 0 (piece_count bytes)) ≡ bytes }
-    ensures each { (bytes : List ℕ) (n : ℕ) → n < piece_count bytes → (0 < length (piece_of bytes n)) × (length (piece_of bytes n) ≤ 65536) }
+    ensures joined { (size : ℕ) (bytes : List ℕ) → 0 < size → flat_map (piece_of size bytes) (range_with_len 0 (piece_count size bytes)) ≡ bytes }
+    ensures each { (size : ℕ) (bytes : List ℕ) → 0 < size → (n : ℕ) → n < piece_count size bytes →
+        (0 < length (piece_of size bytes n)) × (length (piece_of size bytes n) ≤ size) }
 {}

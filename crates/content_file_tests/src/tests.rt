@@ -3,10 +3,11 @@ ghost use Rattle.std.specs.Prelude.{◌≡◌, ◌<◌};
 ghost use Rattle.disk_model.specs.Vault.{copies_of};
 ghost use Rattle.disk_memory.specs.Vault.{vault_view};
 
-use content_file::{DecodeFault, LoadFault, SaveFault, decode, encode, load, save};
+use content_file::{DecodeFault, Encoder, LoadFault, decode, load, save, save_in_pieces};
 use disk_memory::MemVault;
 use disk_model::{Failed, Vault};
-use std::alloc::Global;
+use file_table::Table;
+use std::alloc::{AllocError, Global};
 use std::test::Fail;
 
 // One disk `d1` with one file `a` of ten bytes, synced at 100.
@@ -128,11 +129,27 @@ fn copies_in_order(rt: HostRuntime) -> Result<(), Fail> {
     Ok(())
 }
 
+// What an encoder gives in so many pieces as long as the buffer.
+fn pieces(alloc: Global, table: &Table, buffer: &mut [u8]) -> Result<Vec<u8>, AllocError> {
+    let mut written = Vec::new(alloc);
+    let mut encoder = Encoder::new(table);
+    for _ in 0..300 {
+        let count = encoder.next(buffer);
+        written.extend_from_slice(&buffer[..count])?;
+    }
+    Ok(written)
+}
+
 #[test]
 fn tables_written_as_they_were_read(rt: HostRuntime) -> Result<(), Fail> {
     for bytes in [ONE_FILE.as_slice(), &NO_FILE, &THREE_DISKS] {
         let table = decode(rt.alloc(), bytes)?;
-        assert_eq!(rt; encode(rt.alloc(), &table)?.as_slice(), bytes);
+        for size in [1, 7, 42, 127, 400] {
+            let mut buffer = [0; 400];
+            let written = pieces(rt.alloc(), &table, &mut buffer[..size])?;
+            assert_eq!(rt; written.as_slice(), bytes);
+        }
+        assert!(rt; pieces(rt.alloc(), &table, &mut [])?.is_empty());
     }
     Ok(())
 }
@@ -147,12 +164,13 @@ fn holds(vault: &mut MemVault, copy: u32, bytes: &[u8]) -> Result<bool, Failed>
     Ok(&held[..count] == bytes)
 }
 
-// How a save into two copies ends where call `failing` of the vault fails, and whether each holds the table then.
-fn saved(alloc: Global, failing: u64) -> Result<(Result<(), SaveFault>, bool, bool), Fail> {
+// How a save into two copies by pieces of 50 bytes ends where call `failing` of the vault fails, and whether each
+// copy holds the table then.
+fn saved(alloc: Global, failing: u64) -> Result<(Result<(), Failed>, bool, bool), Fail> {
     let table = decode(alloc, &ONE_FILE)?;
     let mut vault = MemVault::new(alloc, 1, 2)?;
     vault.fail_at(failing)?;
-    let answer = save(alloc, &mut vault, &table);
+    let answer = save_in_pieces(&mut vault, &table, &mut [0; 50]);
     let first = holds(&mut vault, 0, &ONE_FILE)?;
     let second = holds(&mut vault, 1, &ONE_FILE)?;
     Ok((answer, first, second))
@@ -160,15 +178,24 @@ fn saved(alloc: Global, failing: u64) -> Result<(Result<(), SaveFault>, bool, bo
 
 #[test]
 fn copies_saved_in_order(rt: HostRuntime) -> Result<(), Fail> {
-    let failed = Err(SaveFault::Failed);
+    let failed = Err(Failed);
     for (failing, answer, first, second) in [
         (0, Ok(()), true, true),
         (1, failed, false, false),
-        (4, failed, false, false),
-        (5, failed, true, false),
-        (8, failed, true, false),
+        (6, failed, false, false),
+        (7, failed, true, false),
+        (12, failed, true, false),
     ] {
         assert_eq!(rt; saved(rt.alloc(), failing)?, (answer, first, second));
     }
+    Ok(())
+}
+
+#[test]
+fn copies_saved_without_a_buffer(rt: HostRuntime) -> Result<(), Fail> {
+    let table = decode(rt.alloc(), &ONE_FILE)?;
+    let mut vault = MemVault::new(rt.alloc(), 1, 1)?;
+    assert!(rt; save(rt.alloc(), &mut vault, &table).is_ok());
+    assert!(rt; holds(&mut vault, 0, &ONE_FILE)?);
     Ok(())
 }

@@ -1,7 +1,0 @@
-use Rattle.std.proofs.Common.{◌≡◌, ◌++◌, take}
-use Rattle.std.specs.List.{flat_map}
-use Rattle.content_file.specs.Spelling.{block_bytes}
-use Rattle.content_file.proofs.encoding.push_blocks.Given as goal
-
-abbrev pub invariant-loop-block : goal.invariant-loop-block
-invariant-loop-block l = l.out.items ≡ l.fn.out.items ++ flat_map block_bytes (take l.block-index l.blocks)
