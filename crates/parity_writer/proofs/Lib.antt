@@ -4,3 +4,7 @@ pub mod LengthCalls
 pub mod LevelsLemmas
 pub mod RowLemmas
 pub mod SettleLemmas
+pub mod SumLemmas
+pub mod WriteLemmas
+pub mod ChosenLemmas
+pub mod SoundLemmas

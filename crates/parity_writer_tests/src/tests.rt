@@ -7,6 +7,8 @@ use disk_model::{Failed, Vault};
 use parity_writer::{set_lengths, settle, write_stripe};
 use std::test::Fail;
 
+mod window;
+
 // Whether a level has these six bytes.
 fn holds(vault: &mut MemVault, level: u32, wanted: [u8; 6]) -> Result<bool, Failed>
     requires { level < (vault_view vault.old).levels }

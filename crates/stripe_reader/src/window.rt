@@ -79,6 +79,13 @@ impl Window {
         self.lanes.len() == table.disks() as usize && self.block_size == table.shape().block_size
     }
 
+    /// How many columns there are lanes for.
+    pub fn columns(&self) -> usize
+        ensures { result ≡ length self.now.lanes }
+    {
+        self.lanes.len()
+    }
+
     /// How many stripes there is room for.
     pub fn room(&self) -> u32
         ensures { result ≡ self.now.room }

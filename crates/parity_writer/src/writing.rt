@@ -1,0 +1,78 @@
+// The parity of the chosen stripes of a window.
+ghost use Rattle.std.specs.Prelude.{◌≡◌, ◌<◌, ◌≤◌, length, OnOk};
+ghost use Rattle.disk_model.specs.Ran.{Ran};
+ghost use Rattle.disk_model.specs.Vault.{SomeCalls, ChangesBy, DraftsStay, Reads, state_of};
+ghost use Rattle.parity_writer.specs.Calls.{sum_calls};
+ghost use Rattle.parity_writer.specs.Chosen.{IsChosen, rows_with, window_calls};
+ghost use Rattle.parity_writer.specs.Keeps.{WritesBlock};
+ghost use Rattle.parity_writer.specs.Parity.{Rows, HoldsRows, WritesBlocks};
+ghost use Rattle.parity_writer.specs.Rows.{HasSums};
+ghost use Rattle.parity_writer.specs.WindowRow.{row_at};
+
+use crate::sums::sum_row;
+use disk_model::{Failed, Vault};
+use stripe_reader::Window;
+
+// Writes each level of a stripe.
+fn write_row<V: Vault>(
+    vault: &mut V,
+    window: &Window,
+    i: u32,
+    stripe: u32,
+    block: &mut [u8],
+) -> Result<(), Failed>
+    requires levels { (V.view vault.old).levels ≤ 6 }
+    requires stripe { i < window.now.count }
+    requires columns { length window.now.lanes ≤ 251 }
+    requires block { length block.old ≡ window.now.block_size }
+    requires size { length block.old ≤ 4194304 }
+    ensures calls { SomeCalls (V.view vault.old) (V.view vault.new) }
+    ensures ran { Ran (sum_calls (V.view vault.old).levels window.now.block_size stripe (row_at window.now i))
+        result (state_of (V.view vault.old)) (state_of (V.view vault.new)) }
+    ensures changes { ChangesBy (WritesBlock window.now.block_size stripe) (V.view vault.old) (V.view vault.new) }
+    ensures drafts { DraftsStay (V.view vault.old) (V.view vault.new) }
+    ensures written { OnOk result (Reads
+        (HasSums (V.view vault.old).levels window.now.block_size stripe (row_at window.now i) (V.view vault.old).files)
+        (V.view vault.new)) }
+{
+    let at = u64::from(stripe) * block.len() as u64;
+    for level in 0..vault.levels() {
+        sum_row(window, i, level, block);
+        vault.parity_write(level, at, block)?;
+    }
+    Ok(())
+}
+
+/// Writes each level of each chosen stripe of a window, in their order. The sums go through `block`. No memory is taken.
+pub fn write_window<V: Vault>(
+    vault: &mut V,
+    window: &Window,
+    stripes: &[u32],
+    chosen: &[bool],
+    block: &mut [u8],
+) -> Result<(), Failed>
+    requires levels { (V.view vault.old).levels ≤ 6 }
+    requires columns { length window.now.lanes ≤ 251 }
+    requires stripes { length stripes.now ≡ window.now.count }
+    requires chosen { length chosen.now ≡ window.now.count }
+    requires block { length block.old ≡ window.now.block_size }
+    requires size { length block.old ≤ 4194304 }
+    ensures calls { SomeCalls (V.view vault.old) (V.view vault.new) }
+    ensures ran { Ran (window_calls (V.view vault.old).levels window.now (record { stripes = stripes.now; chosen = chosen.now }) window.now.count)
+        result (state_of (V.view vault.old)) (state_of (V.view vault.new)) }
+    ensures changes { ChangesBy (WritesBlocks window.now.block_size (IsChosen (record { stripes = stripes.now; chosen = chosen.now })))
+        (V.view vault.old) (V.view vault.new) }
+    ensures drafts { DraftsStay (V.view vault.old) (V.view vault.new) }
+    ensures written { OnOk result ((rows : Rows) →
+        Reads (HoldsRows (V.view vault.old).levels window.now.block_size rows) (V.view vault.old) →
+        Reads (HoldsRows (V.view vault.old).levels window.now.block_size
+        (rows_with window.now (record { stripes = stripes.now; chosen = chosen.now }) window.now.count rows)) (V.view vault.new)) }
+{
+    for i in 0..window.count() {
+        if !chosen[i as usize] {
+            continue;
+        }
+        write_row(vault, window, i, stripes[i as usize], block)?;
+    }
+    Ok(())
+}
