@@ -1,0 +1,4 @@
+pub mod LaneLemmas
+pub mod LoadLemmas
+pub mod MessageLemmas
+pub mod RoundLemmas
