@@ -1,18 +1,22 @@
 #!/bin/sh
-# Times the reading and hashing of windows by 1, 2, 4 and 6 readers, in milliseconds: six disks in memory-backed storage, each
-# with one file in blocks of 256 KiB. Each number of readers is timed so often, in turn, and the least time counts. It builds a
-# small program over crates/stripe_reader and crates/disk_host in a folder of its own, outside the repository, since what it
-# prints differs from run to run.
-# Usage: bench/windows.sh [stripes] [rounds], 320 and 5 where nothing is given; stripes are cut to a multiple of 16.
+# Times the reading and hashing of windows by 1, 2 and 4 readers and by one for each column, in milliseconds: so many disks in
+# memory-backed storage, each with one file in blocks of 256 KiB. Each number of readers is timed so often, in turn, and the least
+# time counts. It builds a small program over crates/stripe_reader and crates/disk_host in a folder of its own, outside the
+# repository, since what it prints differs from run to run.
+# Usage: bench/windows.sh [stripes] [rounds] [columns], 320, 5 and 6 where nothing is given; stripes are cut to a multiple of 16,
+# and there are 1 to 16 columns. Four readers of six equal columns have groups of up to two, so they are at most 3 times as fast as
+# one; eight columns give each of them two.
 set -eu
 top=$(cd "$(dirname "$0")/.." && pwd)
 stripes=$((${1:-320} / 16 * 16))
 rounds=${2:-5}
+columns=${3:-6}
+names=$(seq -s ', ' -f '"d%g"' 0 $((columns - 1)))
 scratch=$(mktemp -d)
 disks=$(mktemp -d /dev/shm/windows.XXXXXX)
 trap 'rm -rf "$scratch" "$disks"' EXIT
 
-for crate in block_hash disk_model disk_host file_table stripe_reader; do
+for crate in block_hash md5_lanes disk_model disk_host file_table stripe_reader; do
     mkdir -p "$scratch/crates/$crate"
     for part in src specs proofs; do
         cp -r "$top/crates/$crate/$part" "$scratch/crates/$crate/$part"
@@ -21,16 +25,17 @@ done
 cp "$top/HANDLES" "$scratch/HANDLES"
 cat >"$scratch/crates.txt" <<'CRATES'
 block_hash: md5 sha2 hex
+md5_lanes: block_hash md5
 disk_model: thiserror
 disk_host: disk_model
 file_table: block_hash disk_model thiserror
-stripe_reader: block_hash file_table disk_model
+stripe_reader: md5_lanes block_hash file_table disk_model
 window_speed: stripe_reader block_hash file_table disk_host disk_model
 CRATES
 mkdir -p "$scratch/crates/window_speed/src"
 cat >"$scratch/crates/window_speed/src/main.rt" <<'PROGRAM'
-//! Times the reading of windows. The arguments are a folder with the disks d0 to d5, the number of stripes, and the number of
-//! readers; without them nothing is done.
+//! Times the reading of windows. The arguments are a folder with the disks d0, d1 and so on, the number of stripes, and the number
+//! of readers; without them nothing is done.
 #![tactic(auto)]
 
 ghost use Rattle.std.specs.Prelude.{◌≡◌, ◌<◌, [], length};
@@ -47,6 +52,8 @@ use std::{env, io};
 use stripe_reader::{Found, Starts, Window, read_window};
 
 const BLOCK: u32 = 262_144;
+
+const COLUMNS: u32 = COUNT;
 
 const SHAPE: Shape = Shape {
     block_size: BLOCK,
@@ -93,7 +100,7 @@ fn build(alloc: Global, stripes: u32) -> Result<Table, BuildFault>
     requires { stripes < 1000000 }
 {
     let mut builder = Builder::new(alloc, SHAPE, stripes)?;
-    for name in ["d0", "d1", "d2", "d3", "d4", "d5"] {
+    for name in [NAMES] {
         push_disk(alloc, &mut builder, Text::new(alloc, name)?, stripes)?;
     }
     for _ in 0..stripes {
@@ -104,7 +111,7 @@ fn build(alloc: Global, stripes: u32) -> Result<Table, BuildFault>
 
 fn places(alloc: Global, folder: &str) -> Result<Places, NoMemory> {
     let mut dirs = Vec::new(alloc);
-    for name in ["d0", "d1", "d2", "d3", "d4", "d5"] {
+    for name in [NAMES] {
         let text = format!(in alloc; "{folder}/{name}").map_err(|_| NoMemory)?;
         dirs.push(Text::new(alloc, text.as_str())?)?;
     }
@@ -119,7 +126,7 @@ fn places(alloc: Global, folder: &str) -> Result<Places, NoMemory> {
 fn whole(table: &Table, window: &Window) -> u32 {
     let mut count = 0u32;
     for i in 0..16 {
-        for d in 0..6 {
+        for d in 0..COLUMNS {
             if window.fits(table)
                 && i < window.count()
                 && d < table.disks()
@@ -200,7 +207,7 @@ fn main(rt: HostRuntime) -> io::Result<()> {
     let Ok(mut opened) = DiskOpener::new(rt).open(alloc, &places) else {
         return Ok(());
     };
-    let Ok(mut window) = Window::make(alloc, 6, 16, BLOCK) else {
+    let Ok(mut window) = Window::make(alloc, COLUMNS, 16, BLOCK) else {
         return Ok(());
     };
     // The first time takes the pages of the buffers.
@@ -212,6 +219,7 @@ fn main(rt: HostRuntime) -> io::Result<()> {
     Ok(())
 }
 PROGRAM
+sed -i "s/NAMES/$names/; s/COUNT/$columns/" "$scratch/crates/window_speed/src/main.rt"
 mkdir -p "$scratch/crates/window_speed/proofs/push_blocks" "$scratch/crates/window_speed/proofs/build"
 : >"$scratch/crates/window_speed/proofs/Lib.antt"
 cat >"$scratch/crates/window_speed/proofs/push_blocks/Invariants.antt" <<'PROOFS'
@@ -235,20 +243,20 @@ rt run >"$scratch/log" 2>&1 || {
     cat "$scratch/log" >&2
     exit 1
 }
-for disk in d0 d1 d2 d3 d4 d5; do
+for disk in $(seq -f 'd%g' 0 $((columns - 1))); do
     mkdir "$disks/$disk"
     dd if=/dev/urandom of="$disks/$disk/a" bs=262144 count="$stripes" status=none
 done
 for _ in $(seq "$rounds"); do
-    for readers in 1 2 4 6; do
+    for readers in 1 2 4 "$columns"; do
         echo "$readers $(./out/window_speed "$disks" "$stripes" "$readers")"
     done
-done | awk -v stripes="$stripes" '
-    $3 != stripes * 6 { print "read " $3 " blocks by " $1 " readers" }
+done | awk -v stripes="$stripes" -v columns="$columns" '
+    $3 != stripes * columns { print "read " $3 " blocks by " $1 " readers" }
     !($1 in least) || $2 < least[$1] { least[$1] = $2 }
     END {
-        megabytes = stripes * 6 * 262144 / 1000000
-        for (readers = 1; readers <= 6; readers++)
+        megabytes = stripes * columns * 262144 / 1000000
+        for (readers = 1; readers <= 16; readers++)
             if (readers in least)
                 printf "%d readers: %d ms, %d MB/s, %.2f times as fast as one\n", readers, least[readers], megabytes * 1000 / least[readers], least[1] / least[readers]
     }'

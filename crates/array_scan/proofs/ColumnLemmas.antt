@@ -1,5 +1,5 @@
 -- The files of each column, one column after another.
-use Rattle.std.proofs.Common.{◌≡◌, ℕ, ◌+◌, ◌-◌, ◌<◌, List, [], ◌∷◌, ◌++◌, length, map, get_or, All, Option, None, Some, ap, sym, ◌∙◌, subst, arith}
+use Rattle.std.proofs.Common.{◌≡◌, ℕ, zero, suc, ◌+◌, ◌-◌, ◌<◌, List, [], ◌∷◌, ◌++◌, length, map, get_or, All, Option, Some, ap, sym, ◌∙◌, subst, arith, refl}
 use Rattle.std.specs.List.{range_with_len}
 use Rattle.std.proofs.lemmas.List.{length-map, get_or-map, map-append}
 use Rattle.file_table.specs.Table.{TableValue, column_at}
@@ -48,3 +48,24 @@ positions_at old files columns d e are below =
 
 pub given_count : (old : TableValue) (files : List (List Sorted)) (columns : List Given) → given_of columns ≡ each_column (given_at old files) (length old.columns) → length columns ≡ length old.columns
 given_count old files columns are = omega (arith, ap length are, length-map columns (λ (c : Given). c.positions.items), length-map-range_with_len (given_at old files) 0 (length old.columns))
+
+-- ---- what is made of each column, before one, of that one, and behind it
+
+same_tail : (xs : List ℕ) (a b s t k l : ℕ) → a ≡ b → s ≡ t → k ≡ l → xs ++ a ∷ range_with_len s k ≡ xs ++ b ∷ range_with_len t l
+same_tail xs a b s t k l one two three =
+    ap (λ (n : ℕ). xs ++ n ∷ range_with_len s k) one ∙ ap (λ (n : ℕ). xs ++ b ∷ range_with_len n k) two ∙ ap (λ (n : ℕ). xs ++ b ∷ range_with_len t n) three
+
+range_split : (from n d : ℕ) → d < n → range_with_len from n ≡ range_with_len from d ++ (from + d) ∷ range_with_len (from + d + 1) (n - (d + 1))
+range_split from zero d below = absurd (omega arith)
+range_split from (suc n) zero below = same_tail [] from (from + 0) (from + 1) (from + 0 + 1) n (suc n - (0 + 1)) (omega arith) (omega arith) (omega arith)
+range_split from (suc n) (suc d) below =
+    ap (λ (ks : List ℕ). from ∷ ks) (range_split (from + 1) n d (omega arith))
+    ∙ same_tail (from ∷ range_with_len (from + 1) d) (from + 1 + d) (from + suc d) (from + 1 + d + 1) (from + suc d + 1) (n - (d + 1)) (suc n - (suc d + 1)) (omega arith) (omega arith) (omega arith)
+
+pub each_split : {X : Type 0} (f : ℕ → X) (n d : ℕ) → d < n → each_column f n ≡ each_column f d ++ f d ∷ map f (range_with_len (d + 1) (n - (d + 1)))
+each_split f n d below =
+    let zero_and : 0 + d ≡ d = omega arith in
+    let after : 0 + d + 1 ≡ d + 1 = omega arith in
+    let ks : range_with_len 0 n ≡ range_with_len 0 d ++ d ∷ range_with_len (d + 1) (n - (d + 1)) =
+    range_split 0 n d below ∙ same_tail (range_with_len 0 d) (0 + d) d (0 + d + 1) (d + 1) (n - (d + 1)) (n - (d + 1)) zero_and after refl in
+    ap (map f) ks ∙ map-append f (range_with_len 0 d) (d ∷ range_with_len (d + 1) (n - (d + 1)))

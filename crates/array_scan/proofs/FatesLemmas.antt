@@ -1,12 +1,10 @@
 -- Records by their paths, vanished records, and the fates of files one after another.
-use Rattle.std.proofs.Common.{◌≡◌, ◌≢◌, ℕ, zero, suc, ◌+◌, ◌-◌, ◌<◌, ◌≤◌, ◌==◌, ◌&&◌, ◌||◌, List, [], ◌∷◌, ◌++◌, length, map, take, drop, set, get_or, filter, cond, not, Bool, true, false, refl, sym, ap, ◌∙◌, subst, arith, length-append, IfSome, All, Option, None, Some, inl, inr}
+use Rattle.std.proofs.Common.{◌≡◌, ℕ, zero, suc, ◌+◌, ◌-◌, ◌<◌, ◌≤◌, ◌&&◌, ◌||◌, List, [], ◌∷◌, length, map, take, drop, get_or, filter, cond, not, Bool, true, false, refl, sym, ap, ◌∙◌, subst, arith, IfSome, Option, None, Some}
 use Rattle.std.specs.List.{slice_get, range_with_len, list_any, position, position_or_len}
 use Rattle.std.specs.Option.{is_none}
 use Rattle.std.specs.BTreeMap.{BTreeMap, get}
 use Rattle.std.proofs.lemmas.Grind.{common_steps}
-use Rattle.std.proofs.lemmas.Bool.{cases_eq, eq-eqb, eqb-true}
-use Rattle.std.proofs.lemmas.List.{get_or-set_same, get_or-set_other, drop-drop, take_more, length-map, get_or-map}
-use Rattle.std.proofs.lemmas.List.Folds.{list_any-append}
+use Rattle.std.proofs.lemmas.List.{drop-drop, take_more, get_or-map}
 use Rattle.std.proofs.lemmas.List.Sums.{fails_before_first, sum_by_push}
 use Rattle.std.proofs.lemmas.List.Quantifiers.{position-Some}
 use Rattle.std.specs.Cmp.Lexicographic.{bytes_decides}
@@ -17,7 +15,7 @@ use Rattle.file_table.specs.Table.{Record, Column, HasPath, no_record, no_meta, 
 use Rattle.array_scan.specs.declared.lost.Node.{Node}
 use Rattle.array_scan.specs.declared.sorting.Fate.{Fate}
 use Rattle.array_scan.specs.Kept.{ListedFile}
-use Rattle.array_scan.specs.Fates.{record_of, file_of, same_meta, record_with, is_number, is_listed, is_new, may_move, is_vanished, vanished, is_rival, rivals, source_of, fate_by, fate_of}
+use Rattle.array_scan.specs.Fates.{record_of, file_of, same_meta, record_with, is_listed, may_move, is_vanished, vanished, is_rival, rivals, source_of, fate_by, fate_of}
 use Rattle.array_scan.specs.Lost.{Key, with_first, without_first, source_in, left_by}
 use Rattle.array_scan.proofs.LostLemmas.{Left, same_is}
 

@@ -1,35 +1,34 @@
 -- A table whose records are just the kept files is laid out as it is.
-use Rattle.std.proofs.Common.{◌≡◌, ◌≢◌, ℕ, zero, suc, ◌+◌, ◌-◌, ◌<◌, ◌≤◌, ◌==◌, ◌&&◌, ◌||◌, List, [], ◌∷◌, ◌++◌, length, map, get_or, filter, cond, not, drop, take, Bool, true, false, refl, sym, ap, ◌∙◌, subst, arith, nat_eq, nat_lt, All, AllPairs, IfSome, Option, None, Some, inl, inr, length-append, sum_by}
-use Rattle.std.specs.List.{flat_map, list_any, list_all, range_with_len}
-use Rattle.std.specs.Option.{is_none, option_map}
+use Rattle.std.proofs.Common.{◌≡◌, ℕ, zero, suc, ◌+◌, ◌<◌, ◌≤◌, ◌==◌, ◌&&◌, ◌||◌, List, [], ◌∷◌, ◌++◌, length, map, get_or, filter, cond, not, Bool, true, false, refl, sym, ap, ◌∙◌, subst, arith, nat_eq, nat_lt, All, AllPairs, Option, None, Some, inl, inr, length-append}
+use Rattle.std.specs.List.{flat_map, list_any, range_with_len}
+use Rattle.std.specs.Option.{option_map}
 use Rattle.std.specs.Ordering.{nat_cmp, int_eq}
 use Rattle.std.specs.Cmp.{tied_itself}
 use Rattle.std.proofs.lemmas.Cmp.{nat_list_cmp_total}
 use Rattle.std.specs.Cmp.Lexicographic.{slice_cmp}
-use Rattle.std.specs.declared.cmp.Ordering.{Ordering}
 use Rattle.std.specs.declared.cmp.Ordering.TheVariants.{Less, Equal}
-use Rattle.std.specs.FinSet.{FinSet, contains, from_list, contains-from_list_nat}
+use Rattle.std.specs.FinSet.{FinSet, contains, contains-from_list_nat}
 use Rattle.std.proofs.lemmas.Bool.{cases_lt, eq-eqb, lt-ltb}
 use Rattle.std.proofs.lemmas.Bool.Decides.{Decides-int_eq, nat_tests}
-use Rattle.std.proofs.lemmas.List.{length-map, get_or-map, get_or_default, map-append}
-use Rattle.std.proofs.lemmas.List.FromFn.{fill_by_all, length-map-range_with_len, length-range_with_len, get_or-map-range_with_len, get_or-range_with_len}
+use Rattle.std.proofs.lemmas.List.{length-map, get_or-map}
+use Rattle.std.proofs.lemmas.List.FromFn.{fill_by_all, length-map-range_with_len, get_or-map-range_with_len}
 use Rattle.std.proofs.lemmas.List.Elements.{All-head, All-tail}
 use Rattle.std.proofs.lemmas.List.Sums.{sum_by-cons, sum_by-append}
 use Rattle.disk_model.specs.declared.meta.Meta.{Meta}
 use Rattle.file_table.specs.declared.block.Block.{Block}
 use Rattle.file_table.specs.declared.info.Info.{Info}
-use Rattle.file_table.specs.Table.{Record, Column, TableValue, HasPath, column_at, record_in, records_of, column_blocks, blocks_of, positions_of, blocks_due, block_count, end_of, info_at, no_meta, no_record, no_column, no_info}
+use Rattle.file_table.specs.Table.{Record, Column, TableValue, column_at, records_of, column_blocks, blocks_of, positions_of, blocks_due, block_count, end_of, info_at, no_meta, no_record, no_column, no_info}
 use Rattle.file_table.specs.Valid.{IsValid, IsColumn, ComesBefore, most_blocks, most_records}
 use Rattle.array_scan.specs.declared.fault.ScanFault.{ScanFault}
 use Rattle.array_scan.specs.declared.fault.ScanFault.TheVariants.{Zeroed, Emptied, Full}
 use Rattle.array_scan.specs.declared.sorting.Fate.{Fate}
-use Rattle.array_scan.specs.declared.sorting.Fate.TheVariants.{Unchanged, Changed, Moved, New}
+use Rattle.array_scan.specs.declared.sorting.Fate.TheVariants.{Unchanged}
 use Rattle.array_scan.specs.declared.sorting.Sorted.{Sorted}
-use Rattle.array_scan.specs.Kept.{ListedFile, each_column}
+use Rattle.array_scan.specs.Kept.{ListedFile}
 use Rattle.array_scan.specs.Fates.{record_of, file_of, same_meta, record_with, fate_with, fate_by, fate_of, source_of, sorted_file, sorted_files, origin}
-use Rattle.array_scan.specs.Laying.{kept_blocks, staying, taken, needed, all_needed, free_positions, given, laid_record, laid_records, laid_column, freed, touched}
-use Rattle.array_scan.specs.Layout.{sorted_at, all_sorted, column_laid, columns_laid, touched_at, all_touched, laid_info, is_as_before, laid_table, layout}
-use Rattle.array_scan.specs.Refusals.{or_else, first_some, emptied_record, first_zeroed, zeroed_at, is_emptied, emptied_at, size_of, blocks_in, files_in, capped, full, unless, in_columns, refusal}
+use Rattle.array_scan.specs.Laying.{kept_blocks, staying, taken, needed, all_needed, free_positions, given, laid_records, laid_column, freed, touched}
+use Rattle.array_scan.specs.Layout.{sorted_at, all_sorted, column_laid, columns_laid, touched_at, all_touched, laid_info, layout}
+use Rattle.array_scan.specs.Refusals.{or_else, first_some, first_zeroed, zeroed_at, is_emptied, emptied_at, size_of, blocks_in, files_in, capped, full, unless, in_columns, refusal}
 use Rattle.array_scan.specs.Own.{own_files, HoldsJust}
 use Rattle.array_scan.proofs.FatesLemmas.{record_found}
 

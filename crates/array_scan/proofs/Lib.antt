@@ -9,3 +9,11 @@ pub mod PushingLemmas
 pub mod RefusalLemmas
 pub mod SortedLemmas
 pub mod TwiceLemmas
+pub mod ApartLemmas
+pub mod OriginLemmas
+pub mod PlacedLemmas
+pub mod LaidLemmas
+pub mod MemoryLemmas
+pub mod EndLemmas
+pub mod ContainsLemmas
+pub mod KeepingLemmas

@@ -1,17 +1,16 @@
 -- Chains of vanished records, and what a record more or less makes of them.
-use Rattle.std.proofs.Common.{◌≡◌, ℕ, ℤ, ◌+◌, ◌<◌, ◌==◌, ◌&&◌, List, [], ◌∷◌, ◌++◌, length, drop, get_or, cond, Bool, true, false, refl, sym, ap, ◌∙◌, subst, arith, length-append, Option, None, Some}
+use Rattle.std.proofs.Common.{◌≡◌, ℕ, ◌<◌, ◌==◌, ◌&&◌, List, [], ◌∷◌, ◌++◌, length, drop, cond, Bool, true, false, refl, sym, ap, ◌∙◌, subst, arith, length-append, Option, None, Some}
 use Rattle.std.specs.List.{slice_get}
 use Rattle.std.specs.BTreeMap.{BTreeMap, get, is_at, Updates, UpdatesBy}
-use Rattle.std.specs.Ordering.{nat_cmp, int_cmp, ordering_then, is_eq, int_eq}
+use Rattle.std.specs.Ordering.{nat_cmp, int_cmp, ordering_then, is_eq}
 use Rattle.std.specs.Cmp.{tied_then, unsigned_tied}
 use Rattle.std.proofs.lemmas.Bool.{eqb-true}
 use Rattle.std.proofs.lemmas.Bool.Decides.{Decides-int_eq}
 use Rattle.std.proofs.lemmas.List.{get_or_append_left, get_or_at}
 use Rattle.disk_model.specs.declared.meta.Meta.{Meta}
 use Rattle.array_scan.specs.declared.lost.Node.{Node}
-use Rattle.array_scan.specs.declared.lost.Lost.{Lost}
 use Rattle.array_scan.specs.Fates.{same_meta, may_move}
-use Rattle.array_scan.specs.Lost.{Key, key_of, key_cmp, no_node, node_at, IsChain, with_first, without_first, source_in, left_by}
+use Rattle.array_scan.specs.Lost.{Key, key_of, key_cmp, no_node, node_at, IsChain, with_first, without_first}
 
 -- ---- keys
 
@@ -25,7 +24,7 @@ key_tied a b =
     ∙ ap (λ (t : Bool). (t && is_eq seconds) && is_eq nanos) (unsigned_tied a.size b.size)
     ∙ ap (λ (t : Bool). ((a.size == b.size) && is_eq seconds) && t) (unsigned_tied a.stamp.nanos b.stamp.nanos)
 
-both_true : (s t : Bool) → (s && t) ≡ true → (s ≡ true) × (t ≡ true)
+pub both_true : (s t : Bool) → (s && t) ≡ true → (s ≡ true) × (t ≡ true)
 both_true true t h = (refl, h)
 both_true false t h = absurd cc
 

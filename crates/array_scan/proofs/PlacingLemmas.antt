@@ -1,23 +1,23 @@
 -- Positions that are held, taken and touched, one after another.
-use Rattle.std.proofs.Common.{◌≡◌, ◌≢◌, ℕ, zero, suc, ◌+◌, ◌-◌, ◌<◌, ◌≤◌, ◌==◌, ◌||◌, List, [], ◌∷◌, ◌++◌, length, map, take, drop, replicate, set, get_or, filter, cond, not, Bool, true, false, refl, sym, ap, ◌∙◌, subst, arith, append_assoc, length-append, nat_eq, All, Option, None, Some, inl, inr}
+use Rattle.std.proofs.Common.{◌≡◌, ◌≢◌, ℕ, zero, suc, ◌+◌, ◌<◌, ◌≤◌, ◌||◌, List, [], ◌∷◌, ◌++◌, length, take, drop, replicate, set, get_or, filter, cond, not, Bool, true, false, refl, sym, ap, ◌∙◌, subst, arith, append_assoc, length-append, nat_eq, All, Option, None, Some, inl, inr}
 use Rattle.std.specs.List.{flat_map, list_any, range_with_len}
 use Rattle.std.specs.Ordering.{nat_cmp, eq_by_cmp}
 use Rattle.std.specs.Cmp.{nat_cmp_total, unsigned_tied}
-use Rattle.std.specs.FinSet.{FinSet, contains, insert, empty, from_list, from_list_push, contains-insert, same_set, nat_cmp-IsAntisymmetric}
+use Rattle.std.specs.FinSet.{FinSet, contains, insert, from_list, from_list_push, contains-insert, nat_cmp-IsAntisymmetric}
 use Rattle.std.proofs.lemmas.Bool.{cases_eq, cases_lt, eq-eqb, eqb-true}
 use Rattle.std.proofs.lemmas.List.{append-nil, map-append, length-set, get_or-set_same, get_or-set_other, get_or_append_left, get_or-append-add, take_more, take_all, drop_all, length-map, map-id, get_or-map, length-replicate, get_or-replicate, get_or_past}
 use Rattle.std.proofs.lemmas.List.FromFn.{map-range_with_len_more}
 use Rattle.std.proofs.lemmas.List.Folds.{list_any-append}
-use Rattle.std.proofs.lemmas.List.Elements.{All-head, All-tail, filter-append, filter_agree}
+use Rattle.std.proofs.lemmas.List.Elements.{filter-append, filter_agree}
 use Rattle.std.proofs.lemmas.List.Sums.{sum_by-le-sum_by, sum_by-cons}
 use Rattle.std.proofs.lemmas.Grind.{flat_map-append}
 use Rattle.position_alloc.specs.Lowest.{lowest_free}
 use Rattle.file_table.specs.declared.block.Block.{Block}
-use Rattle.file_table.specs.Table.{Record, Column, TableValue, column_at, record_in, column_blocks, positions_of, block_count, no_record, no_column, no_block}
+use Rattle.file_table.specs.Table.{Record, Column, TableValue, column_at, column_blocks, positions_of, block_count, no_record, no_column}
 use Rattle.file_table.specs.Valid.{IsValid, IsColumn}
 use Rattle.array_scan.specs.declared.sorting.Sorted.{Sorted}
 use Rattle.array_scan.specs.Fates.{record_of, origin}
-use Rattle.array_scan.specs.Laying.{kept_blocks, staying, taken, blocks_without, needed, all_needed, free_positions, freed, touched, given}
+use Rattle.array_scan.specs.Laying.{kept_blocks, staying, taken, blocks_without, needed, all_needed, free_positions, freed, touched}
 use Rattle.array_scan.specs.Refusals.{size_of, blocks_in, capped}
 use Rattle.array_scan.specs.Marks.{AreHeld, AreTouched, StandBelow}
 
@@ -29,7 +29,7 @@ or_true : (t : Bool) → (t || true) ≡ true
 or_true true = refl
 or_true false = refl
 
-apart_eq : (p q : ℕ) → p ≢ q → nat_eq p q ≡ false
+pub apart_eq : (p q : ℕ) → p ≢ q → nat_eq p q ≡ false
 apart_eq p q apart =
     (elim (nat_eq p q) as (λ (t : Bool). nat_eq p q ≡ t → t ≡ false) [
       | true ↦ λ e. absurd (apart (eqb-true p q e))
@@ -51,19 +51,7 @@ held_one held list p within are q =
           get_or-set_other held p q true false apart ∙ are q ∙ sym (contains-insert nat_cmp_total list p q ∙ ap (λ (t : Bool). t || contains list q) tied)
     ]
 
-already : (list : FinSet nat_cmp) (p : ℕ) → contains list p ≡ true → insert list p ≡ list
-already list p there = same_set nat_cmp_total nat_cmp-IsAntisymmetric (insert list p) list each
-  where
-    each : (q : ℕ) → contains (insert list p) q ≡ contains list q
-    each q =
-        elim (cases_eq q p) [
-          | inl same ↦
-              contains-insert nat_cmp_total list p q ∙ ap (λ (t : Bool). eq_by_cmp nat_cmp q p || t) (ap (contains list) same ∙ there) ∙ or_true (eq_by_cmp nat_cmp q p)
-              ∙ sym (ap (contains list) same ∙ there)
-          | inr apart ↦ contains-insert nat_cmp_total list p q ∙ ap (λ (t : Bool). t || contains list q) (unsigned_tied q p ∙ apart_eq q p apart)
-        ]
-
--- one block more, of which the position was free or taken
+-- one block more
 pub block_held : (positions : List ℕ) (blocks : List Block) (i : ℕ) (block : Block) (list : FinSet nat_cmp) → i < length blocks → block ≡ get_or blocks i block → list ≡ from_list (positions ++ positions_of (take i blocks))
     → insert list block.position ≡ from_list (positions ++ positions_of (take (i + 1) blocks))
 block_held positions blocks i block list within is so_far =
@@ -73,10 +61,6 @@ block_held positions blocks i block list within is so_far =
     ∙ ap (λ (b : Block). positions_of (take i blocks) ++ b.position ∷ []) (sym is) in
     ap (λ (l : FinSet nat_cmp). insert l p) so_far ∙ sym (from_list_push nat_cmp_total nat_cmp-IsAntisymmetric (positions ++ positions_of (take i blocks)) p)
     ∙ ap from_list (append_assoc positions (positions_of (take i blocks)) (p ∷ []) ∙ ap (λ (ps : List ℕ). positions ++ ps) (sym more))
-
-pub block_there : (positions : List ℕ) (blocks : List Block) (i : ℕ) (block : Block) (list : FinSet nat_cmp) → i < length blocks → block ≡ get_or blocks i block → list ≡ from_list (positions ++ positions_of (take i blocks))
-    → contains list block.position ≡ true → list ≡ from_list (positions ++ positions_of (take (i + 1) blocks))
-block_there positions blocks i block list within is so_far there = sym (already list block.position there) ∙ block_held positions blocks i block list within is so_far
 
 pub staying-push : (records : List Record) (files : List Sorted) (file : Sorted) → staying records (files ++ file ∷ []) ≡ staying records files ++ positions_of (kept_blocks records (origin file.fate))
 staying-push records files file =

@@ -1,5 +1,5 @@
 -- What an answer of the refusals says.
-use Rattle.std.proofs.Common.{◌≡◌, ℕ, ◌<◌, ◌≤◌, ◌||◌, List, cond, Bool, true, false, refl, sym, ap, ◌∙◌, arith, nat_lt, Option, None, Some}
+use Rattle.std.proofs.Common.{◌≡◌, ℕ, ◌≤◌, ◌||◌, List, cond, Bool, true, false, refl, arith, nat_lt, Option, None, Some}
 use Rattle.std.proofs.lemmas.Bool.Decides.{nat_tests}
 use Rattle.file_table.specs.Table.{TableValue}
 use Rattle.file_table.specs.Valid.{most_blocks, most_records}
@@ -21,13 +21,21 @@ last_none (Some x) b is = absurd cc
 not_more : (a b : ℕ) → nat_lt a b ≡ false → b ≤ a
 not_more a b not = grind (arith, nat_tests)
 
-pub few_blocks : (force_zero force_empty : Bool) (old : TableValue) (files : List (List Sorted)) → refusal force_zero force_empty old files ≡ None → blocks_in old.shape.block_size files ≤ most_blocks
-few_blocks force_zero force_empty old files none =
+not_full : (force_zero force_empty : Bool) (old : TableValue) (files : List (List Sorted)) → refusal force_zero force_empty old files ≡ None
+    → (nat_lt most_blocks (blocks_in old.shape.block_size files) ≡ false) × (nat_lt most_records (files_in files) ≡ false)
+not_full force_zero force_empty old files none =
     let last : full old files ≡ None =
     last_none (unless force_empty (in_columns old (emptied_at old files))) (full old files)
     (last_none (unless force_zero (in_columns old (zeroed_at old files))) (or_else (unless force_empty (in_columns old (emptied_at old files))) (full old files)) none) in
-    not_more most_blocks (blocks_in old.shape.block_size files) (not_full (nat_lt most_blocks (blocks_in old.shape.block_size files)) (nat_lt most_records (files_in files)) last)
+    both (nat_lt most_blocks (blocks_in old.shape.block_size files)) (nat_lt most_records (files_in files)) last
   where
-    not_full : (s t : Bool) → cond (s || t) (Some (Full (capped (blocks_in old.shape.block_size files)) (capped (files_in files)))) None ≡ None → s ≡ false
-    not_full false t is = refl
-    not_full true t is = absurd cc
+    both : (s t : Bool) → cond (s || t) (Some (Full (capped (blocks_in old.shape.block_size files)) (capped (files_in files)))) None ≡ None → (s ≡ false) × (t ≡ false)
+    both false false is = (refl, refl)
+    both false true is = absurd cc
+    both true t is = absurd cc
+
+pub few_blocks : (force_zero force_empty : Bool) (old : TableValue) (files : List (List Sorted)) → refusal force_zero force_empty old files ≡ None → blocks_in old.shape.block_size files ≤ most_blocks
+few_blocks force_zero force_empty old files none = not_more most_blocks (blocks_in old.shape.block_size files) (not_full force_zero force_empty old files none).0
+
+pub few_files : (force_zero force_empty : Bool) (old : TableValue) (files : List (List Sorted)) → refusal force_zero force_empty old files ≡ None → files_in files ≤ most_records
+few_files force_zero force_empty old files none = not_more most_records (files_in files) (not_full force_zero force_empty old files none).1

@@ -1,6 +1,6 @@
 -- The sorted files of a column.
 use Rattle.std.proofs.Common.{◌≡◌, ℕ, zero, suc, ◌+◌, ◌<◌, List, [], ◌∷◌, length, get_or, cond, Bool, true, false, refl, sym, ◌∙◌, subst, arith, All, Option, None, Some}
-use Rattle.std.specs.List.{slice_get, range_with_len, position}
+use Rattle.std.specs.List.{slice_get, range_with_len}
 use Rattle.std.specs.Str.{bytes_eq}
 use Rattle.std.proofs.lemmas.List.FromFn.{length-map-range_with_len, get_or-map-range_with_len, get_or-range_with_len, length-range_with_len}
 use Rattle.std.proofs.lemmas.List.Elements.{All-head, All-tail, All-filter}
@@ -8,8 +8,6 @@ use Rattle.std.proofs.lemmas.List.Quantifiers.{position-Some}
 use Rattle.disk_model.specs.Stamp.{IsStamp}
 use Rattle.disk_model.specs.declared.meta.Meta.{Meta}
 use Rattle.file_table.specs.Table.{Record, no_record, no_meta}
-use Rattle.array_scan.specs.declared.sorting.Fate.{Fate}
-use Rattle.array_scan.specs.declared.sorting.Sorted.{Sorted}
 use Rattle.array_scan.specs.Kept.{ListedFile}
 use Rattle.array_scan.specs.Fates.{record_of, file_of, same_meta, record_with, may_move, is_vanished, vanished, source_of, fate_with, fate_without, fate_by, fate_of, sorted_file, sorted_files, HasRecord, IsSound, rivals}
 

@@ -10,10 +10,10 @@ use Rattle.array_scan.specs.Laying.{needed, given, laid_records}
 use Rattle.array_scan.specs.Layout.{sorted_at, all_sorted, column_laid, columns_laid, layout}
 use Rattle.array_scan.specs.Own.{own_files, HoldsJust}
 
-sorted_each : (table : TableValue) (kept : List (List ListedFile)) (d : ℕ) → d < length table.columns → get_or (all_sorted table kept) d [] ≡ sorted_at table kept d
+pub sorted_each : (table : TableValue) (kept : List (List ListedFile)) (d : ℕ) → d < length table.columns → get_or (all_sorted table kept) d [] ≡ sorted_at table kept d
 sorted_each table kept d below = get_or-map-range_with_len (sorted_at table kept) 0 (length table.columns) d d [] below (omega arith)
 
-laid_files : (block_size : ℕ) (records : List Record) (free : List ℕ) (files : List Sorted) → own_files (laid_records block_size records free files) ≡ map (λ (file : Sorted). (file.path, file.meta)) files
+pub laid_files : (block_size : ℕ) (records : List Record) (free : List ℕ) (files : List Sorted) → own_files (laid_records block_size records free files) ≡ map (λ (file : Sorted). (file.path, file.meta)) files
 laid_files block_size records free [] = refl
 laid_files block_size records free (file ∷ files) = ap (λ (rest : List ListedFile). (file.path, file.meta) ∷ rest) (laid_files block_size records (drop (needed block_size file) free) files)
 
@@ -21,7 +21,7 @@ sorted_names : (records : List Record) (files : List ListedFile) (ks : List ℕ)
 sorted_names records files [] = refl
 sorted_names records files (k ∷ ks) = ap (λ (rest : List ListedFile). file_of files k ∷ rest) (sorted_names records files ks)
 
-files_again : (records : List Record) (files : List ListedFile) → map (λ (file : Sorted). (file.path, file.meta)) (sorted_files records files) ≡ files
+pub files_again : (records : List Record) (files : List ListedFile) → map (λ (file : Sorted). (file.path, file.meta)) (sorted_files records files) ≡ files
 files_again records files =
     sorted_names records files (range_with_len 0 (length files)) ∙ sym (fill_by_all (file_of files) files (length files) ([], no_meta) refl (λ k below. refl))
 

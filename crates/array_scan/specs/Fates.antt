@@ -1,11 +1,12 @@
 -- What becomes of the kept files of a column: each is unchanged, changed, moved or new.
-use Rattle.std.specs.Prelude.{ℕ, ◌<◌, ◌==◌, ◌&&◌, ◌||◌, List, [], ◌∷◌, length, map, filter, take, position, slice_index_or, slice_get, count_by, not, nat_lt, bytes_eq, Bool, true, false, if◌then◌else◌, Option, None, Some}
+use Rattle.std.specs.Prelude.{◌≡◌, ℕ, ◌<◌, ◌==◌, ◌&&◌, List, [], length, map, filter, take, position, slice_index_or, slice_get, count_by, not, nat_lt, bytes_eq, Bool, false, if◌then◌else◌, Option, None, Some, All, AllPairs}
 use Rattle.std.specs.List.{range_with_len, list_any}
 use Rattle.std.specs.Ordering.{int_eq}
 use Rattle.std.specs.Option.{is_none}
 use Rattle.disk_model.specs.Stamp.{IsStamp}
 use Rattle.disk_model.specs.declared.meta.Meta.{Meta}
 use Rattle.file_table.specs.Table.{Record, no_record, no_meta}
+use Rattle.file_table.specs.Valid.{IsMeta}
 use Rattle.array_scan.specs.declared.sorting.Fate.{Fate}
 use Rattle.array_scan.specs.declared.sorting.Fate.TheVariants.{Unchanged, Changed, Moved, New}
 use Rattle.array_scan.specs.declared.sorting.Sorted.{Sorted}
@@ -103,3 +104,20 @@ HasRecord count New = Unit {0}
 pub record IsSound (count : ℕ) (file : Sorted) : Type 0 where
   pub rec : HasRecord count file.fate
   pub stamp : IsStamp file.meta.stamp
+
+-- size and stamp of a file fit their fields
+abbrev pub HasMeta : Sorted → Type 0
+HasMeta file = IsMeta file.meta
+
+-- a file that keeps the blocks of a record has its size and stamp
+abbrev pub HasOriginMeta : List Record → Sorted → Type 0
+HasOriginMeta records file = (i : ℕ) → origin file.fate ≡ Some i → (record_of records i).meta ≡ file.meta
+
+-- two files do not keep the blocks of one record
+abbrev pub ShareNone : Sorted → Sorted → Type 0
+ShareNone a b = (i : ℕ) → origin a.fate ≡ Some i → origin b.fate ≡ Some i → ⊥
+
+-- the blocks of each record are kept by one file at most, of the same size and stamp
+pub record AreFates (records : List Record) (files : List Sorted) : Type 0 where
+  pub same : All (HasOriginMeta records) files
+  pub apart : AllPairs ShareNone files

@@ -1,5 +1,5 @@
 -- At which positions the blocks of a column stand.
-use Rattle.std.specs.Prelude.{ℕ, zero, suc, ◌+◌, List, [], ◌∷◌, ◌++◌, map, filter, take, drop, sum_by, not, Option, None, Some}
+use Rattle.std.specs.Prelude.{ℕ, zero, suc, List, [], ◌∷◌, ◌++◌, map, filter, take, drop, sum_by, not, Option, None, Some}
 use Rattle.std.specs.List.{flat_map}
 use Rattle.std.specs.Ordering.{nat_cmp}
 use Rattle.std.specs.FinSet.{FinSet, contains, insert, from_list}
@@ -62,6 +62,10 @@ abbrev pub laid_records : ℕ → List Record → List ℕ → List Sorted → L
 laid_records block_size records free [] = []
 laid_records block_size records free (file ∷ files) =
     laid_record block_size records free file ∷ laid_records block_size records (drop (needed block_size file) free) files
+
+-- their blocks, one file after another
+abbrev pub blocks_laid : ℕ → List Record → List ℕ → List Sorted → List Block
+blocks_laid block_size records free files = flat_map (λ (kept : Record). kept.blocks) (laid_records block_size records free files)
 
 -- a column after these files were laid out in it
 abbrev pub laid_column : ℕ → Column → List Sorted → Column

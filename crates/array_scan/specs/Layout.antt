@@ -9,7 +9,7 @@ use Rattle.array_scan.specs.declared.sorting.Sorted.{Sorted}
 use Rattle.array_scan.specs.declared.sorting.ColumnFiles.{ColumnFiles}
 use Rattle.array_scan.specs.declared.placing.Given.{Given}
 use Rattle.array_scan.specs.Kept.{ListedFile, each_column}
-use Rattle.array_scan.specs.Fates.{sorted_files, IsSound}
+use Rattle.array_scan.specs.Fates.{sorted_files, IsSound, AreFates}
 use Rattle.array_scan.specs.Laying.{laid_column, given, touched}
 
 -- the kept files of a column, and of each column, with their fates
@@ -72,7 +72,8 @@ given_of columns = map (λ (column : Given). column.positions.items) columns
 abbrev pub given_at : TableValue → List (List Sorted) → ℕ → List ℕ
 given_at old files d = given old.shape.block_size (column_at old.columns d) (get_or files d [])
 
--- files of the columns of a table: the records that they name are there
+-- files of the columns of a table: the records that they name are there, and the blocks of each are kept by one file at most
 pub record AreSound (old : TableValue) (files : List (List Sorted)) : Type 0 where
   pub count : length files ≡ length old.columns
   pub each : (d : ℕ) → d < length old.columns → All (IsSound (length (column_at old.columns d).records)) (get_or files d [])
+  pub fates : (d : ℕ) → d < length old.columns → AreFates (column_at old.columns d).records (get_or files d [])

@@ -6,5 +6,5 @@ pub mod Layout
 pub mod Listings
 pub mod Marks
 pub mod Own
-pub mod Pushing
 pub mod Refusals
+pub mod Keeping

@@ -2,10 +2,13 @@
 ghost use Rattle.std.specs.Prelude.{◌≡◌, List, Bool, None, length};
 ghost use Rattle.file_table.specs.Table.{TableValue};
 ghost use Rattle.file_table.specs.Valid.{IsValid};
+ghost use Rattle.array_scan.specs.Keeping.{KeepsStripes};
 ghost use Rattle.array_scan.specs.Kept.{ListedFile};
 ghost use Rattle.array_scan.specs.Layout.{all_sorted, layout};
-ghost use Rattle.array_scan.specs.Own.{HoldsJust};
+ghost use Rattle.array_scan.specs.Own.{AreKept, HoldsJust};
 ghost use Rattle.array_scan.specs.Refusals.{refusal};
+
+use file_table::laws::a_cell_stands_at_its_position;
 
 /// The layout of a valid table whose records are just the kept files is that table, whatever its hashes and what is
 /// known of its stripes, and it is not refused.
@@ -22,3 +25,19 @@ pub fn a_layout_is_of_the_kept_files()
     ensures { (table : TableValue) (kept : List (List ListedFile)) →
         length kept ≡ length table.columns → HoldsJust (layout table kept) kept }
 {}
+
+/// The layout of a valid table over kept files, as they come from a listing, is a valid table where it is not refused.
+pub fn a_layout_is_valid()
+    ensures { (force_zero force_empty : Bool) (table : TableValue) (kept : List (List ListedFile)) →
+        IsValid table → AreKept table kept →
+        refusal force_zero force_empty table (all_sorted table kept) ≡ None →
+        IsValid (layout table kept) }
+{}
+
+/// What a layout calls synced was so, with blocks of the same lengths and hashes.
+pub fn a_layout_keeps_its_stripes()
+    ensures { (table : TableValue) (kept : List (List ListedFile)) →
+        IsValid table → KeepsStripes (layout table kept) table }
+{
+    a_cell_stands_at_its_position();
+}

@@ -2,7 +2,9 @@
 ghost use Rattle.std.specs.Prelude.{◌≡◌, length, All, IfOk, IfErr, None};
 ghost use Rattle.disk_model.specs.Tree.{IsListing};
 ghost use Rattle.snap_config.specs.Setup.{setup_value};
+ghost use Rattle.file_table.specs.Valid.{IsValid};
 ghost use Rattle.array_scan.specs.Kept.{kept_lists, lists_of};
+ghost use Rattle.array_scan.specs.Fates.{HasMeta};
 ghost use Rattle.array_scan.specs.Layout.{sorted_of, all_sorted, layout, is_pending, pending_stripes, AreSound};
 ghost use Rattle.array_scan.specs.Refusals.{refusal, IsCause};
 
@@ -37,6 +39,8 @@ fn sort_columns(
     ensures sorted { IfOk result (λ columns. sorted_of columns.items
         ≡ all_sorted old.now (kept_lists (setup_value setup.now) (lists_of lists.now))) }
     ensures sound { IfOk result (λ columns. AreSound old.now (sorted_of columns.items)) }
+    ensures metas { IfOk result (λ columns. All (All HasMeta) (sorted_of columns.items)) }
+    ensures valid { IfOk result (λ columns. IsValid old.now) }
 {
     let mut columns = Vec::with_capacity(alloc, lists.len())?;
     for d in 0..old.disks() {
@@ -101,7 +105,7 @@ pub fn lay_out(
             let pending = pending_stripes(alloc, &table)?;
             Ok(Plan { table, pending })
         }
-        // That the builder refuses nothing of a layout but for memory is not proved.
+        // The layout is valid, so the builder refuses it for memory alone.
         Err(_) => Err(ScanFault::Memory),
     }
 }

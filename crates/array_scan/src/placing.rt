@@ -1,18 +1,17 @@
 // The positions of the blocks that have none yet.
-ghost use Rattle.std.specs.Prelude.{◌≡◌, ◌≤◌, ◌<◌, ◌++◌, ℕ, List, length, filter, replicate, not, slice_index_or, false, All, IfOk, OnOk};
+ghost use Rattle.std.specs.Prelude.{◌≡◌, ◌≤◌, ◌<◌, ◌+◌, ◌++◌, ℕ, List, length, filter, replicate, not, slice_index_or, false, All, AllPairs, IfOk, OnOk};
 ghost use Rattle.std.specs.FinSet as set;
 ghost use Rattle.file_table.specs.Table.{column_at, column_blocks, positions_of};
 ghost use Rattle.file_table.specs.Valid.{most_blocks};
 ghost use Rattle.array_scan.specs.Kept.{each_column};
-ghost use Rattle.array_scan.specs.Fates.{origin, IsSound};
+ghost use Rattle.array_scan.specs.Fates.{origin, IsSound, ShareNone, AreFates};
 ghost use Rattle.array_scan.specs.Laying.{kept_blocks, taken, needed, all_needed, free_positions, given, touched};
 ghost use Rattle.array_scan.specs.Layout.{sorted_of, given_of, AreSound, given_at, all_touched};
 ghost use Rattle.array_scan.specs.Refusals.{size_of, blocks_in, capped};
-ghost use Rattle.array_scan.specs.Marks.{AreHeld, AreTouched, StandBelow};
+ghost use Rattle.array_scan.specs.Marks.{AreHeld, AreTouched, AreFree, StandBelow};
 
 use crate::sorting::{ColumnFiles, Fate, Sorted};
 use disk_model::NoMemory;
-use file_table::limits::MOST_BLOCKS;
 use file_table::{Block, Table, blocks_for};
 use position_alloc::FreeList;
 use std::alloc::Global;
@@ -74,17 +73,15 @@ fn no_marks(alloc: Global, count: usize) -> Result<Vec<bool>, NoMemory>
 fn hold_blocks(list: &mut FreeList, held: &mut [bool], blocks: &[Block]) -> Result<(), NoMemory>
     requires short { length held.old ≤ most_blocks }
     requires below { StandBelow (length held.old) blocks.now }
+    requires free { AreFree list.old blocks.now }
     requires held { AreHeld held.old list.old }
     ensures list { (positions : List ℕ) → list.old ≡ set.from_list positions →
         OnOk result (list.new ≡ set.from_list (positions ++ positions_of blocks.now)) }
     ensures held { OnOk result (AreHeld held.new list.new) }
 {
     for block in blocks {
-        let at = block.position as usize;
-        if !held[at] {
-            list.mark(block.position)?;
-            held[at] = true;
-        }
+        list.mark(block.position)?;
+        held[block.position as usize] = true;
     }
     Ok(())
 }
@@ -100,6 +97,8 @@ fn hold_file(
     requires column { d < length old.now.columns }
     requires sound { IsSound (length (column_at old.now.columns d).records) file.now }
     requires long { length held.old ≡ length old.now.infos }
+    requires free { AreFree list.old
+        (kept_blocks (column_at old.now.columns d).records (origin file.now.fate)) }
     requires held { AreHeld held.old list.old }
     ensures list { (positions : List ℕ) → list.old ≡ set.from_list positions →
         OnOk result (list.new ≡ set.from_list (positions ++ positions_of
@@ -123,12 +122,14 @@ fn hold_column(
 ) -> Result<(), NoMemory>
     requires column { d < length old.now.columns }
     requires sound { All (IsSound (length (column_at old.now.columns d).records)) files.now }
+    requires apart { AllPairs ShareNone files.now }
     requires long { length held.old ≡ length old.now.infos }
     requires held { AreHeld held.old list.old }
     requires start { list.old ≡ set.empty }
     ensures list { OnOk result (list.new ≡ taken (column_at old.now.columns d).records files.now) }
     ensures held { OnOk result (AreHeld held.new list.new) }
 {
+    let _stripes = old.length();
     for file in files {
         hold_file(old, d, file, list, held)?;
     }
@@ -137,15 +138,12 @@ fn hold_column(
 
 // Takes so many positions, each the lowest that is free then.
 fn take_free(alloc: Global, list: &mut FreeList, count: u64) -> Result<Vec<u32>, NoMemory>
+    requires { set.len list.old + count ≤ most_blocks }
     ensures { IfOk result (λ free. free.items ≡ free_positions list.old count) }
 {
     let mut free = Vec::new(alloc);
     for _ in 0..count {
-        let position = list.first_free();
-        if position >= MOST_BLOCKS {
-            return Err(NoMemory);
-        }
-        list.mark(position)?;
+        let position = list.take()?;
         free.push(position)?;
     }
     Ok(free)
@@ -204,6 +202,7 @@ fn place(
 ) -> Result<Vec<u32>, NoMemory>
     requires column { d < length old.now.columns }
     requires sound { All (IsSound (length (column_at old.now.columns d).records)) files.now }
+    requires fates { AreFates (column_at old.now.columns d).records files.now }
     requires few { size_of old.now.shape.block_size files.now ≤ most_blocks }
     requires long { length marks.old ≡ length old.now.infos }
     ensures given { IfOk result (λ free. free.items

@@ -7,7 +7,7 @@ ghost use Rattle.disk_model.specs.Tree.{listed};
 ghost use Rattle.disk_model.specs.declared.meta.Meta.{Meta};
 ghost use Rattle.file_table.specs.Table.{column_at};
 ghost use Rattle.array_scan.specs.Kept.{ListedFile};
-ghost use Rattle.array_scan.specs.Fates.{same_meta, may_move, record_with, is_number, is_listed, vanished, fate_of, fate_by, fate_without, sorted_files, IsSound};
+ghost use Rattle.array_scan.specs.Fates.{same_meta, may_move, record_with, is_number, is_listed, vanished, fate_of, fate_by, fate_without, sorted_files, IsSound, HasMeta};
 ghost use Rattle.array_scan.specs.Lost.{Offers, source_in, left_by};
 
 use crate::lost::Lost;
@@ -187,6 +187,7 @@ pub(crate) fn sort_files(
         ≡ sorted_files (column_at old.now.columns d).records (listed files.items)) }
     ensures sound { IfOk result (λ sorted. All
         (IsSound (length (column_at old.now.columns d).records)) sorted.items) }
+    ensures metas { IfOk result (λ sorted. All HasMeta sorted.items) }
 {
     let fates = fates(alloc, old, d, &files)?;
     let mut sorted = Vec::with_capacity(alloc, files.len())?;

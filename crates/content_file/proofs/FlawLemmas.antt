@@ -1,6 +1,6 @@
 -- Steps of reading that tells flaws: what they found where all went well, and when all goes well.
 use Rattle.std.proofs.Common.{◌≡◌, ℕ, Bool, true, false, List, Option, Some, None, refl, ap, ◌∙◌}
-use Rattle.content_file.specs.Flaw.{Flaw, Read, Good, Bad, ◌>>=◌, found_or, passed_or}
+use Rattle.content_file.specs.Flaw.{Flaw, Read, Good, Bad, ◌>>=◌, and_then, found_or, passed_or}
 
 value_or : {A : Type 0} → A → Read A → A
 value_or d (Good x) = x
@@ -20,7 +20,7 @@ not_bad why field x e = let no : false ≡ true = ap is_good e in absurd cc
 
 -- the value of a step that went well
 pub good_then : {A B P : Type 0} (r : Read A) (f : A → Read B) (y : B) → (r >>= f) ≡ Good y → ((x : A) → r ≡ Good x → f x ≡ Good y → P) → P
-unfolding ◌>>=◌
+unfolding and_then
 good_then (Good x) f y e go = go x refl e
 good_then (Bad why field) f y e go = not_bad why field y e
 
@@ -36,7 +36,7 @@ passed_is why field false x y e = not_bad why field y e
 
 -- a step that goes well, and then what follows
 pub then_good : {A B : Type 0} (r : Read A) (f : A → Read B) (x : A) (y : B) → r ≡ Good x → f x ≡ Good y → (r >>= f) ≡ Good y
-unfolding ◌>>=◌
+unfolding and_then
 then_good r f x y e g = ap (λ s. s >>= f) e ∙ g
 
 pub found_good : {A : Type 0} (why : Flaw) (field : List ℕ) (o : Option A) (x : A) → o ≡ Some x → found_or why field o ≡ Good x

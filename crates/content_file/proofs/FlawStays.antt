@@ -27,7 +27,7 @@ Stay {A} read = (bytes more : List ℕ) → Stays (with_more more) more (read by
 
 -- ---- before the columns
 
-magic_stays : (bytes more : List ℕ) → Stays (λ rest. rest ++ more) more (read_magic bytes) (read_magic (bytes ++ more))
+pub magic_stays : (bytes more : List ℕ) → Stays (λ rest. rest ++ more) more (read_magic bytes) (read_magic (bytes ++ more))
 unfolding read_magic
 magic_stays bytes more =
     stays_then (with_more more) (λ rest. rest ++ more) more _ _ _ _ (stays_found _ _ _ _ _ _ (piece_more 7 bytes more)) (λ text.
@@ -35,21 +35,21 @@ magic_stays bytes more =
     stays_then (with_more more) (λ rest. rest ++ more) more _ _ _ _ (stays_found _ _ _ _ _ _ (byte_more known.1 more)) (λ version.
     stays_passed (λ rest. rest ++ more) more Version known.1 (eqb version.0 1) version.1)))
 
-from_one_stays : (most : ℕ) (bytes more : List ℕ) (number longer : Option (ℕ × List ℕ)) → FindsMore (with_more more) number longer
+pub from_one_stays : (most : ℕ) (bytes more : List ℕ) (number longer : Option (ℕ × List ℕ)) → FindsMore (with_more more) number longer
     → Stays (with_more more) more (read_from_one most bytes number) (read_from_one most (bytes ++ more) longer)
 unfolding read_from_one
 from_one_stays most bytes more number longer finds =
     stays_then (with_more more) (with_more more) more _ _ _ _ (stays_found _ _ _ _ _ _ finds) (λ field.
     stays_allowed (with_more more) more Value bytes (eqb field.0 0 || ltb most field.0) field)
 
-kind_stays : Stay read_kind
+pub kind_stays : Stay read_kind
 unfolding read_kind
 kind_stays bytes more =
     stays_then (with_more more) (with_more more) more _ _ _ _ (stays_found _ _ _ _ _ _ (byte_more bytes more)) (λ code.
     stays_then (λ kind. kind) (with_more more) more _ _ _ _ (stays_known more Value bytes (kind_of code.0)) (λ kind.
     stays_good (with_more more) more (kind, code.1)))
 
-shape_stays : Stay read_shape
+pub shape_stays : Stay read_shape
 unfolding read_shape
 shape_stays bytes more =
     stays_then (with_more more) (with_more more) more _ _ _ _ (from_one_stays 4096 bytes more _ _ (number_more w32 bytes more)) (λ size.
@@ -58,13 +58,13 @@ shape_stays bytes more =
     stays_then (with_more more) (with_more more) more _ _ _ _ (stays_found _ _ _ _ _ _ (piece_more 16 kind.1 more)) (λ seed.
     stays_good (with_more more) more _))))
 
-length_stays : Stay read_length
+pub length_stays : Stay read_length
 unfolding read_length
 length_stays bytes more =
     stays_then (with_more more) (with_more more) more _ _ _ _ (stays_found _ _ _ _ _ _ (number_more w32 bytes more)) (λ size.
     stays_passed (with_more more) more Value bytes (leb size.0 most_blocks) size)
 
-head_stays : Stay read_head
+pub head_stays : Stay read_head
 unfolding read_head
 head_stays bytes more =
     stays_then (λ rest. rest ++ more) (with_more more) more _ _ _ _ (magic_stays bytes more) (λ rest.
@@ -75,19 +75,19 @@ head_stays bytes more =
 
 -- ---- columns
 
-name_stays : (columns : List Column) → Stay (read_name columns)
+pub name_stays : (columns : List Column) → Stay (read_name columns)
 unfolding read_name
 name_stays columns bytes more =
     stays_then (with_more more) (with_more more) more _ _ _ _ (stays_found _ _ _ _ _ _ (short_text_more bytes more)) (λ name.
     stays_passed (with_more more) more Name bytes (is_name name.0 && not (is_named columns name.0)) name)
 
-count_stays : (columns : List Column) → Stay (read_count columns)
+pub count_stays : (columns : List Column) → Stay (read_count columns)
 unfolding read_count
 count_stays columns bytes more =
     stays_then (with_more more) (with_more more) more _ _ _ _ (stays_found _ _ _ _ _ _ (number_more w32 bytes more)) (λ count.
     stays_passed (with_more more) more Full bytes (leb (length (records_of columns) + count.0) most_records) count)
 
-path_stays : (records : List Record) → Stay (read_path records)
+pub path_stays : (records : List Record) → Stay (read_path records)
 unfolding read_path
 path_stays records bytes more =
     stays_then (with_more more) (with_more more) more _ _ _ _ (stays_found _ _ _ _ _ _ (long_text_more bytes more)) (λ path.
@@ -95,20 +95,20 @@ path_stays records bytes more =
     stays_then (with_more more) (with_more more) more _ _ _ _ (stays_passed (with_more more) more Order bytes (is_greatest records path.0) path) (λ greater.
     stays_passed (with_more more) more Path bytes (not (is_nested records path.0)) path)))
 
-size_stays : (block_size : ℕ) (records : List Record) → Stay (read_size block_size records)
+pub size_stays : (block_size : ℕ) (records : List Record) → Stay (read_size block_size records)
 unfolding read_size
 size_stays block_size records bytes more =
     stays_then (with_more more) (with_more more) more _ _ _ _ (stays_found _ _ _ _ _ _ (number_more w64 bytes more)) (λ size.
     stays_passed (with_more more) more Full bytes (leb (blocks_due block_size records + block_count block_size size.0) most_blocks) size)
 
-stamp_stays : Stay read_stamp
+pub stamp_stays : Stay read_stamp
 unfolding read_stamp
 stamp_stays bytes more =
     stays_then (with_more more) (with_more more) more _ _ _ _ (stays_found _ _ _ _ _ _ (number_more w64 bytes more)) (λ seconds.
     stays_then (with_more more) (with_more more) more _ _ _ _ (stays_found _ _ _ _ _ _ (number_more w32 seconds.1 more)) (λ nanos.
     stays_passed (with_more more) more Value seconds.1 (ltb nanos.0 1000000000) (record { seconds = cast_signed w64 seconds.0; nanos = nanos.0 }, nanos.1)))
 
-hash_stays : Stay read_hash
+pub hash_stays : Stay read_hash
 unfolding read_hash Stays
 hash_stays [] more = λ other. absurd (other refl)
 hash_stays (zero ∷ bytes) more = refl
@@ -116,7 +116,7 @@ hash_stays (suc zero ∷ bytes) more =
     stays_then (with_more more) (with_more more) more _ _ _ _ (stays_found _ _ _ _ _ _ (piece_more 16 bytes more)) (λ digest. stays_good (with_more more) more _)
 hash_stays (suc (suc flag) ∷ bytes) more = λ _. refl
 
-block_stays : (the_length : ℕ) (blocks : List Block) → Stay (read_block the_length blocks)
+pub block_stays : (the_length : ℕ) (blocks : List Block) → Stay (read_block the_length blocks)
 unfolding read_block
 block_stays the_length blocks bytes more =
     stays_then (with_more more) (with_more more) more _ _ _ _ (stays_found _ _ _ _ _ _ (number_more w32 bytes more)) (λ position.
@@ -124,7 +124,7 @@ block_stays the_length blocks bytes more =
     stays_then (with_more more) (with_more more) more _ _ _ _ (hash_stays free.1 more) (λ hash.
     stays_good (with_more more) more _)))
 
-record_stays : (head : Head) (columns : List Column) (records : List Record) → Stay (read_record head columns records)
+pub record_stays : (head : Head) (columns : List Column) (records : List Record) → Stay (read_record head columns records)
 unfolding read_record
 record_stays head columns records bytes more =
     stays_then (with_more more) (with_more more) more _ _ _ _ (path_stays records bytes more) (λ path.
@@ -134,7 +134,7 @@ record_stays head columns records bytes more =
     (many_stay more (λ before. read_block head.length (blocks_in records ++ before)) (λ before rest. block_stays head.length (blocks_in records ++ before) rest more) (block_count head.shape.block_size size.0) [] stamp.1) (λ blocks.
     stays_good (with_more more) more _))))
 
-column_stays : (head : Head) (columns : List Column) → Stay (read_column head columns)
+pub column_stays : (head : Head) (columns : List Column) → Stay (read_column head columns)
 unfolding read_column
 column_stays head columns bytes more =
     stays_then (with_more more) (with_more more) more _ _ _ _ (name_stays columns bytes more) (λ name.
@@ -145,7 +145,7 @@ column_stays head columns bytes more =
 
 -- ---- after the columns
 
-info_stays : (columns : List Column) (infos : List Info) → Stay (read_info columns infos)
+pub info_stays : (columns : List Column) (infos : List Info) → Stay (read_info columns infos)
 unfolding read_info
 info_stays columns infos bytes more =
     stays_then (with_more more) (with_more more) more _ _ _ _ (stays_found _ _ _ _ _ _ (byte_more bytes more)) (λ flags.
@@ -164,7 +164,7 @@ extra_stays rest more digest =
     extra_keeps rest more digest (eqb (length rest) 0) (eqb (length (rest ++ more)) 0)
     (λ some. ne_eqb (length (rest ++ more)) 0 (λ none. let zero_rest : length rest ≡ 0 = omega (arith, none, length-append rest more) in eqb-false (length rest) 0 some zero_rest))
 
-end_stays : (whole last more : List ℕ) → KeepsFlaw more (read_end whole last) (read_end (whole ++ more) (last ++ more))
+pub end_stays : (whole last more : List ℕ) → KeepsFlaw more (read_end whole last) (read_end (whole ++ more) (last ++ more))
 unfolding read_end
 end_stays whole last more =
     let n = length whole - length last in
@@ -177,7 +177,7 @@ end_stays whole last more =
 -- ---- the whole
 
 -- there are more than 30 bytes before the columns
-head_long : (head : Head) → length head.shape.seed ≡ 16 → 30 ≤ length (head_bytes head)
+pub head_long : (head : Head) → length head.shape.seed ≡ 16 → 30 ≤ length (head_bytes head)
 head_long head sixteen =
     let size = to_le_bytes w32 (head.shape.block_size / 1024) in
     let stripes = to_le_bytes w32 head.length in

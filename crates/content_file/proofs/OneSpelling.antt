@@ -14,7 +14,7 @@ use Rattle.content_file.specs.Spelling.{column_bytes, info_bytes, body, spelling
 use Rattle.content_file.proofs.Fitting.{columns_fit}
 use Rattle.content_file.proofs.Apart.{FitsColumn, apart_from_again, many_apart, column_apart, info_apart}
 use Rattle.content_file.proofs.Whole.{head_of_table, head_again, body-parts}
-use Rattle.content_file.proofs.Undone.{is_head}
+use Rattle.content_file.proofs.Whole.{is_head}
 
 table_is : (a b : TableValue) → a.shape ≡ b.shape → a.columns ≡ b.columns → a.infos ≡ b.infos → a ≡ b
 table_is a b s c i =

@@ -13,8 +13,7 @@ use Rattle.content_file.specs.Reading.{piece_at}
 use Rattle.content_file.specs.Flaw.{Good, damage_of}
 use Rattle.content_file.specs.FirstFlaw.{read_head, read_column, read_info, read_end, read_content, first_flaw}
 use Rattle.content_file.proofs.Fields.{piece_again}
-use Rattle.content_file.proofs.Whole.{head_of_table, body-parts}
-use Rattle.content_file.proofs.Undone.{is_head}
+use Rattle.content_file.proofs.Whole.{head_of_table, is_head, body-parts}
 use Rattle.content_file.proofs.FlawLemmas.{then_good, found_good, passed_good}
 use Rattle.content_file.proofs.TakenColumn.{AreColumnsOf}
 use Rattle.content_file.proofs.ReadHead.{head_reads}

@@ -12,8 +12,6 @@ use Rattle.file_table.specs.declared.fault.BuildFault.TheVariants.{Name, Order, 
 use Rattle.file_table.specs.Table.{Record, Column, no_record, records_of, column_blocks, positions_of, blocks_due, info_at}
 use Rattle.file_table.specs.Valid.{AreInfos, IsColumn, IsRecord, ComesBefore, IsInfo, IsState, IsHashedAt}
 use Rattle.file_table.specs.Building.{BuildingValue, LacksBlock, IsNewName, IsGreatest, IsNested, HasRoom, Uses, IsLength, last_column, newest_record, with_block, is_disk_fault, is_record_fault, is_block_fault, is_info_fault, is_finish_fault}
-use Rattle.content_file.specs.declared.fault.DecodeFault.TheVariants.{Damaged}
-use Rattle.content_file.specs.Fault.{of_build_fault}
 use Rattle.content_file.specs.Pushing.{with_records, AreWhole, MayStand}
 use Rattle.content_file.proofs.Columns.{record_of, front_of, front_and_last, records_of-with_records}
 use Rattle.content_file.proofs.Fronts.{AllPairs-last, last_is, positions_in, positions_in-push, records_last, blocks_last, due-append}
@@ -43,7 +41,7 @@ positions_with columns block some =
 pub block_refused : (fault : BuildFault) (mid : BuildingValue) (block : Block)
     → (fault ≡ Blocks → ¬ (LacksBlock mid)) → (fault ≡ Range → LacksBlock mid × (mid.length ≤ block.position))
     → (fault ≡ Repeated → LacksBlock mid × (block.position < mid.length) × Uses (last_column mid.columns) block.position)
-    → IsTrue (is_block_fault fault) → of_build_fault fault ≡ Damaged
+    → IsTrue (is_block_fault fault) → fault ≢ Memory
     → LacksBlock mid → 0 < length (last_column mid.columns).records → MayStand mid (with_block mid.columns block) → ⊥
 block_refused fault mid block blocks range repeated only damaged lacks some may =
     let column = blocks_last mid.length mid.shape.block_size mid.columns (block ∷ []) may in
@@ -56,11 +54,11 @@ block_refused fault mid block blocks range repeated only damaged lacks some may 
   where
     by_cases : (fault : BuildFault) → (fault ≡ Blocks → ¬ (LacksBlock mid)) → (fault ≡ Range → LacksBlock mid × (mid.length ≤ block.position))
         → (fault ≡ Repeated → LacksBlock mid × (block.position < mid.length) × Uses (last_column mid.columns) block.position)
-        → IsTrue (is_block_fault fault) → of_build_fault fault ≡ Damaged → block.position < mid.length → ¬ (Uses (last_column mid.columns) block.position) → ⊥
+        → IsTrue (is_block_fault fault) → fault ≢ Memory → block.position < mid.length → ¬ (Uses (last_column mid.columns) block.position) → ⊥
     by_cases Blocks blocks range repeated only damaged below unused = blocks refl lacks
     by_cases Range blocks range repeated only damaged below unused = omega (arith, (range refl).1)
     by_cases Repeated blocks range repeated only damaged below unused = unused (repeated refl).2
-    by_cases Memory blocks range repeated only damaged below unused = cc
+    by_cases Memory blocks range repeated only damaged below unused = absurd (damaged refl)
     by_cases _ blocks range repeated only damaged below unused = cc
 
 -- ---- a record
@@ -70,7 +68,7 @@ pub record_refused : (fault : BuildFault) (mid : BuildingValue) (path : List ℕ
     → (fault ≡ Order → ¬ (LacksBlock mid) × IsRecordPath path × ¬ (IsGreatest (last_column mid.columns) path))
     → (fault ≡ Nested → ¬ (LacksBlock mid) × IsRecordPath path × IsGreatest (last_column mid.columns) path × IsNested (last_column mid.columns) path)
     → (fault ≡ Full → ¬ (LacksBlock mid) × IsRecordPath path × IsGreatest (last_column mid.columns) path × ¬ (IsNested (last_column mid.columns) path) × ¬ (HasRoom mid meta.size))
-    → IsTrue (is_record_fault fault) → of_build_fault fault ≡ Damaged
+    → IsTrue (is_record_fault fault) → fault ≢ Memory
     → 0 < length mid.columns → AreWhole mid (records_of mid.columns) → MayStand mid (with_records mid.columns (record_of path meta blocks ∷ [])) → ⊥
 record_refused fault mid path meta blocks lacks name order nested full only damaged some whole may =
     let kept = record_of path meta blocks in
@@ -95,21 +93,21 @@ record_refused fault mid path meta blocks lacks name order nested full only dama
         → (fault ≡ Order → ¬ (LacksBlock mid) × IsRecordPath path × ¬ (IsGreatest (last_column mid.columns) path))
         → (fault ≡ Nested → ¬ (LacksBlock mid) × IsRecordPath path × IsGreatest (last_column mid.columns) path × IsNested (last_column mid.columns) path)
         → (fault ≡ Full → ¬ (LacksBlock mid) × IsRecordPath path × IsGreatest (last_column mid.columns) path × ¬ (IsNested (last_column mid.columns) path) × ¬ (HasRoom mid meta.size))
-        → IsTrue (is_record_fault fault) → of_build_fault fault ≡ Damaged
+        → IsTrue (is_record_fault fault) → fault ≢ Memory
         → ¬ (LacksBlock mid) → IsRecordPath path → IsGreatest (last_column mid.columns) path → ¬ (IsNested (last_column mid.columns) path) → HasRoom mid meta.size → ⊥
     by_cases Blocks lacks name order nested full only damaged none is_path greatest not_nested room = none (lacks refl)
     by_cases Name lacks name order nested full only damaged none is_path greatest not_nested room = (name refl).1 is_path
     by_cases Order lacks name order nested full only damaged none is_path greatest not_nested room = (order refl).2 greatest
     by_cases Nested lacks name order nested full only damaged none is_path greatest not_nested room = not_nested (nested refl).3
     by_cases Full lacks name order nested full only damaged none is_path greatest not_nested room = (full refl).4 room
-    by_cases Memory lacks name order nested full only damaged none is_path greatest not_nested room = cc
+    by_cases Memory lacks name order nested full only damaged none is_path greatest not_nested room = absurd (damaged refl)
     by_cases _ lacks name order nested full only damaged none is_path greatest not_nested room = cc
 
 -- ---- a column
 
 pub disk_refused : (fault : BuildFault) (mid : BuildingValue) (column : Column)
     → (fault ≡ Blocks → LacksBlock mid) → (fault ≡ Name → ¬ (LacksBlock mid) × ¬ (IsNewName mid.columns column.name))
-    → IsTrue (is_disk_fault fault) → of_build_fault fault ≡ Damaged
+    → IsTrue (is_disk_fault fault) → fault ≢ Memory
     → AreWhole mid (records_of mid.columns) → MayStand mid (mid.columns ++ column ∷ []) → ⊥
 disk_refused fault mid column lacks name only damaged whole may =
     let new : IsNewName mid.columns column.name = record {
@@ -120,10 +118,10 @@ disk_refused fault mid column lacks name only damaged whole may =
     by_cases fault lacks name only damaged (whole_lacks_none mid whole) new
   where
     by_cases : (fault : BuildFault) → (fault ≡ Blocks → LacksBlock mid) → (fault ≡ Name → ¬ (LacksBlock mid) × ¬ (IsNewName mid.columns column.name))
-        → IsTrue (is_disk_fault fault) → of_build_fault fault ≡ Damaged → ¬ (LacksBlock mid) → IsNewName mid.columns column.name → ⊥
+        → IsTrue (is_disk_fault fault) → fault ≢ Memory → ¬ (LacksBlock mid) → IsNewName mid.columns column.name → ⊥
     by_cases Blocks lacks name only damaged none new = none (lacks refl)
     by_cases Name lacks name only damaged none new = (name refl).1 new
-    by_cases Memory lacks name only damaged none new = cc
+    by_cases Memory lacks name only damaged none new = absurd (damaged refl)
     by_cases _ lacks name only damaged none new = cc
 
 -- ---- the information on a stripe
@@ -132,7 +130,7 @@ pub info_refused : (fault : BuildFault) (mid : BuildingValue) (info : Info)
     → (fault ≡ Blocks → LacksBlock mid) → (fault ≡ State → ¬ (LacksBlock mid) × ¬ (IsState info))
     → (fault ≡ Length → ¬ (LacksBlock mid) × IsState info × (length mid.infos ≡ mid.length))
     → (fault ≡ Hash → ¬ (LacksBlock mid) × IsState info × (length mid.infos < mid.length) × (info.mark ≡ Synced) × ¬ (IsHashedAt mid.columns (length mid.infos)))
-    → IsTrue (is_info_fault fault) → of_build_fault fault ≡ Damaged
+    → IsTrue (is_info_fault fault) → fault ≢ Memory
     → AreWhole mid (records_of mid.columns) → length mid.infos < mid.length → AreInfos mid.columns (mid.infos ++ info ∷ []) → ⊥
 info_refused fault mid info lacks state size hash only damaged whole room may =
     let is : IsInfo info = last_is IsInfo mid.infos info may.each in
@@ -144,13 +142,13 @@ info_refused fault mid info lacks state size hash only damaged whole room may =
     by_cases : (fault : BuildFault) → (fault ≡ Blocks → LacksBlock mid) → (fault ≡ State → ¬ (LacksBlock mid) × ¬ (IsState info))
         → (fault ≡ Length → ¬ (LacksBlock mid) × IsState info × (length mid.infos ≡ mid.length))
         → (fault ≡ Hash → ¬ (LacksBlock mid) × IsState info × (length mid.infos < mid.length) × (info.mark ≡ Synced) × ¬ (IsHashedAt mid.columns (length mid.infos)))
-        → IsTrue (is_info_fault fault) → of_build_fault fault ≡ Damaged
+        → IsTrue (is_info_fault fault) → fault ≢ Memory
         → ¬ (LacksBlock mid) → IsState info → length mid.infos < mid.length → (info.mark ≡ Synced → IsHashedAt mid.columns (length mid.infos)) → ⊥
     by_cases Blocks lacks state size hash only damaged none is room hashed = none (lacks refl)
     by_cases State lacks state size hash only damaged none is room hashed = (state refl).1 is
     by_cases Length lacks state size hash only damaged none is room hashed = let e = (size refl).2 in omega (arith, e)
     by_cases Hash lacks state size hash only damaged none is room hashed = (hash refl).4 (hashed (hash refl).3)
-    by_cases Memory lacks state size hash only damaged none is room hashed = cc
+    by_cases Memory lacks state size hash only damaged none is room hashed = absurd (damaged refl)
     by_cases _ lacks state size hash only damaged none is room hashed = cc
 
 -- ---- the whole
@@ -159,17 +157,17 @@ pub finish_refused : (fault : BuildFault) (mid : BuildingValue)
     → (fault ≡ Name → mid.columns ≡ []) → (fault ≡ Blocks → (0 < length mid.columns) × LacksBlock mid)
     → (fault ≡ State → (0 < length mid.columns) × ¬ (LacksBlock mid) × (length mid.infos < mid.length))
     → (fault ≡ Length → (0 < length mid.columns) × ¬ (LacksBlock mid) × (length mid.infos ≡ mid.length) × ¬ (IsLength mid))
-    → IsTrue (is_finish_fault fault) → of_build_fault fault ≡ Damaged
+    → IsTrue (is_finish_fault fault) → fault ≢ Memory
     → 0 < length mid.columns → AreWhole mid (records_of mid.columns) → length mid.infos ≡ mid.length → IsLength mid → ⊥
 finish_refused fault mid name lacks state size only damaged some whole full is_length = by_cases fault name lacks state size only damaged (whole_lacks_none mid whole)
   where
     by_cases : (fault : BuildFault) → (fault ≡ Name → mid.columns ≡ []) → (fault ≡ Blocks → (0 < length mid.columns) × LacksBlock mid)
         → (fault ≡ State → (0 < length mid.columns) × ¬ (LacksBlock mid) × (length mid.infos < mid.length))
         → (fault ≡ Length → (0 < length mid.columns) × ¬ (LacksBlock mid) × (length mid.infos ≡ mid.length) × ¬ (IsLength mid))
-        → IsTrue (is_finish_fault fault) → of_build_fault fault ≡ Damaged → ¬ (LacksBlock mid) → ⊥
+        → IsTrue (is_finish_fault fault) → fault ≢ Memory → ¬ (LacksBlock mid) → ⊥
     by_cases Name name lacks state size only damaged none = omega (arith, ap length (name refl))
     by_cases Blocks name lacks state size only damaged none = none (lacks refl).1
     by_cases State name lacks state size only damaged none = let fewer = (state refl).2 in omega (arith, fewer)
     by_cases Length name lacks state size only damaged none = (size refl).3 is_length
-    by_cases Memory name lacks state size only damaged none = cc
+    by_cases Memory name lacks state size only damaged none = absurd (damaged refl)
     by_cases _ name lacks state size only damaged none = cc

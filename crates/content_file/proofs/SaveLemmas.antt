@@ -3,14 +3,13 @@ use Rattle.std.proofs.Common.{◌≡◌, ◌⊎◌, inl, inr, ⊎_elim, ℕ, ◌
 use Rattle.std.proofs.lemmas.List.{set-get_or, get_or-set_same, get_or-set_other, get_or_past, set_past}
 use Rattle.std.proofs.lemmas.Bool.{cases_eq, cases_lt}
 use Rattle.disk_model.specs.Files.{Files, Stays, MayPublish, content_of}
-use Rattle.disk_model.specs.Vault.{VaultView, SomeCalls, ChangesBy, Holds, DraftIs, staged_of, draft_of, copies_of, state_of, is_sealed, IsWellFormed}
+use Rattle.disk_model.specs.Vault.{VaultView, SomeCalls, ChangesBy, Holds, DraftIs, staged_of, draft_of, copies_of, is_sealed, IsWellFormed}
 use Rattle.disk_model.specs.declared.draft.Draft.TheVariants.{Absent, Sealed}
 use Rattle.disk_model.specs.declared.fault.Failed.{Failed}
 use Rattle.disk_model.proofs.MomentsLemmas.{leaves_more}
 use Rattle.disk_model.proofs.VaultLemmas.{on_ok, no_calls, calls_then, changes_start, changes_then, changes_more, stays_then, draft_state, draft_bytes}
-use Rattle.content_file.specs.Save.{MaySave, HasSaved, HasNoDraft, copy_calls, piecewise_calls, save_calls}
-use Rattle.disk_model.specs.Calls.{MakesThese, FailsAmong}
-use Rattle.disk_model.specs.Ran.{RanAll, RanUpTo, vault_done, log_of}
+use Rattle.content_file.specs.Save.{MaySave, HasSaved, HasNoDraft, copy_calls, piecewise_calls}
+use Rattle.disk_model.specs.Calls.{MakesThese}
 use Rattle.disk_model.proofs.CallsLemmas.{these_none}
 use Rattle.disk_model.proofs.InOrder.{all_more}
 
@@ -152,19 +151,3 @@ saving_more size copy bytes old mid new within so_far calls made changes holds g
   drafts = drafts_so_far size copy bytes old mid new so_far gone;
   gone = below_more (λ k. draft_of new k ≡ Absent) copy (λ k below. other_draft copy k [] mid new gone (so_far.gone k below)) (draft_state copy Absent [] mid new within gone);
 }
-
--- ---- by pieces of 65,536 bytes
-
-pub these_of_ran : (size copies : ℕ) (bytes : List ℕ) (old new : VaultView) → size ≡ 65536 → RanAll vault_done (piecewise_calls size copies bytes) (log_of (state_of old)) (log_of (state_of new)) → MakesThese (save_calls copies bytes) old new
-these_of_ran size copies bytes old new is ran = subst (λ n. MakesThese (piecewise_calls n copies bytes) old new) is ran.grown
-
-pub among_of_ran : (size copies : ℕ) (bytes : List ℕ) (old new : VaultView) → size ≡ 65536 → RanUpTo vault_done (piecewise_calls size copies bytes) (log_of (state_of old)) (log_of (state_of new)) → FailsAmong (save_calls copies bytes) old new
-among_of_ran size copies bytes old new is ran =
-    subst (λ n. FailsAmong (piecewise_calls n copies bytes) old new) is (record {
-      rose = ran.rose;
-      earlier = ran.earlier;
-      call = ran.call;
-      later = ran.later;
-      whole = ran.whole;
-      made = ran.grown.more;
-    })

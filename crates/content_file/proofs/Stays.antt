@@ -4,7 +4,7 @@ use Rattle.std.specs.Int.{Width, w16, byte_len, from_le_bytes}
 use Rattle.std.proofs.lemmas.Bool.{ltb-false, le-ltb}
 use Rattle.std.proofs.lemmas.List.{length-append, take-append-le, drop-append-le}
 use Rattle.content_file.specs.Reading.{byte_at, number_at, piece_at, short_text_at, long_text_at}
-use Rattle.content_file.specs.Flaw.{Flaw, Short, Read, Good, Bad, ◌>>=◌, found_or, passed_or}
+use Rattle.content_file.specs.Flaw.{Flaw, Short, Read, Good, Bad, ◌>>=◌, and_then, found_or, passed_or}
 use Rattle.content_file.specs.FirstFlaw.{read_many}
 use Rattle.content_file.proofs.Fields.{bind_some, guard_false, some_is}
 
@@ -30,18 +30,18 @@ stays_good extended more x = refl
 
 pub stays_then : {A B : Type 0} (extended : A → A) (after : B → B) (more : List ℕ) (r s : Read A) (f g : A → Read B) → Stays extended more r s
     → ((x : A) → Stays after more (f x) (g (extended x))) → Stays after more (r >>= f) (s >>= g)
-unfolding Stays ◌>>=◌
+unfolding Stays and_then
 stays_then extended after more (Good x) s f g e go = subst (λ t. Stays after more (f x) (t >>= g)) (sym e) (go x)
 stays_then extended after more (Bad why field) s f g e go = λ other. ap (λ t. t >>= g) (e other)
 
 pub keeps_then : {A B : Type 0} (extended : A → A) (more : List ℕ) (r s : Read A) (f g : A → Read B) → Stays extended more r s
     → ((x : A) → r ≡ Good x → KeepsFlaw more (f x) (g (extended x))) → KeepsFlaw more (r >>= f) (s >>= g)
-unfolding Stays KeepsFlaw ◌>>=◌
+unfolding Stays KeepsFlaw and_then
 keeps_then extended more (Good x) s f g e go = subst (λ t. KeepsFlaw more (f x) (t >>= g)) (sym e) (go x refl)
 keeps_then extended more (Bad why field) s f g e go = λ other. ap (λ t. t >>= g) (e other)
 
 pub keeps_last : {A B : Type 0} (more : List ℕ) (r s : Read A) (y : B) → KeepsFlaw more r s → KeepsFlaw more (r >>= λ _. Good y) (s >>= λ _. Good y)
-unfolding KeepsFlaw ◌>>=◌
+unfolding KeepsFlaw and_then
 keeps_last more (Good x) s y e = tt
 keeps_last more (Bad why field) s y e = λ other. ap (λ t. t >>= λ _. Good y) (e other)
 

@@ -72,7 +72,7 @@ block_taken the_length blocks bytes block rest fits e =
     subst (λ (x : Block × List ℕ). BlockTaken the_length blocks bytes x.0 x.1) (good_is made (block, rest) r2) here)))
 
 -- the column with one block more in its last record
-with_one_more : (records : List Record) (path : List ℕ) (meta : Meta) (blocks : List Block) (block : Block)
+pub with_one_more : (records : List Record) (path : List ℕ) (meta : Meta) (blocks : List Block) (block : Block)
     → records_with_block (records ++ record_of path meta blocks ∷ []) block ≡ records ++ record_of path meta (blocks ++ block ∷ []) ∷ []
 with_one_more records path meta blocks block =
     let r = record_of path meta blocks in

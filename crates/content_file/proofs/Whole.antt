@@ -10,20 +10,16 @@ use Rattle.std.proofs.lemmas.Slice.Eq.{bytes_eq-Decides}
 use Rattle.sha2.specs.Sha256.{sha256}
 use Rattle.file_table.specs.declared.shape.Shape.{Shape}
 use Rattle.file_table.specs.Table.{TableValue}
-use Rattle.file_table.specs.Building.{BuildingValue, new_building}
+use Rattle.file_table.specs.Valid.{IsValid}
 use Rattle.content_file.specs.Spelling.{magic, shape_bytes, column_bytes, info_bytes, body, spelling}
 use Rattle.content_file.specs.declared.head.Head.{Head}
 use Rattle.content_file.specs.Head.{head_bytes, head_at, IsHead}
 use Rattle.content_file.specs.Reading.{◌>>=◌, byte_at, piece_at, magic_at, shape_at, length_at, count_at}
-use Rattle.content_file.specs.Pushing.{ReadsColumns, ReadsInfos}
 use Rattle.content_file.proofs.Fields.{IsBytes, from_some, some_is, guard_true, Takes, takes_then, byte_takes, piece_takes, piece_again}
 use Rattle.content_file.proofs.Heads.{shape_takes, shape_again, length_takes, length_again, count_takes, count_again}
 
 abbrev head_of : Shape → ℕ → ℕ → Head
 head_of shape size count = record { shape = shape; length = size; columns = count }
-
-abbrev pub table_of : BuildingValue → TableValue
-table_of building = record { shape = building.shape; columns = building.columns; infos = building.infos }
 
 pub regroup_head : (a b c d rest : List ℕ) → (((a ++ b) ++ c) ++ d) ++ rest ≡ a ++ (b ++ (c ++ (d ++ rest)))
 regroup_head a b c d rest = simp append_assoc
@@ -95,23 +91,11 @@ pub body-parts : (table : TableValue) (rest : List ℕ) → body table ++ rest �
 body-parts table rest =
     regroup_body (magic ++ shape_bytes table.shape ++ to_le_bytes w32 (length table.infos)) (length table.columns ∷ []) (flat_map column_bytes table.columns) (flat_map info_bytes table.infos) rest
 
--- what stands before the digest
-pub body_read : (bytes r1 r2 last : List ℕ) (head : Head) (start mid end : BuildingValue)
-    → bytes ≡ head_bytes head ++ r1 → start ≡ new_building head.shape head.length → ReadsColumns start r1 head.columns mid r2 → ReadsInfos mid r2 head.length end last
-    → bytes ≡ body (table_of end) ++ last
-body_read bytes r1 r2 last head start mid end first starts columns infos =
-    let made : TableValue = record { shape = head.shape; columns = columns.columns; infos = infos.infos } in
-    let end-is : end ≡ record { shape = head.shape; length = head.length; columns = columns.columns; infos = infos.infos } =
-    infos.pushed ∙ ap (λ (b : BuildingValue). record b { infos = b.infos ++ infos.infos }) (columns.pushed ∙ ap (λ (b : BuildingValue). record b { columns = b.columns ++ columns.columns }) starts) in
-    let head-is : head ≡ head_of_table made = ap (λ (p : ℕ × ℕ). head_of head.shape p.0 p.1) (pair_is _ _ _ _ (sym infos.as_many) (sym columns.as_many)) in
-    let parts : bytes ≡ head_bytes head ++ (flat_map column_bytes columns.columns ++ (flat_map info_bytes infos.infos ++ last)) =
-    first ∙ ap (λ (r : List ℕ). head_bytes head ++ r) (columns.spelled ∙ ap (λ (r : List ℕ). flat_map column_bytes columns.columns ++ r) infos.spelled) in
-    let whole : bytes ≡ body made ++ last = parts ∙ ap (λ (h : Head). head_bytes h ++ (flat_map column_bytes columns.columns ++ (flat_map info_bytes infos.infos ++ last))) head-is ∙ sym (body-parts made last) in
-    subst (λ (b : BuildingValue). bytes ≡ body (table_of b) ++ last) (sym end-is) whole
-  where
-    pair_is : (a b c d : ℕ) → a ≡ b → c ≡ d → ◌≡◌ {A = ℕ × ℕ} (a, c) (b, d)
-    pair_is a b c d p q = cc
+-- the head of a valid table may stand before its columns
+pub is_head : (table : TableValue) → IsValid table → IsHead (head_of_table table)
+is_head table valid = record { shape = valid.shape; short = valid.short; some_column = valid.some_column; few_columns = valid.columns.few }
 
+-- the body, and the digest behind it
 pub whole_read : (bytes last : List ℕ) (table : TableValue) → bytes ≡ body table ++ last → last ≡ sha256 (take (length bytes - length last) bytes) → bytes ≡ spelling table
 whole_read bytes last table parts digest =
     let n : length (body table) ≡ length bytes - length last = omega (arith, ap length parts, length-append (body table) last) in

@@ -3,7 +3,7 @@ use Rattle.std.specs.Prelude.{◌≡◌, ℕ, List, [], ◌∷◌, ◌++◌, map
 use Rattle.std.specs.Str.{is_utf8, chars}
 use Rattle.std.specs.Char.{encode_utf8}
 use Rattle.sha2.specs.Sha256.{sha256, digest_bytes, hash_after, compress, rounds, schedule, first_words}
-use Rattle.content_file.specs.Flaw.{Flaw, Short, Magic, Version, Value, Name, Path, Order, Full, Position, Length, Hash, Digest, Extra, Damage, ◌>>=◌, found_or, passed_or}
+use Rattle.content_file.specs.Flaw.{Flaw, Short, Magic, Version, Value, Name, Path, Order, Full, Position, Length, Hash, Digest, Extra, Damage, and_then, found_or, passed_or}
 use Rattle.content_file.specs.FirstFlaw.{first_flaw, read_many, read_magic, read_from_one, read_kind, read_shape, read_length, read_head, read_name, read_count, read_path, read_size, read_stamp, read_hash, read_block, read_record, read_column, read_info, read_end, read_content}
 use Rattle.content_file.specs.Reading.{short_text_at, long_text_at}
 
@@ -85,7 +85,7 @@ pub head_flaws : HaveFlaws (
     (but 34 0, at 34 Value) ∷
     (but 34 252, at 34 Value) ∷
     [])
-unfolding ◌>>=◌ found_or passed_or read_many read_magic read_from_one read_kind read_shape read_length read_head read_name read_count read_path
+unfolding and_then found_or passed_or read_many read_magic read_from_one read_kind read_shape read_length read_head read_name read_count read_path
     read_size read_stamp read_hash read_block read_record read_column read_info read_end read_content short_text_at long_text_at is_utf8 chars encode_utf8
 head_flaws = refl
 
@@ -98,7 +98,7 @@ pub column_flaws : HaveFlaws (
     (but 41 2, at 38 Full) ∷
     (take 40 one_file, at 38 Short) ∷
     [])
-unfolding ◌>>=◌ found_or passed_or read_many read_magic read_from_one read_kind read_shape read_length read_head read_name read_count read_path
+unfolding and_then found_or passed_or read_many read_magic read_from_one read_kind read_shape read_length read_head read_name read_count read_path
     read_size read_stamp read_hash read_block read_record read_column read_info read_end read_content short_text_at long_text_at is_utf8 chars encode_utf8
 column_flaws = refl
 
@@ -110,7 +110,7 @@ pub path_flaws : HaveFlaws (
     (head_with 0 1 ++ column_with 2 ++ file_with path_a 0 0 ++ file_with path_a 0 0, at 65 Order) ∷
     (head_with 0 1 ++ column_with 2 ++ file_with path_a 0 0 ++ file_with path_a_b 0 0, at 65 Path) ∷
     [])
-unfolding ◌>>=◌ found_or passed_or read_many read_magic read_from_one read_kind read_shape read_length read_head read_name read_count read_path
+unfolding and_then found_or passed_or read_many read_magic read_from_one read_kind read_shape read_length read_head read_name read_count read_path
     read_size read_stamp read_hash read_block read_record read_column read_info read_end read_content short_text_at long_text_at is_utf8 chars encode_utf8
 path_flaws = refl
 
@@ -120,7 +120,7 @@ pub meta_flaws : HaveFlaws (
     (take 60 one_file, at 53 Short) ∷
     (take 61 one_file ++ 0x00 ∷ 0xca ∷ 0x9a ∷ 0x3b ∷ drop 65 one_file, at 61 Value) ∷
     [])
-unfolding ◌>>=◌ found_or passed_or read_many read_magic read_from_one read_kind read_shape read_length read_head read_name read_count read_path
+unfolding and_then found_or passed_or read_many read_magic read_from_one read_kind read_shape read_length read_head read_name read_count read_path
     read_size read_stamp read_hash read_block read_record read_column read_info read_end read_content short_text_at long_text_at is_utf8 chars encode_utf8
 meta_flaws = refl
 
@@ -131,7 +131,7 @@ pub block_flaws : HaveFlaws (
     (but 69 2, at 69 Value) ∷
     (take 85 one_file, at 70 Short) ∷
     [])
-unfolding ◌>>=◌ found_or passed_or read_many read_magic read_from_one read_kind read_shape read_length read_head read_name read_count read_path
+unfolding and_then found_or passed_or read_many read_magic read_from_one read_kind read_shape read_length read_head read_name read_count read_path
     read_size read_stamp read_hash read_block read_record read_column read_info read_end read_content short_text_at long_text_at is_utf8 chars encode_utf8
 block_flaws = refl
 
@@ -140,7 +140,7 @@ pub length_flaws : HaveFlaws (
     (but 30 2, at 30 Length) ∷
     (slice_set (take 86 one_file) 30 2, at 30 Length) ∷
     [])
-unfolding ◌>>=◌ found_or passed_or read_many read_magic read_from_one read_kind read_shape read_length read_head read_name read_count read_path
+unfolding and_then found_or passed_or read_many read_magic read_from_one read_kind read_shape read_length read_head read_name read_count read_path
     read_size read_stamp read_hash read_block read_record read_column read_info read_end read_content short_text_at long_text_at is_utf8 chars encode_utf8
 length_flaws = refl
 
@@ -153,7 +153,7 @@ pub stripe_flaws : HaveFlaws (
     (take 94 one_file, at 87 Short) ∷
     (but 86 0, at 87 Value) ∷
     [])
-unfolding ◌>>=◌ found_or passed_or read_many read_magic read_from_one read_kind read_shape read_length read_head read_name read_count read_path
+unfolding and_then found_or passed_or read_many read_magic read_from_one read_kind read_shape read_length read_head read_name read_count read_path
     read_size read_stamp read_hash read_block read_record read_column read_info read_end read_content short_text_at long_text_at is_utf8 chars encode_utf8
 stripe_flaws = refl
 
@@ -165,7 +165,7 @@ pub digest_flaws : HaveFlaws (
     (one_file ++ 0 ∷ [], at 127 Extra) ∷
     (one_file, None) ∷
     [])
-unfolding ◌>>=◌ found_or passed_or read_many read_magic read_from_one read_kind read_shape read_length read_head read_name read_count read_path
+unfolding and_then found_or passed_or read_many read_magic read_from_one read_kind read_shape read_length read_head read_name read_count read_path
     read_size read_stamp read_hash read_block read_record read_column read_info read_end read_content short_text_at long_text_at is_utf8 chars encode_utf8
     sha256 digest_bytes hash_after compress rounds schedule first_words
 digest_flaws = refl

@@ -1,38 +1,8 @@
 -- What may be wrong with a content file, and where; and reading that tells it.
 use Rattle.std.specs.Prelude.{ℕ, ◌-◌, List, length, Bool, true, false, Option, None, Some}
-
--- why a field is refused
-pub data Flaw : Type 0 where
-  -- the bytes end within it
-  Short : Flaw
-  -- the first seven bytes, and the version behind them, are others
-  Magic : Flaw
-  Version : Flaw
-  -- a number that is not allowed there
-  Value : Flaw
-  -- no disk's name, or that of an earlier column
-  Name : Flaw
-  -- no record's path, or an earlier one is a directory of it
-  Path : Flaw
-  -- a path that is not greater than the one before
-  Order : Flaw
-  -- more records or blocks than a table may have
-  Full : Flaw
-  -- a position past the length, or a used one
-  Position : Flaw
-  -- a length that is not one more than the greatest position
-  Length : Flaw
-  -- a synced stripe with a block without hash
-  Hash : Flaw
-  -- the digest of other bytes
-  Digest : Flaw
-  -- something behind the end
-  Extra : Flaw
-
--- the first wrong field: the offset of its first byte, and why it is refused
-pub record Damage : Type 0 where
-  pub offset : ℕ
-  pub why : Flaw
+pub use Rattle.content_file.specs.declared.fault.Flaw.{Flaw}
+pub use Rattle.content_file.specs.declared.fault.Flaw.TheVariants.{Short, Magic, Version, Value, Name, Path, Order, Full, Position, Length, Hash, Digest, Extra}
+pub use Rattle.content_file.specs.declared.fault.Damage.{Damage}
 
 -- what was read; or why a field is refused, and the bytes from its first one on
 pub data Read (A : Type 0) : Type 0 where
@@ -40,10 +10,13 @@ pub data Read (A : Type 0) : Type 0 where
   Bad : Flaw → List ℕ → Read A
 
 -- one field, and then what follows from it
+unfoldable pub and_then : {A B : Type 0} → Read A → (A → Read B) → Read B
+and_then (Good x) f = f x
+and_then (Bad why field) f = Bad why field
+
 infixl 10 ◌>>=◌
-unfoldable pub ◌>>=◌ : {A B : Type 0} → Read A → (A → Read B) → Read B
-(Good x) >>= f = f x
-(Bad why field) >>= f = Bad why field
+abbrev pub ◌>>=◌ : {A B : Type 0} → Read A → (A → Read B) → Read B
+r >>= f = and_then r f
 
 -- what was found; where nothing was, the field that begins with these bytes has this flaw
 unfoldable pub found_or : {A : Type 0} → Flaw → List ℕ → Option A → Read A

@@ -1,5 +1,5 @@
 -- Reading a content file from left to right: the field at the front of the bytes, and the bytes after it. `None` where no such field stands there.
-use Rattle.std.specs.Prelude.{◌≡◌, ℕ, zero, suc, ◌*◌, List, [], ◌∷◌, length, take, drop, true, false, nat_lt, ◌==◌, ◌||◌, if◌then◌else◌, Result, Ok, Err, codes}
+use Rattle.std.specs.Prelude.{ℕ, zero, suc, ◌*◌, List, [], ◌∷◌, length, take, drop, true, false, nat_lt, ◌==◌, ◌||◌, if◌then◌else◌, codes}
 use Rattle.std.specs.Str.{bytes_eq}
 use Rattle.std.specs.Prelude.{Option, None, Some}
 use Rattle.std.specs.Int.{Width, w16, w32, w64, byte_len, from_le_bytes, cast_signed}
@@ -11,23 +11,12 @@ use Rattle.file_table.specs.declared.shape.Shape.{Shape}
 use Rattle.file_table.specs.declared.block.Block.{Block}
 use Rattle.file_table.specs.declared.info.Info.{Info}
 use Rattle.file_table.specs.declared.info.Mark.TheVariants.{Pending, Synced}
-use Rattle.content_file.specs.declared.fault.DecodeFault.{DecodeFault}
-use Rattle.content_file.specs.declared.fault.DecodeFault.TheVariants as faults
 
 -- one field, and then what follows from it
 infixl 10 ◌>>=◌
 abbrev pub ◌>>=◌ : {A B : Type 0} → Option A → (A → Option B) → Option B
 None >>= f = None
 (Some x) >>= f = f x
-
--- What a function returned, seen by view, is what reading gives, unless memory ran out.
-abbrev pub Fails : {Y : Type 0} → DecodeFault → Option Y → Type 0
-Fails faults.Memory read = Unit {0}
-Fails faults.Damaged read = read ≡ None
-
-abbrev pub Gives : {X Y : Type 0} → (X → Y) → Result X DecodeFault → Option Y → Type 0
-Gives view (Ok x) read = read ≡ Some (view x)
-Gives view (Err e) read = Fails e read
 
 abbrev pub byte_at : List ℕ → Option (ℕ × List ℕ)
 byte_at [] = None

@@ -1,5 +1,5 @@
 -- What saving leaves of a vault, and which calls it makes.
-use Rattle.std.specs.Prelude.{◌≡◌, ◌⊎◌, ℕ, ◌*◌, ◌<◌, ◌≤◌, List, [], ◌∷◌, ◌++◌, length, take, drop, map, Some}
+use Rattle.std.specs.Prelude.{◌≡◌, ◌⊎◌, ℕ, ◌*◌, ◌<◌, List, [], ◌∷◌, ◌++◌, length, take, drop, map, Some}
 use Rattle.std.specs.Int.{div_ceil}
 use Rattle.std.specs.List.{flat_map, range_with_len}
 use Rattle.disk_model.specs.Files.{Files, content_of}
@@ -18,14 +18,6 @@ HasSaved copies bytes files = (copy : ℕ) → copy < copies → content_of file
 -- no copy has a draft
 abbrev pub HasNoDraft : VaultView → Type 0
 HasNoDraft v = (copy : ℕ) → draft_of v copy ≡ Absent
-
--- a call that begins, seals or publishes a draft, or appends at most 65,536 bytes to it
-abbrev pub IsDraftCall : VaultCall → Type 0
-IsDraftCall (DraftBegin copy) = Unit {0}
-IsDraftCall (DraftAppend copy bytes) = length bytes ≤ 65536
-IsDraftCall (DraftSeal copy) = Unit {0}
-IsDraftCall (Publish copy) = Unit {0}
-IsDraftCall _ = ⊥
 
 -- bytes in pieces of a size, of which the last may be shorter: the n-th, and how many they are
 abbrev pub piece_of : ℕ → List ℕ → ℕ → List ℕ
@@ -53,7 +45,3 @@ copy_calls size bytes copy = draft_calls size bytes copy ++ Publish copy ∷ []
 -- the calls that save bytes to each of the first copies, in order
 abbrev pub piecewise_calls : ℕ → ℕ → List ℕ → List VaultCall
 piecewise_calls size copies bytes = flat_map (copy_calls size bytes) (range_with_len 0 copies)
-
--- the same by pieces of 65,536 bytes
-abbrev pub save_calls : ℕ → List ℕ → List VaultCall
-save_calls copies bytes = piecewise_calls 65536 copies bytes

@@ -1,16 +1,55 @@
-// Why bytes or copies gave no table.
+// Why bytes gave no table.
 ghost use Rattle.std.specs.Prelude.{◌≡◌};
-ghost use Rattle.content_file.specs.Fault.{of_path_fault, of_build_fault};
 ghost use Rattle.content_file.specs.declared.fault.DecodeFault.TheVariants.{Memory};
+ghost use Rattle.content_file.specs.declared.fault.Refusal.TheVariants as refusals;
 
-use disk_model::{NoMemory, PathFault};
-use file_table::BuildFault;
+use disk_model::NoMemory;
+use std::alloc::AllocError;
+
+/// What is wrong with a field of a content file.
+#[derive(Clone, Copy, Debug, PartialEq, Eq)]
+pub enum Flaw {
+    /// The bytes end within it.
+    Short,
+    /// The first seven bytes are others.
+    Magic,
+    /// The eighth byte is another.
+    Version,
+    /// A number that is not allowed there.
+    Value,
+    /// No disk's name, or that of an earlier column.
+    Name,
+    /// No record's path, or an earlier one of the column is a directory of it.
+    Path,
+    /// A path that is not greater than the one before in the column.
+    Order,
+    /// More records or blocks than a table may have.
+    Full,
+    /// A position that is not below the length, or that an earlier block of the column has.
+    Position,
+    /// A length that is not one more than the greatest position.
+    Length,
+    /// A synced stripe that has a block without hash.
+    Hash,
+    /// The digest of other bytes.
+    Digest,
+    /// Bytes behind the digest.
+    Extra,
+}
+
+/// The first wrong field of a content file.
+#[derive(Clone, Copy, Debug, PartialEq, Eq)]
+pub struct Damage {
+    /// How many bytes stand before it. Those of a name or a path begin with its length.
+    pub offset: u64,
+    pub why: Flaw,
+}
 
 /// Why bytes gave no table.
 #[derive(Clone, Copy, Debug, PartialEq, Eq)]
 pub enum DecodeFault {
     /// They are the spelling of no table.
-    Damaged,
+    Damaged(Damage),
     Memory,
 }
 
@@ -22,24 +61,20 @@ impl From<NoMemory> for DecodeFault {
     }
 }
 
-impl From<PathFault> for DecodeFault {
-    ghost from_gives = { λ fault e. e ≡ of_path_fault fault };
-
-    fn from(fault: PathFault) -> DecodeFault {
-        match fault {
-            PathFault::Invalid => DecodeFault::Damaged,
-            PathFault::Memory => DecodeFault::Memory,
-        }
-    }
+/// Why no field was read.
+#[derive(Clone, Copy)]
+pub(crate) enum Refusal<'a> {
+    /// The field that begins with these bytes is wrong.
+    Flawed(Flaw, &'a [u8]),
+    /// The length, which stands far before, is wrong.
+    Length,
+    Memory,
 }
 
-impl From<BuildFault> for DecodeFault {
-    ghost from_gives = { λ fault e. e ≡ of_build_fault fault };
+impl<'a> From<NoMemory> for Refusal<'a> {
+    ghost from_gives = { λ _ e. e ≡ refusals.Memory };
 
-    fn from(fault: BuildFault) -> DecodeFault {
-        match fault {
-            BuildFault::Memory => DecodeFault::Memory,
-            _ => DecodeFault::Damaged,
-        }
+    fn from(_fault: NoMemory) -> Refusal<'a> {
+        Refusal::Memory
     }
 }

@@ -1,10 +1,13 @@
 // What stands before the columns of a content file.
 ghost use Rattle.std.specs.Prelude.{◌≤◌, IfOk};
-ghost use Rattle.content_file.specs.Reading.{Gives, magic_at, kibibytes_at, levels_at, kind_at, shape_at, length_at, count_at};
-ghost use Rattle.content_file.specs.Head.{head_at};
+ghost use Rattle.std.specs.Int.{w32};
+ghost use Rattle.content_file.specs.FirstFlaw.{read_magic, read_from_one, read_kind, read_shape, read_length, read_head};
+ghost use Rattle.content_file.specs.Giving.{Gives};
+ghost use Rattle.content_file.specs.Reading.{byte_at, number_at};
 
-use crate::DecodeFault;
-use crate::DecodeFault::Damaged;
+use crate::Flaw::{Magic, Value, Version};
+use crate::fault::Refusal;
+use crate::fault::Refusal::Flawed;
 use crate::reader::{byte_of, piece_of, sixteen_of, u32_of};
 use block_hash::Kind;
 use file_table::Shape;
@@ -32,62 +35,63 @@ pub(crate) struct Head {
 }
 
 // The bytes after the magic and the version.
-#[tactic(auto, unfolding(crate::specs::Reading::magic_at))]
-fn magic_of(bytes: &[u8]) -> Result<&[u8], DecodeFault>
-    ensures { Gives (λ rest. rest.now) result (magic_at bytes.now) }
+#[tactic(auto, unfolding(crate::specs::Flaw::and_then, crate::specs::Flaw::passed_or, crate::specs::FirstFlaw::read_magic))]
+fn magic_of(bytes: &[u8]) -> Result<&[u8], Refusal<'_>>
+    ensures { Gives (λ rest. rest.now) result (read_magic bytes.now) }
 {
-    let (text, rest) = piece_of(MAGIC.len(), bytes)?;
+    let (text, after) = piece_of(MAGIC.len(), bytes)?;
     if text != MAGIC.as_slice() {
-        return Err(Damaged);
+        return Err(Flawed(Magic, bytes));
     }
-    let (version, rest) = byte_of(rest)?;
+    let (version, rest) = byte_of(after)?;
     if version != VERSION {
-        return Err(Damaged);
+        return Err(Flawed(Version, after));
     }
     Ok(rest)
 }
 
-#[tactic(auto, unfolding(crate::specs::Reading::kibibytes_at))]
-fn kibibytes_of(bytes: &[u8]) -> Result<(u32, &[u8]), DecodeFault>
-    ensures read { Gives (λ x. (x.0, x.1.now)) result (kibibytes_at bytes.now) }
+#[tactic(auto, unfolding(crate::specs::Flaw::and_then, crate::specs::Flaw::found_or, crate::specs::FirstFlaw::read_from_one))]
+fn kibibytes_of(bytes: &[u8]) -> Result<(u32, &[u8]), Refusal<'_>>
+    ensures read { Gives (λ x. (x.0, x.1.now)) result (read_from_one 4096 bytes.now (number_at w32 bytes.now)) }
     ensures few { IfOk result (λ x. x.0 ≤ 4096) }
 {
     let (kibibytes, rest) = u32_of(bytes)?;
     if kibibytes == 0 || kibibytes > MOST_KIBIBYTES {
-        return Err(Damaged);
+        return Err(Flawed(Value, bytes));
     }
     Ok((kibibytes, rest))
 }
 
-#[tactic(auto, unfolding(crate::specs::Reading::levels_at))]
-fn levels_of(bytes: &[u8]) -> Result<(u8, &[u8]), DecodeFault>
-    ensures { Gives (λ x. (x.0, x.1.now)) result (levels_at bytes.now) }
+// A number of one byte, from 1 to the most.
+#[tactic(auto, unfolding(crate::specs::Flaw::and_then, crate::specs::Flaw::found_or, crate::specs::FirstFlaw::read_from_one))]
+fn from_one_of(most: u8, bytes: &[u8]) -> Result<(u8, &[u8]), Refusal<'_>>
+    ensures { Gives (λ x. (x.0, x.1.now)) result (read_from_one most bytes.now (byte_at bytes.now)) }
 {
-    let (levels, rest) = byte_of(bytes)?;
-    if levels == 0 || levels > MOST_LEVELS {
-        return Err(Damaged);
+    let (number, rest) = byte_of(bytes)?;
+    if number == 0 || number > most {
+        return Err(Flawed(Value, bytes));
     }
-    Ok((levels, rest))
+    Ok((number, rest))
 }
 
-#[tactic(auto, unfolding(crate::specs::Reading::kind_at))]
-fn kind_of(bytes: &[u8]) -> Result<(Kind, &[u8]), DecodeFault>
-    ensures { Gives (λ x. (x.0, x.1.now)) result (kind_at bytes.now) }
+#[tactic(auto, unfolding(crate::specs::Flaw::and_then, crate::specs::Flaw::found_or, crate::specs::FirstFlaw::read_kind))]
+fn kind_of(bytes: &[u8]) -> Result<(Kind, &[u8]), Refusal<'_>>
+    ensures { Gives (λ x. (x.0, x.1.now)) result (read_kind bytes.now) }
 {
     let (code, rest) = byte_of(bytes)?;
     match code {
         1 => Ok((Kind::Md5, rest)),
         2 => Ok((Kind::Sha256, rest)),
-        _ => Err(Damaged),
+        _ => Err(Flawed(Value, bytes)),
     }
 }
 
-#[tactic(auto, unfolding(crate::specs::Reading::shape_at))]
-fn shape_of(bytes: &[u8]) -> Result<(Shape, &[u8]), DecodeFault>
-    ensures { Gives (λ x. (x.0, x.1.now)) result (shape_at bytes.now) }
+#[tactic(auto, unfolding(crate::specs::Flaw::and_then, crate::specs::FirstFlaw::read_shape))]
+fn shape_of(bytes: &[u8]) -> Result<(Shape, &[u8]), Refusal<'_>>
+    ensures { Gives (λ x. (x.0, x.1.now)) result (read_shape bytes.now) }
 {
     let (kibibytes, rest) = kibibytes_of(bytes)?;
-    let (levels, rest) = levels_of(rest)?;
+    let (levels, rest) = from_one_of(MOST_LEVELS, rest)?;
     let (kind, rest) = kind_of(rest)?;
     let (seed, rest) = sixteen_of(rest)?;
     let block_size = kibibytes * 1024;
@@ -103,36 +107,25 @@ fn shape_of(bytes: &[u8]) -> Result<(Shape, &[u8]), DecodeFault>
     ))
 }
 
-#[tactic(auto, unfolding(crate::specs::Reading::length_at))]
-fn length_of(bytes: &[u8]) -> Result<(u32, &[u8]), DecodeFault>
-    ensures { Gives (λ x. (x.0, x.1.now)) result (length_at bytes.now) }
+#[tactic(auto, unfolding(crate::specs::Flaw::and_then, crate::specs::Flaw::passed_or, crate::specs::FirstFlaw::read_length))]
+fn length_of(bytes: &[u8]) -> Result<(u32, &[u8]), Refusal<'_>>
+    ensures { Gives (λ x. (x.0, x.1.now)) result (read_length bytes.now) }
 {
     let (length, rest) = u32_of(bytes)?;
     if length > MOST_STRIPES {
-        return Err(Damaged);
+        return Err(Flawed(Value, bytes));
     }
     Ok((length, rest))
 }
 
-#[tactic(auto, unfolding(crate::specs::Reading::count_at))]
-fn count_of(bytes: &[u8]) -> Result<(u8, &[u8]), DecodeFault>
-    ensures { Gives (λ x. (x.0, x.1.now)) result (count_at bytes.now) }
-{
-    let (count, rest) = byte_of(bytes)?;
-    if count == 0 || count > MOST_COLUMNS {
-        return Err(Damaged);
-    }
-    Ok((count, rest))
-}
-
-#[tactic(auto, unfolding(crate::specs::Head::head_at))]
-pub(crate) fn head_of(bytes: &[u8]) -> Result<(Head, &[u8]), DecodeFault>
-    ensures { Gives (λ x. (x.0, x.1.now)) result (head_at bytes.now) }
+#[tactic(auto, unfolding(crate::specs::Flaw::and_then, crate::specs::FirstFlaw::read_head))]
+pub(crate) fn head_of(bytes: &[u8]) -> Result<(Head, &[u8]), Refusal<'_>>
+    ensures { Gives (λ x. (x.0, x.1.now)) result (read_head bytes.now) }
 {
     let rest = magic_of(bytes)?;
     let (shape, rest) = shape_of(rest)?;
     let (length, rest) = length_of(rest)?;
-    let (columns, rest) = count_of(rest)?;
+    let (columns, rest) = from_one_of(MOST_COLUMNS, rest)?;
     Ok((
         Head {
             shape,

@@ -72,7 +72,7 @@ fn load_copy<V: Vault>(alloc: Global, vault: &mut V, copy: u32) -> Result<Option
     };
     match decode(alloc, bytes.as_slice()) {
         Ok(table) => Ok(Some(table)),
-        Err(DecodeFault::Damaged) => Err(LoadFault::Damaged),
+        Err(DecodeFault::Damaged(_)) => Err(LoadFault::Damaged),
         Err(DecodeFault::Memory) => Err(LoadFault::Memory),
     }
 }

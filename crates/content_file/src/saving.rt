@@ -1,58 +1,19 @@
 // A table to the content copies.
-ghost use Rattle.std.specs.Prelude.{◌≡◌, ◌<◌, ◌++◌, [], length, OnOk, OnErr, IsErrOf, Some, true};
-ghost use Rattle.disk_model.specs.Calls.{Makes, FailsBy, MakesThese, FailsAmong};
+ghost use Rattle.std.specs.Prelude.{◌≡◌, ◌<◌, ◌++◌, [], length, OnOk, OnErr, Some, true};
+ghost use Rattle.disk_model.specs.Calls.{MakesThese, FailsAmong};
 ghost use Rattle.disk_model.specs.Files.{content_of, MayPublish, Stays};
 ghost use Rattle.disk_model.specs.Ran.{Ran};
 ghost use Rattle.disk_model.specs.Vault.{copies_of, draft_of, staged_of, state_of, SomeCalls, ChangesBy, DraftIs, Holds};
-ghost use Rattle.content_file.specs.Save.{MaySave, HasSaved, HasNoDraft, IsDraftCall, append_calls, draft_calls, copy_calls, piecewise_calls, save_calls};
+ghost use Rattle.content_file.specs.Save.{MaySave, HasSaved, HasNoDraft, append_calls, draft_calls, copy_calls, piecewise_calls};
 ghost use Rattle.content_file.specs.Spelling.{spelling};
 
 use crate::Encoder;
 use disk_model::{Draft, Failed, Vault};
 use file_table::Table;
-use std::alloc::Global;
-
-// How many bytes are written to a draft at once, where the caller has no buffer.
-const PIECE: usize = 65_536;
-
-/// Why a table was not saved to every copy.
-#[derive(Clone, Copy, Debug, PartialEq, Eq)]
-pub enum SaveFault {
-    /// A call of the vault failed.
-    Failed,
-    /// No call of the vault was made.
-    Memory,
-}
-
-/// As `save_in_pieces`, with a buffer that is taken for it.
-pub fn save<V: Vault>(alloc: Global, vault: &mut V, table: &Table) -> Result<(), SaveFault>
-    ensures calls { SomeCalls (V.view vault.old) (V.view vault.new) }
-    ensures made { OnOk result (Makes IsDraftCall (V.view vault.old) (V.view vault.new)) }
-    ensures ordered { OnOk result (MakesThese (save_calls (copies_of (V.view vault.old)) (spelling table.now)) (V.view vault.old) (V.view vault.new)) }
-    ensures changes { ChangesBy (MaySave (spelling table.now)) (V.view vault.old) (V.view vault.new) }
-    ensures drafts { HasNoDraft (V.view vault.old) → HasNoDraft (V.view vault.new) }
-    ensures saved { OnOk result (Holds (HasSaved (copies_of (V.view vault.old)) (spelling table.now)) (V.view vault.new)) }
-    ensures gone { OnOk result (HasNoDraft (V.view vault.new)) }
-    ensures cause { IsErrOf result SaveFault.Failed → FailsBy IsDraftCall (V.view vault.old) (V.view vault.new) }
-    ensures failed { IsErrOf result SaveFault.Failed → FailsAmong (save_calls (copies_of (V.view vault.old)) (spelling table.now)) (V.view vault.old) (V.view vault.new) }
-    ensures memory { IsErrOf result SaveFault.Memory → vault.new ≡ vault.old }
-{
-    let Ok(mut buffer) = vec![in alloc; 0u8; PIECE] else {
-        return Err(SaveFault::Memory);
-    };
-    match save_in_pieces(vault, table, buffer.as_mut_slice()) {
-        Ok(()) => Ok(()),
-        Err(_) => Err(SaveFault::Failed),
-    }
-}
 
 /// Saves a table to every copy, in order, each by a sealed draft in its place, in pieces as long as the buffer.
 /// Whatever it answers and whenever it is stopped, each copy is the old one or the whole new one. It takes no memory.
-pub fn save_in_pieces<V: Vault>(
-    vault: &mut V,
-    table: &Table,
-    buffer: &mut [u8],
-) -> Result<(), Failed>
+pub fn save<V: Vault>(vault: &mut V, table: &Table, buffer: &mut [u8]) -> Result<(), Failed>
     requires { 0 < length buffer.old }
     ensures calls { SomeCalls (V.view vault.old) (V.view vault.new) }
     ensures ran { Ran (piecewise_calls (length buffer.old) (copies_of (V.view vault.old)) (spelling table.now)) result

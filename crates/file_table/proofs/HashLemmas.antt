@@ -57,7 +57,7 @@ AllPairs-set {X} R xs i d new within later earlier all a b e less below =
     ]
 
 -- positions stay where a block is written with its position
-positions-set : (blocks : List Block) (n : ℕ) (block : Block) → n < length blocks → block.position ≡ (get_or blocks n no_block).position → positions_of (set blocks n block) ≡ positions_of blocks
+pub positions-set : (blocks : List Block) (n : ℕ) (block : Block) → n < length blocks → block.position ≡ (get_or blocks n no_block).position → positions_of (set blocks n block) ≡ positions_of blocks
 positions-set blocks n block within same =
     let read : get_or (positions_of blocks) n 0 ≡ block.position = get_or-map (λ (b : Block). b.position) blocks n no_block 0 within ∙ sym same in
     map-set (λ (b : Block). b.position) blocks n block ∙ ap (λ (p : ℕ). set (positions_of blocks) n p) (sym read) ∙ set-get_or (positions_of blocks) n 0

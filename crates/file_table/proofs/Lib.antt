@@ -12,6 +12,11 @@ pub mod CallLemmas
 pub mod CellLemmas
 pub mod CellInLemmas
 pub mod ViewLemmas
+pub mod ClosingLemmas
+pub mod PushingLemmas
+pub mod PrefixLemmas
+pub mod RefusedLemmas
+pub mod FittingLemmas
 pub mod IndexLemmas
 pub mod IndexedLemmas
 pub mod PlaceLemmas

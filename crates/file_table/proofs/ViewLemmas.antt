@@ -33,21 +33,21 @@ module _ (column : Column) (i index : ℕ) (hash : Digest16) (i_in : i < length 
   abbrev new_column : Column
   new_column = column_with_hash column i index hash
 
-  cell_stays : (position : ℕ) → cell_in new_column position ≡ cell_in column position
+  pub cell_stays : (position : ℕ) → cell_in new_column position ≡ cell_in column position
   cell_stays position = cell_among-set column.records i new_record position i_in
       (block_at-set (record_in column i).blocks index (record { position = (block_in (record_in column i) index).position; hash = Some hash }) position index_in refl)
 
-  other_record : (j : ℕ) → j ≢ i → record_in new_column j ≡ record_in column j
+  pub other_record : (j : ℕ) → j ≢ i → record_in new_column j ≡ record_in column j
   other_record j other = get_or-set_other column.records i j new_record no_record other
 
-  same_record : record_in new_column i ≡ new_record
+  pub same_record : record_in new_column i ≡ new_record
   same_record = get_or-set_same column.records i new_record no_record i_in
 
   other_block : (a : ℕ) → a ≢ index → block_in new_record a ≡ block_in (record_in column i) a
   other_block a other = get_or-set_other (record_in column i).blocks index a (record { position = (block_in (record_in column i) index).position; hash = Some hash }) no_block other
 
   -- another cell is seen as before
-  seen_stays : (j a : ℕ) → (block_in (record_in column j) a).position ≢ (block_in (record_in column i) index).position → cell_seen new_column (record { rec = j; index = a }) ≡ cell_seen column (record { rec = j; index = a })
+  pub seen_stays : (j a : ℕ) → (block_in (record_in column j) a).position ≢ (block_in (record_in column i) index).position → cell_seen new_column (record { rec = j; index = a }) ≡ cell_seen column (record { rec = j; index = a })
   seen_stays j a apart = elim (eqb_tells j i) [
     | inr other ↦ ap (λ (r : Record). let v : CellView = record { path = r.path; meta = r.meta; index = a; hash = (block_in r a).hash } in v) (other_record j other.1)
     | inl same ↦
@@ -59,7 +59,7 @@ module _ (column : Column) (i index : ℕ) (hash : Digest16) (i_in : i < length 
   ]
 
   -- the cell itself is seen with the hash
-  seen_hashed : cell_seen new_column (record { rec = i; index = index }) ≡ record (cell_seen column (record { rec = i; index = index })) { hash = Some hash }
+  pub seen_hashed : cell_seen new_column (record { rec = i; index = index }) ≡ record (cell_seen column (record { rec = i; index = index })) { hash = Some hash }
   seen_hashed =
       let made : Block = record { position = (block_in (record_in column i) index).position; hash = Some hash } in
       ap (λ (r : Record). let v : CellView = record { path = r.path; meta = r.meta; index = index; hash = (block_in r index).hash } in v) same_record
@@ -67,7 +67,7 @@ module _ (column : Column) (i index : ℕ) (hash : Digest16) (i_in : i < length 
       (get_or-set_same (record_in column i).blocks index made no_block index_in)
 
 -- what is seen at another position, in a column with a hash at one
-view_stays : (column : Column) (position other : ℕ) (cell : Cell) (hash : Digest16) → IsAt column position cell.rec cell.index → other ≢ position
+pub view_stays : (column : Column) (position other : ℕ) (cell : Cell) (hash : Digest16) → IsAt column position cell.rec cell.index → other ≢ position
     → cell_view (column_with_hash column cell.rec cell.index hash) other ≡ cell_view column other
 view_stays column position other cell hash at apart =
     let now : Column = column_with_hash column cell.rec cell.index hash in
@@ -99,7 +99,7 @@ view-hashed column stripe hash = by_case (cell_in column stripe) refl
         ap (option_map (cell_seen (column_with_hash column cell.rec cell.index hash))) (cell_stays column cell.rec cell.index hash at.within at.index_within stripe ∙ is)
         ∙ ap (λ (v : CellView). Some v) (seen_hashed column cell.rec cell.index hash at.within at.index_within)
 
-cells-closed : (stripe other : ℕ) (hashes : List (Option Digest16)) (columns : List Column) → other ≢ stripe
+pub cells-closed : (stripe other : ℕ) (hashes : List (Option Digest16)) (columns : List Column) → other ≢ stripe
     → map (λ (column : Column). cell_view column other) (columns_closed stripe hashes columns) ≡ map (λ (column : Column). cell_view column other) columns
 cells-closed stripe other hashes [] apart = refl
 cells-closed stripe other [] (column ∷ columns) apart = refl

@@ -4,6 +4,8 @@ pub mod Building
 pub mod Disk
 pub mod Kept
 pub mod Cells
+pub mod Closing
+pub mod Pushing
 pub mod Index
 pub mod Marks
 pub mod Counted

@@ -4,7 +4,10 @@
 //! Start at `Table` in `table.rt`, and at `Builder` in `builder.rt`, the only way to make one.
 //! Proved: a table is valid (`specs/Valid.antt`), the builder refuses exactly what would break
 //! that and says so beforehand (`specs/Building.antt`), each query reads what was pushed, and
-//! closing a stripe leaves what is seen of the others (`laws.rt`, `specs/Cells.antt`).
+//! closing stripes, one after another, changes their hashes and infos alone and leaves what is
+//! seen of the others (`laws.rt`, `specs/Closing.antt`).
+//! For the crates above: what was pushed so far, and one part more (`specs/Pushing.antt`,
+//! `proofs/PushingLemmas.antt`); the loop that closes a stripe (`proofs/ClosingLemmas.antt`).
 //! How large a table may be stands in `limits.rt` alone.
 //! Not here: how a table is spelled in a content file.
 #![tactic(auto)]

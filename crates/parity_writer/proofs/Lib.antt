@@ -8,3 +8,10 @@ pub mod SumLemmas
 pub mod WriteLemmas
 pub mod ChosenLemmas
 pub mod SoundLemmas
+pub mod ClosingLemmas
+pub mod ReadRowLemmas
+pub mod PaddedLemmas
+pub mod ElsewhereLemmas
+pub mod LevelReadingLemmas
+pub mod WholeLevelLemmas
+pub mod PutRowLemmas

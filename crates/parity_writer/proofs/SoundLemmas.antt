@@ -1,8 +1,9 @@
 -- What keeps a table sound.
-use Rattle.std.proofs.Common.{ℕ, ◌+◌, ◌*◌, ◌≤◌, Bool, sym, subst, refl, arith}
+use Rattle.std.proofs.Common.{ℕ, ◌+◌, ◌*◌, ◌<◌, ◌≤◌, length, Bool, sym, subst, refl, arith}
+use Rattle.std.proofs.lemmas.Nat.{row_fits}
 use Rattle.disk_model.specs.Files.{Files}
 use Rattle.file_table.specs.Table.{TableValue}
-use Rattle.parity_writer.specs.Keeps.{SameParities}
+use Rattle.parity_writer.specs.Keeps.{KeepsAt, SameParities}
 use Rattle.parity_writer.specs.Parity.{HasLevel, WritesBlocks}
 use Rattle.parity_writer.specs.Sound.{IsSynced, Snapshot, Sound}
 use Rattle.parity_writer.proofs.WriteLemmas.{apart}
@@ -23,4 +24,14 @@ module _ (table : TableValue) (old new : Files) (snapshot : Snapshot) (is_change
     rows = sound.rows;
     sums = λ stripe level synced below out.
         subst (HasLevel table.shape.block_size level stripe (snapshot stripe)) (sym (same level (omega (arith, below, enough)))) (sound.sums stripe level synced below out);
+  }
+
+  -- all bytes below the end of the blocks are kept
+  pub below_kept : (bytes : ℕ) → KeepsAt (λ i. i < bytes) old new → length table.infos * table.shape.block_size ≤ bytes → Sound table new snapshot is_changed
+  below_kept bytes keeps enough = record {
+    rows = sound.rows;
+    sums = λ stripe level synced below out i within.
+        let size = table.shape.block_size in
+        let fits : stripe * size + size ≤ length table.infos * size = row_fits stripe size (length table.infos) size synced.within (omega arith) in
+        keeps.bytes level (stripe * size + i) _ (omega (arith, within, fits, enough)) (sound.sums stripe level synced below out i within);
   }

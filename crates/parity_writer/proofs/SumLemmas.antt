@@ -17,7 +17,7 @@ pub byte_of_level : (level size : ℕ) (row : List (List ℕ)) (i : ℕ) → i <
 unfolding parity_of
 byte_of_level level size row i below = get_or-map-range_with_len (parity_byte level row) 0 size i i 0 below (zero-add i)
 
-level_of_bytes : (level size : ℕ) (row : List (List ℕ)) (xs : List ℕ) → length xs ≡ size → ((i : ℕ) → i < size → get_or xs i 0 ≡ parity_byte level row i) → xs ≡ parity_of level size row
+pub level_of_bytes : (level size : ℕ) (row : List (List ℕ)) (xs : List ℕ) → length xs ≡ size → ((i : ℕ) → i < size → get_or xs i 0 ≡ parity_byte level row i) → xs ≡ parity_of level size row
 unfolding parity_of
 level_of_bytes level size row xs long bytes = fill_by_all (parity_byte level row) xs size 0 long bytes
 

@@ -20,7 +20,8 @@ IsOutside block_size stripe i = (i < stripe * block_size) ⊎ (stripe * block_si
 abbrev pub SameParities : ℕ → Files → Files → Type 0
 SameParities levels files others = (level : ℕ) → level < levels → parity_of others level ≡ parity_of files level
 
--- A write of a stripe's block: the copies stay, and so does each byte outside of the block; no level grows past the end of the block.
+-- A write of a stripe's block: the copies stay, and so does each byte outside of the block; no level grows past the
+-- end of the block.
 pub record WritesBlock (block_size stripe : ℕ) (old new : Files) : Type 0 where
   pub keeps : KeepsAt (IsOutside block_size stripe) old new
   pub no_longer : (level : ℕ) → length (parity_of new level) ≤ max (length (parity_of old level)) (stripe * block_size + block_size)

@@ -5,3 +5,7 @@ pub mod WindowRow
 pub mod Parity
 pub mod Chosen
 pub mod Sound
+pub mod Closing
+pub mod LevelsValue
+pub mod LevelReading
+pub mod KeptLevels

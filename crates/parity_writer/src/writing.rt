@@ -5,7 +5,7 @@ ghost use Rattle.disk_model.specs.Vault.{SomeCalls, ChangesBy, DraftsStay, Reads
 ghost use Rattle.parity_writer.specs.Calls.{sum_calls};
 ghost use Rattle.parity_writer.specs.Chosen.{IsChosen, rows_with, window_calls};
 ghost use Rattle.parity_writer.specs.Keeps.{WritesBlock};
-ghost use Rattle.parity_writer.specs.Parity.{Rows, HoldsRows, WritesBlocks};
+ghost use Rattle.parity_writer.specs.Parity.{Rows, HoldsRows, SameElsewhere, WritesBlocks};
 ghost use Rattle.parity_writer.specs.Rows.{HasSums};
 ghost use Rattle.parity_writer.specs.WindowRow.{row_at};
 
@@ -43,7 +43,8 @@ fn write_row<V: Vault>(
     Ok(())
 }
 
-/// Writes each level of each chosen stripe of a window, in their order. The sums go through `block`. No memory is taken.
+/// Writes each level of each chosen stripe of a window, in their order. The sums go through `block`. No memory is
+/// taken.
 pub fn write_window<V: Vault>(
     vault: &mut V,
     window: &Window,
@@ -67,6 +68,9 @@ pub fn write_window<V: Vault>(
         Reads (HoldsRows (V.view vault.old).levels window.now.block_size rows) (V.view vault.old) →
         Reads (HoldsRows (V.view vault.old).levels window.now.block_size
         (rows_with window.now (record { stripes = stripes.now; chosen = chosen.now }) window.now.count rows)) (V.view vault.new)) }
+    ensures elsewhere { OnOk result (Reads
+        (SameElsewhere (V.view vault.old).levels window.now.block_size
+        (IsChosen (record { stripes = stripes.now; chosen = chosen.now })) (V.view vault.old).files) (V.view vault.new)) }
 {
     for i in 0..window.count() {
         if !chosen[i as usize] {

@@ -1,3 +1,3 @@
-mod LowestLemmas
+pub mod LowestLemmas
 mod TreeLemmas
 mod WordLemmas

@@ -11,6 +11,7 @@ mod NamesLemmas
 mod NumberLemmas
 mod OptionValueLemmas
 mod PathLemmas
+mod SetupLemmas
 mod TextLemmas
 mod WordsLemmas
 mod WorkedExamples

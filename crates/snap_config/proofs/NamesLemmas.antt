@@ -36,7 +36,7 @@ among_all (own ∷ names) name (suc k) below is =
 level_Decides : (name : List ℕ) → Decides (has_name level_names name) (Contains level_names name)
 level_Decides name = (among_some level_names name, λ has. among_all level_names name has.0 has.1 has.2)
 
-name_Decides : (name : List ℕ) → Decides (is_disk_name name) (IsName name)
+pub name_Decides : (name : List ℕ) → Decides (is_disk_name name) (IsName name)
 name_Decides name =
     let least : Decides (nat_le 1 (length name)) (1 ≤ length name) = ((λ e. grind (arith, nat_tests)), λ h. grind (arith, nat_tests)) in
     let most : Decides (nat_le (length name) 64) (length name ≤ 64) = ((λ e. grind (arith, nat_tests)), λ h. grind (arith, nat_tests)) in

@@ -1,5 +1,6 @@
 -- What a setup says, as lists.
-use Rattle.std.specs.Prelude.{ℕ, List, Bool, Option}
+use Rattle.std.specs.Prelude.{◌≡◌, ◌≢◌, ℕ, ◌*◌, ◌≤◌, List, length, map, All, AllPairs, Bool, Option}
+use Rattle.disk_model.specs.Name.{IsName}
 use Rattle.snap_config.specs.declared.setup.Disk.{Disk}
 use Rattle.snap_config.specs.declared.setup.Rule.{Rule}
 use Rattle.snap_config.specs.declared.setup.Setup.{Setup}
@@ -28,3 +29,21 @@ setup_value setup = record {
   autosave = setup.autosave;
   log = setup.log;
 }
+
+-- a block size of 1 to 4,096 KiB, in bytes
+pub record IsSize (bytes : ℕ) : Type 0 where
+  pub kibibytes : ℕ
+  pub bytes_are : bytes ≡ 1024 * kibibytes
+  pub least : 1 ≤ kibibytes
+  pub most : kibibytes ≤ 4096
+
+-- What holds of each setup that is read: 1 to 6 levels, 1 to 251 disks whose names may stand in a table, and their folders.
+pub record IsSetup (setup : SetupValue) : Type 0 where
+  pub block_size : IsSize setup.block_size
+  pub some_level : 1 ≤ length setup.parities
+  pub few_levels : length setup.parities ≤ 6
+  pub some_disk : 1 ≤ length setup.disks
+  pub few_disks : length setup.disks ≤ 251
+  pub names : All (λ (disk : Disk). IsName disk.name) setup.disks
+  pub distinct : AllPairs (λ (earlier later : Disk). earlier.name ≢ later.name) setup.disks
+  pub dirs : setup.dirs ≡ map (λ (disk : Disk). disk.dir) setup.disks

@@ -5,7 +5,7 @@ ghost use Rattle.snap_config.specs.Builder.{no_lines};
 ghost use Rattle.snap_config.specs.Line.{lines_of, IsLine};
 ghost use Rattle.snap_config.specs.Names.{file_name};
 ghost use Rattle.snap_config.specs.Reading.{builder_value, Explains};
-ghost use Rattle.snap_config.specs.Setup.{setup_value};
+ghost use Rattle.snap_config.specs.Setup.{setup_value, IsSetup};
 ghost use Rattle.snap_config.specs.declared.setup.Disk.{Disk};
 
 use crate::builder::{ParityLine, SetupBuilder, has_level};
@@ -28,6 +28,7 @@ const DEFAULT_BLOCK_SIZE: u32 = 262_144;
 /// the first such line.
 pub fn read_config(alloc: Global, bytes: &[u8], log: Option<Text>) -> Result<Setup, ConfigFault>
     ensures ok { IfOk result (λ setup. read_setup bytes.now log ≡ Ok (setup_value setup)) }
+    ensures valid { IfOk result (λ setup. IsSetup (setup_value setup)) }
     ensures refused { IfErr result (λ fault. IsRefusal fault (read_setup bytes.now log)) }
 {
     if bytes.len() > LONGEST {

@@ -16,7 +16,11 @@ pub enum CommandName {
 }
 
 /// The commands that are built. The word of any other is an unknown command.
-pub const BUILT_COMMANDS: [CommandName; 2] = [CommandName::Sync, CommandName::List];
+pub const BUILT_COMMANDS: [CommandName; 3] = [
+    CommandName::Sync,
+    CommandName::Status,
+    CommandName::List,
+];
 
 impl CommandName {
     /// All commands, those that are not built yet among them.

@@ -1,10 +1,14 @@
 -- Which events a table can name.
-use Rattle.std.specs.Prelude.{◌<◌, List}
-use Rattle.file_table.specs.Table.{Column}
+use Rattle.std.specs.Prelude.{ℕ, ◌<◌, List, length}
+use Rattle.file_table.specs.Table.{Column, column_at}
 use Rattle.file_table.specs.declared.limits.TheConstants.{MOST_LEVELS}
-use Rattle.snap_report.specs.Fits.{IsRecordOf}
 use Rattle.snap_report.specs.declared.events.Event.{Event}
 use Rattle.snap_report.specs.declared.events.Event.TheVariants.{Changed, ChangedBlock, Silent, Io, ParityIo, Parity, Unsynced, Lost, Blocked, Fixed, FixedParity, Restored, Renamed, NoStamp}
+
+-- a disk of the table, and a record of it
+pub record IsRecordOf (columns : List Column) (disk rec : ℕ) : Type 0 where
+  pub column : disk < length columns
+  pub within : rec < length (column_at columns disk).records
 
 -- as far as an event has them, its disk and record are those of the table, and its level is one that a table may have
 abbrev pub Fits : List Column → Event → Type 0

@@ -2,9 +2,7 @@ pub mod Answer
 pub mod EndLines
 pub mod EventFits
 pub mod EventLines
-pub mod Fits
 pub mod Kind
-pub mod Lines
 pub mod ListText
 pub mod Pieces
 pub mod Report

@@ -4,8 +4,6 @@ use Rattle.std.specs.Fmt.{decimal, signed_decimal}
 use Rattle.std.specs.List.{flat_map}
 use Rattle.disk_model.specs.declared.meta.Meta.{Meta}
 use Rattle.file_table.specs.Table.{Column, column_at, record_at}
-use Rattle.snap_report.specs.declared.event.Event.{Event}
-use Rattle.snap_report.specs.declared.event.Event.TheVariants.{ChangedBlock, Io}
 
 -- a hexadecimal digit in lower case
 abbrev pub hex_digit : ℕ → ℕ
@@ -51,23 +49,6 @@ record_text columns disk rec = file_text (column_at columns disk).name (record_a
 abbrev pub found_text : Option Meta → List ℕ
 found_text None = codes " found nothing"
 found_text (Some meta) = codes " found " ++ meta_text meta
-
--- where in the array: the stripe, the file and the number of its block
-abbrev pub place_text : List Column → ℕ → ℕ → ℕ → ℕ → List ℕ
-place_text columns stripe disk rec index = decimal stripe ++ 32 ∷ record_text columns disk rec ++ 32 ∷ decimal index
-
--- what was recorded of a file whose block was read, and what was found
-abbrev pub recorded_text : List Column → ℕ → ℕ → List ℕ
-recorded_text columns disk rec = codes " recorded " ++ meta_text (record_at columns disk rec).meta
-
-abbrev pub got_text : Option Meta → ℕ → List ℕ
-got_text found got = found_text found ++ codes " got " ++ decimal got
-
--- the line of an event, over the columns of the table in hand
-abbrev pub event_line : List Column → Event → List ℕ
-event_line columns (ChangedBlock stripe disk rec index found got) =
-    codes "changed-block " ++ place_text columns stripe disk rec index ++ recorded_text columns disk rec ++ got_text found got ++ 10 ∷ []
-event_line columns (Io stripe disk rec index) = codes "io " ++ place_text columns stripe disk rec index ++ 10 ∷ []
 
 -- the last line of a sync: how many stripes it synced, and how many are pending at its end
 abbrev pub sync_text : ℕ → ℕ → List ℕ

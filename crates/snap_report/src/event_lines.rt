@@ -3,7 +3,7 @@ ghost use Rattle.std.specs.Prelude.{◌≡◌, ◌<◌, []};
 ghost use Rattle.snap_report.specs.Telling.{Settled};
 ghost use Rattle.snap_report.specs.State.{state_of, Puts};
 ghost use Rattle.snap_report.specs.Pieces.{piece_text};
-ghost use Rattle.snap_report.specs.Fits.{IsRecordOf};
+ghost use Rattle.snap_report.specs.EventFits.{IsRecordOf};
 ghost use Rattle.snap_report.specs.EventFits.{Fits};
 ghost use Rattle.snap_report.specs.EventLines.{event_line, file_event, block_event, level_event};
 ghost use Rattle.snap_report.specs.Text.{record_text};

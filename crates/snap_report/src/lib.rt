@@ -6,17 +6,14 @@
 //! Proved: what was told is on the sink or held in the page, each byte of it (`Puts` in
 //! `specs/State.antt`), a prefix of it after a write that failed, and nothing after that; each report in
 //! its place was given each event in order up to its own first failure (`Told` in `specs/Told.antt`).
-//! Not here: which events a command tells, and in which order. `event.rt`, `lines.rt` and `printing.rt`
-//! are an earlier form, in which each line is made in memory; it serves the callers that are not moved yet.
+//! Not here: which events a command tells, and in which order.
 #![tactic(auto)]
 
 mod answer;
 mod ends;
-mod event;
 mod event_lines;
 pub mod events;
 pub mod laws;
-mod lines;
 mod list;
 mod log;
 mod pages;
@@ -29,15 +26,11 @@ mod tally;
 mod totals;
 
 pub use answer::{Answer, RunFault};
-pub use event::{Event, push_event};
-pub use lines::put;
+pub use events::Event;
 pub use list::list_text;
 pub use log::LogReport;
 pub use pages::Lines;
 pub use piece::Piece;
-pub use printing::{
-    push_file_line, push_meta, push_number, push_printed, push_sync_totals, push_totals,
-};
 pub use report::{Report, tell, tell_all};
 pub use status::status_text;
 pub use tally::TallyReport;

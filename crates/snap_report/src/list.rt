@@ -3,7 +3,7 @@ ghost use Rattle.std.specs.Prelude.{◌≡◌, ◌<◌, length};
 ghost use Rattle.file_table.specs.Table.{column_at, record_at};
 ghost use Rattle.snap_report.specs.Telling.{Settled};
 ghost use Rattle.snap_report.specs.State.{state_of, Puts};
-ghost use Rattle.snap_report.specs.Fits.{IsRecordOf};
+ghost use Rattle.snap_report.specs.EventFits.{IsRecordOf};
 ghost use Rattle.snap_report.specs.Text.{totals_text};
 ghost use Rattle.snap_report.specs.ListText.{record_line, column_lines, list_lines, list_text};
 

@@ -6,7 +6,6 @@ use std::alloc::Global;
 use std::test::Fail;
 
 mod answers;
-mod first_form;
 mod lines;
 mod reports;
 mod texts;

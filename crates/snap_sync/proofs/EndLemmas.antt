@@ -1,123 +1,110 @@
--- The end of a sync, from what its steps leave.
-use Rattle.std.proofs.Common.{◌≡◌, ℕ, ◌+◌, ◌-◌, ◌*◌, ◌^◌, ◌≤◌, min, List, ◌++◌, length, Bool, IsTrue, refl, sym, ap, ◌∙◌, subst, arith}
-use Rattle.std.specs.Prelude.{count_by}
+-- The last checkpoint, and the last line.
+use Rattle.std.proofs.Common.{◌≡◌, ℕ, ◌+◌, ◌*◌, ◌≤◌, List, [], ◌++◌, length, take, drop, true, false, Option, sym, ap, ap₂, ◌∙◌, subst, arith}
 use Rattle.std.proofs.lemmas.List.Sums.{count_by-le-length}
-use Rattle.disk_model.specs.Files.{Files}
-use Rattle.disk_model.specs.Folder.{FolderView}
-use Rattle.disk_model.specs.Sink.{SinkView}
-use Rattle.disk_model.specs.Vault.{VaultView, IsWellFormed, SomeCalls, Reads, Holds, copies_of}
-use Rattle.disk_model.proofs.VaultLemmas.{calls_then}
-use Rattle.file_table.specs.Table.{TableValue}
-use Rattle.content_file.specs.Save.{HasSaved}
+use Rattle.array_scan.specs.Layout.{pending_stripes}
+use Rattle.content_file.specs.Save.{HasSaved, HasNoDraft}
 use Rattle.content_file.specs.Spelling.{spelling}
-use Rattle.parity_writer.specs.Keeps.{SameParities}
-use Rattle.parity_writer.specs.Rows.{HasLengths}
-use Rattle.snap_report.specs.Lines.{Tells}
+use Rattle.disk_model.specs.Sink.{SinkView}
+use Rattle.disk_model.specs.Vault.{VaultView, IsWellFormed, Holds, copies_of}
+use Rattle.file_table.specs.Table.{TableValue}
+use Rattle.snap_report.specs.EventLines.{lines_of}
+use Rattle.snap_report.specs.Report.{ReportView}
+use Rattle.snap_report.specs.State.{Puts, state_of as told_of}
+use Rattle.snap_report.specs.Telling.{Settled}
 use Rattle.snap_report.specs.Text.{sync_text}
-use Rattle.snap_report.proofs.LinesLemmas.{tells_then}
-use Rattle.snap_sync.specs.declared.stripes.Work.{Work}
-use Rattle.snap_sync.specs.declared.told.Told.{Told}
-use Rattle.snap_sync.specs.Closing.{closed, is_in, AreHashed}
-use Rattle.snap_sync.specs.Events.{events_of}
-use Rattle.snap_sync.specs.Kept.{ListedFile}
-use Rattle.snap_sync.specs.Layout.{laid, IsTooMany}
-use Rattle.snap_sync.specs.Parity.{HasParity}
-use Rattle.snap_sync.specs.Reading.{StripeReading}
-use Rattle.snap_sync.specs.Sync.{Names, IsArray, AllReadOnly, Syncs, verified_in, before_of, after_of}
-use Rattle.snap_sync.specs.Steps.{ListsAll, IsNewWork, SyncsStripes, ClosesTable, hashed}
-use Rattle.snap_sync.specs.Telling.{lines_of, written}
-use Rattle.snap_sync.proofs.AllReadLemmas.{read_since, length-laid, length-infos_closed, marks_close, marks_counted, settled_parity}
-use Rattle.snap_sync.proofs.MarksLemmas.{length-marks, marks_hashed}
+use Rattle.snap_report.specs.declared.events.Event.{Event}
+use Rattle.snap_report.specs.declared.pages.Lines.{Lines}
+use Rattle.snap_report.proofs.PutsLemmas.{puts_then}
+use Rattle.snap_sync.specs.declared.beginning.Work.{Work}
+use Rattle.snap_sync.specs.declared.stripes.Progress.{Progress}
+use Rattle.snap_sync.specs.declared.syncing.SyncEnd.{SyncEnd}
+use Rattle.snap_sync.specs.Calls.{SyncPlan, piece_size}
+use Rattle.snap_sync.specs.Closing.{closed}
+use Rattle.snap_sync.specs.Course.{Outside, outside, plan_of, Ends, Breaks, Syncs, BreaksOff}
+use Rattle.snap_sync.specs.Beginning.{LaysOut}
+use Rattle.snap_sync.specs.Schedule.{save_after}
+use Rattle.snap_sync.specs.declared.stripes.Pace.{Pace}
+use Rattle.snap_config.specs.Setup.{SetupValue}
+use Rattle.snap_config.specs.declared.options.SyncWay.{SyncWay}
+use Rattle.disk_model.specs.Folder.{FolderView}
+use Rattle.snap_sync.specs.Findings.{events_of}
+use Rattle.snap_sync.specs.Reading.{StripeReading, readings_in, is_verified, ReadsFirst}
+use Rattle.snap_sync.specs.Run.{readings_near, plan_for, HasSynced}
+use Rattle.snap_sync.proofs.RunLemmas.{IsSetting, breaks_with}
+use Rattle.snap_sync.proofs.UnderwayLemmas.{IsSaved, SavesNot, underway_ended, underway_stopped_ending}
 
--- the table and the marks after the last stripe
-module _ (old new : Work) (folders folders_new : List FolderView) (vault vault_new : VaultView) (out out_new : SinkView) (done : SyncsStripes old new folders folders_new vault vault_new out out_new) where
-  pub marks_fit : length new.closed.items ≡ length new.table.infos
-  marks_fit = ap length done.closed ∙ length-marks old.table done.readings done.read.stripes ∙ sym (ap (λ (t : TableValue). length t.infos) done.table_is)
+module _ {W R : Type 0} {view : W → SinkView} {standing : R → ReportView} {stands : R → List Event → Type 0} {plan : SyncPlan} {progress : Progress} {work : Work} {old mid : Outside W R}
+    (so_far : HasSynced view standing stands plan progress work old mid) (setting : IsSetting plan old) (all_done : progress.done ≡ plan.all) where
+  all_read : length so_far.readings ≡ plan.all
+  all_read = so_far.count ∙ all_done
 
-  pub marks_are_hashed : AreHashed new.table.columns new.closed.items
-  marks_are_hashed = subst (λ (t : TableValue). AreHashed t.columns new.closed.items) (sym done.table_is)
-      (subst (λ (marked : List Bool). AreHashed (hashed old.table done.readings).columns marked) (sym done.closed) (marks_hashed old.table done.readings done.read.stripes))
+  pub synced_within : progress.synced ≤ plan.all
+  synced_within = omega (arith, so_far.synced, count_by-le-length (is_verified plan.start) so_far.readings, all_read)
 
-  pub few_marked : (synced : ℕ) → synced ≡ count_by (λ (b : Bool). b) new.closed.items → synced ≤ length new.table.infos
-  few_marked synced is = let most = count_by-le-length (λ (b : Bool). b) new.closed.items in omega (arith, is, most, marks_fit)
+  -- nothing is left to read
+  nothing_near : readings_near work progress.done ≡ []
+  nothing_near =
+      let none : work.room.near.count ≡ 0 = omega (arith, so_far.ready.near, all_done, setting.all_is, ap (λ (it : List ℕ). length it) so_far.pending) in
+      ap (λ (n : ℕ). readings_in (take n (drop progress.done work.pending.items)) work.room.near) none
 
--- as many stripes as before
-pub closes_total : (old new : TableValue) (marked : List Bool) (now : ℕ) (vault vault_new : VaultView) → ClosesTable old new marked now vault vault_new → length new.infos ≡ length old.infos
-closes_total old new marked now vault vault_new closes = ap (λ (t : TableValue). length t.infos) closes.table_is ∙ length-infos_closed (is_in marked) now 0 old.infos
+  module _ {piece : ℕ} {new : VaultView} (piece_is : piece_size ≡ piece) (formed : IsWellFormed new) where
+    -- the last checkpoint failed
+    pub breaks_ending : SavesNot piece work.table mid.vault new → Breaks view standing stands plan old (outside mid.folders new mid.lines mid.reports)
+    breaks_ending saves =
+        breaks_with view standing stands plan so_far.readings (readings_near work progress.done) old (outside mid.folders new mid.lines mid.reports) so_far.reads
+        (underway_stopped_ending plan so_far.readings so_far.saved piece (setting.piece_is ∙ piece_is) work.table so_far.table old.vault mid.vault new setting.for formed all_read so_far.vault saves) so_far.told
 
-pub own_work : (table : TableValue) (work : Work) → IsNewWork table work → IsNewWork work.table work
-own_work table work new = subst (λ (t : TableValue). IsNewWork t work) (sym new.table_is) new
+    -- it did not fail, and the last line was told
+    pub ends_with : {lines : Lines W} (end : SyncEnd) → IsSaved piece work.table mid.vault new → HasNoDraft new → end.table ≡ work.table → end.synced ≡ progress.synced → end.findings ≡ progress.findings
+        → end.synced + end.pending ≡ plan.all → Puts view (sync_text end.synced end.pending) mid.lines lines → Settled (told_of view lines) → Ends view standing stands plan old (outside mid.folders new lines mid.reports) end
+    ends_with {lines} end saves no_draft table synced findings pending puts settled =
+        let ended = underway_ended plan so_far.readings so_far.saved piece (setting.piece_is ∙ piece_is) work.table so_far.table old.vault mid.vault new setting.for formed all_read so_far.vault saves in
+        let table_is : end.table ≡ closed plan.now plan.start so_far.readings = table ∙ so_far.table in
+        record {
+          readings = so_far.readings;
+          all = all_read;
+          course = record {
+            reads = subst (λ (its : List StripeReading). ReadsFirst plan.start (so_far.readings ++ its) old.folders mid.folders) nothing_near so_far.reads;
+            vault = record { calls = ended.calls; ran = ended.ran; broke = λ failed. absurd (let clash : false ≡ true = failed in cc); changes = ended.changes };
+            tells = record {
+              given = so_far.told.given;
+              puts = puts_then view (lines_of plan.start.columns (events_of plan.start so_far.readings)) (sync_text end.synced end.pending) old.lines mid.lines lines so_far.told.puts puts;
+              settled = λ before. settled;
+            };
+          };
+          table_is = table_is;
+          saved = subst (λ (its : TableValue). Holds (HasSaved plan.copies (spelling its)) new) (sym table_is) ended.saved;
+          parity = ended.parity;
+          no_draft = no_draft;
+          synced = synced ∙ so_far.synced;
+          pending = pending;
+          findings = findings ∙ so_far.findings;
+        }
 
--- the whole
-module _ (names : Names) (old : TableValue) (now : ℕ) (kept : List (List ListedFile)) (folders folders_listed folders_new : List FolderView) (vault vault_open vault_read vault_new : VaultView) (out out_read out_new : SinkView)
-    (begun ended : Work) (table : TableValue) (told : Told) (synced : ℕ)
-    (array : IsArray names old folders vault.levels) (lists : ListsAll names folders folders_listed kept) (listing : AllReadOnly folders folders_listed)
-    (laid_is : begun.table ≡ laid old kept) (few : ¬ (IsTooMany old.shape.block_size kept)) (new : IsNewWork begun.table begun)
-    (opening : SomeCalls vault vault_open) (opened : Reads (HasLengths vault.levels (length begun.table.infos * begun.table.shape.block_size) vault.files) vault_open)
-    (reading : SomeCalls vault_open vault_read) (done : SyncsStripes begun ended folders_listed folders_new vault_open vault_read out out_read)
-    (closing : SomeCalls vault_read vault_new) (closes : ClosesTable ended.table table ended.closed.items now vault_read vault_new)
-    (counted : synced ≡ count_by (λ (b : Bool). b) ended.closed.items) (findings : told.findings ≡ ended.told.findings) (well_formed : IsWellFormed vault_new) where
-  abbrev start : TableValue
-  start = begun.table
+-- ---- the whole sync
 
-  abbrev readings : List StripeReading
-  readings = done.readings
+-- the plan of work on a table that was laid out
+pub plan_is : (setup : SetupValue) (way : SyncWay) (work : Work) (pace : Pace) (vault : VaultView) → work.pending.items ≡ pending_stripes work.table.infos
+    → pace.every ≡ save_after way.save_every setup.autosave (work.table.shape.block_size * length work.table.columns) → plan_for work pace vault ≡ plan_of setup way work.table pace.now vault
+plan_is setup way work pace vault pending every =
+    ap₂ (λ (all : ℕ) (every : Option ℕ). record { start = work.table; all = all; every = every; now = pace.now; copies = copies_of vault; piece = piece_size }) (ap (λ (its : List ℕ). length its) pending) every
 
-  abbrev size : ℕ
-  size = start.shape.block_size
-
-  table_is : table ≡ closed now start readings
-  table_is = closes.table_is ∙ marks_close begun ended folders_listed folders_new vault_open vault_read out out_read done now
-
-  -- files with the settled levels
-  settled : IsTrue vault_new.tells → (files : Files) → SameParities vault_read.levels vault_read.files files
-      → HasParity start.shape.levels size (length start.infos) start.columns readings vault.files files
-  settled vault_told files same = settled_parity begun ended folders_listed folders_new vault_open vault_read out out_read done names old kept folders vault array laid_is opening opened reading (sym closing.goes_on.tells ∙ vault_told) files same
-
-  parity : Holds (HasParity start.shape.levels size (length start.infos) start.columns readings vault.files) vault_new
-  parity = record {
-    reads = λ vault_told. settled vault_told vault_new.files (closes.parities.reads vault_told);
-    leaves = λ told files left. settled (well_formed.tells told) files (closes.parities.leaves told files left);
-  }
-
-  copies_are : copies_of vault_read ≡ copies_of vault
-  copies_are = (calls_then vault vault_open vault_read opening reading).goes_on.copies
-
-  synced_is : synced ≡ verified_in start readings
-  synced_is = marks_counted begun ended folders_listed folders_new vault_open vault_read out out_read done synced counted
-
-  all_findings : told.findings ≡ min (length (events_of size start.columns readings)) (2 ^ 64 - 1)
-  all_findings = findings ∙ done.findings ∙ ap (λ n. min n (2 ^ 64 - 1)) (let none : begun.told.findings + length (events_of size start.columns readings) ≡ length (events_of size start.columns readings) = omega (arith, new.findings) in none)
-
-  whole : (pending total : ℕ) → total ≡ length table.infos → pending ≡ total - synced → Tells (sync_text synced pending) (written ended.told out_read) (written told out_new)
-      → Syncs names old now (before_of folders vault out) (after_of folders_new vault_new out_new) (record { table = table; synced = synced; pending = pending; findings = told.findings; output_failed = told.failed })
-  whole pending total total_is pending_is last = record {
-    listings = lists.listings;
-    listed = lists.listed;
-    few = subst (λ (all : List (List ListedFile)). ¬ (IsTooMany old.shape.block_size all)) lists.kept_is few;
+module _ {W R : Type 0} {view : W → SinkView} {standing : R → ReportView} {stands : R → List Event → Type 0} {setup : SetupValue} {way : SyncWay} {table start : TableValue} {now : ℕ} {plan : SyncPlan} {folders listed news : List FolderView}
+    {vault vault_new : VaultView} {lines lines_new : Lines W} {reports reports_new : List R} (laid : LaysOut setup way table start folders listed) (same : plan ≡ plan_of setup way start now vault) where
+  pub syncs_with : {end : SyncEnd} → Ends view standing stands plan (outside listed vault lines reports) (outside news vault_new lines_new reports_new) end
+      → Syncs view standing stands setup way table now (outside folders vault lines reports) (outside news vault_new lines_new reports_new) end
+  syncs_with {end} ends = record {
     start = start;
-    start_is = laid_is ∙ ap (laid old) lists.kept_is;
-    readings = readings;
-    read = read_since (length start.infos) start readings folders folders_listed folders_new (array.folder_count ∙ sym (length-laid old start kept laid_is)) listing lists.calls done.read;
-    table_is = table_is;
-    parity = parity;
-    saved = subst (λ copies. Holds (HasSaved copies (spelling table)) vault_new) copies_are closes.saved;
-    no_draft = closes.no_draft;
-    synced_is = synced_is;
-    pending_is =
-        let most = few_marked begun ended folders_listed folders_new vault_open vault_read out out_read done synced counted in
-        let same_total : length table.infos ≡ length start.infos = ap (λ (t : TableValue). length t.infos) table_is ∙ length-infos_closed _ now 0 start.infos in
-        let ended_total : length ended.table.infos ≡ length start.infos = ap (λ (t : TableValue). length t.infos) done.table_is in
-        omega (arith, most, same_total, ended_total, total_is, pending_is);
-    findings_are = all_findings;
-    told =
-        subst (λ (failed : Bool). Tells (lines_of start.columns (events_of size start.columns readings) ++ sync_text synced pending) (record { failed = failed; sink = out }) (written told out_new)) new.unfailed
-        (tells_then _ _ (written begun.told out) (written ended.told out_read) (written told out_new) done.told last);
+    listed = listed;
+    laid = laid;
+    ends = subst (λ (its : SyncPlan). Ends view standing stands its (outside listed vault lines reports) (outside news vault_new lines_new reports_new) end) same ends;
   }
 
-  -- by what was laid out and read
-  pub syncs : (pending total : ℕ) → total ≡ length table.infos → pending ≡ total - synced → Tells (sync_text synced pending) (written ended.told out_read) (written told out_new)
-      → (all : Syncs names old now (before_of folders vault out) (after_of folders_new vault_new out_new) (record { table = table; synced = synced; pending = pending; findings = told.findings; output_failed = told.failed }))
-      × (all.start ≡ start) × (all.readings ≡ readings)
-  unfolding whole
-  syncs pending total total_is pending_is last = (whole pending total total_is pending_is last, refl, refl)
+  pub breaks_off : Breaks view standing stands plan (outside listed vault lines reports) (outside news vault_new lines_new reports_new)
+      → BreaksOff view standing stands setup way table now (outside folders vault lines reports) (outside news vault_new lines_new reports_new)
+  breaks_off breaks = record {
+    start = start;
+    listed = listed;
+    laid = laid;
+    breaks = subst (λ (its : SyncPlan). Breaks view standing stands its (outside listed vault lines reports) (outside news vault_new lines_new reports_new)) same breaks;
+  }

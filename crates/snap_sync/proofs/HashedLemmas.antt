@@ -1,266 +1,187 @@
--- What hashes in a table leave as it was: all but the hashes.
-use Rattle.std.proofs.Common.{◌≡◌, ℕ, zero, suc, ◌+◌, ◌*◌, ◌≤◌, ◌==◌, ◌&&◌, List, [], ◌∷◌, ◌++◌, length, map, get_or, zip, Bool, Option, Some, None, Result, OnOk, OnErr, IsTrue, refl, sym, ap, ap₂, ◌∙◌, subst, arith}
-use Rattle.std.specs.Prelude.{codes, if◌then◌else◌}
-use Rattle.std.proofs.lemmas.List.{length-map}
-use Rattle.std.specs.Fmt.{decimal}
-use Rattle.std.specs.List.{list_all}
-use Rattle.std.specs.Option.{option_map}
-use Rattle.disk_model.specs.Bytes.{read_from}
-use Rattle.disk_model.specs.Tree.{Tree, file_of, meta_of}
-use Rattle.disk_model.specs.declared.meta.Meta.{Meta}
-use Rattle.disk_model.specs.Folder.{FolderView}
-use Rattle.disk_model.specs.Sink.{SinkView, AppendsPart}
-use Rattle.disk_model.specs.declared.fault.NoMemory.{NoMemory}
-use Rattle.snap_report.specs.Lines.{Tells}
+-- A table stays valid where a block of it is given its hash.
+use Rattle.std.proofs.Common.{◌≡◌, ◌≢◌, inl, inr, ℕ, zero, suc, ◌+◌, ◌-◌, ◌<◌, ◌≤◌, List, [], ◌∷◌, ◌++◌, length, get_or, set, take, refl, sym, ap, ◌∙◌, subst, arith, Some, IsSome}
+use Rattle.std.specs.List.{All, AllPairs, flat_map}
+use Rattle.std.proofs.lemmas.List.{length-set, get_or-set_same, get_or-set_other, set-append_left, set-append_right, map-set, set-get_or, get_or-map, get_or_default, length-append}
+use Rattle.std.proofs.lemmas.List.Elements.{All-set}
+use Rattle.std.proofs.lemmas.List.Concat.{get_or-flat_map}
+use Rattle.std.proofs.lemmas.List.Sums.{sum_by-set}
+use Rattle.std.proofs.lemmas.Bool.Decides.{eqb_tells}
 use Rattle.block_hash.specs.declared.Digest16.{Digest16}
 use Rattle.file_table.specs.declared.block.Block.{Block}
-use Rattle.file_table.specs.Table.{Record, Column, TableValue, column_at, record_in, block_in, no_record, no_block, IsAt}
-use Rattle.snap_report.specs.Text.{file_text, meta_text, got_text, event_line}
-use Rattle.snap_report.specs.declared.event.Event.{Event}
-use Rattle.snap_report.specs.declared.event.Event.TheVariants.{ChangedBlock, Io}
-use Rattle.snap_sync.specs.Reading.{CellReading, NoBlock, Unread, Gave, StripeReading, block_length, bytes_of, is_as_recorded, is_right, is_verified, IsAtRecord, AreAtRecords, IsReadingAt, AreReadingsAt, IsGivenBy}
-use Rattle.snap_sync.specs.Closing.{block_with, record_hashed, column_hashed, columns_hashed}
-use Rattle.snap_sync.specs.Events.{cell_events, row_events, stripe_events}
-use Rattle.snap_sync.specs.declared.reading.Row.{Row}
-use Rattle.snap_sync.specs.declared.told.Told.{Told}
-use Rattle.snap_sync.specs.FolderCalls.{AreCellCalls, Asks}
-use Rattle.snap_sync.specs.Found.{HasRoom, ReadsStripe}
-use Rattle.snap_sync.specs.Telling.{lines_of, written, TellsEvents}
-use Rattle.snap_sync.proofs.FolderCallsLemmas.{cell_calls_same}
+use Rattle.file_table.specs.Table.{Record, Column, TableValue, block_count, records_of, column_blocks, blocks_of, positions_of, blocks_due, end_of, column_at, record_in, record_at, block_in, no_column, no_record, no_block, record_with_hash, column_with_hash, with_hash}
+use Rattle.file_table.specs.Valid.{IsSixteenBytes, HasDigest, IsRecord, IsColumn, ComesBefore, IsWhole, IsValid, most_columns, most_records, most_blocks}
 
-pub block_with-position : (given : Option Digest16) (block : Block) → (block_with given block).position ≡ block.position
-block_with-position None block = refl
-block_with-position (Some digest) block = refl
+-- the blocks of records
+abbrev blocks_in : List Record → List Block
+blocks_in records = flat_map (λ (kept : Record). kept.blocks) records
 
--- one column
-module _ (given : ℕ → Option Digest16) where
-  record_at-hashed : (records : List Record) (i : ℕ) → get_or (map (record_hashed given) records) i no_record ≡ record_hashed given (get_or records i no_record)
-  record_at-hashed [] i = refl
-  record_at-hashed (kept ∷ records) zero = refl
-  record_at-hashed (kept ∷ records) (suc i) = record_at-hashed records i
+-- a write to one list that a function gives is a write to all of them joined
+flat_map-set : {X A : Type 0} (f : X → List A) (xs : List X) (i j : ℕ) (d y : X) (v : A) → i < length xs → j < length (f (get_or xs i d)) → f y ≡ set (f (get_or xs i d)) j v
+    → flat_map f (set xs i y) ≡ set (flat_map f xs) (length (flat_map f (take i xs)) + j) v
+flat_map-set f [] i j d y v within inside is = absurd (omega arith)
+flat_map-set {X} {A} f (x ∷ xs) zero j d y v within inside is =
+    let at : 0 + j ≡ j = omega arith in
+    ap (λ (ys : List A). ys ++ flat_map f xs) is
+    ∙ sym (set-append_left (f x) (flat_map f xs) j v inside)
+    ∙ ap (λ (n : ℕ). set (f x ++ flat_map f xs) n v) (sym at)
+flat_map-set {X} {A} f (x ∷ xs) (suc i) j d y v within inside is =
+    let rest : flat_map f (set xs i y) ≡ set (flat_map f xs) (length (flat_map f (take i xs)) + j) v = flat_map-set f xs i j d y v (omega arith) inside is in
+    let n : ℕ = length (flat_map f (take i xs)) + j in
+    let long : length (f x ++ flat_map f (take i xs)) + j ≡ length (f x) + n = omega (arith, length-append (f x) (flat_map f (take i xs))) in
+    let past : length (f x) ≤ length (f x) + n = omega arith in
+    let less : (length (f x) + n) - length (f x) ≡ n = omega arith in
+    ap (λ (ys : List A). f x ++ ys) (rest ∙ ap (λ (k : ℕ). set (flat_map f xs) k v) (sym less))
+    ∙ sym (set-append_right (f x) (flat_map f xs) (length (f x)) (length (f x) + n) v refl past)
+    ∙ ap (λ (k : ℕ). set (f x ++ flat_map f xs) k v) (sym long)
 
-  pub record_in-hashed : (column : Column) (i : ℕ) → record_in (column_hashed given column) i ≡ record_hashed given (record_in column i)
-  record_in-hashed column i = record_at-hashed column.records i
+-- a list that is written with an element that reads the same
+AllPairs-set : {X : Type 0} (R : X → X → Type 0) (xs : List X) (i : ℕ) (d new : X) → i < length xs
+    → ((y : X) → R y (get_or xs i d) → R y new) → ((y : X) → R (get_or xs i d) y → R new y) → AllPairs R xs → AllPairs R (set xs i new)
+AllPairs-set {X} R xs i d new within later earlier all a b e less below =
+    let long : length (set xs i new) ≡ length xs = length-set xs i new in
+    let b_in : b < length xs = omega arith in
+    let a_in : a < length xs = omega arith in
+    let old : R (get_or xs a d) (get_or xs b d) = all a b d less b_in in
+    let here : (k : ℕ) → k ≡ i → get_or (set xs i new) k e ≡ new = λ k is. ap (λ (n : ℕ). get_or (set xs i new) n e) is ∙ get_or-set_same xs i new e within in
+    let there : (k : ℕ) → k < length xs → k ≢ i → get_or (set xs i new) k e ≡ get_or xs k d = λ k inside is. get_or-set_other xs i k new e is ∙ get_or_default xs k e d inside in
+    elim (eqb_tells a i) [
+      | inl a_is ↦ elim (eqb_tells b i) [
+        | inl b_is ↦ absurd (omega (arith, a_is.1, b_is.1))
+        | inr b_not ↦
+            let first : R (get_or xs i d) (get_or xs b d) = subst (λ (n : ℕ). R (get_or xs n d) (get_or xs b d)) a_is.1 old in
+            rw (here a a_is.1, there b b_in b_not.1) (earlier (get_or xs b d) first)
+      ]
+      | inr a_not ↦ elim (eqb_tells b i) [
+        | inl b_is ↦
+            let second : R (get_or xs a d) (get_or xs i d) = subst (λ (n : ℕ). R (get_or xs a d) (get_or xs n d)) b_is.1 old in
+            rw (there a a_in a_not.1, here b b_is.1) (later (get_or xs a d) second)
+        | inr b_not ↦ rw (there a a_in a_not.1, there b b_in b_not.1) old
+      ]
+    ]
 
-  position_at-hashed : (blocks : List Block) (index : ℕ) → (get_or (map (λ (block : Block). block_with (given block.position) block) blocks) index no_block).position ≡ (get_or blocks index no_block).position
-  position_at-hashed [] index = refl
-  position_at-hashed (block ∷ blocks) zero = block_with-position (given block.position) block
-  position_at-hashed (block ∷ blocks) (suc index) = position_at-hashed blocks index
+-- positions stay where a block is written with its position
+positions-set : (blocks : List Block) (n : ℕ) (block : Block) → n < length blocks → block.position ≡ (get_or blocks n no_block).position → positions_of (set blocks n block) ≡ positions_of blocks
+positions-set blocks n block within same =
+    let read : get_or (positions_of blocks) n 0 ≡ block.position = get_or-map (λ (b : Block). b.position) blocks n no_block 0 within ∙ sym same in
+    map-set (λ (b : Block). b.position) blocks n block ∙ ap (λ (p : ℕ). set (positions_of blocks) n p) (sym read) ∙ set-get_or (positions_of blocks) n 0
 
-  module _ (column : Column) where
-    abbrev now : Column
-    now = column_hashed given column
+-- an element of one of the lists is among all
+flat_map_within : {X A : Type 0} (f : X → List A) (xs : List X) (i j : ℕ) (d : X) → i < length xs → j < length (f (get_or xs i d)) → length (flat_map f (take i xs)) + j < length (flat_map f xs)
+flat_map_within f [] i j d within inside = absurd (omega arith)
+flat_map_within f (x ∷ xs) zero j d within inside = omega (arith, length-append (f x) (flat_map f xs), inside)
+flat_map_within f (x ∷ xs) (suc i) j d within inside =
+    omega (arith, flat_map_within f xs i j d (omega arith) inside, length-append (f x) (flat_map f (take i xs)), length-append (f x) (flat_map f xs))
 
-    record_count : length now.records ≡ length column.records
-    record_count = length-map column.records (record_hashed given)
+-- one block of one record of a column
+module _ (column : Column) (i index : ℕ) (hash : Digest16) (i_in : i < length column.records) (index_in : index < length (record_in column i).blocks) where
+  abbrev new_block : Block
+  new_block = record { position = (block_in (record_in column i) index).position; hash = Some hash }
 
-    block_total : (i : ℕ) → length (record_in now i).blocks ≡ length (record_in column i).blocks
-    block_total i = ap (λ (kept : Record). length kept.blocks) (record_in-hashed column i) ∙ length-map (record_in column i).blocks (λ (block : Block). block_with (given block.position) block)
+  abbrev place_in_column : ℕ
+  place_in_column = length (blocks_in (take i column.records)) + index
 
-    position_is : (i index : ℕ) → (block_in (record_in now i) index).position ≡ (block_in (record_in column i) index).position
-    position_is i index = ap (λ (kept : Record). (block_in kept index).position) (record_in-hashed column i) ∙ position_at-hashed (record_in column i).blocks index
+  column_blocks-set : column_blocks (column_with_hash column i index hash) ≡ set (column_blocks column) place_in_column new_block
+  column_blocks-set = flat_map-set (λ (r : Record). r.blocks) column.records i index no_record (record_with_hash (record_in column i) index hash) new_block i_in index_in refl
 
-    pub meta-hashed : (i : ℕ) → (record_in now i).meta ≡ (record_in column i).meta
-    meta-hashed i = ap (λ (kept : Record). kept.meta) (record_in-hashed column i)
+  column_reads : get_or (column_blocks column) place_in_column no_block ≡ block_in (record_in column i) index
+  column_reads = get_or-flat_map (λ (r : Record). r.blocks) column.records i index no_record no_block i_in index_in
 
-    pub path-hashed : (i : ℕ) → (record_in now i).path ≡ (record_in column i).path
-    path-hashed i = ap (λ (kept : Record). kept.path) (record_in-hashed column i)
+  column_within : place_in_column < length (column_blocks column)
+  column_within = flat_map_within (λ (r : Record). r.blocks) column.records i index no_record i_in index_in
 
-    -- where a block stands
-    pub IsAt-hashed : (position i index : ℕ) → IsAt column position i index → IsAt now position i index
-    IsAt-hashed position i index at = record {
-      within = omega (arith, record_count, at.within);
-      index_within = omega (arith, block_total i, at.index_within);
-      position_is = position_is i index ∙ at.position_is;
-    }
+  pub column_positions : positions_of (column_blocks (column_with_hash column i index hash)) ≡ positions_of (column_blocks column)
+  column_positions = ap positions_of column_blocks-set ∙ positions-set (column_blocks column) place_in_column new_block column_within (ap (λ (b : Block). b.position) (sym column_reads))
 
-    pub IsAt-unhashed : (position i index : ℕ) → IsAt now position i index → IsAt column position i index
-    IsAt-unhashed position i index at = record {
-      within = omega (arith, record_count, at.within);
-      index_within = omega (arith, block_total i, at.index_within);
-      position_is = sym (position_is i index) ∙ at.position_is;
-    }
+  record_digest : IsSixteenBytes hash.0 → IsRecord (record_in column i) → IsRecord (record_with_hash (record_in column i) index hash)
+  record_digest digest is = record { path = is.path; meta = is.meta; digests = All-set HasDigest (record_in column i).blocks index new_block digest is.digests }
 
-    -- what is right
-    pub is_right-hashed : (block_size : ℕ) (cell : CellReading) → is_right block_size now cell ≡ is_right block_size column cell
-    is_right-hashed block_size NoBlock = refl
-    is_right-hashed block_size (Unread rec index) = refl
-    is_right-hashed block_size (Gave rec index seen bytes) =
-        ap (λ (meta : Meta). is_as_recorded seen meta && (length bytes == block_length block_size meta.size index)) (meta-hashed rec)
-
-    pub cell_events-hashed : (block_size stripe d : ℕ) (cell : CellReading) → cell_events block_size stripe d now cell ≡ cell_events block_size stripe d column cell
-    cell_events-hashed block_size stripe d NoBlock = refl
-    cell_events-hashed block_size stripe d (Unread rec index) = refl
-    cell_events-hashed block_size stripe d (Gave rec index seen bytes) =
-        ap (λ (right : Bool). if right then [] else ChangedBlock stripe d rec index seen (length bytes) ∷ []) (is_right-hashed block_size (Gave rec index seen bytes))
-
-    -- what a reading is of
-    pub IsAtRecord-hashed : (cell : CellReading) → IsAtRecord column cell → IsAtRecord now cell
-    IsAtRecord-hashed NoBlock at = tt
-    IsAtRecord-hashed (Unread rec index) at = omega (arith, record_count, at)
-    IsAtRecord-hashed (Gave rec index seen bytes) at = omega (arith, record_count, at)
-
-    pub IsAtRecord-unhashed : (cell : CellReading) → IsAtRecord now cell → IsAtRecord column cell
-    IsAtRecord-unhashed NoBlock at = tt
-    IsAtRecord-unhashed (Unread rec index) at = omega (arith, record_count, at)
-    IsAtRecord-unhashed (Gave rec index seen bytes) at = omega (arith, record_count, at)
-
-    pub IsReadingAt-hashed : (block_size stripe : ℕ) (cell : CellReading) → IsReadingAt block_size column stripe cell → IsReadingAt block_size now stripe cell
-    IsReadingAt-hashed block_size stripe NoBlock none = λ rec index at. none rec index (IsAt-unhashed stripe rec index at)
-    IsReadingAt-hashed block_size stripe (Unread rec index) at = IsAt-hashed stripe rec index at
-    IsReadingAt-hashed block_size stripe (Gave rec index seen bytes) at =
-        (IsAt-hashed stripe rec index at.0, subst (λ (meta : Meta). length bytes ≤ block_length block_size meta.size index) (sym (meta-hashed rec)) at.1, at.2)
-
-    pub IsReadingAt-unhashed : (block_size stripe : ℕ) (cell : CellReading) → IsReadingAt block_size now stripe cell → IsReadingAt block_size column stripe cell
-    IsReadingAt-unhashed block_size stripe NoBlock none = λ rec index at. none rec index (IsAt-hashed stripe rec index at)
-    IsReadingAt-unhashed block_size stripe (Unread rec index) at = IsAt-unhashed stripe rec index at
-    IsReadingAt-unhashed block_size stripe (Gave rec index seen bytes) at =
-        (IsAt-unhashed stripe rec index at.0, subst (λ (meta : Meta). length bytes ≤ block_length block_size meta.size index) (meta-hashed rec) at.1, at.2)
-
-    -- what a tree gives of it
-    abbrev GivesRecord : Tree → ℕ → ℕ → Option Meta → List ℕ → Record → Type 0
-    GivesRecord tree block_size index seen bytes kept = let file = file_of tree kept.path in
-        (seen ≡ option_map meta_of file) × (bytes ≡ read_from (bytes_of file) (index * block_size) (block_length block_size kept.meta.size index))
-
-    pub IsGivenBy-hashed : (tree : Tree) (block_size : ℕ) (cell : CellReading) → IsGivenBy tree block_size column cell → IsGivenBy tree block_size now cell
-    IsGivenBy-hashed tree block_size NoBlock given_by = tt
-    IsGivenBy-hashed tree block_size (Unread rec index) given_by = tt
-    IsGivenBy-hashed tree block_size (Gave rec index seen bytes) given_by = subst (GivesRecord tree block_size index seen bytes) (sym (record_in-hashed column rec)) given_by
-
-    pub IsGivenBy-unhashed : (tree : Tree) (block_size : ℕ) (cell : CellReading) → IsGivenBy tree block_size now cell → IsGivenBy tree block_size column cell
-    IsGivenBy-unhashed tree block_size NoBlock given_by = tt
-    IsGivenBy-unhashed tree block_size (Unread rec index) given_by = tt
-    IsGivenBy-unhashed tree block_size (Gave rec index seen bytes) given_by = subst (GivesRecord tree block_size index seen bytes) (record_in-hashed column rec) given_by
-
--- all columns
-module _ (given : ℕ → ℕ → Option Digest16) where
-  column_from-hashed : (e d n : ℕ) (columns : List Column) → n ≡ e + d → column_at (columns_hashed given e columns) d ≡ column_hashed (given n) (column_at columns d)
-  column_from-hashed e d n [] is = refl
-  column_from-hashed e zero n (column ∷ columns) is = let same : e ≡ n = omega arith in ap (λ k. column_hashed (given k) column) same
-  column_from-hashed e (suc d) n (column ∷ columns) is = column_from-hashed (e + 1) d n columns (omega arith)
-
-  pub column_at-hashed : (columns : List Column) (d : ℕ) → column_at (columns_hashed given 0 columns) d ≡ column_hashed (given d) (column_at columns d)
-  column_at-hashed columns d = column_from-hashed 0 d d columns (omega arith)
-
-  count_from-hashed : (e : ℕ) (columns : List Column) → length (columns_hashed given e columns) ≡ length columns
-  count_from-hashed e [] = refl
-  count_from-hashed e (column ∷ columns) = ap suc (count_from-hashed (e + 1) columns)
-
-  pub length-columns_hashed : (columns : List Column) → length (columns_hashed given 0 columns) ≡ length columns
-  length-columns_hashed columns = count_from-hashed 0 columns
-
-  all_right-hashed : (block_size e : ℕ) (columns : List Column) (cells : List CellReading)
-      → list_all (λ (cell : Column × CellReading). is_right block_size cell.0 cell.1) (zip (columns_hashed given e columns) cells) ≡ list_all (λ (cell : Column × CellReading). is_right block_size cell.0 cell.1) (zip columns cells)
-  all_right-hashed block_size e [] cells = refl
-  all_right-hashed block_size e (column ∷ columns) [] = refl
-  all_right-hashed block_size e (column ∷ columns) (cell ∷ cells) = ap₂ (λ (here rest : Bool). here && rest) (is_right-hashed (given e) column block_size cell) (all_right-hashed block_size (e + 1) columns cells)
-
-  pub is_verified-hashed : (block_size : ℕ) (columns : List Column) (reading : StripeReading) → is_verified block_size (columns_hashed given 0 columns) reading ≡ is_verified block_size columns reading
-  is_verified-hashed block_size columns reading = all_right-hashed block_size 0 columns reading.cells
-
-  row_events-hashed : (block_size stripe e d : ℕ) (columns : List Column) (cells : List CellReading) → row_events block_size stripe d (columns_hashed given e columns) cells ≡ row_events block_size stripe d columns cells
-  row_events-hashed block_size stripe e d [] cells = refl
-  row_events-hashed block_size stripe e d (column ∷ columns) [] = refl
-  row_events-hashed block_size stripe e d (column ∷ columns) (cell ∷ cells) =
-      ap₂ (λ (here rest : List Event). here ++ rest) (cell_events-hashed (given e) column block_size stripe d cell) (row_events-hashed block_size stripe (e + 1) (d + 1) columns cells)
-
-  pub stripe_events-hashed : (block_size : ℕ) (columns : List Column) (reading : StripeReading) → stripe_events block_size (columns_hashed given 0 columns) reading ≡ stripe_events block_size columns reading
-  stripe_events-hashed block_size columns reading = row_events-hashed block_size reading.stripe 0 0 columns reading.cells
-
-  -- what is printed of an event
-  record_line-hashed : (line : List ℕ → List ℕ → Meta → List ℕ) (columns : List Column) (d rec : ℕ) → let now = column_at (columns_hashed given 0 columns) d in let was = column_at columns d in
-      line now.name (record_in now rec).path (record_in now rec).meta ≡ line was.name (record_in was rec).path (record_in was rec).meta
-  record_line-hashed line columns d rec =
-      ap (λ (column : Column). line column.name (record_in column rec).path (record_in column rec).meta) (column_at-hashed columns d)
-      ∙ ap₂ (λ (path : List ℕ) (meta : Meta). line (column_at columns d).name path meta) (path-hashed (given d) (column_at columns d) rec) (meta-hashed (given d) (column_at columns d) rec)
-
-  pub event_line-hashed : (columns : List Column) (event : Event) → event_line (columns_hashed given 0 columns) event ≡ event_line columns event
-  event_line-hashed columns (ChangedBlock stripe disk rec index found got) =
-      record_line-hashed (λ name path meta. codes "changed-block " ++ (decimal stripe ++ 32 ∷ file_text name path ++ 32 ∷ decimal index) ++ (codes " recorded " ++ meta_text meta) ++ got_text found got ++ 10 ∷ []) columns disk rec
-  event_line-hashed columns (Io stripe disk rec index) =
-      record_line-hashed (λ name path meta. codes "io " ++ (decimal stripe ++ 32 ∷ file_text name path ++ 32 ∷ decimal index) ++ 10 ∷ []) columns disk rec
-
-  pub lines_of-hashed : (columns : List Column) (events : List Event) → lines_of (columns_hashed given 0 columns) events ≡ lines_of columns events
-  lines_of-hashed columns [] = refl
-  lines_of-hashed columns (event ∷ events) = ap₂ (λ (here rest : List ℕ). here ++ rest) (event_line-hashed columns event) (lines_of-hashed columns events)
-
-  -- what readings are of
-  pub AreAtRecords-hashed : (columns : List Column) (reading : StripeReading) → AreAtRecords columns reading → AreAtRecords (columns_hashed given 0 columns) reading
-  AreAtRecords-hashed columns reading at d within =
-      subst (λ (column : Column). IsAtRecord column (get_or reading.cells d NoBlock)) (sym (column_at-hashed columns d))
-      (IsAtRecord-hashed (given d) (column_at columns d) _ (at d (omega (arith, length-columns_hashed columns, within))))
-
-  pub AreAtRecords-unhashed : (columns : List Column) (reading : StripeReading) → AreAtRecords (columns_hashed given 0 columns) reading → AreAtRecords columns reading
-  AreAtRecords-unhashed columns reading at d within =
-      IsAtRecord-unhashed (given d) (column_at columns d) _
-      (subst (λ (column : Column). IsAtRecord column (get_or reading.cells d NoBlock)) (column_at-hashed columns d) (at d (omega (arith, length-columns_hashed columns, within))))
-
-  pub AreReadingsAt-hashed : (table : TableValue) (reading : StripeReading) → AreReadingsAt table reading → AreReadingsAt (record table { columns = columns_hashed given 0 table.columns }) reading
-  AreReadingsAt-hashed table reading at = record {
-    columns = at.columns ∙ sym (length-columns_hashed table.columns);
-    cells = λ d within. subst (λ (column : Column). IsReadingAt table.shape.block_size column reading.stripe (get_or reading.cells d NoBlock)) (sym (column_at-hashed table.columns d))
-        (IsReadingAt-hashed (given d) (column_at table.columns d) _ _ _ (at.cells d (omega (arith, length-columns_hashed table.columns, within))));
-  }
-
-  pub AreReadingsAt-unhashed : (table : TableValue) (reading : StripeReading) → AreReadingsAt (record table { columns = columns_hashed given 0 table.columns }) reading → AreReadingsAt table reading
-  AreReadingsAt-unhashed table reading at = record {
-    columns = at.columns ∙ length-columns_hashed table.columns;
-    cells = λ d within. IsReadingAt-unhashed (given d) (column_at table.columns d) _ _ _
-        (subst (λ (column : Column). IsReadingAt table.shape.block_size column reading.stripe (get_or reading.cells d NoBlock)) (column_at-hashed table.columns d) (at.cells d (omega (arith, length-columns_hashed table.columns, within))));
-  }
-
-  pub IsGivenBy-column_hashed : (tree : Tree) (block_size d : ℕ) (columns : List Column) (cell : CellReading) → IsGivenBy tree block_size (column_at columns d) cell → IsGivenBy tree block_size (column_at (columns_hashed given 0 columns) d) cell
-  IsGivenBy-column_hashed tree block_size d columns cell given_by =
-      subst (λ (column : Column). IsGivenBy tree block_size column cell) (sym (column_at-hashed columns d)) (IsGivenBy-hashed (given d) (column_at columns d) tree block_size cell given_by)
-
-  pub IsGivenBy-column_unhashed : (tree : Tree) (block_size d : ℕ) (columns : List Column) (cell : CellReading) → IsGivenBy tree block_size (column_at (columns_hashed given 0 columns) d) cell → IsGivenBy tree block_size (column_at columns d) cell
-  IsGivenBy-column_unhashed tree block_size d columns cell given_by =
-      IsGivenBy-unhashed (given d) (column_at columns d) tree block_size cell (subst (λ (column : Column). IsGivenBy tree block_size column cell) (column_at-hashed columns d) given_by)
-
-  -- the calls for it
-  pub Asks-unhashed : (d block_size : ℕ) (columns : List Column) (cell : CellReading) (old new : FolderView) → Asks [] (AreCellCalls block_size (column_at (columns_hashed given 0 columns) d) cell) old new
-      → Asks [] (AreCellCalls block_size (column_at columns d) cell) old new
-  Asks-unhashed d block_size columns cell old new asks =
-      let column = column_at columns d in
+  pub IsColumn-hash : (the_length : ℕ) → IsSixteenBytes hash.0 → IsColumn the_length column → IsColumn the_length (column_with_hash column i index hash)
+  IsColumn-hash the_length digest is =
+      let new : Record = record_with_hash (record_in column i) index hash in
       record {
-        done = asks.done;
-        are = cell_calls_same block_size column (column_hashed (given d) column) cell asks.done (path-hashed (given d) column) (meta-hashed (given d) column)
-            (subst (λ (c : Column). AreCellCalls block_size c cell asks.done) (column_at-hashed columns d) asks.are);
-        grown = asks.grown;
+        name = is.name;
+        records = All-set IsRecord column.records i new (record_digest digest (is.records i no_record i_in)) is.records;
+        order = AllPairs-set ComesBefore column.records i no_record new i_in
+            (λ y before. record { less = before.less; not_nested = before.not_nested })
+            (λ y before. record { less = before.less; not_nested = before.not_nested }) is.order;
+        below = subst (All (λ position. position < the_length)) (sym column_positions) is.below;
+        once = subst (AllPairs (λ a b. a ≢ b)) (sym column_positions) is.once;
       }
 
-  pub HasRoom-hashed : (table : TableValue) (row : Row) → HasRoom table row → HasRoom (record table { columns = columns_hashed given 0 table.columns }) row
-  HasRoom-hashed table row room = record {
-    found = room.found ∙ sym (length-columns_hashed table.columns);
-    blocks = room.blocks ∙ ap (λ n. n * table.shape.block_size) (sym (length-columns_hashed table.columns));
-  }
+-- and of a column among all
+module _ (columns : List Column) (d i index : ℕ) (hash : Digest16) (d_in : d < length columns) (i_in : i < length (column_at columns d).records) (index_in : index < length (record_at columns d i).blocks) where
+  abbrev new_column : Column
+  new_column = column_with_hash (column_at columns d) i index hash
 
-  -- what was told of it
-  pub tells_unhashed : {T : Type 0} (columns : List Column) (events : List Event) (result : Result T NoMemory) (old new : Told) (out out_new : SinkView)
-      → TellsEvents (columns_hashed given 0 columns) events result old new out out_new → TellsEvents columns events result old new out out_new
-  tells_unhashed columns events result old new out out_new one = record {
-    told = subst (λ (text : List ℕ). OnOk result (Tells text (written old out) (written new out_new))) (lines_of-hashed columns events) one.told;
-    counted = one.counted;
-    goes_on = one.goes_on;
-    stays = one.stays;
-    part = subst (λ (text : List ℕ). OnErr result (IsTrue out.tells → AppendsPart text out.written out_new.written)) (lines_of-hashed columns events) one.part;
-  }
+  abbrev new_record : Record
+  new_record = record_with_hash (record_at columns d i) index hash
 
-  -- what was read of it
-  pub ReadsStripe-unhashed : (table : TableValue) (stripe : ℕ) (reading : StripeReading) (olds news : List FolderView)
-      → ReadsStripe (record table { columns = columns_hashed given 0 table.columns }) stripe reading olds news → ReadsStripe table stripe reading olds news
-  ReadsStripe-unhashed table stripe reading olds news read = record {
-    stripe_is = read.stripe_is;
-    columns = read.columns ∙ length-columns_hashed table.columns;
-    folders = read.folders;
-    cells = λ d within.
-        let cell = read.cells d (omega (arith, length-columns_hashed table.columns, within)) in
-        record {
-          folder = cell.folder;
-          at = IsReadingAt-unhashed (given d) (column_at table.columns d) _ _ _
-              (subst (λ (column : Column). IsReadingAt table.shape.block_size column stripe (get_or reading.cells d NoBlock)) (column_at-hashed table.columns d) cell.at);
-          given = λ told. IsGivenBy-column_unhashed _ _ d table.columns _ (cell.given told);
-          unread = cell.unread;
-          calls = Asks-unhashed d table.shape.block_size table.columns _ _ _ cell.calls;
+  abbrev block_now : Block
+  block_now = record { position = (block_in (record_at columns d i) index).position; hash = Some hash }
+
+  abbrev place_in_all : ℕ
+  place_in_all = length (blocks_of (take d columns)) + (length (blocks_in (take i (column_at columns d).records)) + index)
+
+  abbrev place_in_records : ℕ
+  place_in_records = length (records_of (take d columns)) + i
+
+  blocks_of-set : blocks_of (with_hash columns d i index hash) ≡ set (blocks_of columns) place_in_all block_now
+  blocks_of-set = flat_map-set column_blocks columns d (length (blocks_in (take i (column_at columns d).records)) + index) no_column new_column block_now d_in
+      (column_within (column_at columns d) i index hash i_in index_in) (column_blocks-set (column_at columns d) i index hash i_in index_in)
+
+  all_within : place_in_all < length (blocks_of columns)
+  all_within = flat_map_within column_blocks columns d (length (blocks_in (take i (column_at columns d).records)) + index) no_column d_in (column_within (column_at columns d) i index hash i_in index_in)
+
+  all_reads : get_or (blocks_of columns) place_in_all no_block ≡ block_in (record_at columns d i) index
+  all_reads = get_or-flat_map column_blocks columns d (length (blocks_in (take i (column_at columns d).records)) + index) no_column no_block d_in (column_within (column_at columns d) i index hash i_in index_in)
+      ∙ column_reads (column_at columns d) i index hash i_in index_in
+
+  records_of-set : records_of (with_hash columns d i index hash) ≡ set (records_of columns) place_in_records new_record
+  records_of-set = flat_map-set (λ (c : Column). c.records) columns d i no_column new_column new_record d_in i_in refl
+
+  records_within : place_in_records < length (records_of columns)
+  records_within = flat_map_within (λ (c : Column). c.records) columns d i no_column d_in i_in
+
+  records_reads : get_or (records_of columns) place_in_records no_record ≡ record_at columns d i
+  records_reads = get_or-flat_map (λ (c : Column). c.records) columns d i no_column no_record d_in i_in
+
+  all_positions : positions_of (blocks_of (with_hash columns d i index hash)) ≡ positions_of (blocks_of columns)
+  all_positions = ap positions_of blocks_of-set ∙ positions-set (blocks_of columns) place_in_all block_now all_within (ap (λ (b : Block). b.position) (sym all_reads))
+
+  due_same : (block_size : ℕ) → blocks_due block_size (records_of (with_hash columns d i index hash)) ≡ blocks_due block_size (records_of columns)
+  due_same block_size =
+      let count : Record → ℕ = λ (r : Record). block_count block_size r.meta.size in
+      let both : blocks_due block_size (set (records_of columns) place_in_records new_record) + block_count block_size (get_or (records_of columns) place_in_records no_record).meta.size ≡ blocks_due block_size (records_of columns) + block_count block_size (record_at columns d i).meta.size =
+      sum_by-set (λ (r : Record). block_count block_size r.meta.size) (records_of columns) place_in_records new_record no_record records_within in
+      let read : block_count block_size (get_or (records_of columns) place_in_records no_record).meta.size ≡ block_count block_size (record_at columns d i).meta.size = ap (λ (r : Record). block_count block_size r.meta.size) records_reads in
+      let set_due : blocks_due block_size (set (records_of columns) place_in_records new_record) ≡ blocks_due block_size (records_of columns) = omega arith in
+      ap (blocks_due block_size) records_of-set ∙ set_due
+
+  pub valid-set_hash : (table : TableValue) → table.columns ≡ columns → IsSixteenBytes hash.0 → IsValid table → IsValid (record table { columns = with_hash columns d i index hash })
+  valid-set_hash table same digest valid =
+      let is : IsValid (record table { columns = columns }) = subst (λ (cs : List Column). IsValid (record table { columns = cs })) same valid in
+      let bs : ℕ = table.shape.block_size in
+      let old_column : IsColumn (length table.infos) (column_at columns d) = is.columns.each d no_column d_in in
+      let long : length (with_hash columns d i index hash) ≡ length columns = length-set columns d new_column in
+      let records_long : length (records_of (with_hash columns d i index hash)) ≡ length (records_of columns) = ap length records_of-set ∙ length-set (records_of columns) place_in_records new_record in
+      let old_whole : IsWhole bs (record_at columns d i) = subst (IsWhole bs) records_reads (is.whole place_in_records no_record records_within) in
+      let new_whole : IsWhole bs new_record = length-set (record_at columns d i).blocks index block_now ∙ old_whole in
+      record {
+        shape = is.shape;
+        some_column = subst (λ (n : ℕ). 1 ≤ n) (sym long) is.some_column;
+        columns = record {
+          few = subst (λ (n : ℕ). n ≤ most_columns) (sym long) is.columns.few;
+          each = All-set (IsColumn (length table.infos)) columns d new_column (IsColumn-hash (column_at columns d) i index hash i_in index_in (length table.infos) digest old_column) is.columns.each;
+          names = AllPairs-set (λ (earlier later : Column). earlier.name ≢ later.name) columns d no_column new_column d_in (λ y other. other) (λ y other. other) is.columns.names;
+          few_records = subst (λ (n : ℕ). n ≤ most_records) (sym records_long) is.columns.few_records;
+          few_blocks = subst (λ (n : ℕ). n ≤ most_blocks) (sym (due_same bs)) is.columns.few_blocks;
         };
-  }
+        whole = subst (All (IsWhole bs)) (sym records_of-set) (All-set (IsWhole bs) (records_of columns) place_in_records new_record new_whole is.whole);
+        short = is.short;
+        length_is = is.length_is ∙ ap end_of (sym all_positions);
+        infos = record {
+          each = is.infos.each;
+          hashed = λ stripe below synced. subst (All (λ (b : Block). b.position ≡ stripe → IsSome b.hash)) (sym blocks_of-set)
+              (All-set (λ (b : Block). b.position ≡ stripe → IsSome b.hash) (blocks_of columns) place_in_all block_now (λ at. refl) (is.infos.hashed stripe below synced));
+        };
+      }

@@ -1,88 +1,203 @@
--- The calls that open a sync: the table is saved, and the levels get their lengths.
-use Rattle.std.proofs.Common.{◌≡◌, ℕ, ◌==◌, if◌then◌else◌, List, [], ◌∷◌, ◌++◌, length, get_or, Bool, true, false, All, IsTrue, refl, ap, ap₂, ◌∙◌, subst}
+-- A sync that opens: the laid out table is saved, and then the levels get their lengths.
+use Rattle.std.proofs.Common.{◌≡◌, ℕ, ◌<◌, List, [], ◌∷◌, ◌++◌, length, get_or, Option, None, Some, IsTrue, Result, Ok, Err, OnOk, OnErr, inl, refl, sym, ◌∙◌, ap, ap₂, subst, arith}
 use Rattle.std.specs.List.{range_with_len, flat_map}
-use Rattle.std.proofs.lemmas.List.Elements.{All-append, All-nil, All-cons}
-use Rattle.disk_model.specs.Calls.{Makes, FailsBy, MakesThese, FailsAmong}
+use Rattle.std.proofs.lemmas.List.{append-nil}
+use Rattle.std.proofs.lemmas.Nat.{row_fits}
+use Rattle.disk_model.specs.Bytes.{resized}
+use Rattle.disk_model.specs.Calls.{MakesThese, FailsAmong}
 use Rattle.disk_model.specs.Files.{Files, parity_of}
-use Rattle.disk_model.specs.Vault.{VaultView, VaultCall, ParityLen, ParitySetLen, SomeCalls, ChangesBy, copies_of}
+use Rattle.disk_model.specs.Ran.{RanAll, RanUpTo, Ran, vault_done, log_of}
+use Rattle.disk_model.specs.Vault.{VaultView, VaultCall, IsWellFormed, SomeCalls, ChangesBy, Reads, Holds, copies_of, state_of}
+use Rattle.disk_model.specs.declared.fault.Failed.{Failed}
+use Rattle.disk_model.proofs.RanLemmas.{ran_all_then, ran_up_then, ran_front, ran_of_these, ran_of_among}
+use Rattle.disk_model.proofs.VaultLemmas.{calls_then}
+use Rattle.disk_model.proofs.BytesLemmas.{length-resized}
 use Rattle.file_table.specs.Table.{TableValue}
-use Rattle.content_file.specs.Save.{MaySave, save_calls}
+use Rattle.content_file.specs.Save.{MaySave, HasSaved, piecewise_calls}
 use Rattle.content_file.specs.Spelling.{spelling}
-use Rattle.parity_writer.specs.Calls.{IsLengthCall, level_calls, length_calls}
+use Rattle.parity_writer.specs.Calls.{level_calls, length_calls}
+use Rattle.parity_writer.specs.Keeps.{HasByte, KeepsAt}
+use Rattle.parity_writer.specs.Parity.{Row, no_rows, HoldsRows}
+use Rattle.parity_writer.specs.Rows.{HasLengths}
 use Rattle.parity_writer.proofs.LengthCalls.{same_level_calls}
-use Rattle.snap_sync.specs.Calls.{MakesSuch, AreFront, AreLengths}
-use Rattle.snap_sync.specs.Steps.{Opens, StopsOpening}
-use Rattle.snap_sync.proofs.OrderLemmas.{these_then, front_longer, front_after, front_of_failed, these_of_kind, front_of_kind}
+use Rattle.snap_sync.specs.Calls.{SyncPlan, opening_calls, level_bytes}
+use Rattle.snap_sync.specs.Images.{IsInSynced, KeepsSynced, IsAtWork, MayStand, Opening, AtWork, HasParityAfter}
+use Rattle.snap_sync.specs.Work.{IsPlanFor, IsUnderway}
+use Rattle.snap_sync.proofs.StepLemmas.{changes_by, changes_looser, holds_on}
 
-never : {A : Type 0} → IsTrue false → A
-never told = absurd (no told)
+-- no stripe has a row
+pub no_rows_held : (levels block_size : ℕ) (files : Files) → HoldsRows levels block_size no_rows files
+no_rows_held levels block_size files = record { level = λ level stripe row below is. absurd (no row is) }
   where
-    no : IsTrue false → ⊥
-    no told = cc
+    no : (row : Row) → None ≡ Some row → ⊥
+    no row is = cc
 
-all_level_calls : (bytes : ℕ) (read : Files) (level : ℕ) → All (IsLengthCall bytes) (level_calls bytes read level)
-all_level_calls bytes read level = by_test (length (parity_of read level) == bytes)
-  where
-    by_test : (b : Bool) → All (IsLengthCall bytes) (ParityLen level ∷ (if b then [] else ParitySetLen level bytes ∷ []))
-    by_test true = All-cons (IsLengthCall bytes) (ParityLen level) [] tt (All-nil (IsLengthCall bytes))
-    by_test false = All-cons (IsLengthCall bytes) (ParityLen level) (ParitySetLen level bytes ∷ []) tt (All-cons (IsLengthCall bytes) (ParitySetLen level bytes) [] refl (All-nil (IsLengthCall bytes)))
+-- a place in a synced stripe is below the length of the levels
+pub synced_below : (table : TableValue) (i : ℕ) → IsInSynced table i → i < level_bytes table
+synced_below table i is =
+    let fits = row_fits is.stripe table.shape.block_size (length table.infos) table.shape.block_size is.synced.within (omega arith) in
+    omega (arith, fits, is.before)
 
-all_length_calls : (bytes : ℕ) (read : Files) (levels : List ℕ) → All (IsLengthCall bytes) (flat_map (level_calls bytes read) levels)
-all_length_calls bytes read [] = All-nil (IsLengthCall bytes)
-all_length_calls bytes read (level ∷ levels) = All-append (IsLengthCall bytes) (level_calls bytes read level) (flat_map (level_calls bytes read) levels) (all_level_calls bytes read level) (all_length_calls bytes read levels)
+pub kept_below : (table : TableValue) (a b : Files) → KeepsAt (λ i. i < level_bytes table) a b → KeepsSynced table a b
+kept_below table a b keeps = record { bytes = λ level i x is has. keeps.bytes level i x (synced_below table i is) has }
 
--- what the files ask for
-asked : (told : Bool) (read : Files) (levels bytes : ℕ) → AreLengths told read levels bytes (length_calls levels bytes read)
-asked told read levels bytes = record { each = all_length_calls bytes read (range_with_len 0 levels); exact = λ is. refl }
+pub kept_by_save : (table : TableValue) (bytes : List ℕ) (a b : Files) → MaySave bytes a b → KeepsSynced table a b
+kept_by_save table bytes a b may = record { bytes = λ level i x is has. subst (λ (parities : List (List ℕ)). HasByte (get_or parities level []) i x) (sym may.parities) has }
 
-untold : (read : Files) (levels bytes : ℕ) (lengths : List VaultCall) → All (IsLengthCall bytes) lengths → AreLengths false read levels bytes lengths
-untold read levels bytes lengths each = record { each = each; exact = λ is. never is }
+pub kept_then : (table : TableValue) (a b c : Files) → KeepsSynced table a b → KeepsSynced table b c → KeepsSynced table a c
+kept_then table a b c one two = record { bytes = λ level i x is has. two.bytes level i x is (one.bytes level i x is has) }
 
--- they depend on the levels alone
+-- copies stay where the contents do
+pub saved_kept : (copies : ℕ) (bytes : List ℕ) (a b : Files) → HasSaved copies bytes a → b.contents ≡ a.contents → HasSaved copies bytes b
+saved_kept copies bytes a b has same copy below = ap (λ (contents : List (Option (List ℕ))). get_or contents copy None) same ∙ has copy below
+
+-- ---- the calls
+
 same_lengths : (bytes : ℕ) (files others : Files) (levels : List ℕ) → files.parities ≡ others.parities → flat_map (level_calls bytes files) levels ≡ flat_map (level_calls bytes others) levels
 same_lengths bytes files others [] same = refl
 same_lengths bytes files others (level ∷ levels) same =
-    ap₂ (λ (first back : List VaultCall). first ++ back) (same_level_calls bytes level files others (ap (λ (parities : List (List ℕ)). get_or parities level []) same)) (same_lengths bytes files others levels same)
+    ap₂ (λ (first back : List VaultCall). first ++ back)
+    (same_level_calls bytes level files others (ap (λ (parities : List (List ℕ)). get_or parities level []) same)) (same_lengths bytes files others levels same)
 
-asked_before : (content : List ℕ) (bytes : ℕ) (old mid : VaultView) → SomeCalls old mid → ChangesBy (MaySave content) old mid → IsTrue old.tells
-    → length_calls mid.levels bytes mid.files ≡ length_calls old.levels bytes old.files
-asked_before content bytes old mid calls saving told =
-    ap (λ n. length_calls n bytes mid.files) calls.goes_on.levels ∙ same_lengths bytes mid.files old.files (range_with_len 0 old.levels) (saving.reads told).parities
+module _ (plan : SyncPlan) (old mid : VaultView) (for : IsPlanFor plan old) (saving : SomeCalls old mid) (saves : ChangesBy (MaySave (spelling plan.start)) old mid) where
+  -- the lengths that are asked are those before
+  lengths_asked : IsTrue old.tells → length_calls mid.levels (level_bytes plan.start) mid.files ≡ length_calls plan.start.shape.levels (level_bytes plan.start) old.files
+  lengths_asked told =
+      ap (λ n. length_calls n (level_bytes plan.start) mid.files) (saving.goes_on.levels ∙ for.levels)
+      ∙ same_lengths (level_bytes plan.start) mid.files old.files (range_with_len 0 plan.start.shape.levels) (saves.reads told).parities
 
--- the lengths were set; or this failed
-set_all : (told : Bool) (read : Files) (levels bytes : ℕ) (mid new : VaultView) → (IsTrue told → MakesThese (length_calls levels bytes read) mid new) → Makes (IsLengthCall bytes) mid new
-    → (lengths : List VaultCall) × AreLengths told read levels bytes lengths × MakesThese lengths mid new
-set_all true read levels bytes mid new exact makes = (length_calls levels bytes read, asked true read levels bytes, exact refl)
-set_all false read levels bytes mid new exact makes =
-    let these = these_of_kind (IsLengthCall bytes) mid new makes in
-    (these.0, untold read levels bytes these.0 these.1, these.2)
+  abbrev pieces : List VaultCall
+  pieces = piecewise_calls plan.piece plan.copies (spelling plan.start)
 
-set_some : (told : Bool) (read : Files) (levels bytes : ℕ) (mid new : VaultView) → SomeCalls mid new → (IsTrue told → FailsAmong (length_calls levels bytes read) mid new) → FailsBy (IsLengthCall bytes) mid new
-    → (lengths : List VaultCall) × AreLengths told read levels bytes lengths × MakesSuch (AreFront lengths) mid new
-set_some true read levels bytes mid new some exact fails = (length_calls levels bytes read, asked true read levels bytes, front_of_failed (length_calls levels bytes read) mid new some (exact refl))
-set_some false read levels bytes mid new some exact fails =
-    let these = front_of_kind (IsLengthCall bytes) mid new some fails in
-    (these.0, untold read levels bytes these.0 these.1, these.2)
+  pub opens_in_order : (new : VaultView) → SomeCalls mid new → RanAll vault_done pieces (log_of (state_of old)) (log_of (state_of mid)) → IsTrue old.tells
+      → (IsTrue mid.tells → MakesThese (length_calls mid.levels (level_bytes plan.start) mid.files) mid new) → RanAll vault_done (opening_calls plan old.files) (log_of (state_of old)) (log_of (state_of new))
+  opens_in_order new more saved told these =
+      ran_all_then vault_done pieces (length_calls plan.start.shape.levels (level_bytes plan.start) old.files) (log_of (state_of old)) (log_of (state_of mid)) (log_of (state_of new)) saved
+      (subst (λ calls. RanAll vault_done calls (log_of (state_of mid)) (log_of (state_of new))) (lengths_asked told)
+      (ran_of_these (length_calls mid.levels (level_bytes plan.start) mid.files) mid new more (these (saving.goes_on.tells ∙ told))))
 
--- ---- the steps
+  pub opens_up_to : (new : VaultView) → SomeCalls mid new → RanAll vault_done pieces (log_of (state_of old)) (log_of (state_of mid)) → IsTrue old.tells
+      → (IsTrue mid.tells → FailsAmong (length_calls mid.levels (level_bytes plan.start) mid.files) mid new) → RanUpTo vault_done (opening_calls plan old.files) (log_of (state_of old)) (log_of (state_of new))
+  opens_up_to new more saved told among =
+      ran_up_then vault_done pieces (length_calls plan.start.shape.levels (level_bytes plan.start) old.files) (log_of (state_of old)) (log_of (state_of mid)) (log_of (state_of new)) saved
+      (subst (λ calls. RanUpTo vault_done calls (log_of (state_of mid)) (log_of (state_of new))) (lengths_asked told)
+      (ran_of_among (length_calls mid.levels (level_bytes plan.start) mid.files) mid new more (among (saving.goes_on.tells ∙ told))))
 
-pub stops_saving : (bytes : ℕ) (table : TableValue) (old new : VaultView) → MakesSuch (AreFront (save_calls (copies_of old) (spelling table))) old new → StopsOpening bytes table old new
-stops_saving bytes table old new front = record {
-  lengths = length_calls old.levels bytes old.files;
-  are = asked old.tells old.files old.levels bytes;
-  made = front_longer (save_calls (copies_of old) (spelling table)) (length_calls old.levels bytes old.files) old new front;
-}
+  -- ---- the files
 
-pub stops_setting : (bytes : ℕ) (table : TableValue) (old mid new : VaultView) → SomeCalls old mid → ChangesBy (MaySave (spelling table)) old mid → MakesThese (save_calls (copies_of old) (spelling table)) old mid
-    → SomeCalls mid new → (IsTrue mid.tells → FailsAmong (length_calls mid.levels bytes mid.files) mid new) → FailsBy (IsLengthCall bytes) mid new → StopsOpening bytes table old new
-stops_setting bytes table old mid new calls saving saved some exact fails =
-    let set = set_some old.tells old.files old.levels bytes mid new some
-    (λ told. subst (λ (lengths : List VaultCall). FailsAmong lengths mid new) (asked_before (spelling table) bytes old mid calls saving told) (exact (calls.goes_on.tells ∙ told))) fails in
-    record { lengths = set.0; are = set.1; made = front_after (save_calls (copies_of old) (spelling table)) set.0 old mid new saved set.2 }
+  at_work : (a b c : Files) → MaySave (spelling plan.start) a b → HasSaved plan.copies (spelling plan.start) b → KeepsAt (λ i. i < level_bytes plan.start) b c → IsAtWork plan [] 0 0 a c
+  at_work a b c may has keeps = record {
+    order = omega arith;
+    within = omega arith;
+    copies = λ copy below. inl (saved_kept plan.copies (spelling plan.start) b c has keeps.contents copy below);
+    rows = no_rows_held plan.start.shape.levels plan.start.shape.block_size c;
+    kept = kept_then plan.start a b c (kept_by_save plan.start (spelling plan.start) a b may) (kept_below plan.start b c keeps);
+  }
 
-pub opens_all : (bytes : ℕ) (table : TableValue) (old mid new : VaultView) → SomeCalls old mid → ChangesBy (MaySave (spelling table)) old mid → MakesThese (save_calls (copies_of old) (spelling table)) old mid
-    → (IsTrue mid.tells → MakesThese (length_calls mid.levels bytes mid.files) mid new) → Makes (IsLengthCall bytes) mid new → Opens bytes table old new
-opens_all bytes table old mid new calls saving saved exact makes =
-    let set = set_all old.tells old.files old.levels bytes mid new
-    (λ told. subst (λ (lengths : List VaultCall). MakesThese lengths mid new) (asked_before (spelling table) bytes old mid calls saving told) (exact (calls.goes_on.tells ∙ told))) makes in
-    record { lengths = set.0; are = set.1; made = these_then (save_calls (copies_of old) (spelling table)) set.0 old mid new saved set.2 }
+  pub saving_stands : ChangesBy (MayStand plan []) old mid
+  saving_stands = changes_looser (MaySave (spelling plan.start)) (MayStand plan []) old mid (λ a b may. Opening may) saves
+
+  module _ (new : VaultView) (formed : IsWellFormed new) (more : SomeCalls mid new) (saved : Holds (HasSaved plan.copies (spelling plan.start)) mid)
+      (stretches : ChangesBy (KeepsAt (λ i. i < level_bytes plan.start)) mid new) where
+    pub opening_stands : ChangesBy (MayStand plan []) old new
+    opening_stands =
+        changes_by (MaySave (spelling plan.start)) (KeepsAt (λ i. i < level_bytes plan.start)) (MayStand plan []) (HasSaved plan.copies (spelling plan.start)) old mid new formed
+        (λ told a b may. Opening may)
+        (λ told a b c may has keeps. AtWork 0 0 (at_work a b c may has keeps))
+        saving more saves saved stretches
+
+    parity_opened : (Reads (HasLengths mid.levels (level_bytes plan.start) mid.files) new) → Reads (HasParityAfter plan [] 0 old.files) new
+    parity_opened set told = record {
+      lengths = λ level below. ap length (at level below) ∙ length-resized (parity_of old.files level) (level_bytes plan.start);
+      rows_held = no_rows_held plan.start.shape.levels plan.start.shape.block_size new.files;
+      others = λ level i x below out has. subst (λ file. HasByte file i x) (sym (at level below)) has;
+    }
+      where
+        was : IsTrue old.tells
+        was = sym saving.goes_on.tells ∙ sym more.goes_on.tells ∙ told
+
+        at : (level : ℕ) → level < plan.start.shape.levels → parity_of new.files level ≡ resized (parity_of old.files level) (level_bytes plan.start)
+        at level below =
+            set told level (omega (arith, below, saving.goes_on.levels, for.levels))
+            ∙ ap (λ (parities : List (List ℕ)). resized (get_or parities level []) (level_bytes plan.start)) (saves.reads was).parities
+
+    pub opened : RanAll vault_done pieces (log_of (state_of old)) (log_of (state_of mid)) → (IsTrue mid.tells → MakesThese (length_calls mid.levels (level_bytes plan.start) mid.files) mid new)
+        → Reads (HasLengths mid.levels (level_bytes plan.start) mid.files) new → IsUnderway plan [] 0 0 old new
+    opened ran these set = record {
+      order = omega arith;
+      within = omega arith;
+      calls = calls_then old mid new saving more;
+      ran = λ told. subst (λ calls. RanAll vault_done calls (log_of (state_of old)) (log_of (state_of new))) (sym (append-nil (opening_calls plan old.files))) (opens_in_order new more ran told these);
+      changes = opening_stands;
+      copies = holds_on (KeepsAt (λ i. i < level_bytes plan.start)) (HasSaved plan.copies (spelling plan.start)) (HasSaved plan.copies (spelling plan.start)) mid new more
+          (λ a b has keeps. saved_kept plan.copies (spelling plan.start) a b has keeps.contents) stretches saved;
+      rows = record {
+        reads = λ told. no_rows_held plan.start.shape.levels plan.start.shape.block_size new.files;
+        leaves = λ told files left. no_rows_held plan.start.shape.levels plan.start.shape.block_size files;
+      };
+      parity = parity_opened set;
+    }
+
+-- ---- what the code does, of a table and by pieces of a size
+
+-- a table was saved to so many copies
+pub record SavedFirst (table : TableValue) (size copies : ℕ) (old mid : VaultView) : Type 0 where
+  pub calls : SomeCalls old mid
+  pub changes : ChangesBy (MaySave (spelling table)) old mid
+  pub ran : RanAll vault_done (piecewise_calls size copies (spelling table)) (log_of (state_of old)) (log_of (state_of mid))
+  pub saved : Holds (HasSaved copies (spelling table)) mid
+
+-- the levels got so many bytes, or this failed
+pub record SetsLengths {T : Type 0} (bytes : ℕ) (result : Result T Failed) (mid new : VaultView) : Type 0 where
+  pub calls : SomeCalls mid new
+  pub changes : ChangesBy (KeepsAt (λ i. i < bytes)) mid new
+  pub ordered : OnOk result (IsTrue mid.tells → MakesThese (length_calls mid.levels bytes mid.files) mid new)
+  pub failed : OnErr result (IsTrue mid.tells → FailsAmong (length_calls mid.levels bytes mid.files) mid new)
+  pub set : OnOk result (Reads (HasLengths mid.levels bytes mid.files) new)
+
+pub saves_stand : (plan : SyncPlan) (table : TableValue) (old mid : VaultView) → plan.start ≡ table → IsPlanFor plan old → SomeCalls old mid → ChangesBy (MaySave (spelling table)) old mid → ChangesBy (MayStand plan []) old mid
+saves_stand plan table old mid start_is for calls changes = saving_stands plan old mid for calls (subst (λ (t : TableValue). ChangesBy (MaySave (spelling t)) old mid) (sym start_is) changes)
+
+pub saves_up_to : (plan : SyncPlan) (table : TableValue) (size : ℕ) (old new : VaultView) → plan.start ≡ table → plan.piece ≡ size → IsPlanFor plan old
+    → RanUpTo vault_done (piecewise_calls size (copies_of old) (spelling table)) (log_of (state_of old)) (log_of (state_of new)) → RanUpTo vault_done (opening_calls plan old.files) (log_of (state_of old)) (log_of (state_of new))
+saves_up_to plan table size old new start_is piece_is for up =
+    let log = λ (t : TableValue) (n c : ℕ). RanUpTo vault_done (piecewise_calls n c (spelling t)) (log_of (state_of old)) (log_of (state_of new)) in
+    ran_front vault_done (piecewise_calls plan.piece plan.copies (spelling plan.start)) (length_calls plan.start.shape.levels (level_bytes plan.start) old.files) (log_of (state_of old)) (log_of (state_of new))
+    (subst (λ (t : TableValue). log t plan.piece plan.copies) (sym start_is) (subst (λ (n : ℕ). log table n plan.copies) (sym piece_is) (subst (λ (c : ℕ). log table size c) for.copies up)))
+
+module _ {T : Type 0} (plan : SyncPlan) (table : TableValue) (size bytes : ℕ) (result : Result T Failed) (old mid new : VaultView) (start_is : plan.start ≡ table) (for : IsPlanFor plan old) (bytes_are : bytes ≡ level_bytes table)
+    (first : SavedFirst table size (copies_of old) old mid) (sets : SetsLengths bytes result mid new) (formed : IsWellFormed new) where
+  its_first : SavedFirst plan.start size plan.copies old mid
+  its_first = subst (λ (t : TableValue). SavedFirst t size plan.copies old mid) (sym start_is) (subst (λ (c : ℕ). SavedFirst table size c old mid) for.copies first)
+
+  its_sets : SetsLengths (level_bytes plan.start) result mid new
+  its_sets = subst (λ (n : ℕ). SetsLengths n result mid new) (bytes_are ∙ ap (λ (t : TableValue). level_bytes t) (sym start_is)) sets
+
+  pub open_stands : ChangesBy (MayStand plan []) old new
+  open_stands = opening_stands plan old mid for its_first.calls its_first.changes new formed its_sets.calls its_first.saved its_sets.changes
+
+  module _ (piece_is : plan.piece ≡ size) where
+    by_pieces : SavedFirst plan.start plan.piece plan.copies old mid
+    by_pieces = subst (λ (n : ℕ). SavedFirst plan.start n plan.copies old mid) (sym piece_is) its_first
+
+    pub open_ran : IsTrue old.tells → Ran (opening_calls plan old.files) result (state_of old) (state_of new)
+    open_ran told = by result its_sets.ordered its_sets.failed
+      where
+        by : (r : Result T Failed) → OnOk r (IsTrue mid.tells → MakesThese (length_calls mid.levels (level_bytes plan.start) mid.files) mid new)
+            → OnErr r (IsTrue mid.tells → FailsAmong (length_calls mid.levels (level_bytes plan.start) mid.files) mid new) → Ran (opening_calls plan old.files) r (state_of old) (state_of new)
+        by (Ok x) these among = opens_in_order plan old mid for by_pieces.calls by_pieces.changes new its_sets.calls by_pieces.ran told these
+        by (Err e) these among = opens_up_to plan old mid for by_pieces.calls by_pieces.changes new its_sets.calls by_pieces.ran told among
+
+    pub open_opened : OnOk result (IsUnderway plan [] 0 0 old new)
+    open_opened = by result its_sets.ordered its_sets.set
+      where
+        by : (r : Result T Failed) → OnOk r (IsTrue mid.tells → MakesThese (length_calls mid.levels (level_bytes plan.start) mid.files) mid new)
+            → OnOk r (Reads (HasLengths mid.levels (level_bytes plan.start) mid.files) new) → OnOk r (IsUnderway plan [] 0 0 old new)
+        by (Ok x) these set = opened plan old mid for by_pieces.calls by_pieces.changes new formed its_sets.calls by_pieces.saved its_sets.changes by_pieces.ran these set
+        by (Err e) these set = tt
+
+-- of each plan
+pub ok_for_each : {T : Type 0} (Fits Fine : SyncPlan → Type 0) (result : Result T Failed) (table : TableValue) (size : ℕ)
+    → ((plan : SyncPlan) → plan.start ≡ table → plan.piece ≡ size → Fits plan → OnOk result (Fine plan)) → OnOk result ((plan : SyncPlan) → plan.start ≡ table → plan.piece ≡ size → Fits plan → Fine plan)
+ok_for_each Fits Fine (Ok x) table size each = each
+ok_for_each Fits Fine (Err e) table size each = tt

@@ -1,83 +1,69 @@
 -- Which calls a sync makes of the vault, and in which order.
-use Rattle.std.specs.Prelude.{◌≡◌, ℕ, ◌*◌, List, [], ◌∷◌, ◌++◌, length, map, All, Bool, true, IsTrue, if◌then◌else◌}
-use Rattle.std.specs.List.{flat_map}
-use Rattle.disk_model.specs.Calls.{gone_well}
-use Rattle.disk_model.specs.Cause.{Grows}
-use Rattle.disk_model.specs.Files.{Files}
-use Rattle.disk_model.specs.Vault.{VaultView, VaultCall, VaultDone, ParityLen, ParityWrite, ParitySetLen, ParitySync}
-use Rattle.file_table.specs.Table.{TableValue}
-use Rattle.content_file.specs.Save.{IsDraftCall, save_calls}
+use Rattle.std.specs.Prelude.{ℕ, ◌+◌, ◌*◌, ◌==◌, ◌&&◌, not, List, [], ◌++◌, length, take, get_or, Bool, if◌then◌else◌, Option}
+use Rattle.std.specs.List.{range_with_len, flat_map}
+use Rattle.content_file.specs.Save.{piecewise_calls}
 use Rattle.content_file.specs.Spelling.{spelling}
-use Rattle.parity_writer.specs.Calls.{IsLengthCall, length_calls, sum_calls, sync_calls}
+use Rattle.disk_model.specs.Files.{Files}
+use Rattle.disk_model.specs.Vault.{VaultCall}
+use Rattle.file_table.specs.Table.{TableValue}
+use Rattle.parity_writer.specs.Calls.{length_calls, sum_calls, sync_calls}
 use Rattle.snap_sync.specs.Closing.{closed}
 use Rattle.snap_sync.specs.Reading.{StripeReading, is_verified, row_of}
+use Rattle.snap_sync.specs.Schedule.{is_checkpoint}
 
--- a call of a draft, of a level's length, a write to a level or a sync of one; none that reads parity or content
-abbrev pub IsSyncCall : VaultCall → Type 0
-IsSyncCall (ParityLen level) = Unit {0}
-IsSyncCall (ParitySetLen level len) = Unit {0}
-IsSyncCall (ParityWrite level at bytes) = Unit {0}
-IsSyncCall (ParitySync level) = Unit {0}
-IsSyncCall call = IsDraftCall call
+-- what the calls of a sync depend on, beside what it reads: the laid out table, how many pending stripes that has, after how many of
+-- them it saves, when it began, how many copies there are, and how many bytes it writes to a draft at once
+pub record SyncPlan : Type 0 where
+  pub start : TableValue
+  pub all : ℕ
+  pub every : Option ℕ
+  pub now : ℕ
+  pub copies : ℕ
+  pub piece : ℕ
 
--- the writes for a stripe that was read: where it is verified, one to each level in order
-abbrev pub stripe_writes : TableValue → StripeReading → List VaultCall
-stripe_writes table reading = if is_verified table.shape.block_size table.columns reading then sum_calls table.shape.levels table.shape.block_size reading.stripe (row_of table.shape.block_size reading) else []
+-- how many bytes are written to a draft at once
+abbrev pub piece_size : ℕ
+piece_size = 65536
 
--- and for all that were read
-abbrev pub writes_of : TableValue → List StripeReading → List VaultCall
-writes_of table readings = flat_map (stripe_writes table) readings
+-- the length of the levels in bytes
+abbrev pub level_bytes : TableValue → ℕ
+level_bytes table = length table.infos * table.shape.block_size
 
--- the calls that were made, whether they failed or not
-abbrev pub calls_in : List VaultDone → List VaultCall
-calls_in done = map (λ (d : VaultDone). d.call) done
+-- the laid out table is saved to every copy, and then the levels of these files get their lengths
+abbrev pub opening_calls : SyncPlan → Files → List VaultCall
+opening_calls plan files =
+    piecewise_calls plan.piece plan.copies (spelling plan.start) ++ length_calls plan.start.shape.levels (level_bytes plan.start) files
 
--- a call that failed is the last of them
-abbrev pub EndsAtFailure : List VaultDone → Type 0
-EndsAtFailure [] = Unit {0}
-EndsAtFailure (made ∷ rest) = (IsTrue made.failed → rest ≡ []) × EndsAtFailure rest
+-- the writes for a stripe that was read: where it is verified, its sum to each level in order
+abbrev pub writes_of : TableValue → StripeReading → List VaultCall
+writes_of start reading =
+    if is_verified start reading then sum_calls start.shape.levels start.shape.block_size reading.stripe (row_of reading) else []
 
--- such calls were made, and a call that failed is the last of them
-pub record MakesSuch (P : List VaultDone → Type 0) (old new : VaultView) : Type 0 where
-  pub done : List VaultDone
-  pub are : P done
-  pub ends : EndsAtFailure done
-  pub grown : Grows old.tells_calls old.calls new.tells_calls new.calls done
+-- a checkpoint: each level is synced, and then a table is saved to every copy
+abbrev pub checkpoint_calls : SyncPlan → TableValue → List VaultCall
+checkpoint_calls plan table = sync_calls plan.start.shape.levels ++ piecewise_calls plan.piece plan.copies (spelling table)
 
--- such calls were made since those of a list, where they are told
-pub record MakesSince (P : List VaultDone → Type 0) (calls : List VaultDone) (new : VaultView) : Type 0 where
-  pub done : List VaultDone
-  pub are : P done
-  pub made : IsTrue new.tells_calls → new.calls ≡ calls ++ done
+-- a checkpoint stands after so many pending stripes, and it is not the end
+abbrev pub saves_after : SyncPlan → ℕ → Bool
+saves_after plan count = is_checkpoint plan.every count && not (count == plan.all)
 
--- they are a front of these
-pub record AreFront (calls : List VaultCall) (done : List VaultDone) : Type 0 where
-  pub rest : List VaultCall
-  pub whole : calls_in done ++ rest ≡ calls
+-- the calls for the stripe of a number: its writes, and the checkpoint behind it, if one stands there
+abbrev pub no_reading : StripeReading
+no_reading = record { stripe = 0; slots = [] }
 
--- Calls that give levels their lengths. Where the files are told, they are those that such files ask for.
-pub record AreLengths (told : Bool) (read : Files) (levels bytes : ℕ) (lengths : List VaultCall) : Type 0 where
-  pub each : All (IsLengthCall bytes) lengths
-  pub exact : IsTrue told → lengths ≡ length_calls levels bytes read
+abbrev pub calls_at : SyncPlan → List StripeReading → ℕ → List VaultCall
+calls_at plan readings i =
+    writes_of plan.start (get_or readings i no_reading)
+    ++ (if saves_after plan (i + 1) then checkpoint_calls plan (closed plan.now plan.start (take (i + 1) readings)) else [])
 
--- The calls of a sync: the laid out table is saved to every copy, the levels get their lengths, and the sums of what was read are written. Where it closes,
--- each level is then synced, and the table in which the verified stripes are synced is saved to every copy.
-abbrev pub calls_till : Bool → ℕ → TableValue → ℕ → List StripeReading → List VaultCall → List VaultCall
-calls_till closing copies start now readings lengths =
-    save_calls copies (spelling start) ++ (lengths ++ (writes_of start readings ++
-    (if closing then sync_calls start.shape.levels ++ save_calls copies (spelling (closed now start readings)) else [])))
+-- the calls for the first so many stripes
+abbrev pub stripe_calls : SyncPlan → List StripeReading → ℕ → List VaultCall
+stripe_calls plan readings count = flat_map (calls_at plan readings) (range_with_len 0 count)
 
--- The calls of a sync that did not end: a front of these, of which one that failed is the last. It closes only once all stripes were read.
-pub record AreInOrder (told : Bool) (read : Files) (copies : ℕ) (start : TableValue) (now : ℕ) (readings : List StripeReading) (done : List VaultDone) : Type 0 where
-  pub lengths : List VaultCall
-  pub are : AreLengths told read start.shape.levels (length start.infos * start.shape.block_size) lengths
-  pub closing : Bool
-  pub all : IsTrue closing → length readings ≡ length start.infos
-  pub front : AreFront (calls_till closing copies start now readings lengths) done
-  pub ends : EndsAtFailure done
+-- all calls of a sync that read these stripes; it ends with a checkpoint once all were read
+abbrev pub ending_calls : SyncPlan → List StripeReading → List VaultCall
+ending_calls plan readings = if length readings == plan.all then checkpoint_calls plan (closed plan.now plan.start readings) else []
 
--- The calls of a sync that ended: all of these, of which none failed.
-pub record AreWhole (told : Bool) (read : Files) (copies : ℕ) (start : TableValue) (now : ℕ) (readings : List StripeReading) (done : List VaultDone) : Type 0 where
-  pub lengths : List VaultCall
-  pub are : AreLengths told read start.shape.levels (length start.infos * start.shape.block_size) lengths
-  pub done_is : done ≡ map gone_well (calls_till true copies start now readings lengths)
+abbrev pub sync_vault_calls : SyncPlan → Files → List StripeReading → List VaultCall
+sync_vault_calls plan files readings =
+    opening_calls plan files ++ (stripe_calls plan readings (length readings) ++ ending_calls plan readings)

@@ -1,28 +1,28 @@
--- The part sync of some stripes of a table, and the full sync: what they leave of the table and of its parity, by what the folders' trees hold.
-use Rattle.std.specs.Prelude.{◌≡◌, ℕ, ◌+◌, ◌*◌, ◌<◌, List, [], ◌∷◌, length, map, replicate, get_or, slice_index, Bool, true, false, ◌&&◌, not, nat_lt, IsTrue, Some, if◌then◌else◌, Contains}
-use Rattle.std.specs.Option.{option_map}
+-- The part sync of some stripes of a table, and the full sync: what they leave of table and parity, by what the trees hold.
+use Rattle.std.specs.Prelude.{◌≡◌, ◌⊎◌, ℕ, ◌<◌, List, ◌++◌, length, take, map, filter, get_or, Some, true}
+use Rattle.std.specs.Prelude.{All, Contains, IsTrue}
+use Rattle.std.specs.List.{range_with_len}
 use Rattle.std.specs.FinMap as finite_map
-use Rattle.block_hash.specs.Hash.{hash}
-use Rattle.block_hash.specs.declared.Digest16.{Digest16}
-use Rattle.cauchy.specs.Matrix.{parity_of as level_of}
-use Rattle.disk_model.specs.Bytes.{read_from, resized}
+use Rattle.array_scan.specs.Kept.{ListedFile, kept_lists}
+use Rattle.array_scan.specs.Layout.{layout, pending_stripes}
+use Rattle.array_scan.specs.Listings.{ListsAll}
+use Rattle.content_file.specs.Spelling.{spelling}
 use Rattle.disk_model.specs.Cause.{Rose}
-use Rattle.disk_model.specs.Files.{Files, parity_of}
+use Rattle.disk_model.specs.Files.{Files, content_of}
 use Rattle.disk_model.specs.Folder.{FolderView}
-use Rattle.disk_model.specs.Tree.{Tree, file_of, meta_of, listing_of}
-use Rattle.file_table.specs.declared.shape.Shape.{Shape}
-use Rattle.file_table.specs.declared.block.Block.{Block}
-use Rattle.file_table.specs.declared.info.Mark.{Mark}
-use Rattle.file_table.specs.declared.info.Mark.TheVariants.{Pending, Synced}
-use Rattle.file_table.specs.Table.{Record, Column, TableValue, column_at, record_at, block_in, info_at, IsAt}
-use Rattle.snap_report.specs.declared.event.Event.{Event}
-use Rattle.snap_report.specs.declared.event.Event.TheVariants.{ChangedBlock, Io}
-use Rattle.snap_sync.specs.Reading.{StripeReading, bytes_of}
-use Rattle.snap_sync.specs.Closing.{infos_closed}
-use Rattle.snap_sync.specs.Events.{events_of}
-use Rattle.snap_sync.specs.Found.{folder_at}
-use Rattle.snap_sync.specs.Layout.{laid}
-use Rattle.snap_sync.specs.Sync.{Names, kept_of}
+use Rattle.disk_model.specs.Tree.{Tree, listing_of}
+use Rattle.file_table.specs.Table.{TableValue}
+use Rattle.file_table.specs.declared.info.Info.{Info}
+use Rattle.snap_config.specs.Setup.{SetupValue}
+use Rattle.stripe_reader.specs.Columns.{folder_at}
+use Rattle.stripe_reader.specs.Reading.{given_by, task_at}
+use Rattle.stripe_reader.specs.Slot.{kept}
+use Rattle.stripe_reader.specs.SlotValue.{SlotValue}
+use Rattle.stripe_reader.specs.Starts.{recorded_starts}
+use Rattle.snap_sync.specs.Calls.{SyncPlan, level_bytes}
+use Rattle.snap_sync.specs.Closing.{closed, rows_of}
+use Rattle.snap_sync.specs.Images.{HasParity, table_after}
+use Rattle.snap_sync.specs.Reading.{StripeReading, is_verified, stripes_of, ReadsFirst}
 
 -- the trees of folders, and the tree of a column's folder
 abbrev pub trees_of : List FolderView → List Tree
@@ -39,123 +39,119 @@ AllTell folders = (d : ℕ) → d < length folders → IsTrue (folder_at folders
 abbrev pub NoneRose : List FolderView → List FolderView → Type 0
 NoneRose olds news = (d : ℕ) → d < length olds → ¬ (Rose (folder_at olds d).faults (folder_at news d).faults)
 
--- what a tree holds of the block of a number of a record: a slice of the file's bytes, shorter where the file ends within it
-abbrev pub held : Tree → ℕ → Record → ℕ → List ℕ
-held tree block_size kept index = read_from (bytes_of (file_of tree kept.path)) (index * block_size) block_size
+-- what the trees give of a cell, and of a stripe and of stripes of a table
+abbrev pub slot_by : TableValue → List Tree → ℕ → ℕ → SlotValue
+slot_by table trees stripe d = kept table.shape (given_by (tree_at trees d) (task_at table (recorded_starts table) d stripe))
 
--- the hash of that, unpadded
-abbrev pub held_hash : Shape → Tree → Record → ℕ → Digest16
-held_hash shape tree kept index = record { 0 = hash shape.kind shape.seed (held tree shape.block_size kept index) }
-
--- The row of a stripe: of each column the block that its tree holds there, padded with zeros. A column without a block has all zeros.
-pub record IsRow (table : TableValue) (trees : List Tree) (stripe : ℕ) (row : List (List ℕ)) : Type 0 where
-  pub columns : length row ≡ length table.columns
-  pub blocks : (d rec index : ℕ) → d < length table.columns → IsAt (column_at table.columns d) stripe rec index
-      → get_or row d [] ≡ resized (held (tree_at trees d) table.shape.block_size (record_at table.columns d rec) index) table.shape.block_size
-  pub zeros : (d : ℕ) → d < length table.columns → ((rec index : ℕ) → ¬ (IsAt (column_at table.columns d) stripe rec index))
-      → get_or row d [] ≡ replicate table.shape.block_size 0
-
--- A block is whole in a tree: its file is there with the record's size and stamp, and a hash that the table has of it is that of what the tree holds.
-pub record IsWholeIn (shape : Shape) (tree : Tree) (kept : Record) (index : ℕ) : Type 0 where
-  pub file : option_map meta_of (file_of tree kept.path) ≡ Some kept.meta
-  pub hash : (digest : Digest16) → (block_in kept index).hash ≡ Some digest → held_hash shape tree kept index ≡ digest
-
--- a stripe is verified by the trees: each of its blocks is whole in the tree of its column
-abbrev pub IsVerifiedBy : TableValue → List Tree → ℕ → Type 0
-IsVerifiedBy table trees stripe = (d rec index : ℕ) → d < length table.columns → IsAt (column_at table.columns d) stripe rec index
-    → IsWholeIn table.shape (tree_at trees d) (record_at table.columns d rec) index
-
--- whether a stripe of a table is synced, and whether it is pending; a stripe behind the last one is neither
-abbrev pub is_synced_mark : Mark → Bool
-is_synced_mark Pending = false
-is_synced_mark Synced = true
-
-abbrev pub is_synced_in : TableValue → ℕ → Bool
-is_synced_in table stripe = nat_lt stripe (length table.infos) && is_synced_mark (info_at table.infos stripe).mark
-
-abbrev pub is_pending_in : TableValue → ℕ → Bool
-is_pending_in table stripe = nat_lt stripe (length table.infos) && not (is_synced_mark (info_at table.infos stripe).mark)
-
--- blocks, from a number on, where each block at one of the chosen stripes has the hash of its number
-abbrev pub blocks_hashed : (ℕ → Bool) → (ℕ → Digest16) → ℕ → List Block → List Block
-blocks_hashed chosen hash_of index [] = []
-blocks_hashed chosen hash_of index (block ∷ blocks) =
-    (if chosen block.position then record { position = block.position; hash = Some (hash_of index) } else block) ∷ blocks_hashed chosen hash_of (index + 1) blocks
-
--- a record, a column and columns from a number on, where each block at one of the chosen stripes has the hash of what its tree holds
-abbrev pub record_synced : Shape → Tree → (ℕ → Bool) → Record → Record
-record_synced shape tree chosen kept = record { path = kept.path; meta = kept.meta; blocks = blocks_hashed chosen (held_hash shape tree kept) 0 kept.blocks }
-
-abbrev pub column_synced : Shape → Tree → (ℕ → Bool) → Column → Column
-column_synced shape tree chosen column = record { name = column.name; records = map (record_synced shape tree chosen) column.records }
-
-abbrev pub columns_synced : Shape → List Tree → (ℕ → Bool) → ℕ → List Column → List Column
-columns_synced shape trees chosen d [] = []
-columns_synced shape trees chosen d (column ∷ columns) = column_synced shape (tree_at trees d) chosen column ∷ columns_synced shape trees chosen (d + 1) columns
-
--- the table in which the chosen stripes are synced: fresh, not bad, last checked now, with the hashes of what the trees hold; all else is as it was
-abbrev pub synced_table : TableValue → List Tree → (ℕ → Bool) → ℕ → TableValue
-synced_table table trees chosen now = record {
-  shape = table.shape;
-  columns = columns_synced table.shape trees chosen 0 table.columns;
-  infos = infos_closed chosen now 0 table.infos;
+abbrev pub reading_by : TableValue → List Tree → ℕ → StripeReading
+reading_by table trees stripe = record {
+  stripe = stripe;
+  slots = map (slot_by table trees stripe) (range_with_len 0 (length table.columns));
 }
 
--- a level has the sum of the row of a stripe
-pub record HasSumOfRow (table : TableValue) (trees : List Tree) (level stripe : ℕ) (files : Files) : Type 0 where
-  pub row : List (List ℕ)
-  pub is_row : IsRow table trees stripe row
-  pub sum : read_from (parity_of files level) (stripe * table.shape.block_size) table.shape.block_size ≡ level_of level table.shape.block_size row
+abbrev pub readings_by : TableValue → List Tree → List ℕ → List StripeReading
+readings_by table trees stripes = map (reading_by table trees) stripes
 
--- The parity files: each level is as long as the table's stripes are, and in each chosen stripe it has the sum of its row. All other bytes below that
--- length stay, and added ones are zero.
-pub record HasSumsOfRows (table : TableValue) (trees : List Tree) (chosen : ℕ → Bool) (old new : Files) : Type 0 where
-  pub lengths : (level : ℕ) → level < table.shape.levels → length (parity_of new level) ≡ length table.infos * table.shape.block_size
-  pub sums : (level stripe : ℕ) → level < table.shape.levels → IsTrue (chosen stripe) → HasSumOfRow table trees level stripe new
-  pub others : (level stripe k : ℕ) → level < table.shape.levels → stripe < length table.infos → k < table.shape.block_size → chosen stripe ≡ false
-      → slice_index (parity_of new level) (stripe * table.shape.block_size + k)
-      ≡ slice_index (resized (parity_of old level) (length table.infos * table.shape.block_size)) (stripe * table.shape.block_size + k)
+-- the trees verify a stripe
+abbrev pub IsVerifiedBy : TableValue → List Tree → ℕ → Type 0
+IsVerifiedBy table trees stripe = is_verified table (reading_by table trees stripe) ≡ true
 
--- a pending stripe that is verified by the trees
-pub record MayBeSynced (table : TableValue) (trees : List Tree) (stripe : ℕ) : Type 0 where
-  pub pending : IsTrue (is_pending_in table stripe)
-  pub verified : IsVerifiedBy table trees stripe
+-- The table of a part sync: some pending stripes, each of which the trees verify, are synced now, with the hashes of what the
+-- trees hold.
+pub record IsPartTable (start : TableValue) (trees : List Tree) (stripes : List ℕ) (now : ℕ)
+    (table : TableValue) : Type 0 where
+  pub pending : All (Contains (pending_stripes start.infos)) stripes
+  pub verified : All (IsVerifiedBy start trees) stripes
+  pub is : table ≡ closed now start (readings_by start trees stripes)
 
--- the part sync of the chosen stripes, each of which is pending and verified by the trees: they are synced now, in the table and in parity
-pub record IsPartSync (table : TableValue) (old : Files) (trees : List Tree) (chosen : ℕ → Bool) (now : ℕ) (new_table : TableValue) (new : Files) : Type 0 where
-  pub may : (stripe : ℕ) → IsTrue (chosen stripe) → MayBeSynced table trees stripe
-  pub table_is : new_table ≡ synced_table table trees chosen now
-  pub parity : HasSumsOfRows table trees chosen old new
+-- A part sync: this is its table, and parity has the sums of the rows of these stripes. All other bytes below the length of the
+-- table stay, and added ones are zero.
+pub record IsPartSync (start : TableValue) (trees : List Tree) (stripes : List ℕ) (now : ℕ)
+    (old : Files) (table : TableValue) (new : Files) : Type 0 where
+  pub of_table : IsPartTable start trees stripes now table
+  pub parity : HasParity start.shape.levels start.shape.block_size (level_bytes start)
+      (rows_of start (readings_by start trees stripes)) old new
 
--- the table that is laid out of what the trees list
-abbrev pub layout_of : Names → TableValue → List Tree → TableValue
-layout_of names old trees = laid old (kept_of names (map listing_of trees))
+-- the layout of what the trees hold
+abbrev pub layout_by : SetupValue → TableValue → List Tree → TableValue
+layout_by setup old trees = layout old (kept_lists setup (map listing_of trees))
 
--- the full sync: the part sync of that layout with all its pending stripes
-abbrev pub IsFullSync : Names → TableValue → Files → List Tree → ℕ → TableValue → Files → Type 0
-IsFullSync names old files trees now new_table new =
-    let table = layout_of names old trees in IsPartSync table files trees (is_pending_in table) now new_table new
+-- the full sync: all pending stripes of the layout are
+abbrev pub IsFullSync : SetupValue → TableValue → List Tree → ℕ → Files → TableValue → Files → Type 0
+IsFullSync setup old_table trees now old table new =
+    let start = layout_by setup old_table trees in
+    IsPartSync start trees (pending_stripes start.infos) now old table new
 
--- all that is found of a table in what was read
-abbrev pub found_of : TableValue → List StripeReading → List Event
-found_of table readings = events_of table.shape.block_size table.columns readings
+-- the stripes that are verified by what was read of them
+abbrev pub verified_stripes : TableValue → List StripeReading → List ℕ
+verified_stripes table readings = stripes_of (filter (is_verified table) readings)
 
--- the stripe and the disk of an event
-abbrev pub stripe_of : Event → ℕ
-stripe_of (ChangedBlock stripe disk rec index found got) = stripe
-stripe_of (Io stripe disk rec index) = stripe
+-- A sync: each folder was listed, their kept files were laid out, and the first pending stripes were read after that.
+pub record SyncsListed (setup : SetupValue) (old start : TableValue) (readings : List StripeReading)
+    (olds mids news : List FolderView) : Type 0 where
+  pub folders : length olds ≡ length old.columns
+  pub as_many : length mids ≡ length olds
+  pub lists : List (List ListedFile)
+  pub listed : ListsAll olds mids lists
+  pub start_is : start ≡ layout old (kept_lists setup lists)
+  pub reads : ReadsFirst start readings mids news
 
-abbrev pub disk_of : Event → ℕ
-disk_of (ChangedBlock stripe disk rec index found got) = disk
-disk_of (Io stripe disk rec index) = disk
+-- and all folders tell their trees
+pub record SyncsTold (setup : SetupValue) (old start : TableValue) (readings : List StripeReading)
+    (olds mids news : List FolderView) : Type 0 where
+  pub told : AllTell olds
+  pub of_lists : SyncsListed setup old start readings olds mids news
 
--- an event is a failed reading
-abbrev pub IsFailedReading : Event → Type 0
-IsFailedReading (ChangedBlock stripe disk rec index found got) = ⊥
-IsFailedReading (Io stripe disk rec index) = Unit {0}
+-- A sync as a whole: its setup, the table that was loaded, its plan, what was read of the stripes that it came to and of those
+-- ahead, and its folders as they were, once they were listed, and at its end.
+pub record SyncRun : Type 0 where
+  pub setup : SetupValue
+  pub loaded : TableValue
+  pub plan : SyncPlan
+  pub readings : List StripeReading
+  pub ahead : List StripeReading
+  pub folders : List FolderView
+  pub listed : List FolderView
+  pub ended : List FolderView
 
--- something was found in a stripe
-pub record IsFoundIn (events : List Event) (stripe : ℕ) : Type 0 where
-  pub event : Event
-  pub among : Contains events event
-  pub stripe_is : stripe_of event ≡ stripe
+abbrev pub IsListedRun : SyncRun → Type 0
+IsListedRun run =
+    SyncsListed run.setup run.loaded run.plan.start (run.readings ++ run.ahead) run.folders run.listed run.ended
+
+abbrev pub IsToldRun : SyncRun → Type 0
+IsToldRun run =
+    SyncsTold run.setup run.loaded run.plan.start (run.readings ++ run.ahead) run.folders run.listed run.ended
+
+-- its trees, what its layout is of, and the table after so many stripes
+abbrev pub run_trees : SyncRun → List Tree
+run_trees run = trees_of run.folders
+
+abbrev pub run_kept : SyncRun → List (List ListedFile)
+run_kept run = kept_lists run.setup (map listing_of (run_trees run))
+
+abbrev pub run_table : SyncRun → ℕ → TableValue
+run_table run count = table_after run.plan run.readings count
+
+-- those of its stripes that are verified, after so many
+abbrev pub run_verified : SyncRun → ℕ → List ℕ
+run_verified run count = verified_stripes run.plan.start (take count run.readings)
+
+-- the trees verify all pending stripes of its layout, and what was read verifies all of some stripes
+abbrev pub TreesVerifyAll : SyncRun → Type 0
+TreesVerifyAll run = All (IsVerifiedBy run.plan.start (run_trees run)) (pending_stripes run.plan.start.infos)
+
+abbrev pub AllVerified : TableValue → List StripeReading → Type 0
+AllVerified table readings = All (λ (reading : StripeReading). is_verified table reading ≡ true) readings
+
+-- The copies at a moment of a sync: each is as it was, or spells the table of a part sync.
+abbrev pub AreOfPartSyncs : TableValue → List Tree → ℕ → ℕ → Files → Files → Type 0
+AreOfPartSyncs start trees now copies old new = (copy : ℕ) → copy < copies → (content_of new copy ≡ content_of old copy)
+    ⊎ ((table : TableValue) × (stripes : List ℕ)
+    × IsPartTable start trees stripes now table × (content_of new copy ≡ Some (spelling table)))
+
+-- a table as it is but for the times of the last checks
+abbrev pub without_check : Info → Info
+without_check info = record info { last = 0 }
+
+abbrev pub without_checks : TableValue → TableValue
+without_checks table = record table { infos = map without_check table.infos }

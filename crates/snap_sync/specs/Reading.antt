@@ -1,97 +1,96 @@
--- What a sync reads of the stripes that it closes.
-use Rattle.std.specs.Prelude.{◌≡◌, ℕ, ◌-◌, ◌*◌, ◌<◌, ◌≤◌, ◌==◌, min, List, [], length, map, get_or, zip, Bool, true, false, ◌&&◌, count_by, Option, None, Some}
-use Rattle.std.specs.List.{list_all}
-use Rattle.std.specs.Option.{option_map}
-use Rattle.std.specs.Ordering.{int_eq}
-use Rattle.disk_model.specs.Bytes.{read_from, resized}
-use Rattle.disk_model.specs.Tree.{Tree, File, file_of, meta_of}
+-- What was read of stripes, and which of them are verified by it.
+use Rattle.std.specs.Prelude.{◌≡◌, ℕ, ◌<◌, ◌&&◌, List, length, take, map, get_or, slice_index_or, bytes_eq, Bool, true, false, All, Option, None, Some}
+use Rattle.std.specs.List.{range_with_len, list_all}
+use Rattle.std.specs.Prelude.{is_some}
+use Rattle.block_hash.specs.declared.Digest16.{Digest16}
+use Rattle.disk_model.specs.Folder.{FolderView}
 use Rattle.disk_model.specs.declared.meta.Meta.{Meta}
-use Rattle.file_table.specs.Table.{Column, TableValue, column_at, record_in, IsAt}
+use Rattle.file_table.specs.Cells.{CellView, cell_view}
+use Rattle.file_table.specs.Table.{TableValue, column_at}
+use Rattle.array_scan.specs.Fates.{same_meta}
+use Rattle.array_scan.specs.Layout.{pending_stripes}
+use Rattle.parity_writer.specs.Parity.{Row}
+use Rattle.parity_writer.specs.WindowRow.{bytes_of}
+use Rattle.stripe_reader.specs.Column.{ReadsColumn}
+use Rattle.stripe_reader.specs.Columns.{folder_at}
+use Rattle.stripe_reader.specs.Reading.{tasks_at}
+use Rattle.stripe_reader.specs.SlotValue.{SlotValue}
+use Rattle.stripe_reader.specs.Starts.{recorded_starts}
+use Rattle.stripe_reader.specs.WindowValue.{WindowValue, no_slot}
+use Rattle.stripe_reader.specs.declared.slot.Found.{Found}
+use Rattle.stripe_reader.specs.declared.slot.Found.TheVariants as found
 
--- What was read of one cell: it has no block; the folder failed; or a file was seen there, or none, and these bytes of the block came.
--- The numbers are those of the block's record in its column, and of the block in the record.
-pub data CellReading : Type 0 where
-  NoBlock : CellReading
-  Unread : (rec index : ℕ) → CellReading
-  Gave : (rec index : ℕ) (seen : Option Meta) (bytes : List ℕ) → CellReading
-
--- what was read of the cells of a stripe, column by column
+-- what was kept of the cells of a stripe that was read, column by column
 pub record StripeReading : Type 0 where
   pub stripe : ℕ
-  pub cells : List CellReading
+  pub slots : List SlotValue
 
--- how many bytes the block of a number has, in a file of a size
-abbrev pub block_length : ℕ → ℕ → ℕ → ℕ
-block_length block_size size index = min block_size (size - index * block_size)
+abbrev pub slot_of : ℕ → StripeReading → SlotValue
+slot_of d reading = slice_index_or reading.slots d no_slot
 
--- the bytes that came
-abbrev pub bytes_read : CellReading → List ℕ
-bytes_read NoBlock = []
-bytes_read (Unread rec index) = []
-bytes_read (Gave rec index seen bytes) = bytes
+abbrev pub stripes_of : List StripeReading → List ℕ
+stripes_of readings = map (λ (reading : StripeReading). reading.stripe) readings
 
--- the file seen is as recorded
-abbrev pub is_as_recorded : Option Meta → Meta → Bool
-is_as_recorded None recorded = false
-is_as_recorded (Some seen) recorded = (seen.size == recorded.size) && (int_eq seen.stamp.seconds recorded.stamp.seconds && (seen.stamp.nanos == recorded.stamp.nanos))
+-- what a window keeps of the stripe of a number, and of all stripes that were read into it
+abbrev pub slot_in : ℕ → List SlotValue → SlotValue
+slot_in i slots = slice_index_or slots i no_slot
 
--- there is no block, or the file was as recorded and the whole block came
-abbrev pub is_right : ℕ → Column → CellReading → Bool
-is_right block_size column NoBlock = true
-is_right block_size column (Unread rec index) = false
-is_right block_size column (Gave rec index seen bytes) =
-    is_as_recorded seen (record_in column rec).meta && (length bytes == block_length block_size (record_in column rec).meta.size index)
+abbrev pub reading_at : List ℕ → WindowValue → ℕ → StripeReading
+reading_at stripes window i = record { stripe = get_or stripes i 0; slots = map (slot_in i) window.lanes }
 
--- each cell of the stripe is right
-abbrev pub is_verified : ℕ → List Column → StripeReading → Bool
-is_verified block_size columns reading = list_all (λ (cell : Column × CellReading). is_right block_size cell.0 cell.1) (zip columns reading.cells)
+abbrev pub readings_in : List ℕ → WindowValue → List StripeReading
+readings_in stripes window = map (reading_at stripes window) (range_with_len 0 (length stripes))
 
--- the record that was read is one of the column
-abbrev pub IsAtRecord : Column → CellReading → Type 0
-IsAtRecord column NoBlock = Unit {0}
-IsAtRecord column (Unread rec index) = rec < length column.records
-IsAtRecord column (Gave rec index seen bytes) = rec < length column.records
+-- These stripes were read of the folders, each column of its own folder, with its files where they were recorded.
+pub record AreRead (table : TableValue) (readings : List StripeReading) (olds news : List FolderView) : Type 0 where
+  pub folders : length news ≡ length olds
+  pub wide : All (λ (reading : StripeReading). length reading.slots ≡ length table.columns) readings
+  pub each : (d : ℕ) → d < length olds → ReadsColumn table.shape (tasks_at table (recorded_starts table) d (stripes_of readings))
+      (map (slot_of d) readings) (folder_at olds d) (folder_at news d)
 
-abbrev pub AreAtRecords : List Column → StripeReading → Type 0
-AreAtRecords columns reading = (d : ℕ) → d < length columns → IsAtRecord (column_at columns d) (get_or reading.cells d NoBlock)
+-- Stripes were read: they are the first pending ones of a table.
+pub record ReadsFirst (start : TableValue) (readings : List StripeReading) (olds news : List FolderView) : Type 0 where
+  pub stripes : stripes_of readings ≡ take (length readings) (pending_stripes start.infos)
+  pub read : AreRead start readings olds news
 
--- It is of the one block that a column has at a stripe, or there is none. No more bytes came than the block has, and none of a file that was not there.
-abbrev pub IsReadingAt : ℕ → Column → ℕ → CellReading → Type 0
-IsReadingAt block_size column stripe NoBlock = (rec index : ℕ) → ¬ (IsAt column stripe rec index)
-IsReadingAt block_size column stripe (Unread rec index) = IsAt column stripe rec index
-IsReadingAt block_size column stripe (Gave rec index seen bytes) =
-    IsAt column stripe rec index × (length bytes ≤ block_length block_size (record_in column rec).meta.size index) × (seen ≡ None → bytes ≡ [])
+-- the folder failed
+abbrev pub is_unread : Found → Bool
+is_unread found.Empty = false
+is_unread found.Bytes = false
+is_unread found.Missing = false
+is_unread found.Short = false
+is_unread found.Unread = true
 
--- what was read of a stripe is of the cells that a table has there
-pub record AreReadingsAt (table : TableValue) (reading : StripeReading) : Type 0 where
-  pub columns : length reading.cells ≡ length table.columns
-  pub cells : (d : ℕ) → d < length table.columns → IsReadingAt table.shape.block_size (column_at table.columns d) reading.stripe (get_or reading.cells d NoBlock)
+-- a file was seen, of this size and stamp
+abbrev pub is_seen : Meta → Option Meta → Bool
+is_seen meta None = false
+is_seen meta (Some seen) = same_meta seen meta
 
--- the bytes of a file, none where there is none
-abbrev pub bytes_of : Option File → List ℕ
-bytes_of None = []
-bytes_of (Some file) = file.bytes
+-- the whole block came, so that it has a digest, of a file that is as it was recorded
+abbrev pub is_recorded : Meta → SlotValue → Bool
+is_recorded meta slot = is_some slot.digest && is_seen meta slot.cell.seen
 
--- a reading that did not fail gives what a tree holds
-abbrev pub IsGivenBy : Tree → ℕ → Column → CellReading → Type 0
-IsGivenBy tree block_size column NoBlock = Unit {0}
-IsGivenBy tree block_size column (Unread rec index) = Unit {0}
-IsGivenBy tree block_size column (Gave rec index seen bytes) =
-    let kept = record_in column rec in let file = file_of tree kept.path in
-    (seen ≡ option_map meta_of file) × (bytes ≡ read_from (bytes_of file) (index * block_size) (block_length block_size kept.meta.size index))
+-- the recorded hash, where there is one, is that of the block that came
+abbrev pub agrees : Option Digest16 → Option Digest16 → Bool
+agrees None came = true
+agrees (Some recorded) None = false
+agrees (Some recorded) (Some came) = bytes_eq recorded.0 came.0
 
--- the row of a stripe: the blocks that were read, each padded with zeros
-abbrev pub padded : ℕ → CellReading → List ℕ
-padded block_size cell = resized (bytes_read cell) block_size
+-- a cell is right: it has no block, or its whole block came of a file that is as it was recorded, with the recorded hash
+abbrev pub is_right : Option CellView → SlotValue → Bool
+is_right None slot = true
+is_right (Some seen) slot = is_recorded seen.meta slot && agrees seen.hash slot.digest
 
-abbrev pub row_of : ℕ → StripeReading → List (List ℕ)
-row_of block_size reading = map (padded block_size) reading.cells
+abbrev pub is_right_in : TableValue → StripeReading → ℕ → Bool
+is_right_in table reading d = is_right (cell_view (column_at table.columns d) reading.stripe) (slot_of d reading)
 
--- how many readings of a column failed
-abbrev pub is_unread : CellReading → Bool
-is_unread NoBlock = false
-is_unread (Unread rec index) = true
-is_unread (Gave rec index seen bytes) = false
+-- a stripe is verified where each of its cells is right
+abbrev pub is_verified : TableValue → StripeReading → Bool
+is_verified table reading = list_all (is_right_in table reading) (range_with_len 0 (length table.columns))
 
-abbrev pub unread_in : ℕ → List StripeReading → ℕ
-unread_in d readings = count_by (λ (reading : StripeReading). is_unread (get_or reading.cells d NoBlock)) readings
+-- the digests of the blocks that came, and the row of their bytes
+abbrev pub digests_of : StripeReading → List (Option Digest16)
+digests_of reading = map (λ (slot : SlotValue). slot.digest) reading.slots
+
+abbrev pub row_of : StripeReading → Row
+row_of reading = map bytes_of reading.slots

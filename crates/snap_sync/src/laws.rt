@@ -1,87 +1,143 @@
-//! What follows of a first sync as a whole. The calls do nothing: their contracts are laws.
-ghost use Rattle.std.specs.Prelude.{◌≡◌, ◌↔◌, ℕ, ◌<◌, List, length, Bool, true, false, IsTrue, All};
-ghost use Rattle.disk_model.specs.Files.{Files, parity_of};
+//! What follows from the definitions of a sync. The calls do nothing: their contracts are laws.
+ghost use Rattle.std.specs.Prelude.{◌≡◌, ◌↔◌, ℕ, ◌^◌, ◌<◌, ◌≤◌, List, [], ◌++◌, length, not, count_by};
+ghost use Rattle.std.specs.Prelude.{All, Bool, Contains, IsTrue, None, Some, true, false};
+ghost use Rattle.array_scan.specs.Layout.{all_sorted, pending_stripes};
+ghost use Rattle.array_scan.specs.Refusals.{refusal};
+ghost use Rattle.disk_model.specs.Files.{Files};
 ghost use Rattle.disk_model.specs.Folder.{FolderView};
-ghost use Rattle.disk_model.specs.Sink.{SinkView};
-ghost use Rattle.disk_model.specs.Tree.{Tree};
 ghost use Rattle.disk_model.specs.Vault.{Holds};
-ghost use Rattle.file_table.specs.declared.info.Info.{Info};
-ghost use Rattle.file_table.specs.declared.info.Mark.TheVariants.{Synced};
-ghost use Rattle.file_table.specs.Table.{TableValue};
+ghost use Rattle.file_table.specs.Cells.{cell_in};
+ghost use Rattle.file_table.specs.Table.{TableValue, column_at};
 ghost use Rattle.file_table.specs.Valid.{IsValid};
-ghost use Rattle.snap_report.specs.declared.event.Event.{Event};
-ghost use Rattle.snap_sync.specs.Closing.{NoneUnread};
-ghost use Rattle.snap_sync.specs.Found.{folder_at};
-ghost use Rattle.snap_sync.specs.Kept.{ListedFile};
-ghost use Rattle.snap_sync.specs.Layout.{laid};
-ghost use Rattle.snap_sync.specs.Reading.{StripeReading, is_verified};
-ghost use Rattle.snap_sync.specs.Sync.{Names, Before, Ending, IsArray, AreListed, AreFirst, Syncs, after_of, kept_of};
-ghost use Rattle.snap_sync.specs.Part.{IsFoundIn, IsFailedReading, AllTell, NoneRose, IsPartSync, IsFullSync, MayBeSynced, disk_of, found_of, is_pending_in, is_synced_in, layout_of, synced_table, trees_of};
+ghost use Rattle.file_table.specs.declared.block.Cell.{Cell};
+ghost use Rattle.parity_writer.specs.Sound.{Snapshot};
+ghost use Rattle.snap_report.specs.declared.events.Event.TheVariants.{Io};
+ghost use Rattle.stripe_reader.specs.Columns.{folder_at};
+ghost use Rattle.snap_sync.specs.Calls.{SyncPlan};
+ghost use Rattle.snap_sync.specs.Closing.{closed};
+ghost use Rattle.snap_sync.specs.Ended.{IsEndOf, IsFoundIn, NotAChangedBlock};
+ghost use Rattle.snap_sync.specs.Findings.{stripe_events, events_of};
+ghost use Rattle.snap_sync.specs.Images.{HasParityAfter, MayStand, table_after};
+ghost use Rattle.snap_sync.specs.Part.{AllVerified, AreOfPartSyncs, IsFullSync, IsPartSync, IsListedRun, IsToldRun, NoneRose};
+ghost use Rattle.snap_sync.specs.Part.{SyncRun, TreesVerifyAll, layout_by, run_kept, run_table, run_trees, run_verified};
+ghost use Rattle.snap_sync.specs.Reading.{AreRead, StripeReading, is_unread, is_verified, slot_of, ReadsFirst};
+ghost use Rattle.snap_sync.specs.Resumed.{EndsAs, IsFoundAt};
+ghost use Rattle.snap_sync.specs.Soundness.{AreSound, AreSoundAfter, StandsOn};
 
+use crate::SyncEnd;
+use array_scan::laws::{
+    a_layout_is_of_the_kept_files, a_table_of_the_kept_files_is_laid_out_as_it_is,
+};
+use content_file::laws::one_table_has_a_spelling;
 use disk_model::Vault;
+use file_table::laws::{
+    a_cell_stands_at_its_position, closing_a_stripe_gives_its_hashes,
+    closing_a_stripe_leaves_the_others,
+};
 
-/// Something is found in each stripe that was not verified, and nothing in one that was: the stripes that are pending at the end are
-/// those in which something was found.
-pub fn what_is_pending_is_found<V: Vault>()
-    ensures pending { (names : Names) (old : TableValue) (now : ℕ) (before : Before) (folders : List FolderView) (vault : V) (out : SinkView) (ending : Ending) (syncs : Syncs names old now before (after_of folders (V.view vault) out) ending) →
-        All (λ (reading : StripeReading). is_verified syncs.start.shape.block_size syncs.start.columns reading ≡ false →
-        IsFoundIn (found_of syncs.start syncs.readings) reading.stripe) syncs.readings }
-    ensures verified { (names : Names) (old : TableValue) (now : ℕ) (before : Before) (folders : List FolderView) (vault : V) (out : SinkView) (ending : Ending) (syncs : Syncs names old now before (after_of folders (V.view vault) out) ending) →
-        All (λ (reading : StripeReading). is_verified syncs.start.shape.block_size syncs.start.columns reading ≡ true →
-        ¬ (IsFoundIn (found_of syncs.start syncs.readings) reading.stripe)) syncs.readings }
-    ensures exactly { (names : Names) (old : TableValue) (now : ℕ) (before : Before) (folders : List FolderView) (vault : V) (out : SinkView) (ending : Ending) (syncs : Syncs names old now before (after_of folders (V.view vault) out) ending) →
-        (stripe : ℕ) → (IsTrue (is_pending_in ending.table stripe) ↔ IsFoundIn (found_of syncs.start syncs.readings) stripe) }
-{}
+/// A stripe that was read is verified exactly where nothing is found in it. So, of a sync that ended, each stripe that
+/// is not verified has a finding, the number of findings is 0 exactly where all are verified, and those that are not are
+/// the ones that it counts as pending. Each block whose reading failed is told as such. Of a folder that tells its tree no
+/// block is found changed: it was laid out by what the folder listed.
+pub fn what_is_pending_is_found()
+    ensures exactly { (table : TableValue) (reading : StripeReading) →
+        (is_verified table reading ≡ true) ↔ (stripe_events table reading ≡ []) }
+    ensures found { (start : TableValue) (readings : List StripeReading) →
+        All (λ (reading : StripeReading). is_verified start reading ≡ false →
+        IsFoundIn (events_of start readings) reading.stripe) readings }
+    ensures findings { (start : TableValue) (now : ℕ) (readings : List StripeReading) (end : SyncEnd) →
+        IsEndOf start now readings end → (end.findings ≡ 0) ↔ AllVerified start readings }
+    ensures pending { (start : TableValue) (now : ℕ) (readings : List StripeReading) (end : SyncEnd) →
+        IsEndOf start now readings end →
+        end.pending ≡ count_by (λ (reading : StripeReading). not (is_verified start reading)) readings }
+    ensures unread { (start : TableValue) (readings ahead : List StripeReading) (olds news : List FolderView) (d : ℕ) (cell : Cell) →
+        length olds ≡ length start.columns → AreRead start (readings ++ ahead) olds news → d < length start.columns →
+        All (λ (reading : StripeReading). cell_in (column_at start.columns d) reading.stripe ≡ Some cell →
+        is_unread (slot_of d reading).cell.found ≡ true →
+        Contains (events_of start readings) (Io reading.stripe d cell.rec cell.index)) readings }
+    ensures told { (run : SyncRun) (d : ℕ) → IsListedRun run → IsValid run.plan.start →
+        d < length run.folders → IsTrue (folder_at run.folders d).tells →
+        All (NotAChangedBlock d) (events_of run.plan.start run.readings) }
+{
+    a_layout_is_of_the_kept_files();
+    a_cell_stands_at_its_position();
+}
 
-/// Nothing is found exactly where no stripe is pending at the end, and that is exactly where each stripe of the table is synced.
-pub fn nothing_is_found_where_nothing_is_pending<V: Vault>()
-    ensures findings { (names : Names) (old : TableValue) (now : ℕ) (before : Before) (folders : List FolderView) (vault : V) (out : SinkView) (ending : Ending) (syncs : Syncs names old now before (after_of folders (V.view vault) out) ending) →
-        (ending.findings ≡ 0 ↔ ending.pending ≡ 0) }
-    ensures synced { (names : Names) (old : TableValue) (now : ℕ) (before : Before) (folders : List FolderView) (vault : V) (out : SinkView) (ending : Ending) (syncs : Syncs names old now before (after_of folders (V.view vault) out) ending) →
-        (ending.pending ≡ 0 ↔ All (λ (info : Info). info.mark ≡ Synced) ending.table.infos) }
-{}
-
-/// Of a disk whose folder tells its tree nothing is found but failed readings: in what was read of the first stripes, whatever the
-/// sync then answers (`Leaves` says how far it came), and so in a sync that ended.
-pub fn nothing_told_is_found_changed<V: Vault>()
-    ensures read { (names : Names) (old : TableValue) (folders folders_new : List FolderView) (levels : ℕ) (listings : List (List ListedFile)) (start : TableValue) (count : ℕ) (readings : List StripeReading) →
-        IsArray names old folders levels → AreListed folders listings → start ≡ laid old (kept_of names listings) → AreFirst count start readings folders folders_new →
-        (disk : ℕ) → disk < length folders → IsTrue (folder_at folders disk).tells →
-        All (λ (event : Event). disk_of event ≡ disk → IsFailedReading event) (found_of start readings) }
-    ensures ended { (names : Names) (old : TableValue) (now : ℕ) (before : Before) (folders : List FolderView) (vault : V) (out : SinkView) (ending : Ending) (levels : ℕ) →
-        IsArray names old before.folders levels → (syncs : Syncs names old now before (after_of folders (V.view vault) out) ending) →
-        (disk : ℕ) → disk < length before.folders → IsTrue (folder_at before.folders disk).tells →
-        All (λ (event : Event). disk_of event ≡ disk → IsFailedReading event) (found_of syncs.start syncs.readings) }
-{}
-
-/// Where all folders tell their trees, a sync that ends is the part sync of what they list, with the stripes of which no reading
-/// failed; its table is so whatever the vault tells. Where nothing was found, as where no count of the folders rose, it is the full
-/// sync. What a stop after its end leaves is so too.
+/// Where all folders tell their trees, a sync is a part sync of their layout after each number of the stripes that it
+/// read, with those that are verified, and each copy at any moment is as it was or of a part sync. Where all pending
+/// stripes were read and are verified, it is the full sync. They are verified where no count of the folders rose and the
+/// trees verify all pending stripes.
 pub fn a_sync_is_a_part_sync<V: Vault>()
-    ensures part { (names : Names) (old : TableValue) (now : ℕ) (before : Before) (folders : List FolderView) (vault : V) (out : SinkView) (ending : Ending) (levels : ℕ) →
-        IsArray names old before.folders levels → AllTell before.folders → Syncs names old now before (after_of folders (V.view vault) out) ending →
-        Holds (IsPartSync (layout_of names old (trees_of before.folders)) before.files (trees_of before.folders) (is_synced_in ending.table) now ending.table) (V.view vault) }
-    ensures table { (names : Names) (old : TableValue) (now : ℕ) (before : Before) (folders : List FolderView) (vault : V) (out : SinkView) (ending : Ending) (levels : ℕ) →
-        IsArray names old before.folders levels → AllTell before.folders → Syncs names old now before (after_of folders (V.view vault) out) ending →
-        ending.table ≡ synced_table (layout_of names old (trees_of before.folders)) (trees_of before.folders) (is_synced_in ending.table) now }
-    ensures stripes { (names : Names) (old : TableValue) (now : ℕ) (before : Before) (folders : List FolderView) (vault : V) (out : SinkView) (ending : Ending) (levels : ℕ) →
-        IsArray names old before.folders levels → AllTell before.folders → (syncs : Syncs names old now before (after_of folders (V.view vault) out) ending) →
-        All (λ (reading : StripeReading). (is_synced_in ending.table reading.stripe ≡ true ↔ NoneUnread reading)) syncs.readings }
-    ensures full { (names : Names) (old : TableValue) (now : ℕ) (before : Before) (folders : List FolderView) (vault : V) (out : SinkView) (ending : Ending) (levels : ℕ) →
-        IsArray names old before.folders levels → AllTell before.folders → Syncs names old now before (after_of folders (V.view vault) out) ending → ending.findings ≡ 0 →
-        Holds (IsFullSync names old before.files (trees_of before.folders) now ending.table) (V.view vault) }
-    ensures unfailed { (names : Names) (old : TableValue) (now : ℕ) (before : Before) (folders : List FolderView) (vault : V) (out : SinkView) (ending : Ending) (levels : ℕ) →
-        IsArray names old before.folders levels → AllTell before.folders → Syncs names old now before (after_of folders (V.view vault) out) ending →
-        NoneRose before.folders folders → ending.findings ≡ 0 }
-{}
+    ensures laid { (run : SyncRun) → IsToldRun run →
+        run.plan.start ≡ layout_by run.setup run.loaded (run_trees run) }
+    ensures copies { (run : SyncRun) (files new : Files) → IsToldRun run → MayStand run.plan run.readings files new →
+        AreOfPartSyncs run.plan.start (run_trees run) run.plan.now run.plan.copies files new }
+    ensures part { (run : SyncRun) (count : ℕ) (files : Files) (vault : V) → IsToldRun run → count ≤ length run.readings →
+        Holds (HasParityAfter run.plan run.readings count files) (V.view vault) →
+        Holds (IsPartSync run.plan.start (run_trees run) (run_verified run count) run.plan.now files (run_table run count))
+        (V.view vault) }
+    ensures full { (run : SyncRun) (files : Files) (vault : V) → IsToldRun run →
+        length run.readings ≡ length (pending_stripes run.plan.start.infos) → AllVerified run.plan.start run.readings →
+        Holds (HasParityAfter run.plan run.readings (length run.readings) files) (V.view vault) →
+        Holds (IsFullSync run.setup run.loaded (run_trees run) run.plan.now files
+        (closed run.plan.now run.plan.start run.readings)) (V.view vault) }
+    ensures unfailed { (run : SyncRun) → IsToldRun run → NoneRose run.folders run.ended → TreesVerifyAll run →
+        AllVerified run.plan.start run.readings }
+{
+    a_cell_stands_at_its_position();
+}
 
-/// A valid table has a part sync for each set of pending stripes that the trees verify, and what it is given determines its table
-/// and its parity.
-pub fn there_is_one_part_sync()
-    ensures exists { (table : TableValue) (old : Files) (trees : List Tree) (chosen : ℕ → Bool) (now : ℕ) →
-        IsValid table → ((stripe : ℕ) → IsTrue (chosen stripe) → MayBeSynced table trees stripe) →
-        (new_table : TableValue) × (new : Files) × IsPartSync table old trees chosen now new_table new }
-    ensures only { (table : TableValue) (old : Files) (trees : List Tree) (chosen : ℕ → Bool) (now : ℕ) (one_table other_table : TableValue) (one other : Files) →
-        IsPartSync table old trees chosen now one_table one → IsPartSync table old trees chosen now other_table other →
-        (one_table ≡ other_table) × ((level : ℕ) → level < table.shape.levels → parity_of one level ≡ parity_of other level) }
-{}
+/// Where the laid out table is valid, so is each table that a sync closes stripes in.
+pub fn what_a_sync_saves_is_valid()
+    ensures { (plan : SyncPlan) (readings ahead : List StripeReading) (olds news : List FolderView) (count : ℕ) →
+        length olds ≡ length plan.start.columns → ReadsFirst plan.start (readings ++ ahead) olds news →
+        IsValid plan.start → plan.now < 2 ^ 64 → count ≤ length readings → IsValid (table_after plan readings count) }
+{
+    a_cell_stands_at_its_position();
+    closing_a_stripe_leaves_the_others();
+    closing_a_stripe_gives_its_hashes();
+}
+
+/// Where the copies are sound at the start of a sync, they are at each moment of it, wherever it is stopped: with the
+/// snapshot of some number of the stripes that it read, and with nothing of these changed from outside any more.
+pub fn every_moment_is_sound()
+    ensures { (plan : SyncPlan) (loaded : TableValue) (readings ahead : List StripeReading) (olds news : List FolderView)
+        (old new : Files) (snapshot : Snapshot) (is_changed : ℕ → ℕ → Bool) →
+        length olds ≡ length plan.start.columns → ReadsFirst plan.start (readings ++ ahead) olds news →
+        StandsOn plan loaded old → AreSound plan.copies old snapshot is_changed →
+        MayStand plan readings old new → AreSoundAfter plan readings new snapshot is_changed }
+{
+    a_cell_stands_at_its_position();
+    closing_a_stripe_leaves_the_others();
+    closing_a_stripe_gives_its_hashes();
+    one_table_has_a_spelling();
+}
+
+/// A sync that was stopped is resumed. Over the same trees a table that it saved is laid out as it is, and is not
+/// refused; what is pending in it is what was and is not verified yet. Where the trees verify all pending stripes, the
+/// full sync of a table that is found at any moment ends as the one that was not stopped: with the same table but for the
+/// times of the last checks, and the same parity but for what was changed from outside.
+pub fn a_stopped_sync_is_resumed()
+    ensures laid { (run : SyncRun) (count : ℕ) → IsToldRun run → IsValid (run_table run count) →
+        layout_by run.setup (run_table run count) (run_trees run) ≡ run_table run count }
+    ensures unrefused { (run : SyncRun) (count : ℕ) (force_zero force_empty : Bool) → IsToldRun run →
+        IsValid (run_table run count) →
+        refusal force_zero force_empty (run_table run count) (all_sorted (run_table run count) (run_kept run)) ≡ None }
+    ensures pending { (run : SyncRun) (count : ℕ) → IsToldRun run → count ≤ length run.readings → (stripe : ℕ) →
+        (Contains (pending_stripes (run_table run count).infos) stripe
+        ↔ (Contains (pending_stripes run.plan.start.infos) stripe × (¬ (Contains (run_verified run count) stripe)))) }
+    ensures full { (run : SyncRun) (files left : Files) (snapshot : Snapshot) (is_changed : ℕ → ℕ → Bool)
+        (now again : ℕ) (found table other_table : TableValue) (one other : Files) → IsToldRun run →
+        StandsOn run.plan run.loaded files → AreSound run.plan.copies files snapshot is_changed →
+        IsFoundAt run.plan run.readings run.loaded files left found → TreesVerifyAll run →
+        IsFullSync run.setup run.loaded (run_trees run) now files table one →
+        IsFullSync run.setup found (run_trees run) again left other_table other →
+        EndsAs run.plan.start is_changed table other_table one other }
+{
+    a_layout_is_of_the_kept_files();
+    a_table_of_the_kept_files_is_laid_out_as_it_is();
+    a_cell_stands_at_its_position();
+    closing_a_stripe_leaves_the_others();
+    closing_a_stripe_gives_its_hashes();
+    one_table_has_a_spelling();
+}

@@ -1,25 +1,31 @@
-//! `sync`: closes the stripes of an array, and writes their parity.
+//! `sync`: lays the files of the folders out over the table of the last sync, and closes the pending stripes.
 //!
-//! Start at `sync` in `syncing.rt`. It lists the folders, lays their files out (`layout.rt`), saves that table, goes through the
-//! stripes (`stripes.rt`), which it reads (`reading.rt`) and writes the sums of where they were read whole, and saves the table in which
-//! these are synced (`closing.rt`).
-//! Its definitions: which files are kept (`specs/Kept.antt`), where their blocks stand (`specs/Layout.antt`), what was read and which
-//! stripes that verifies (`specs/Reading.antt`), the table and the parity after it (`specs/Closing.antt`, `specs/Parity.antt`), what a stop
-//! leaves (`specs/Stops.antt`), and which calls are made of the vault (`specs/Calls.antt`).
-//! What that is by the folders' trees alone, a part sync or the full sync, stands in `specs/Part.antt`, and `laws.rt` says that it is so.
-//! Not here: an array that has content already.
+//! Start at `sync` in `syncing.rt`: `begin` (`beginning.rt`) lists the folders, lays out and takes all memory; `carry_out`
+//! (`carrying.rt`) saves the laid out table, goes through the pending stripes window by window (`stripes.rt`), and ends with a
+//! checkpoint. A window is judged (`judging.rt`): its findings are told and its verified stripes are closed in the table in
+//! hand; then it is written while the next one is read (`turning.rt`). `opening.rt` has what is done to the vault at its
+//! beginning and at a checkpoint.
+//! Its definitions: what was read and what is verified by it (`specs/Reading.antt`), what is found (`specs/Findings.antt`), the
+//! table and the rows after it (`specs/Closing.antt`), when it is saved (`specs/Schedule.antt`), by which calls
+//! (`specs/Calls.antt`), what stands at each moment (`specs/Images.antt`), and all of it together (`specs/Course.antt`).
+//! Proved: whatever it answers and wherever it is stopped, each copy is as before, or a table whose synced stripes have their
+//! sums in parity.
+//! What follows of a sync as a whole stands in `laws.rt`: that it is the part sync of what the folders hold, that each image is
+//! sound, and that a stopped sync is gone on with.
+//! Not here: what the files hold, and which files are kept.
 #![tactic(auto)]
 
-mod closing;
+mod beginning;
+mod carrying;
 mod fault;
-mod kept;
+mod judging;
 pub mod laws;
-mod layout;
-mod reading;
+mod opening;
+mod room;
+mod schedule;
 mod stripes;
 mod syncing;
-mod telling;
-mod told;
+mod turning;
 
 pub use fault::SyncFault;
 pub use syncing::{SyncEnd, sync};

@@ -1,128 +1,284 @@
-// The stripes of a sync, one after another.
-ghost use Rattle.std.specs.Prelude.{◌≡◌, ◌<◌, true, length, map, IfOk, OnOk, IfErr, OnErr};
-ghost use Rattle.disk_model.specs.Calls.{MakesThese, FailsAmong};
-ghost use Rattle.disk_model.specs.Vault.{SomeCalls, ChangesBy, Reads};
-ghost use Rattle.parity_writer.specs.Calls.{sum_calls};
-ghost use Rattle.parity_writer.specs.Rows.{HasSums};
-ghost use Rattle.snap_sync.specs.Closing.{columns_hashed, stripe_hash};
-ghost use Rattle.snap_sync.specs.Reading.{is_verified, row_of};
-ghost use Rattle.snap_sync.specs.Found.{reading_in, HasRoom};
-ghost use Rattle.snap_sync.specs.Sync.{AllReadOnly};
-ghost use Rattle.snap_sync.specs.Steps.{IsLate, IsNewWork, HoldsStripe, SyncsStripe, SyncsStripes, StopsAt, StopsWithin, SameCopies, LeavesNoDraft};
+// The pending stripes of a sync, window by window.
+ghost use Rattle.std.specs.Prelude.{◌≡◌, ◌<◌, ◌≤◌, ◌+◌, ◌^◌, All, IfSome, IfOk, OnOk, OnErr, IsOk, IsTrue, length, map, take, false};
+ghost use Rattle.disk_model.specs.Ran.{Ran};
+ghost use Rattle.disk_model.specs.Vault.{SomeCalls, ChangesBy, Reads, Holds, copies_of, state_of};
+ghost use Rattle.parity_writer.specs.Chosen.{IsChosen, rows_with, window_calls};
+ghost use Rattle.parity_writer.specs.Parity.{Rows, HoldsRows, WritesBlocks};
+ghost use Rattle.snap_report.specs.Told.{Told};
+ghost use Rattle.stripe_reader.specs.Columns.{ReadsWindow};
+ghost use Rattle.stripe_reader.specs.WindowValue.{Fits};
+ghost use Rattle.array_scan.specs.Layout.{pending_stripes};
+ghost use Rattle.snap_sync.specs.Closing.{closed};
+ghost use Rattle.snap_sync.specs.Course.{outside, Breaks};
+ghost use Rattle.snap_sync.specs.Findings.{events_of};
+ghost use Rattle.snap_sync.specs.Reading.{readings_in, is_verified};
+ghost use Rattle.snap_sync.specs.Run.{all_of, stripes_near, stripes_next, readings_near, choice_near, plan_for, AreCounts, IsWork, IsReady, Judges, ReadsFar, KeepsWork, Saves, HasSynced, saves_behind};
+ghost use Rattle.snap_sync.specs.Work.{IsRoomFor, more_findings};
 
-use crate::SyncFault;
-use crate::closing::set_hashes;
-use crate::reading::Row;
-use crate::telling::{Told, tell_stripe};
-use disk_model::{Failed, Folder, NoMemory, Sink, Vault};
+use crate::beginning::Work;
+use crate::judging::{Counts, judge};
+use crate::opening::{checkpoint, open};
+use crate::schedule::{is_checkpoint, window_count};
+use crate::turning::turn;
+use disk_model::{Failed, Folder, Sink, Vault};
 use file_table::Table;
-use parity_writer::write_stripe;
-use std::alloc::Global;
+use snap_report::{Lines, Report};
+use std::mem::swap;
+use std::thread::Threads;
+use stripe_reader::{Window, read_window};
 
-/// What the loop over the stripes works on, and the buffers that it takes once.
-#[derive(Drop)]
-pub(crate) struct Work {
-    pub table: Table,
-    pub row: Row,
-    pub sum: Vec<u8>,
-    pub closed: Vec<bool>,
-    pub told: Told,
+/// How a sync goes through its stripes.
+#[derive(Clone, Copy)]
+pub(crate) struct Pace {
+    /// After how many pending stripes it saves besides at its end.
+    pub every: Option<u64>,
+    pub readers: u32,
+    /// In seconds since 1970.
+    pub now: u64,
 }
 
-/// Work on a table, of which no stripe was read.
-pub(crate) fn work_on(alloc: Global, table: Table) -> Result<Work, NoMemory>
-    ensures { IfOk result (IsNewWork table) }
+/// How far a sync came: how many pending stripes it read and wrote, how many of them are verified, and how many findings
+/// it told.
+#[derive(Clone, Copy)]
+pub(crate) struct Progress {
+    pub done: u32,
+    pub synced: u32,
+    /// It stays at the greatest u64.
+    pub findings: u64,
+}
+
+impl Progress {
+    // After a window of so many stripes.
+    fn with(self, count: u32, counts: Counts) -> Progress
+        requires done { self.done + count < 2 ^ 32 }
+        requires synced { self.synced + counts.synced < 2 ^ 32 }
+        ensures done { result.done ≡ self.done + count }
+        ensures synced { result.synced ≡ self.synced + counts.synced }
+        ensures findings { result.findings ≡ more_findings self.findings counts.findings }
+    {
+        Progress {
+            done: self.done + count,
+            synced: self.synced + counts.synced,
+            findings: self.findings.saturating_add(counts.findings),
+        }
+    }
+}
+
+// Judges a window, where there is room for the choice of as many stripes and more.
+fn judge_first<W: Sink>(
+    table: &mut Table,
+    stripes: &[u32],
+    window: &Window,
+    chosen: &mut [bool],
+    now: u64,
+    lines: &mut Lines<'_, W>,
+    reports: &mut Vec<Box<dyn Report>>,
+) -> Counts
+    requires fits { Fits table.old window.now }
+    requires count { length stripes.now ≡ window.now.count }
+    requires chosen { length stripes.now ≤ length chosen.old }
+    requires stripes { All (λ stripe. stripe < length table.old.infos) stripes.now }
+    ensures chosen { take (length stripes.now) chosen.new ≡ map (is_verified table.old) (readings_in stripes.now window.now) }
+    ensures table { table.new ≡ closed now table.old (readings_in stripes.now window.now) }
+    ensures told { Told W.view standing stands table.old.columns (events_of table.old (readings_in stripes.now window.now))
+        lines.old lines.new reports.old.items reports.new.items }
+    ensures counts { AreCounts table.old (readings_in stripes.now window.now) result }
 {
-    let row = Row::make(alloc, &table)?;
-    let sum = vec![in alloc; 0u8; table.shape().block_size as usize]?;
-    let closed = vec![in alloc; false; table.length() as usize]?;
-    let told = Told {
-        line: Vec::new(alloc),
-        failed: false,
+    judge(
+        table,
+        stripes,
+        window,
+        &mut chosen[..stripes.len()],
+        now,
+        lines,
+        reports,
+    )
+}
+
+// Judges the window in the near room, which stands after so many stripes.
+fn judge_window<W: Sink>(
+    work: &mut Work,
+    pace: Pace,
+    done: u32,
+    lines: &mut Lines<'_, W>,
+    reports: &mut Vec<Box<dyn Report>>,
+) -> Counts
+    requires ready { IsReady pace.every work.old done }
+    ensures judged { Judges pace.now work.old work.new done }
+    ensures told { Told W.view standing stands work.old.table.columns (events_of work.old.table (readings_near work.old done))
+        lines.old lines.new reports.old.items reports.new.items }
+    ensures counts { AreCounts work.old.table (readings_near work.old done) result }
+{
+    let first = done as usize;
+    let count = work.room.near.count() as usize;
+    judge_first(
+        &mut work.table,
+        &work.pending[first..first + count],
+        &work.room.near,
+        work.room.chosen.as_mut_slice(),
+        pace.now,
+        lines,
+        reports,
+    )
+}
+
+// Writes the chosen stripes of the window in the near room, which stands after so many stripes, and meanwhile reads the
+// next one into the far room.
+fn turn_window<R: Threads + Sync, F: Folder, V: Vault>(
+    rt: &R,
+    work: &mut Work,
+    pace: Pace,
+    done: u32,
+    vault: &mut V,
+    folders: &mut [F],
+) -> Result<(), Failed>
+    requires ready { IsReady pace.every work.old done }
+    requires every { IfSome pace.every (λ every. 0 < every) }
+    requires levels { (V.view vault.old).levels ≡ work.old.table.shape.levels }
+    requires folders { length folders.old ≡ length work.old.table.columns }
+    ensures far { ReadsFar work.old work.new }
+    ensures fits { Fits work.old.table work.new.room.far }
+    ensures read { ReadsWindow work.old.table work.old.room.starts
+        (stripes_next pace.every work.old done) work.old.room.far work.new.room.far
+        (map F.view folders.old) (map F.view folders.new) }
+    ensures calls { SomeCalls (V.view vault.old) (V.view vault.new) }
+    ensures ran { Ran (window_calls (V.view vault.old).levels work.old.room.near (choice_near work.old done) work.old.room.near.count)
+        result (state_of (V.view vault.old)) (state_of (V.view vault.new)) }
+    ensures changes { ChangesBy (WritesBlocks work.old.room.near.block_size (IsChosen (choice_near work.old done)))
+        (V.view vault.old) (V.view vault.new) }
+    ensures written { OnOk result ((rows : Rows) →
+        Reads (HoldsRows (V.view vault.old).levels work.old.room.near.block_size rows) (V.view vault.old) →
+        Reads (HoldsRows (V.view vault.old).levels work.old.room.near.block_size
+        (rows_with work.old.room.near (choice_near work.old done) work.old.room.near.count rows)) (V.view vault.new)) }
+{
+    let room = &mut work.room;
+    let count = room.near.count();
+    let first = done as usize;
+    let next = first + count as usize;
+    let more = window_count(
+        pace.every,
+        room.near.room(),
+        work.pending.len() as u32,
+        done + count,
+    );
+    let stripes = &work.pending[first..next];
+    let ahead = &work.pending[next..next + more as usize];
+    turn(
+        rt,
+        &work.table,
+        &room.starts,
+        stripes,
+        &room.near,
+        &room.chosen[..count as usize],
+        ahead,
+        pace.readers,
+        room.block.as_mut_slice(),
+        vault,
+        folders,
+        &mut room.far,
+    )
+}
+
+// Reads the first window into the near room.
+fn read_first<R: Threads + Sync, F: Folder>(rt: &R, work: &mut Work, pace: Pace, folders: &mut [F])
+    requires work { IsWork work.old }
+    requires every { IfSome pace.every (λ every. 0 < every) }
+    requires folders { length folders.old ≡ length work.old.table.columns }
+    ensures ready { IsReady pace.every work.new 0 }
+    ensures rest { work.new ≡ record work.old { room = record work.old.room { near = work.new.room.near } } }
+    ensures read { ReadsWindow work.old.table work.old.room.starts
+        (stripes_near work.new 0) work.old.room.near work.new.room.near
+        (map F.view folders.old) (map F.view folders.new) }
+{
+    let room = &mut work.room;
+    let all = work.pending.len() as u32;
+    let count = window_count(pace.every, room.near.room(), all, 0);
+    let stripes = &work.pending[..count as usize];
+    read_window(
+        rt,
+        folders,
+        &work.table,
+        &room.starts,
+        stripes,
+        pace.readers,
+        &mut room.near,
+    );
+}
+
+// The checkpoint behind so many stripes, if one stands there.
+fn save_behind<V: Vault>(
+    work: &mut Work,
+    pace: Pace,
+    done: u32,
+    vault: &mut V,
+) -> Result<(), Failed>
+    requires work { IsWork work.old }
+    requires every { IfSome pace.every (λ every. 0 < every) }
+    ensures rest { KeepsWork work.old work.new }
+    ensures saves { IsTrue (saves_behind pace.every (all_of work.old) done) →
+        Saves work.old.table result (V.view vault.old) (V.view vault.new) }
+    ensures rests { saves_behind pace.every (all_of work.old) done ≡ false →
+        IsOk result × (vault.new ≡ vault.old) }
+{
+    if is_checkpoint(pace.every, done) && done as usize != work.pending.len() {
+        checkpoint(vault, &work.table, work.room.piece.as_mut_slice())
+    } else {
+        Ok(())
+    }
+}
+
+// The window that was read is the next to be judged.
+fn swap_windows(work: &mut Work)
+    ensures { work.new ≡ record work.old {
+      room = record work.old.room {
+        near = work.old.room.far;
+        far = work.old.room.near;
+      };
+    } }
+{
+    let room = &mut work.room;
+    swap(&mut room.near, &mut room.far);
+}
+
+/// Saves the laid out table, gives the levels their lengths, and goes through all pending stripes, window by window: each
+/// is judged, and written while the next one is read.
+pub(crate) fn sync_stripes<R: Threads + Sync, F: Folder, V: Vault, W: Sink>(
+    rt: &R,
+    work: &mut Work,
+    pace: Pace,
+    folders: &mut [F],
+    vault: &mut V,
+    lines: &mut Lines<'_, W>,
+    reports: &mut Vec<Box<dyn Report>>,
+) -> Result<Progress, Failed>
+    requires work { IsWork work.old }
+    requires pending { work.old.pending.items ≡ pending_stripes work.old.table.infos }
+    requires every { IfSome pace.every (λ every. 0 < every) }
+    requires folders { length folders.old ≡ length work.old.table.columns }
+    requires levels { (V.view vault.old).levels ≡ work.old.table.shape.levels }
+    ensures all { IfOk result (λ progress. progress.done ≡ all_of work.old) }
+    ensures synced { IfOk result (λ progress. HasSynced W.view standing stands
+        (plan_for work.old pace (V.view vault.old)) progress work.new
+        (outside (map F.view folders.old) (V.view vault.old) lines.old reports.old.items)
+        (outside (map F.view folders.new) (V.view vault.new) lines.new reports.new.items)) }
+    ensures broke { OnErr result (Breaks W.view standing stands (plan_for work.old pace (V.view vault.old))
+        (outside (map F.view folders.old) (V.view vault.old) lines.old reports.old.items)
+        (outside (map F.view folders.new) (V.view vault.new) lines.new reports.new.items)) }
+{
+    open(vault, &work.table, work.room.piece.as_mut_slice())?;
+    read_first(rt, work, pace, folders);
+    let all = work.pending.len() as u32;
+    let mut progress = Progress {
+        done: 0,
+        synced: 0,
         findings: 0,
     };
-    Ok(Work {
-        table,
-        row,
-        sum,
-        closed,
-        told,
-    })
-}
-
-// Closes a stripe that was verified: its hashes go into the table, and its sums to the levels.
-fn close_stripe<V: Vault>(work: &mut Work, vault: &mut V, stripe: u32) -> Result<(), Failed>
-    requires holds { HoldsStripe work.old.table stripe work.old.row }
-    requires sum { length work.old.sum.items ≡ work.old.table.shape.block_size }
-    requires levels { (V.view vault.old).levels ≡ work.old.table.shape.levels }
-    requires verified { is_verified work.old.table.shape.block_size work.old.table.columns (reading_in work.old.table.shape.block_size work.old.row) ≡ true }
-    ensures table { work.new.table ≡ record work.old.table { columns = columns_hashed (stripe_hash work.old.table.shape (reading_in work.old.table.shape.block_size work.old.row)) 0 work.old.table.columns } }
-    ensures sum { length work.new.sum.items ≡ length work.old.sum.items }
-    ensures rest { work.new ≡ record work.old { table = work.new.table; sum = work.new.sum } }
-    ensures calls { SomeCalls (V.view vault.old) (V.view vault.new) }
-    ensures changes { ChangesBy SameCopies (V.view vault.old) (V.view vault.new) }
-    ensures drafts { LeavesNoDraft (V.view vault.old) (V.view vault.new) }
-    ensures made { OnOk result (MakesThese (sum_calls work.old.table.shape.levels work.old.table.shape.block_size stripe (row_of work.old.table.shape.block_size (reading_in work.old.table.shape.block_size work.old.row))) (V.view vault.old) (V.view vault.new)) }
-    ensures cause { OnErr result (FailsAmong (sum_calls work.old.table.shape.levels work.old.table.shape.block_size stripe (row_of work.old.table.shape.block_size (reading_in work.old.table.shape.block_size work.old.row))) (V.view vault.old) (V.view vault.new)) }
-    ensures written { OnOk result (Reads (HasSums work.old.table.shape.levels work.old.table.shape.block_size stripe (row_of work.old.table.shape.block_size (reading_in work.old.table.shape.block_size work.old.row)) (V.view vault.old).files) (V.view vault.new)) }
-{
-    set_hashes(&mut work.table, &work.row);
-    let columns = work.table.disks();
-    write_stripe(vault, stripe, columns, &work.row.blocks, &mut work.sum)
-}
-
-// Reads a stripe, tells what was found, and closes it where it is verified.
-fn sync_stripe<F: Folder, V: Vault, W: Sink>(
-    work: &mut Work,
-    folders: &mut [F],
-    vault: &mut V,
-    stripe: u32,
-    out: &mut W,
-) -> Result<(), SyncFault>
-    requires folders { length folders.old ≡ length work.old.table.columns }
-    requires stripe { stripe < length work.old.table.infos }
-    requires room { HasRoom work.old.table work.old.row }
-    requires sum { length work.old.sum.items ≡ work.old.table.shape.block_size }
-    requires closed { length work.old.closed.items ≡ length work.old.table.infos }
-    requires levels { (V.view vault.old).levels ≡ work.old.table.shape.levels }
-    ensures folders { AllReadOnly (map F.view folders.old) (map F.view folders.new) }
-    ensures calls { SomeCalls (V.view vault.old) (V.view vault.new) }
-    ensures changes { ChangesBy SameCopies (V.view vault.old) (V.view vault.new) }
-    ensures drafts { LeavesNoDraft (V.view vault.old) (V.view vault.new) }
-    ensures synced { OnOk result (SyncsStripe stripe work.old work.new (map F.view folders.old) (map F.view folders.new) (V.view vault.old) (V.view vault.new) (W.view out.old) (W.view out.new)) }
-    ensures stopped { OnErr result (StopsAt stripe work.old (map F.view folders.old) (map F.view folders.new) (V.view vault.old) (V.view vault.new) (W.view out.old) (W.view out.new)) }
-    ensures failed { IfErr result (IsLate (V.view vault.old) (V.view vault.new)) }
-{
-    work.row.read(folders, &work.table, stripe);
-    tell_stripe(&work.table, &work.row, &mut work.told, out)?;
-    let is_closed = work.row.is_verified(&work.table);
-    work.closed[stripe as usize] = is_closed;
-    if is_closed {
-        close_stripe(work, vault, stripe)?;
+    while progress.done < all {
+        let counts = judge_window(work, pace, progress.done, lines, reports);
+        turn_window(rt, work, pace, progress.done, vault, folders)?;
+        progress = progress.with(work.room.near.count(), counts);
+        save_behind(work, pace, progress.done, vault)?;
+        swap_windows(work);
     }
-    Ok(())
-}
-
-/// Reads the stripes in order, tells what was found in each, and closes those that are verified.
-pub(crate) fn sync_stripes<F: Folder, V: Vault, W: Sink>(
-    work: &mut Work,
-    folders: &mut [F],
-    vault: &mut V,
-    out: &mut W,
-) -> Result<(), SyncFault>
-    requires folders { length folders.old ≡ length work.old.table.columns }
-    requires work { IsNewWork work.old.table work.old }
-    requires levels { (V.view vault.old).levels ≡ work.old.table.shape.levels }
-    ensures folders { AllReadOnly (map F.view folders.old) (map F.view folders.new) }
-    ensures calls { SomeCalls (V.view vault.old) (V.view vault.new) }
-    ensures changes { ChangesBy SameCopies (V.view vault.old) (V.view vault.new) }
-    ensures drafts { LeavesNoDraft (V.view vault.old) (V.view vault.new) }
-    ensures synced { OnOk result (SyncsStripes work.old work.new (map F.view folders.old) (map F.view folders.new) (V.view vault.old) (V.view vault.new) (W.view out.old) (W.view out.new)) }
-    ensures stopped { OnErr result (StopsWithin work.old (map F.view folders.old) (map F.view folders.new) (V.view vault.old) (V.view vault.new) (W.view out.old) (W.view out.new)) }
-    ensures failed { IfErr result (IsLate (V.view vault.old) (V.view vault.new)) }
-{
-    for stripe in 0..work.table.length() {
-        sync_stripe(work, folders, vault, stripe, out)?;
-    }
-    Ok(())
+    Ok(progress)
 }

@@ -1,63 +1,93 @@
--- The table of an array without content.
-use Rattle.std.proofs.Common.{◌≡◌, ℕ, ◌≤◌, List, [], ◌∷◌, map, take, length, refl, sym, ◌∙◌, ap}
-use Rattle.std.proofs.lemmas.List.{take_all, length-map}
-use Rattle.block_hash.specs.declared.Kind.TheVariants.{Md5}
-use Rattle.disk_model.specs.Folder.{FolderView}
-use Rattle.file_table.specs.Building.{BuildingValue, new_building, Finishes}
-use Rattle.file_table.specs.Table.{Column, TableValue, records_of}
-use Rattle.snap_sync.specs.Ending.{names_of}
-use Rattle.snap_sync.specs.Sync.{IsArray}
-use Rattle.snap_top.specs.FirstForm.{FormDisk, FormValue}
-use Rattle.snap_top.specs.FormSetup.{form_of, Holds}
-use Rattle.snap_top.specs.Job.{IsJob}
-use Rattle.snap_top.specs.Matching.{empty_table, names_in, size_in, levels_in}
-use Rattle.snap_top.specs.declared.first_form.Setup.{Setup}
-use Rattle.snap_top.specs.declared.first_sync.Job.{Job}
+-- The builder refuses no table without files of a configuration that was accepted.
+use Rattle.std.proofs.Common.{◌≡◌, ◌≢◌, ℕ, ◌<◌, ◌≤◌, List, [], ◌∷◌, length, map, take, get_or, min, All, Bool, true, false, IsTrue, Result, Ok, Err, IfErr, refl, sym, ap, ◌∙◌, subst, arith, length-take}
+use Rattle.std.proofs.lemmas.List.{length-map, get_or-take, get_or_default}
+use Rattle.std.proofs.lemmas.List.Elements.{All-map}
+use Rattle.disk_model.specs.Name.{IsName}
+use Rattle.file_table.specs.Building.{BuildingValue, LacksBlock, IsNewName, IsLength, is_disk_fault, is_finish_fault}
+use Rattle.file_table.specs.Table.{Column, records_of, blocks_of, positions_of, end_of}
+use Rattle.file_table.specs.declared.fault.BuildFault.{BuildFault}
+use Rattle.file_table.specs.declared.fault.BuildFault.TheVariants.{Name, Order, Nested, Range, Repeated, Blocks, Full, Length, Hash, State, Memory}
+use Rattle.snap_config.specs.Setup.{SetupValue, IsSetup}
+use Rattle.snap_config.specs.declared.setup.Disk.{Disk}
+use Rattle.snap_top.specs.Array.{empty_column}
 
--- columns of these names, without files
-abbrev pub empty_columns : List (List ℕ) → List Column
-empty_columns names = map (λ (name : List ℕ). record { name = name; records = [] }) names
-
-columns_of_disks : (disks : List FormDisk) → empty_columns (map (λ (disk : FormDisk). disk.name) disks) ≡ map (λ (disk : FormDisk). record { name = disk.name; records = [] }) disks
-columns_of_disks [] = refl
-columns_of_disks (disk ∷ disks) = ap (λ cs. record { name = disk.name; records = [] } ∷ cs) (columns_of_disks disks)
-
--- a builder that was given the names of all disks makes that table
-pub empty_built : (form : FormValue) (seed : List ℕ) (size levels at : ℕ) (names : List (List ℕ)) (built first : BuildingValue) (table : TableValue)
-    → size ≡ size_in form → levels ≡ levels_in form → names ≡ map (λ (disk : FormDisk). disk.name) form.disks → length names ≤ at
-    → first ≡ new_building (record { block_size = size; levels = levels; kind = Md5; seed = seed }) 0
-    → built ≡ record first { columns = empty_columns (take at names) } → Finishes built table → table ≡ empty_table form seed
-empty_built form seed size levels at names built first table size_is levels_are names_are whole first_is built_is finishes =
-    let columns : empty_columns (take at names) ≡ map (λ (disk : FormDisk). record { name = disk.name; records = [] }) form.disks
-    = ap empty_columns (take_all at names whole ∙ names_are) ∙ columns_of_disks form.disks in
-    finishes.table_is
-    ∙ ap (λ (b : BuildingValue). record { shape = b.shape; columns = b.columns; infos = b.infos }) built_is
-    ∙ ap (λ (f : BuildingValue). record { shape = f.shape; columns = empty_columns (take at names); infos = f.infos }) first_is
-    ∙ ap (λ cs. record { shape = record { block_size = size; levels = levels; kind = Md5; seed = seed }; columns = cs; infos = [] }) columns
-    ∙ ap (λ n. record { shape = record { block_size = n; levels = levels; kind = Md5; seed = seed }; columns = map (λ (disk : FormDisk). record { name = disk.name; records = [] }) form.disks; infos = [] }) size_is
-    ∙ ap (λ n. record { shape = record { block_size = size_in form; levels = n; kind = Md5; seed = seed }; columns = map (λ (disk : FormDisk). record { name = disk.name; records = [] }) form.disks; infos = [] }) levels_are
-
-no_records : (disks : List FormDisk) → records_of (map (λ (disk : FormDisk). record { name = disk.name; records = [] }) disks) ≡ []
+no_records : (disks : List Disk) → records_of (map empty_column disks) ≡ []
 no_records [] = refl
 no_records (disk ∷ disks) = no_records disks
 
--- the names of a setup are those of its configuration
-pub names_same : (setup : Setup) → Holds setup (form_of setup) → names_of setup.places ≡ names_in (form_of setup)
-names_same setup holds =
-    ap (λ ds. record { dirs = ds; parities = setup.places.parities.items; contents = setup.places.contents.items }) holds.dirs
-    ∙ ap (λ ps. record { dirs = map (λ (disk : FormDisk). disk.dir) (form_of setup).disks; parities = ps; contents = setup.places.contents.items }) holds.parities
-    ∙ ap (λ cs. record { dirs = map (λ (disk : FormDisk). disk.dir) (form_of setup).disks; parities = (form_of setup).parities; contents = cs }) holds.content
+no_blocks : (disks : List Disk) → blocks_of (map empty_column disks) ≡ []
+no_blocks [] = refl
+no_blocks (disk ∷ disks) = no_blocks disks
 
--- folders, vault and that table go together
-pub empty_array : (job : Job) (old : TableValue) (seed : List ℕ) (folders : List FolderView) (levels : ℕ) → IsJob job folders → levels ≡ levels_in (form_of job.setup) → old ≡ empty_table (form_of job.setup) seed
-    → IsArray (names_of job.setup.places) old folders levels
-empty_array job old seed folders levels is levels_are old_is =
-    let form = form_of job.setup in
-    let dirs : length job.setup.places.dirs.items ≡ length form.disks = ap length is.holds.dirs ∙ length-map _ _ in
-    let columns : length old.columns ≡ length form.disks = ap (λ (t : TableValue). length t.columns) old_is ∙ length-map _ _ in
-    record {
-      folder_count = is.count ∙ dirs ∙ sym columns;
-      dir_count = dirs ∙ sym columns;
-      level_count = levels_are ∙ sym (ap (λ (t : TableValue). t.shape.levels) old_is);
-      no_records = ap (λ (t : TableValue). records_of t.columns) old_is ∙ no_records form.disks;
-    }
+pub lacks_none : (building : BuildingValue) (disks : List Disk) → building.columns ≡ map empty_column disks → LacksBlock building → ⊥
+lacks_none building disks columns lacks =
+    let none : length (records_of building.columns) ≡ 0 = ap (λ (cs : List Column). length (records_of cs)) columns ∙ ap length (no_records disks) in
+    omega (arith, none, lacks.some)
+
+pub ends_at_none : (building : BuildingValue) (disks : List Disk) → building.columns ≡ map empty_column disks → building.length ≡ 0 → IsLength building
+ends_at_none building disks columns length_is = length_is ∙ sym (ap (λ (cs : List Column). end_of (positions_of (blocks_of cs))) columns ∙ ap (λ bs. end_of (positions_of bs)) (no_blocks disks))
+
+-- the name of the next disk is new
+pub next_name : (setup : SetupValue) → IsSetup setup → (i : ℕ) (disk : Disk) → i < length setup.disks → disk ≡ get_or setup.disks i disk → IsNewName (map empty_column (take i setup.disks)) disk.name
+next_name setup is i disk within here = record {
+  allowed = subst (λ (d : Disk). IsName d.name) (sym here) (is.names i disk within);
+  new = All-map (λ (column : Column). column.name ≢ disk.name) empty_column (take i setup.disks) (λ k d below.
+      let before : k < i = omega (arith, below, length-take i setup.disks) in
+      subst (λ (front : Disk). front.name ≢ disk.name) (sym (get_or-take i setup.disks k d before))
+      (subst (λ (last : Disk). (get_or setup.disks k d).name ≢ last.name) (same_place d) (is.distinct k i d before within)));
+  room = omega (arith, within, is.few_disks, length-map (take i setup.disks) empty_column, length-take i setup.disks);
+}
+  where
+    same_place : (d : Disk) → get_or setup.disks i d ≡ disk
+    same_place d = get_or_default setup.disks i d disk within ∙ sym here
+
+-- by which fault a call was refused
+pub disk_fault : (fault : BuildFault) → IsTrue (is_disk_fault fault) → (fault ≡ Blocks → ⊥) → (fault ≡ Name → ⊥) → fault ≡ Memory
+disk_fault Memory among blocks name = refl
+disk_fault Blocks among blocks name = absurd (blocks refl)
+disk_fault Name among blocks name = absurd (name refl)
+disk_fault Order among blocks name = absurd (let clash : false ≡ true = among in cc)
+disk_fault Nested among blocks name = absurd (let clash : false ≡ true = among in cc)
+disk_fault Range among blocks name = absurd (let clash : false ≡ true = among in cc)
+disk_fault Repeated among blocks name = absurd (let clash : false ≡ true = among in cc)
+disk_fault Full among blocks name = absurd (let clash : false ≡ true = among in cc)
+disk_fault Length among blocks name = absurd (let clash : false ≡ true = among in cc)
+disk_fault Hash among blocks name = absurd (let clash : false ≡ true = among in cc)
+disk_fault State among blocks name = absurd (let clash : false ≡ true = among in cc)
+
+pub finish_fault : (fault : BuildFault) → IsTrue (is_finish_fault fault) → (fault ≡ Name → ⊥) → (fault ≡ Blocks → ⊥) → (fault ≡ State → ⊥) → (fault ≡ Length → ⊥) → fault ≡ Memory
+finish_fault Memory among name blocks state last = refl
+finish_fault Name among name blocks state last = absurd (name refl)
+finish_fault Blocks among name blocks state last = absurd (blocks refl)
+finish_fault State among name blocks state last = absurd (state refl)
+finish_fault Length among name blocks state last = absurd (last refl)
+finish_fault Order among name blocks state last = absurd (let clash : false ≡ true = among in cc)
+finish_fault Nested among name blocks state last = absurd (let clash : false ≡ true = among in cc)
+finish_fault Range among name blocks state last = absurd (let clash : false ≡ true = among in cc)
+finish_fault Repeated among name blocks state last = absurd (let clash : false ≡ true = among in cc)
+finish_fault Full among name blocks state last = absurd (let clash : false ≡ true = among in cc)
+finish_fault Hash among name blocks state last = absurd (let clash : false ≡ true = among in cc)
+
+pub push_memory : {T : Type 0} (fault : BuildFault) (result : Result T BuildFault) → result ≡ Err fault → IsTrue (is_disk_fault fault) → (result ≡ Err Blocks → ⊥) → (result ≡ Err Name → ⊥) → fault ≡ Memory
+push_memory fault result is among blocks name = disk_fault fault among (λ same. blocks (is ∙ ap Err same)) (λ same. name (is ∙ ap Err same))
+
+pub finish_memory : {T : Type 0} (result : Result T BuildFault) → IfErr result (λ fault. IsTrue (is_finish_fault fault)) → (result ≡ Err Name → ⊥) → (result ≡ Err Blocks → ⊥) → (result ≡ Err State → ⊥) → (result ≡ Err Length → ⊥)
+    → IfErr result (λ fault. fault ≡ Memory)
+finish_memory (Ok table) among name blocks state last = tt
+finish_memory (Err fault) among name blocks state last =
+    finish_fault fault among (λ same. name (ap Err same)) (λ same. blocks (ap Err same)) (λ same. state (ap Err same)) (λ same. last (ap Err same))
+
+-- the same, by the disks as they are gone through
+pub next_is_new : (setup : SetupValue) → IsSetup setup → (items : List Disk) (i : ℕ) (disk : Disk) (columns : List Column) (name : List ℕ) → items ≡ setup.disks → i < length items → disk ≡ get_or items i disk
+    → columns ≡ map empty_column (take i items) → name ≡ disk.name → IsNewName columns name
+next_is_new setup is items i disk columns name same within here columns_are name_is =
+    let all = ap length same in
+    let there : disk ≡ get_or setup.disks i disk = here ∙ ap (λ ds. get_or ds i disk) same in
+    let new = next_name setup is i disk (omega (arith, within, all)) there in
+    subst (λ n. IsNewName columns n) (sym name_is) (subst (λ cs. IsNewName cs disk.name) (sym (columns_are ∙ ap (λ ds. map empty_column (take i ds)) same)) new)
+
+pub some_columns : (columns : List Column) (items : List Disk) (at : ℕ) → columns ≡ map empty_column (take at items) → columns ≡ [] → length items ≤ at → 1 ≤ length items → ⊥
+some_columns columns items at are none whole some =
+    let count = ap length are in
+    let zero_long = ap length none in
+    omega (arith, count, zero_long, whole, some, length-map (take at items) empty_column, length-take at items)

@@ -1,46 +1,114 @@
--- What a run asks an opener for, and what it opens.
-use Rattle.std.specs.Prelude.{◌≡◌, ℕ, ◌<◌, List, [], ◌∷◌, length, map, get_or, Bool, true, false, IsTrue}
+-- What a run asks its opener for, and what it is given.
+use Rattle.std.specs.Prelude.{◌≡◌, ◌⊎◌, ℕ, ◌<◌, List, [], ◌∷◌, length, take, replicate, Bool, true, false, IsTrue, Option, Result, Ok, Err}
 use Rattle.disk_model.specs.Cause.{Rose}
-use Rattle.disk_model.specs.Folder.{FolderView, quiet_folder}
-use Rattle.disk_model.specs.Opener.{OpenerView, OpenerDone, OpenerGoesOn, Config, Open, folder_held, FolderIsGiven}
-use Rattle.snap_top.specs.Words.{Asks, AsksNothing}
-use Rattle.snap_top.specs.FirstForm.{FormDisk, FormValue, IsForm, Says, SaysNothing}
-use Rattle.snap_top.specs.declared.why.Why.{Why}
-use Rattle.snap_top.specs.declared.words.Command.{Command}
-use Rattle.snap_top.specs.declared.why.Why.TheVariants.{Usage, BadConfig, OpenerFailed, NoMemory}
+use Rattle.disk_model.specs.Folder.{FolderView}
+use Rattle.disk_model.specs.Opener.{OpenerView, OpenerDone, OpenerGoesOn, Config, Open, FolderIsGiven, folder_held}
+use Rattle.disk_model.specs.Vault.{VaultView, VaultState, state_of}
+use Rattle.disk_model.specs.declared.draft.Draft.TheVariants.{Absent}
+use Rattle.disk_model.specs.declared.fault.OpenFault.{OpenFault}
+use Rattle.disk_model.specs.declared.fault.OpenFault.TheVariants as opens
+use Rattle.snap_config.specs.Config.{read_setup, IsRefusal}
+use Rattle.snap_config.specs.Setup.{SetupValue}
+use Rattle.snap_config.specs.Words.{reading_among}
+use Rattle.snap_config.specs.declared.options.Command.{Command}
+use Rattle.snap_config.specs.declared.options.Options.{Options}
+use Rattle.snap_config.specs.declared.options.WordsFault.{WordsFault}
+use Rattle.snap_config.specs.declared.options.WordsFault.TheVariants as words
+use Rattle.snap_config.specs.declared.why.ConfigFault.{ConfigFault}
+use Rattle.snap_top.specs.Views.{folder_at}
+use Rattle.snap_top.specs.declared.commands.TheConstants.{COMMANDS}
+use Rattle.snap_top.specs.declared.end.Refusal.{Refusal}
+use Rattle.snap_top.specs.declared.end.Refusal.TheVariants.{Words, Unread, Config as BadConfig, Unopened}
 
--- the words ask for a command and a file, and a form that this file says, where the opener tells it
-pub record IsConfigured (words : List (List ℕ)) (opener : OpenerView) (command : Command) (form : FormValue) : Type 0 where
-  pub file : List ℕ
-  pub asked : Asks words command file
-  pub valid : IsForm form
-  pub says : IsTrue opener.tells → Says opener.config form
+-- ---- the calls of the opener
 
--- the call for a configuration file, and the call for all that a configuration names
+-- the call for a configuration file, and the one for all that a configuration names
 abbrev pub reads_config : List ℕ → Bool → OpenerDone
 reads_config file failed = record { call = Config file; failed = failed }
 
-abbrev pub opens : FormValue → Bool → OpenerDone
-opens form failed = record { call = Open (map (λ (disk : FormDisk). disk.dir) form.disks) form.parities (form.content ∷ []); failed = failed }
+abbrev pub opens_places : SetupValue → Bool → OpenerDone
+opens_places setup failed = record { call = Open setup.dirs setup.parities setup.contents; failed = failed }
 
--- The folders were opened as the configuration names them: as many as disks, and just those that the opener held, each as it was. The opener was asked for the
--- configuration and for what it names, once each, and for nothing else.
-pub record IsOpened (words : List (List ℕ)) (old new : OpenerView) (command : Command) (form : FormValue) (folders : List FolderView) : Type 0 where
-  pub configured : IsConfigured words old command form
-  pub calls : OpenerGoesOn old new (reads_config configured.file false ∷ opens form false ∷ [])
-  pub columns : length folders ≡ length form.disks
+-- an opener that failed, and one for which memory ran out
+abbrev pub is_failure : OpenFault → Bool
+is_failure opens.Failed = true
+is_failure opens.Memory = false
+
+-- ---- what was asked for
+
+-- what the words ask for, among the commands that are built
+abbrev pub asked_by : List (List ℕ) → Result Options WordsFault
+asked_by texts = reading_among COMMANDS texts
+
+-- the bytes of a configuration, and what they say; they are those of the file, where the opener tells that
+pub record Says (opener : OpenerView) (log : Option (List ℕ)) (setup : SetupValue) : Type 0 where
+  pub bytes : List ℕ
+  pub held : IsTrue opener.tells → bytes ≡ take 1048577 opener.config
+  pub says : read_setup bytes log ≡ Ok setup
+
+pub record SaysNot (opener : OpenerView) (log : Option (List ℕ)) (fault : ConfigFault) : Type 0 where
+  pub bytes : List ℕ
+  pub held : IsTrue opener.tells → bytes ≡ take 1048577 opener.config
+  pub refused : IsRefusal fault (read_setup bytes log)
+
+-- the words ask for this command, with so many readers, and the file that they name says this configuration
+pub record IsConfigured (texts : List (List ℕ)) (opener : OpenerView) (command : Command) (readers : ℕ) (setup : SetupValue) : Type 0 where
+  pub asked : Options
+  pub read : asked_by texts ≡ Ok asked
+  pub command_is : command ≡ asked.command
+  pub readers_are : readers ≡ asked.readers
+  pub says : Says opener asked.log setup
+
+-- ---- why nothing was opened
+
+-- the words are refused, or memory ran out
+abbrev pub IsWordsFault : List (List ℕ) → WordsFault → Type 0
+IsWordsFault texts fault = (fault ≡ words.Memory) ⊎ (asked_by texts ≡ Err fault)
+
+-- why a configuration file gave no setup
+abbrev pub ConfiguresNot : List ℕ → Option (List ℕ) → OpenerView → OpenerView → Refusal → Type 0
+ConfiguresNot file log old new (Words fault) = ⊥
+ConfiguresNot file log old new (Unread fault) = (IsTrue (is_failure fault) → Rose old.faults new.faults) × OpenerGoesOn old new (reads_config file (is_failure fault) ∷ [])
+ConfiguresNot file log old new (BadConfig named fault) = (named ≡ file) × SaysNot old log fault × OpenerGoesOn old new (reads_config file false ∷ [])
+ConfiguresNot file log old new (Unopened fault) = ⊥
+
+-- the words were read, and the configuration file gave no setup
+pub record IsUnconfigured (texts : List (List ℕ)) (old new : OpenerView) (why : Refusal) : Type 0 where
+  pub asked : Options
+  pub read : asked_by texts ≡ Ok asked
+  pub why_not : ConfiguresNot asked.conf asked.log old new why
+
+-- what the configuration names was not opened
+pub record IsUnopened (texts : List (List ℕ)) (old new : OpenerView) (fault : OpenFault) : Type 0 where
+  pub command : Command
+  pub readers : ℕ
+  pub setup : SetupValue
+  pub configured : IsConfigured texts old command readers setup
+  pub rose : IsTrue (is_failure fault) → Rose old.faults new.faults
+  pub calls : OpenerGoesOn old new (reads_config configured.asked.conf false ∷ opens_places setup (is_failure fault) ∷ [])
+
+-- by the refusal: its cause, and all calls of the opener
+abbrev pub Refuses : List (List ℕ) → OpenerView → OpenerView → Refusal → Type 0
+Refuses texts old new (Words fault) = IsWordsFault texts fault × OpenerGoesOn old new []
+Refuses texts old new (Unread fault) = IsUnconfigured texts old new (Unread fault)
+Refuses texts old new (BadConfig file fault) = IsUnconfigured texts old new (BadConfig file fault)
+Refuses texts old new (Unopened fault) = IsUnopened texts old new fault
+
+-- ---- what was opened
+
+-- a vault is given as it was held, of so many levels and copies, without drafts
+pub record StateIsGiven (is_told : Bool) (parities contents : ℕ) (held given : VaultState) : Type 0 where
+  pub faults : given.faults ≡ held.faults
+  pub whole : IsTrue is_told → given ≡ held
+  pub levels : given.levels ≡ parities
+  pub drafts : given.drafts ≡ replicate contents Absent
+
+-- A folder for each directory, and the vault with as many levels and copies as were named: just what the opener held, where it tells that. It
+-- was asked for the configuration and for what that names, once each, and for nothing else.
+pub record IsGiven (texts : List (List ℕ)) (old new : OpenerView) (command : Command) (readers : ℕ) (setup : SetupValue) (folders : List FolderView) (vault : VaultState) : Type 0 where
+  pub configured : IsConfigured texts old command readers setup
+  pub calls : OpenerGoesOn old new (reads_config configured.asked.conf false ∷ opens_places setup false ∷ [])
+  pub columns : length folders ≡ length setup.dirs
   pub just : IsTrue old.tells → length folders ≡ length old.folders
-  pub folders_given : (column : ℕ) → column < length folders → FolderIsGiven old.tells (folder_held old column) (get_or folders column (quiet_folder 0 false))
-
--- Nothing was opened, and why: one case for each cause, with all calls of the opener till then. Want of memory is free.
-pub data Refuses (words : List (List ℕ)) (old new : OpenerView) : Why → Type 0 where
-  refuses_words : AsksNothing words → OpenerGoesOn old new [] → Refuses words old new Usage
-  refuses_config : (command : Command) (file : List ℕ) → Asks words command file → (IsTrue old.tells → SaysNothing old.config) → OpenerGoesOn old new (reads_config file false ∷ [])
-      → Refuses words old new BadConfig
-  fails_at_config : (command : Command) (file : List ℕ) → Asks words command file → Rose old.faults new.faults → OpenerGoesOn old new (reads_config file true ∷ [])
-      → Refuses words old new OpenerFailed
-  fails_at_opening : (command : Command) (form : FormValue) (configured : IsConfigured words old command form) → Rose old.faults new.faults
-      → OpenerGoesOn old new (reads_config configured.file false ∷ opens form true ∷ []) → Refuses words old new OpenerFailed
-  memory_at_config : (command : Command) (file : List ℕ) → Asks words command file → OpenerGoesOn old new (reads_config file false ∷ []) → Refuses words old new NoMemory
-  memory_at_opening : (command : Command) (form : FormValue) (configured : IsConfigured words old command form)
-      → OpenerGoesOn old new (reads_config configured.file false ∷ opens form false ∷ []) → Refuses words old new NoMemory
+  pub each : (d : ℕ) → d < length folders → FolderIsGiven old.tells (folder_held old d) (folder_at folders d)
+  pub state : StateIsGiven old.tells (length setup.parities) (length setup.contents) (state_of old.vault) vault

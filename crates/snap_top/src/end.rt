@@ -1,62 +1,103 @@
-// How a run ended, with its line.
-ghost use Rattle.std.specs.Prelude.{◌≡◌, IsTrue, IfOk, OnErr};
-ghost use Rattle.snap_top.specs.End.{IsEnd, IsEndWith, line_of};
-ghost use Rattle.snap_top.specs.Run.{IsSaid};
-ghost use Rattle.snap_top.specs.Lines.{is_plain, plain_line};
+// How a run ended, as data.
+ghost use Rattle.std.specs.Prelude.{◌≡◌};
+ghost use Rattle.snap_top.specs.End.{status_of, refusal_status, ending_status};
 
-use crate::Why;
-use disk_model::Sink;
-use std::alloc::AllocError;
+use content_file::LoadFault;
+use disk_model::{OpenFault, Text};
+use file_table::Table;
+use snap_config::{ConfigFault, Setup, WordsFault};
+use snap_report::Answer;
 
-/// How a run ended, and its line where that names something of the run.
+/// Why nothing was opened.
 #[derive(Drop)]
-pub(crate) struct End {
-    pub why: Why,
-    pub made: Option<Vec<u8>>,
+pub enum Refusal {
+    /// The words ask for nothing that there is.
+    Words(WordsFault),
+    /// The configuration file was not read.
+    Unread(OpenFault),
+    /// The configuration in this file is refused.
+    Config { file: Text, fault: ConfigFault },
+    /// What the configuration names was not opened.
+    Unopened(OpenFault),
 }
 
-impl End {
-    // An end whose line names nothing.
-    pub(crate) fn plain(why: Why) -> End
-        requires { IsTrue (is_plain why) }
-        ensures why { result.why ≡ why }
-        ensures line { line_of result ≡ plain_line why }
-        ensures end { IsEnd result }
-    {
-        End { why, made: None }
-    }
+/// In what content and configuration differ first.
+#[derive(Clone, Copy, Debug, PartialEq, Eq)]
+pub enum Difference {
+    /// In bytes.
+    BlockSize { content: u32, configuration: u32 },
+    Levels { content: u32, configuration: u32 },
+    /// The name of the disk in this column.
+    DiskName { column: u32 },
+}
 
-    // An end with its line; where memory was wanting for that, the run ends so.
-    pub(crate) fn with(why: Why, line: Result<Vec<u8>, AllocError>) -> End
-        ensures ok { IfOk line (λ text. IsEndWith why text.items result) }
-        ensures err { OnErr line (IsEndWith Why.NoMemory (plain_line Why.NoMemory) result) }
-        ensures end { IsEnd result }
+/// How a run ended that opened its array.
+#[derive(Drop)]
+pub enum Ending {
+    NotLoaded(LoadFault),
+    /// Memory ran out for the table of an array without content.
+    NoTable,
+    /// This content is not of the array of the configuration.
+    OtherArray {
+        difference: Difference,
+        content: Table,
+    },
+    /// The command was carried out. Where its answer names a file, it is one of this table.
+    Answered {
+        answer: Answer,
+        named: Option<Table>,
+    },
+}
+
+/// How a run ended.
+#[derive(Drop)]
+pub enum End {
+    /// Before anything was opened.
+    Refused(Refusal),
+    /// On the array of this configuration.
+    Worked { setup: Setup, ending: Ending },
+}
+
+impl Refusal {
+    fn status(&self) -> u8
+        ensures { result ≡ refusal_status self.now }
     {
-        match line {
-            Ok(line) => End {
-                why,
-                made: Some(line),
-            },
-            Err(_) => End::plain(Why::NoMemory),
+        match self {
+            Refusal::Words(WordsFault::Memory)
+            | Refusal::Config {
+                fault: ConfigFault::Memory,
+                ..
+            }
+            | Refusal::Unread(OpenFault::Memory)
+            | Refusal::Unopened(OpenFault::Memory) => 4,
+            Refusal::Unread(OpenFault::Failed) | Refusal::Unopened(OpenFault::Failed) => 3,
+            Refusal::Words(_) | Refusal::Config { .. } => 2,
         }
     }
 }
 
-/// Writes the line of an end, if there is one.
-pub(crate) fn say<E: Sink>(err: &mut E, end: &End)
-    requires { IsEnd end.now }
-    ensures { IsSaid (line_of end.now) (E.view err.old) (E.view err.new) }
-{
-    match &end.made {
-        Some(line) => say_line(err, line.as_slice()),
-        None => say_line(err, end.why.plain_line().as_bytes()),
+impl Ending {
+    fn status(&self) -> u8
+        ensures { result ≡ ending_status self.now }
+    {
+        match self {
+            Ending::NotLoaded(LoadFault::Failed) => 3,
+            Ending::NotLoaded(LoadFault::Damaged) => 5,
+            Ending::NotLoaded(LoadFault::Memory) | Ending::NoTable => 4,
+            Ending::OtherArray { .. } => 2,
+            Ending::Answered { answer, .. } => answer.status(),
+        }
     }
 }
 
-fn say_line<E: Sink>(err: &mut E, line: &[u8])
-    ensures { IsSaid line.now (E.view err.old) (E.view err.new) }
-{
-    if !line.is_empty() {
-        let _ = err.write(line);
+impl End {
+    /// The status of the program.
+    pub fn status(&self) -> u8
+        ensures { result ≡ status_of self.now }
+    {
+        match self {
+            End::Refused(refusal) => refusal.status(),
+            End::Worked { ending, .. } => ending.status(),
+        }
     }
 }

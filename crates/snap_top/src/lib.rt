@@ -1,25 +1,26 @@
 //! One run of the tool, from its words to its status.
 //!
-//! Start at `run` in `running.rt`; what it leaves and why is `specs/Run.antt`, what `list` prints `specs/ListText.antt`,
-//! and what its configuration says `specs/FirstForm.antt`. What `sync` leaves is in snap_sync: `specs/Sync.antt` where it
-//! ends, and `specs/Stops.antt` whenever it is stopped.
-//! Proved: the status, the line on `err` and what is printed are those of the one cause by which the run ended; the
-//! opener is asked for what the words and the configuration name, and for nothing else; all that was opened goes back,
-//! the folders only read, and the vault as it was but for what a sync wrote.
+//! Start at `run` in `running.rt`. What it leaves and why is `specs/Run.antt`, what each command does `specs/Does.antt` (a sync:
+//! `specs/Syncing.antt`), and
+//! how it is called and said `specs/End.antt`.
+//! Proved: the status, the line on the standard error and what is printed are those of the one end by which the run ended,
+//! and that has its cause; the opener is asked for the configuration and for what that names, once each, and for nothing
+//! else; all that was opened goes back; what every stop leaves of the vault is what the command's own definition says.
+//! A command is a variant of `Command` in snap_config, a line of `DoesCommand`, an arm of `carry_out` and a lemma of
+//! `proofs/DoneLemmas.antt`.
 //! Not here: real files. They are `disk_host`'s.
 #![tactic(auto)]
 
+mod commands;
+mod empty;
 mod end;
-mod first_form;
-mod first_sync;
-mod list;
+mod job;
 mod matching;
 mod opening;
 mod running;
-mod totals;
-mod why;
-mod words;
+mod saying;
+mod syncing;
 
-pub use list::Cut;
+pub use commands::COMMANDS;
+pub use end::{Difference, End, Ending, Refusal};
 pub use running::{Outcome, run};
-pub use why::Why;

@@ -1,60 +1,86 @@
 // All that a run opens.
-ghost use Rattle.std.specs.Prelude.{◌≡◌, map, string_bytes, vec_len, IfOk, IfErr, OnErr};
-ghost use Rattle.disk_model.specs.Opener.{VaultIsGiven, HoldsSame};
-ghost use Rattle.snap_top.specs.FirstForm.{IsForm};
-ghost use Rattle.snap_top.specs.FormSetup.{form_of, Holds};
-ghost use Rattle.snap_top.specs.Matching.{levels_in};
-ghost use Rattle.snap_top.specs.Opening.{IsOpened, Refuses};
+ghost use Rattle.std.specs.Prelude.{◌≡◌, ◌∷◌, [], map, false, IfOk, IfErr, OnErr, OnOk, IsTrue, string_bytes};
+ghost use Rattle.disk_model.specs.Opener.{OpenerGoesOn, HoldsSame, SameImages};
+ghost use Rattle.disk_model.specs.Vault.{IsSettled, state_of};
+ghost use Rattle.snap_config.specs.Setup.{IsSetup, setup_value};
+ghost use Rattle.snap_config.specs.Words.{IsAmong, IsOptions, IsWay, name_of_command};
+ghost use Rattle.snap_top.specs.Task.{IsBuilt};
+ghost use Rattle.snap_top.specs.Opening.{Says, ConfiguresNot, Refuses, IsGiven, reads_config};
 
-use crate::Why;
-use crate::first_form::{FormFault, Setup, read_form};
-use crate::words::{Command, asked};
-use disk_model::{OpenFault, Opener};
+use crate::Refusal;
+use crate::commands::COMMANDS;
+use disk_model::{Opener, Text};
+use snap_config::{Command, Options, Setup, read_config, read_words_among};
 use std::alloc::Global;
 
 /// An array that was opened, and what is to be done with it.
 pub(crate) struct Session<F, V> {
     pub command: Command,
+    /// 1 to 16.
+    pub readers: u32,
     pub setup: Setup,
     pub folders: Vec<F>,
     pub vault: V,
 }
 
-/// Reads the configuration that the words name, and opens what that names.
+// Reads a configuration file.
+fn configure<O: Opener>(
+    alloc: Global,
+    file: Text,
+    log: Option<Text>,
+    opener: &mut O,
+) -> Result<Setup, Refusal>
+    ensures says { IfOk result (λ setup. Says (O.view opener.old) log (setup_value setup)) }
+    ensures valid { IfOk result (λ setup. IsSetup (setup_value setup)) }
+    ensures called { OnOk result (OpenerGoesOn (O.view opener.old) (O.view opener.new) (reads_config file false ∷ [])) }
+    ensures refused { IfErr result (ConfiguresNot file log (O.view opener.old) (O.view opener.new)) }
+    ensures kept { HoldsSame (O.view opener.old) (O.view opener.new) }
+{
+    let bytes = match opener.config(alloc, file.as_str()) {
+        Ok(bytes) => bytes,
+        Err(fault) => return Err(Refusal::Unread(fault)),
+    };
+    match read_config(alloc, bytes.as_slice(), log) {
+        Ok(setup) => Ok(setup),
+        Err(fault) => Err(Refusal::Config { file, fault }),
+    }
+}
+
+/// Reads the words and the configuration that they name, and opens what that names.
 pub(crate) fn open_all<O: Opener>(
     alloc: Global,
     words: &[String],
     opener: &mut O,
-) -> Result<Session<O::Folder, O::Vault>, Why>
-    ensures opened { IfOk result (λ session. IsOpened (map string_bytes words.now) (O.view opener.old) (O.view opener.new) session.command (form_of session.setup) (map O.Folder.view session.folders.items)) }
-    ensures holds { IfOk result (λ session. Holds session.setup (form_of session.setup)) }
-    ensures valid { IfOk result (λ session. IsForm (form_of session.setup)) }
-    ensures count { IfOk result (λ session. vec_len session.folders ≡ vec_len session.setup.places.dirs) }
-    ensures vault { IfOk result (λ session. VaultIsGiven (O.view opener.old).tells (levels_in (form_of session.setup)) 1 (O.view opener.old).vault (O.Vault.view session.vault)) }
-    ensures refused { IfErr result (λ why. Refuses (map string_bytes words.now) (O.view opener.old) (O.view opener.new) why) }
+) -> Result<Session<O::Folder, O::Vault>, Refusal>
+    ensures given { IfOk result (λ session. IsGiven (map string_bytes words.now) (O.view opener.old) (O.view opener.new) session.command session.readers (setup_value session.setup)
+        (map O.Folder.view session.folders.items) (state_of (O.Vault.view session.vault))) }
+    ensures images { IfOk result (λ session. IsTrue (O.view opener.old).tells → SameImages (O.view opener.old).vault.images (O.Vault.view session.vault).images) }
+    ensures settled { IfOk result (λ session. IsSettled (O.Vault.view session.vault)) }
+    ensures built { IfOk result (λ session. IsBuilt session.command) }
+    ensures way { IfOk result (λ session. IsWay session.command) }
+    ensures valid { IfOk result (λ session. IsSetup (setup_value session.setup)) }
+    ensures refused { IfErr result (Refuses (map string_bytes words.now) (O.view opener.old) (O.view opener.new)) }
     ensures kept { OnErr result (HoldsSame (O.view opener.old) (O.view opener.new)) }
 {
-    let Some((command, file)) = asked(words) else {
-        return Err(Why::Usage);
+    let asked = match read_words_among(alloc, &COMMANDS, words) {
+        Ok(asked) => asked,
+        Err(fault) => return Err(Refusal::Words(fault)),
     };
-    let config = match opener.config(alloc, file.as_str()) {
-        Ok(config) => config,
-        Err(OpenFault::Failed) => return Err(Why::OpenerFailed),
-        Err(OpenFault::Memory) => return Err(Why::NoMemory),
-    };
-    let setup = match read_form(alloc, config.as_slice()) {
-        Ok(setup) => setup,
-        Err(FormFault::Refused) => return Err(Why::BadConfig),
-        Err(FormFault::Memory) => return Err(Why::NoMemory),
-    };
+    let Options {
+        conf,
+        log,
+        readers,
+        command,
+    } = asked;
+    let setup = configure(alloc, conf, log, opener)?;
     match opener.open(alloc, &setup.places) {
         Ok(opened) => Ok(Session {
             command,
+            readers,
             setup,
             folders: opened.folders,
             vault: opened.vault,
         }),
-        Err(OpenFault::Failed) => Err(Why::OpenerFailed),
-        Err(OpenFault::Memory) => Err(Why::NoMemory),
+        Err(fault) => Err(Refusal::Unopened(fault)),
     }
 }

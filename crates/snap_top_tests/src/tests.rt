@@ -1,13 +1,8 @@
 // Whole runs over objects in memory.
 mod array;
-mod changed;
+mod configuration;
 mod damage;
-mod definition;
 mod faults;
-mod form;
-mod huge;
-mod layout;
-mod levels;
-mod list;
 mod matching;
-mod sync;
+mod printing;
+mod words;

@@ -1,15 +1,17 @@
 //! The program: the words, files and streams of the system, handed to `snap_top::run`.
 //!
-//! Start at `main`. It opens the standard streams, reads words, clock and seed, and hands `run` the objects of
+//! Start at `main`. It makes the reports, a tally and the log that the words name, and hands `run` the objects of
 //! `disk_host`. Proved: it is safe and ends. What a command does is the contract of `run`.
 #![tactic(auto)]
 
 #[cfg(test)]
 mod tests;
 
-use disk_host::{DiskOpener, StreamSink};
-use disk_model::{NoMemory, Sink};
-use snap_top::Outcome;
+use disk_host::{DiskOpener, LogSink, StreamSink};
+use disk_model::{NoMemory, Sink, Text};
+use snap_config::log_name;
+use snap_report::{LogReport, Report, TallyReport};
+use snap_top::run;
 use std::fs::OpenOptions;
 use std::io::ErrorKind;
 use std::process::ExitCode;
@@ -18,50 +20,110 @@ use std::rt::{Env, Files};
 use std::time::{Clock, SystemTime, UNIX_EPOCH};
 use std::{env, io};
 
-const FAILED: u8 = 3;
+// Why the program ends before its run.
+#[derive(Clone, Copy, Debug, PartialEq, Eq)]
+enum Unready {
+    NoStreams,
+    NoRandomBytes,
+    Memory,
+}
 
-const OUT_OF_MEMORY: u8 = 4;
+impl From<NoMemory> for Unready {
+    ghost from_gives = { λ _ _. Unit {0} };
+
+    fn from(_error: NoMemory) -> Unready {
+        Unready::Memory
+    }
+}
+
+impl Unready {
+    fn line(self) -> &'static str {
+        match self {
+            Unready::NoStreams => "snapraid: /dev/null cannot be opened\n",
+            Unready::NoRandomBytes => "snapraid: the system gave no random bytes\n",
+            Unready::Memory => "snapraid: out of memory\n",
+        }
+    }
+
+    fn status(self) -> u8 {
+        match self {
+            Unready::NoStreams | Unready::NoRandomBytes => 3,
+            Unready::Memory => 4,
+        }
+    }
+}
+
+// What a run is given besides the objects that it works on.
+#[derive(Drop)]
+struct Ready<R: Files> {
+    // Held for the whole run.
+    streams: [R::File; 3],
+    seed: [u8; 16],
+    words: Vec<String>,
+    log: Option<Text>,
+}
 
 fn main(rt: HostRuntime) -> ExitCode {
+    let alloc = rt.alloc();
     let mut err = StreamSink::new(rt.stderr());
-    let Ok(_streams) = open_streams(&rt) else {
-        return ends(&mut err, b"snapraid: /dev/null cannot be opened\n", FAILED);
+    let ready = match get_ready(&rt) {
+        Ok(ready) => ready,
+        Err(why) => return ends(&mut err, why),
     };
-    let mut out = StreamSink::new(rt.stdout());
-    let words = match words(&rt) {
-        Ok(words) => words,
-        Err(NoMemory) => return ends(&mut err, b"snapraid: out of memory\n", OUT_OF_MEMORY),
+    let mut reports: Vec<Box<dyn Report>> = Vec::new(alloc);
+    let Ok(tally) = Box::new(alloc, TallyReport::new()) else {
+        return ends(&mut err, Unready::Memory);
+    };
+    if reports.push(tally).is_err() {
+        return ends(&mut err, Unready::Memory);
+    }
+    if let Some(name) = &ready.log {
+        let sink = LogSink::open(&rt, name.as_str());
+        let Ok(log) = Box::new(alloc, LogReport::new(sink)) else {
+            return ends(&mut err, Unready::Memory);
+        };
+        if reports.push(log).is_err() {
+            return ends(&mut err, Unready::Memory);
+        }
+    }
+    let ended = run(
+        &rt,
+        alloc,
+        ready.words.as_slice(),
+        &mut DiskOpener::new(rt),
+        &mut reports,
+        &mut StreamSink::new(rt.stdout()),
+        &mut err,
+        seconds_since_1970(&rt),
+        ready.seed,
+    );
+    ExitCode::from(ended.status)
+}
+
+// Opens the streams that are held, and reads words and seed. The log that the words name is opened after that, and so
+// emptied, before anything else is read.
+fn get_ready<R: Files + Env + RandomSource + AllocGlobal>(rt: &R) -> Result<Ready<R>, Unready> {
+    let Ok(streams) = open_streams(rt) else {
+        return Err(Unready::NoStreams);
     };
     let mut seed = [0; 16];
     if rt.fill_bytes(&mut seed).is_err() {
-        return ends(
-            &mut err,
-            b"snapraid: the system gave no random bytes\n",
-            FAILED,
-        );
+        return Err(Unready::NoRandomBytes);
     }
-    let now = seconds_since_1970(&rt);
-    let mut opener = DiskOpener::new(rt);
-    let Outcome {
-        status,
-        folders: _,
-        vault: _,
-    } = snap_top::run(
-        rt.alloc(),
-        words.as_slice(),
-        &mut opener,
-        &mut out,
-        &mut err,
-        now,
+    let words = words(rt)?;
+    let log = log_name(rt.alloc(), words.as_slice())?;
+    Ok(Ready {
+        streams,
         seed,
-    );
-    ExitCode::from(status)
+        words,
+        log,
+    })
 }
 
-// Ends before anything was opened, with one line where that can be written.
-fn ends<W: Sink>(err: &mut W, line: &[u8], status: u8) -> ExitCode {
-    let _ = err.write(line);
-    ExitCode::from(status)
+// Ends before the run, with one line where that can be written.
+fn ends<W: Sink>(err: &mut W, why: Unready) -> ExitCode {
+    let _ = err.write(why.line().as_bytes());
+    ExitCode::from(why.status())
 }
 
 // Opens the null device three times, to be held for the whole run: where the program was started without one of its standard

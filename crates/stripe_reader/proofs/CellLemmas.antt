@@ -1,5 +1,5 @@
 -- What the calls on a folder say of one cell.
-use Rattle.std.proofs.Common.{◌≡◌, ◌≢◌, ℕ, ◌<◌, ◌≤◌, ◌==◌, List, ◌++◌, length, take, false, true, IsTrue, inr, Bool, Option, Some, None, IfSome, if◌then◌else◌, refl, sym, ap, ap₂, ◌∙◌, subst, arith}
+use Rattle.std.proofs.Common.{◌≡◌, ◌≢◌, ℕ, ◌<◌, ◌≤◌, ◌==◌, List, ◌++◌, length, take, false, true, IsTrue, Bool, Option, Some, None, IfSome, if◌then◌else◌, refl, sym, ap, ap₂, ◌∙◌, subst, arith}
 use Rattle.std.specs.Option.{option_map}
 use Rattle.std.proofs.lemmas.Bool.{eqb-true, eq-eqb}
 use Rattle.std.proofs.lemmas.List.{length-take, take-append-le}
@@ -10,7 +10,7 @@ use Rattle.disk_model.specs.declared.meta.Meta.{Meta}
 use Rattle.file_table.specs.declared.shape.Shape.{Shape}
 use Rattle.stripe_reader.specs.Column.{ReadsCell, ReadsSlot}
 use Rattle.stripe_reader.specs.FolderCalls.{AreCellCalls, AreFetchCalls, look_and_read}
-use Rattle.stripe_reader.specs.Reading.{CellReading, Unread, Part, Whole, Task, Known, Fetch, IsFetched, came, given_of, is_unread}
+use Rattle.stripe_reader.specs.Reading.{CellReading, Unread, Part, Whole, Task, Known, Fetch, IsFetched, IsSeenBy, came, given_of, is_unread}
 use Rattle.stripe_reader.specs.Slot.{kept}
 use Rattle.stripe_reader.specs.SlotValue.{SlotValue}
 use Rattle.stripe_reader.proofs.FolderLemmas.{reads_nothing, reads_twice}
@@ -19,7 +19,7 @@ use Rattle.stripe_reader.proofs.FolderLemmas.{reads_nothing, reads_twice}
 pub cell_known : (reading : CellReading) (v : FolderView) → is_unread reading ≡ false → ReadsCell (Known reading) reading v v
 cell_known reading v read = record {
   folder = reads_nothing (AreCellCalls (Known reading) reading) v refl;
-  is_of = record { by = refl; given = λ told not. refl };
+  is_of = record { by = refl; given = λ told not. refl; saw = λ told. tt };
   unread = λ yes. cc;
 }
 
@@ -32,6 +32,10 @@ module _ (path : List ℕ) (lost : Bool) (at n : ℕ) (seen : Meta) (bytes : Lis
   either_calls : (whole : Bool) → AreFetchCalls path lost at n (if whole then Whole seen bytes else Part seen (length bytes)) (look_and_read path lost at n)
   either_calls true = refl
   either_calls false = refl
+
+  either_saw : (tree : Tree) (whole : Bool) → IsSeenBy tree (Fetch path lost at n) (if whole then Whole seen bytes else Part seen (length bytes))
+  either_saw tree true = tt
+  either_saw tree false = tt
 
   either_read : (whole : Bool) → is_unread (if whole then Whole seen bytes else Part seen (length bytes)) ≡ false
   either_read true = refl
@@ -65,16 +69,18 @@ module _ (path : List ℕ) (lost : Bool) (at n : ℕ) (before mid after : Folder
           by = came_fetched path lost at size seen bytes short;
           given = λ told not. file_given (file_of before.tree (path_of path lost)) seen at size bytes (saw told)
               (subst (λ (tree : Tree). IfSome (file_of tree (path_of path lost)) (λ file. bytes ≡ read_from file.bytes at size)) (look.tree told) (came_is (look.called.goes_on.tells ∙ told)));
+          saw = λ told. either_saw path lost at size seen bytes before.tree whole;
         };
         unread = λ yes. let no = either_read path lost at size seen bytes whole in absurd (cc (yes, no));
       })
 
   -- the read failed
-  pub cell_unread : (size : ℕ) → size ≡ n → IsFolderReading (Look path lost) false before mid → IsFolderReading (ReadAt path lost at size) true mid after
-      → ReadsCell (Fetch path lost at n) Unread before after
-  cell_unread size size_is look read = rw (sym size_is) (record {
-    folder = reads_twice (AreCellCalls (Fetch path lost at size) Unread) look read (inr refl);
-    is_of = record { by = tt; given = λ told not. cc };
+  pub cell_unread : (seen : Meta) (size : ℕ) → size ≡ n → IsFolderReading (Look path lost) false before mid → IsFolderReading (ReadAt path lost at size) true mid after
+      → (IsTrue before.tells → option_map meta_of (file_of before.tree (path_of path lost)) ≡ Some seen)
+      → ReadsCell (Fetch path lost at n) (Unread (Some seen)) before after
+  cell_unread seen size size_is look read saw = rw (sym size_is) (record {
+    folder = reads_twice (AreCellCalls (Fetch path lost at size) (Unread (Some seen))) look read refl;
+    is_of = record { by = tt; given = λ told not. cc; saw = saw };
     unread = λ yes. let rose = read.called.cause refl in omega (arith, look.called.goes_on.later, rose);
   })
 

@@ -2,6 +2,8 @@
 use Rattle.std.proofs.Common.{◌≡◌, ◌⊎◌, append_assoc, ℕ, ◌+◌, ◌-◌, ◌<◌, ◌≤◌, true, IsTrue, List, [], ◌∷◌, ◌++◌, length, map, take, set, get_or, replicate, inl, inr, refl, sym, ap, ap₂, ◌∙◌, subst, arith, cond, zero, suc}
 use Rattle.std.specs.List.{count_by}
 use Rattle.std.proofs.lemmas.List.{append-nil, get_or-take, get_or-map, get_or_append_left, get_or-append_right, map-append, take_more, take_more_set, length-append, length-map, length-take, length-replicate}
+use Rattle.std.specs.List.{All}
+use Rattle.std.proofs.lemmas.List.Elements.{All-append}
 use Rattle.std.proofs.lemmas.List.Sums.{sum_by-append}
 use Rattle.std.proofs.lemmas.Bool.{cases_lt}
 use Rattle.disk_model.specs.Bytes.{resized}
@@ -11,27 +13,16 @@ use Rattle.disk_model.specs.Folder.{FolderView, FolderDone}
 use Rattle.file_table.specs.declared.shape.Shape.{Shape}
 use Rattle.stripe_reader.specs.Column.{ReadsSlot, ReadsColumn, IsReadingOf, no_task}
 use Rattle.stripe_reader.specs.FolderCalls.{AreColumnCalls}
-use Rattle.stripe_reader.specs.Reading.{CellReading, NoBlock, Nowhere, Beyond, Unread, Gone, Part, Whole, Task, given_by, is_unread}
+use Rattle.stripe_reader.specs.Reading.{CellReading, NoBlock, Nowhere, Beyond, Unread, Gone, Part, Whole, Task, IsSeenBy, given_by, is_unread}
+use Rattle.stripe_reader.specs.Hashing.{IsUnhashed, hashed}
 use Rattle.stripe_reader.specs.Slot.{kept}
 use Rattle.stripe_reader.specs.SlotValue.{SlotValue}
 use Rattle.stripe_reader.specs.WindowValue.{no_slot}
 use Rattle.stripe_reader.proofs.FolderLemmas.{reads_nothing, reads_then}
 
 -- the block of a slot has its size
-length-resized : (bytes : List ℕ) (size : ℕ) → length (resized bytes size) ≡ size
+pub length-resized : (bytes : List ℕ) (size : ℕ) → length (resized bytes size) ≡ size
 length-resized bytes size = omega (arith, length-append (take size bytes) (replicate (size - length bytes) 0), length-take size bytes, length-replicate {A = ℕ} (size - length bytes) 0)
-
-length-kept : (shape : Shape) (reading : CellReading) → length (kept shape reading).block ≡ shape.block_size
-length-kept shape NoBlock = length-replicate shape.block_size 0
-length-kept shape Nowhere = length-replicate shape.block_size 0
-length-kept shape Beyond = length-replicate shape.block_size 0
-length-kept shape Unread = length-replicate shape.block_size 0
-length-kept shape (Gone seen) = length-replicate shape.block_size 0
-length-kept shape (Part seen got) = length-replicate shape.block_size 0
-length-kept shape (Whole seen bytes) = length-resized bytes shape.block_size
-
-pub length-slot : (shape : Shape) (task : Task) (slot : SlotValue) (before after : FolderView) → ReadsSlot shape task slot before after → length slot.block ≡ shape.block_size
-length-slot shape task slot before after read = ap (λ (it : SlotValue). length it.block) read.is_kept ∙ length-kept shape read.reading
 
 pub no_cells : (shape : Shape) (v : FolderView) → ReadsColumn shape [] [] v v
 no_cells shape v = record {
@@ -48,7 +39,7 @@ rose_once : (reading : CellReading) (before after : ℕ) → before ≤ after �
 rose_once NoBlock before after later rose = omega arith
 rose_once Nowhere before after later rose = omega arith
 rose_once Beyond before after later rose = omega arith
-rose_once Unread before after later rose = omega (arith, rose refl)
+rose_once (Unread seen) before after later rose = omega (arith, rose refl)
 rose_once (Gone seen) before after later rose = omega arith
 rose_once (Part seen got) before after later rose = omega arith
 rose_once (Whole seen bytes) before after later rose = omega arith
@@ -92,6 +83,7 @@ given_before : (before mid : FolderView) (task : Task) (reading : CellReading) �
 given_before before mid task reading tells stays read = record {
   by = read.by;
   given = λ told not. read.given (tells ∙ told) not ∙ ap (λ (tree : Tree). given_by tree task) (stays told);
+  saw = λ told. subst (λ (tree : Tree). IsSeenBy tree task reading) (stays told) (read.saw (tells ∙ told));
 }
 
 -- some cells of a column, and then others
@@ -118,11 +110,21 @@ column_then shape tasks others slots more before mid after one two = record {
 
 -- as the loop has it: the stripes and the slots up to a place
 pub one_slot_more : (shape : Shape) (task_of : ℕ → Task) (i : ℕ) (stripes : List ℕ) (slots : List SlotValue) (slot : SlotValue) (before mid after : FolderView) → i < length stripes → i < length slots
-    → ReadsColumn shape (map task_of (take i stripes)) (take i slots) before mid → ReadsSlot shape (task_of (get_or stripes i 0)) slot mid after
-    → ReadsColumn shape (map task_of (take (i + 1) stripes)) (take (i + 1) (set slots i slot)) before after
+    → ReadsColumn shape (map task_of (take i stripes)) (map (hashed shape) (take i slots)) before mid → ReadsSlot shape (task_of (get_or stripes i 0)) (hashed shape slot) mid after
+    → ReadsColumn shape (map task_of (take (i + 1) stripes)) (map (hashed shape) (take (i + 1) (set slots i slot))) before after
 one_slot_more shape task_of i stripes slots slot before mid after lt within column more =
-    rw (take_more stripes i 0 lt, take_more_set slots i slot within, map-append task_of (take i stripes) (get_or stripes i 0 ∷ []))
-    (column_then shape (map task_of (take i stripes)) (task_of (get_or stripes i 0) ∷ []) (take i slots) (slot ∷ []) before mid after column (one_cell shape (task_of (get_or stripes i 0)) slot mid after more))
+    rw (take_more stripes i 0 lt, take_more_set slots i slot within, map-append task_of (take i stripes) (get_or stripes i 0 ∷ []), map-append (hashed shape) (take i slots) (slot ∷ []))
+    (column_then shape (map task_of (take i stripes)) (task_of (get_or stripes i 0) ∷ []) (map (hashed shape) (take i slots)) (hashed shape slot ∷ []) before mid after column
+    (one_cell shape (task_of (get_or stripes i 0)) (hashed shape slot) mid after more))
+
+pub unhashed_more : (block_size i : ℕ) (slots : List SlotValue) (slot : SlotValue) → i < length slots → All (IsUnhashed block_size) (take i slots) → IsUnhashed block_size slot
+    → All (IsUnhashed block_size) (take (i + 1) (set slots i slot))
+unhashed_more block_size i slots slot within so_far one =
+    rw (take_more_set slots i slot within) (All-append (IsUnhashed block_size) (take i slots) (slot ∷ []) so_far (λ j d lt. at_first j d lt))
+  where
+    at_first : (j : ℕ) (d : SlotValue) → j < 1 → IsUnhashed block_size (get_or (slot ∷ []) j d)
+    at_first zero d lt = one
+    at_first (suc j) d lt = absurd (omega arith)
 
 -- what a slot keeps, by the reading
 pub slot_is : (shape : Shape) (task_of : ℕ → Task) (stripes : List ℕ) (i : ℕ) (lane : List SlotValue) (before after : FolderView) (read : ReadsColumn shape (map task_of stripes) (take (length stripes) lane) before after)

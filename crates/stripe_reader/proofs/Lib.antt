@@ -5,3 +5,7 @@ pub mod TaskLemmas
 pub mod GroupLemmas
 pub mod RunLemmas
 pub mod WindowLemmas
+pub mod ReadingsLemmas
+pub mod PutLemmas
+pub mod HashingLemmas
+pub mod EightLemmas

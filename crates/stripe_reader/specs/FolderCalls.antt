@@ -1,5 +1,5 @@
 -- Which calls are made of a folder, and in which order.
-use Rattle.std.specs.Prelude.{◌≡◌, ◌⊎◌, ℕ, List, [], ◌∷◌, ◌++◌, Bool, true, false, None, Some}
+use Rattle.std.specs.Prelude.{◌≡◌, ℕ, List, [], ◌∷◌, ◌++◌, Bool, true, false, None, Some}
 use Rattle.disk_model.specs.Folder.{FolderCall, FolderDone, Look, ReadAt}
 use Rattle.stripe_reader.specs.Reading.{CellReading, NoBlock, Nowhere, Beyond, Unread, Gone, Part, Whole, Task, Known, Fetch}
 
@@ -14,22 +14,20 @@ fails call = record { call = call; failed = true }
 abbrev pub look_and_read : List ℕ → Bool → ℕ → ℕ → List FolderDone
 look_and_read path lost at n = succeeds (Look path lost) ∷ succeeds (ReadAt path lost at n) ∷ []
 
--- the look failed, or the reading after it
-abbrev pub FailsOnce : List ℕ → Bool → ℕ → ℕ → List FolderDone → Type 0
-FailsOnce path lost at n done = (done ≡ fails (Look path lost) ∷ []) ⊎ (done ≡ succeeds (Look path lost) ∷ fails (ReadAt path lost at n) ∷ [])
-
 -- the calls for n bytes of a file, by what was read
 abbrev pub AreFetchCalls : List ℕ → Bool → ℕ → ℕ → CellReading → List FolderDone → Type 0
 AreFetchCalls path lost at n NoBlock done = ⊥
 AreFetchCalls path lost at n Nowhere done = ⊥
 AreFetchCalls path lost at n Beyond done = ⊥
-AreFetchCalls path lost at n Unread done = FailsOnce path lost at n done
+AreFetchCalls path lost at n (Unread None) done = done ≡ fails (Look path lost) ∷ []
+AreFetchCalls path lost at n (Unread (Some seen)) done = done ≡ succeeds (Look path lost) ∷ fails (ReadAt path lost at n) ∷ []
 AreFetchCalls path lost at n (Gone None) done = done ≡ succeeds (Look path lost) ∷ []
 AreFetchCalls path lost at n (Gone (Some seen)) done = done ≡ look_and_read path lost at n
 AreFetchCalls path lost at n (Part seen got) done = done ≡ look_and_read path lost at n
 AreFetchCalls path lost at n (Whole seen bytes) done = done ≡ look_and_read path lost at n
 
--- The calls for one cell: none where the reading is known, else a look at the file, and where one was seen, one reading.
+-- The calls for one cell: none where the reading is known, else a look at the file, and where one was seen, one
+-- reading.
 abbrev pub AreCellCalls : Task → CellReading → List FolderDone → Type 0
 AreCellCalls (Known known) reading done = done ≡ []
 AreCellCalls (Fetch path lost at n) reading done = AreFetchCalls path lost at n reading done

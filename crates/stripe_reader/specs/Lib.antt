@@ -5,7 +5,9 @@ pub mod SlotValue
 pub mod Slot
 pub mod Column
 pub mod WindowValue
+pub mod Hashing
 pub mod KeptWindow
 pub mod Columns
 pub mod Run
 pub mod Came
+pub mod Readings

@@ -1,5 +1,6 @@
 -- What is asked for a cell of a column, and what is read of it.
 use Rattle.std.specs.Prelude.{◌≡◌, ℕ, ◌+◌, ◌-◌, ◌*◌, ◌<◌, nat_le, ◌==◌, min, List, length, map, Bool, true, false, Option, None, Some, if◌then◌else◌}
+use Rattle.std.specs.Option.{option_map}
 use Rattle.disk_model.specs.Bytes.{read_from}
 use Rattle.disk_model.specs.Tree.{Tree, File, file_of, meta_of, path_of}
 use Rattle.disk_model.specs.declared.meta.Meta.{Meta}
@@ -11,20 +12,21 @@ use Rattle.stripe_reader.specs.declared.starts.Start.{Start}
 use Rattle.stripe_reader.specs.declared.starts.Place.{Place}
 use Rattle.stripe_reader.specs.declared.starts.Place.TheVariants as place
 
--- What was read of one cell. The first of these that holds: the column has no block at the stripe; its file was nowhere at the start;
--- the block ends past the size that the file had at the start; the folder failed; no file is there, when it is looked for or after it
--- was seen; a file was seen and fewer bytes came, so many; or a file was seen and all bytes of the block came.
+-- What was read of one cell. The first of these that holds: the column has no block at the stripe; its file was
+-- nowhere at the start; the block ends past the size that the file had at the start; the folder failed, when the file
+-- is looked for or after it was seen; no file is there, when it is looked for or after it was seen; a file was seen
+-- and fewer bytes came, so many; or a file was seen and all bytes of the block came.
 pub data CellReading : Type 0 where
   NoBlock : CellReading
   Nowhere : CellReading
   Beyond : CellReading
-  Unread : CellReading
+  Unread : (seen : Option Meta) → CellReading
   Gone : (seen : Option Meta) → CellReading
   Part : (seen : Meta) (got : ℕ) → CellReading
   Whole : (seen : Meta) (bytes : List ℕ) → CellReading
 
--- What is to be done for a cell: nothing, since its reading is known; or n bytes from a place on are asked of a file, under PATH or
--- under PATH`.unrecoverable`.
+-- What is to be done for a cell: nothing, since its reading is known; or n bytes from a place on are asked of a file,
+-- under PATH or under PATH`.unrecoverable`.
 pub data Task : Type 0 where
   Known : (reading : CellReading) → Task
   Fetch : (path : List ℕ) (lost : Bool) (at n : ℕ) → Task
@@ -68,7 +70,7 @@ abbrev pub IsFetched : ℕ → CellReading → Type 0
 IsFetched n NoBlock = ⊥
 IsFetched n Nowhere = ⊥
 IsFetched n Beyond = ⊥
-IsFetched n Unread = Unit {0}
+IsFetched n (Unread seen) = Unit {0}
 IsFetched n (Gone seen) = Unit {0}
 IsFetched n (Part seen got) = got < n
 IsFetched n (Whole seen bytes) = length bytes ≡ n
@@ -87,12 +89,21 @@ abbrev pub given_by : Tree → Task → CellReading
 given_by tree (Known known) = known
 given_by tree (Fetch path lost at n) = given_of (file_of tree (path_of path lost)) at n
 
+-- a file that was seen before the folder failed is the one that stands there
+abbrev pub IsSeenIn : Option File → CellReading → Type 0
+IsSeenIn file (Unread (Some seen)) = option_map meta_of file ≡ Some seen
+IsSeenIn file _ = Unit {0}
+
+abbrev pub IsSeenBy : Tree → Task → CellReading → Type 0
+IsSeenBy tree (Known known) reading = Unit {0}
+IsSeenBy tree (Fetch path lost at n) reading = IsSeenIn (file_of tree (path_of path lost)) reading
+
 -- the folder failed
 abbrev pub is_unread : CellReading → Bool
 is_unread NoBlock = false
 is_unread Nowhere = false
 is_unread Beyond = false
-is_unread Unread = true
+is_unread (Unread seen) = true
 is_unread (Gone seen) = false
 is_unread (Part seen got) = false
 is_unread (Whole seen bytes) = false

@@ -13,12 +13,26 @@ use Rattle.stripe_reader.specs.SlotValue.{SlotValue}
 abbrev pub slot_without : ℕ → Found → ℕ → Option Meta → SlotValue
 slot_without block_size what got seen = record { cell = record { found = what; got = got; seen = seen }; digest = None; block = replicate block_size 0 }
 
--- a slot with the whole block: padded with zeros, and with the digest of its bytes at its real length
-abbrev pub slot_with : Shape → Meta → List ℕ → SlotValue
-slot_with shape seen bytes = record {
+-- a slot with the whole block, padded with zeros, and without a digest
+abbrev pub slot_unhashed : ℕ → Meta → List ℕ → SlotValue
+slot_unhashed block_size seen bytes = record {
   cell = record { found = found.Bytes; got = length bytes; seen = Some seen };
+  digest = None;
+  block = resized bytes block_size;
+}
+
+-- a slot with the whole block, and with the digest of its bytes at its real length
+abbrev pub slot_with : Shape → Meta → List ℕ → SlotValue
+slot_with shape seen bytes = record (slot_unhashed shape.block_size seen bytes) {
   digest = Some (record { 0 = hash shape.kind shape.seed bytes });
-  block = resized bytes shape.block_size;
+}
+
+-- a slot that is given the bytes of its block: padded with zeros and without a digest; what was seen of the file stays
+abbrev pub slot_given : ℕ → List ℕ → SlotValue → SlotValue
+slot_given block_size bytes slot = record {
+  cell = record { found = found.Bytes; got = length bytes; seen = slot.cell.seen };
+  digest = None;
+  block = resized bytes block_size;
 }
 
 -- what a slot keeps
@@ -26,7 +40,7 @@ abbrev pub kept : Shape → CellReading → SlotValue
 kept shape NoBlock = slot_without shape.block_size found.Empty 0 None
 kept shape Nowhere = slot_without shape.block_size found.Missing 0 None
 kept shape Beyond = slot_without shape.block_size found.Short 0 None
-kept shape Unread = slot_without shape.block_size found.Unread 0 None
+kept shape (Unread seen) = slot_without shape.block_size found.Unread 0 seen
 kept shape (Gone seen) = slot_without shape.block_size found.Missing 0 seen
 kept shape (Part seen got) = slot_without shape.block_size found.Short got (Some seen)
 kept shape (Whole seen bytes) = slot_with shape seen bytes

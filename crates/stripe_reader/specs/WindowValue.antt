@@ -1,12 +1,13 @@
 -- What a window has.
-use Rattle.std.specs.Prelude.{◌≡◌, ℕ, ◌*◌, ◌/◌, ◌≤◌, min, max, List, [], length, All, None, slice_index_or}
+use Rattle.std.specs.Prelude.{◌≡◌, ℕ, ◌*◌, ◌/◌, ◌≤◌, min, max, List, [], length, All, None, slice_index_or, slice_set}
 use Rattle.file_table.specs.Table.{TableValue}
 use Rattle.stripe_reader.specs.declared.slot.Found.TheVariants as found
 use Rattle.stripe_reader.specs.declared.window.TheConstants.{MOST_STRIPES, WINDOW_BYTES}
-use Rattle.stripe_reader.specs.Slot.{slot_without}
+use Rattle.stripe_reader.specs.Slot.{slot_given, slot_without}
 use Rattle.stripe_reader.specs.SlotValue.{SlotValue}
 
--- how many stripes it has room for, the size of its blocks, a lane of slots for each column, and how many stripes were read last
+-- how many stripes it has room for, the size of its blocks, a lane of slots for each column, and how many stripes
+-- were read last
 pub record WindowValue : Type 0 where
   pub room : ℕ
   pub block_size : ℕ
@@ -40,9 +41,18 @@ pub record Fits (table : TableValue) (window : WindowValue) : Type 0 where
 abbrev pub no_slot : SlotValue
 no_slot = slot_without 0 found.Empty 0 None
 
--- the slots of a column, and what was read of a column at a stripe, by the number of the stripe among those that were read last
+-- the slots of a column, and what was read of a column at a stripe, by the number of the stripe among those that were
+-- read last
 abbrev pub lane_at : WindowValue → ℕ → List SlotValue
 lane_at window d = slice_index_or window.lanes d []
 
 abbrev pub slot_at : WindowValue → ℕ → ℕ → SlotValue
 slot_at window i d = slice_index_or (lane_at window d) i no_slot
+
+-- a window with another slot of a column at the stripe of a number
+abbrev pub with_slot : WindowValue → ℕ → ℕ → SlotValue → WindowValue
+with_slot window i d slot = record window { lanes = slice_set window.lanes d (slice_set (lane_at window d) i slot) }
+
+-- a window that is given the bytes of a block there
+abbrev pub window_given : WindowValue → ℕ → ℕ → List ℕ → WindowValue
+window_given window i d bytes = with_slot window i d (slot_given window.block_size bytes (slot_at window i d))

@@ -1,13 +1,15 @@
 // One column, read by one reader.
-ghost use Rattle.std.specs.Prelude.{◌≡◌, ◌<◌, ◌≤◌, All, length, take};
+ghost use Rattle.std.specs.Prelude.{◌≡◌, ◌<◌, ◌≤◌, All, length, map, take};
 ghost use Rattle.file_table.specs.Table.{column_at};
 ghost use Rattle.stripe_reader.specs.Came.{reading_of, HasCome};
 ghost use Rattle.stripe_reader.specs.Column.{ReadsCell, ReadsSlot, ReadsColumn};
+ghost use Rattle.stripe_reader.specs.Hashing.{IsUnhashed, hashed};
 ghost use Rattle.stripe_reader.specs.Reading.{Fetch, block_length as block_length_of, block_task, task_at, tasks_at};
 ghost use Rattle.stripe_reader.specs.Slot.{kept};
 ghost use Rattle.stripe_reader.specs.Starts.{StartsFit, starts_at};
 ghost use Rattle.stripe_reader.specs.WindowValue.{HasBlocks};
 
+use crate::hashing::hash_slots;
 use crate::slot::{Found, Slot};
 use crate::starts::{Place, Starts};
 use disk_model::{FileFault, Folder, Meta, Path};
@@ -16,8 +18,8 @@ use file_table::{Cell, Shape, Table};
 /// What came of a block that a folder was asked for; its bytes stand at the front of the buffer.
 #[derive(Clone, Copy, Debug, PartialEq, Eq)]
 pub(crate) enum Came {
-    /// The folder failed.
-    Unread,
+    /// The folder failed; a file may have been seen before.
+    Unread(Option<Meta>),
     /// No file was there; it may have been seen before.
     Gone(Option<Meta>),
     /// The file that was seen, and how many bytes came.
@@ -49,12 +51,12 @@ fn fetch<F: Folder>(
     let seen = match folder.look(path, lost) {
         Ok(meta) => meta,
         Err(FileFault::Missing) => return Came::Gone(None),
-        Err(FileFault::Failed) => return Came::Unread,
+        Err(FileFault::Failed) => return Came::Unread(None),
     };
     match folder.read_at(path, lost, at, &mut block[..size as usize]) {
         Ok(count) => Came::Gave(seen, count as u32),
         Err(FileFault::Missing) => Came::Gone(Some(seen)),
-        Err(FileFault::Failed) => Came::Unread,
+        Err(FileFault::Failed) => Came::Unread(Some(seen)),
     }
 }
 
@@ -64,14 +66,15 @@ fn keep(slot: &mut Slot, shape: Shape, size: u32, came: Came)
     requires most { shape.block_size ≤ 4194304 }
     requires size { size ≤ shape.block_size }
     requires came { HasCome came size }
-    ensures { slot.new ≡ kept shape (reading_of came size slot.old.block) }
+    ensures kept { hashed shape slot.new ≡ kept shape (reading_of came size slot.old.block) }
+    ensures unhashed { IsUnhashed shape.block_size slot.new }
 {
     match came {
-        Came::Unread => slot.keep_none(Found::Unread, 0, None),
+        Came::Unread(seen) => slot.keep_none(Found::Unread, 0, seen),
         Came::Gone(seen) => slot.keep_none(Found::Missing, 0, seen),
         Came::Gave(seen, got) => {
             if got == size {
-                slot.keep_block(shape, seen, got);
+                slot.keep_block(seen, got);
             } else {
                 slot.keep_none(Found::Short, got, Some(seen));
             }
@@ -92,8 +95,9 @@ fn read_file<F: Folder>(
     requires block { length slot.old.block ≡ shape.block_size }
     requires most { shape.block_size ≤ 4194304 }
     requires size { size ≤ shape.block_size }
-    ensures { ReadsSlot shape (Fetch path.now lost at size) slot.new
+    ensures read { ReadsSlot shape (Fetch path.now lost at size) (hashed shape slot.new)
         (F.view folder.old) (F.view folder.new) }
+    ensures unhashed { IsUnhashed shape.block_size slot.new }
 {
     let came = fetch(folder, path, lost, at, size, &mut slot.block);
     keep(slot, shape, size, came);
@@ -112,9 +116,10 @@ fn read_block<F: Folder>(
     requires rec { cell.rec < length (column_at table.now.columns d).records }
     requires starts { StartsFit table.now starts.now }
     requires block { length slot.old.block ≡ table.now.shape.block_size }
-    ensures { ReadsSlot table.now.shape
+    ensures read { ReadsSlot table.now.shape
         (block_task table.now.shape.block_size (column_at table.now.columns d) (starts_at starts.now.columns d) cell)
-        slot.new (F.view folder.old) (F.view folder.new) }
+        (hashed table.now.shape slot.new) (F.view folder.old) (F.view folder.new) }
+    ensures unhashed { IsUnhashed table.now.shape.block_size slot.new }
 {
     let start = starts.at(d, cell.rec);
     let lost = match start.place {
@@ -144,8 +149,9 @@ fn read_slot<F: Folder>(
     requires stripe { stripe < length table.now.infos }
     requires starts { StartsFit table.now starts.now }
     requires block { length slot.old.block ≡ table.now.shape.block_size }
-    ensures { ReadsSlot table.now.shape (task_at table.now starts.now d stripe) slot.new
+    ensures read { ReadsSlot table.now.shape (task_at table.now starts.now d stripe) (hashed table.now.shape slot.new)
         (F.view folder.old) (F.view folder.new) }
+    ensures unhashed { IsUnhashed table.now.shape.block_size slot.new }
 {
     match table.cell(stripe, d) {
         Some(cell) => read_block(folder, table, starts, d, cell, slot),
@@ -153,7 +159,31 @@ fn read_slot<F: Folder>(
     }
 }
 
-/// Reads the cells of a column at these stripes, in their order, each into its slot.
+// Reads the cells of a column at these stripes, in their order, each into its slot. No block is hashed.
+fn read_cells<F: Folder>(
+    folder: &mut F,
+    table: &Table,
+    starts: &Starts,
+    d: u32,
+    stripes: &[u32],
+    slots: &mut [Slot],
+)
+    requires column { d < length table.now.columns }
+    requires stripes { All (λ stripe. stripe < length table.now.infos) stripes.now }
+    requires starts { StartsFit table.now starts.now }
+    requires enough { length stripes.now ≤ length slots.old }
+    requires blocks { HasBlocks table.now.shape.block_size slots.old }
+    ensures blocks { HasBlocks table.now.shape.block_size slots.new }
+    ensures unhashed { All (IsUnhashed table.now.shape.block_size) (take (length stripes.now) slots.new) }
+    ensures read { ReadsColumn table.now.shape (tasks_at table.now starts.now d stripes.now)
+        (map (hashed table.now.shape) (take (length stripes.now) slots.new)) (F.view folder.old) (F.view folder.new) }
+{
+    for i in 0..stripes.len() {
+        read_slot(folder, table, starts, d, stripes[i], &mut slots[i]);
+    }
+}
+
+/// Reads the cells of a column at these stripes, in their order, each into its slot, and hashes their blocks.
 pub(crate) fn read_slots<F: Folder>(
     folder: &mut F,
     table: &Table,
@@ -171,7 +201,6 @@ pub(crate) fn read_slots<F: Folder>(
     ensures read { ReadsColumn table.now.shape (tasks_at table.now starts.now d stripes.now)
         (take (length stripes.now) slots.new) (F.view folder.old) (F.view folder.new) }
 {
-    for i in 0..stripes.len() {
-        read_slot(folder, table, starts, d, stripes[i], &mut slots[i]);
-    }
+    read_cells(folder, table, starts, d, stripes, slots);
+    hash_slots(table.shape(), &mut slots[..stripes.len()]);
 }

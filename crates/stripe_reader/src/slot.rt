@@ -1,6 +1,8 @@
 // What is kept of one cell, and of one column.
-ghost use Rattle.std.specs.Prelude.{◌≡◌, ◌≤◌, length, take};
-ghost use Rattle.stripe_reader.specs.Slot.{slot_with, slot_without};
+ghost use Rattle.std.specs.Prelude.{◌≡◌, ◌<◌, ◌≤◌, ◌↔◌, length, take, IsTrue, Some};
+ghost use Rattle.disk_model.specs.Bytes.{resized};
+ghost use Rattle.stripe_reader.specs.Hashing.{HasFullBlock, HasNoOtherDigest, hashed};
+ghost use Rattle.stripe_reader.specs.Slot.{slot_given, slot_unhashed, slot_without};
 
 use block_hash::{Digest16, digest};
 use disk_model::{Meta, NoMemory};
@@ -29,12 +31,12 @@ pub struct CellRead {
     pub found: Found,
     /// How many bytes came.
     pub got: u32,
-    /// The file, as it was seen before its bytes were read; `None` where nothing was asked, or none was seen.
+    /// The file, as it was seen before its bytes were asked for; `None` where nothing was asked, or none was seen.
     pub seen: Option<Meta>,
 }
 
 /// What is kept of one cell: its block is zeros but where the whole block came, and then it is padded with zeros
-/// and has a digest.
+/// and has a digest, once the column was hashed.
 #[derive(Drop)]
 pub(crate) struct Slot {
     pub cell: CellRead,
@@ -77,22 +79,77 @@ impl Slot {
         self.block.fill(0);
     }
 
-    // Keeps the block of which so many bytes came: padded with zeros, and with its digest.
-    pub(crate) fn keep_block(&mut self, shape: Shape, seen: Meta, got: u32)
-        requires size { shape.block_size ≡ length self.old.block }
-        requires most { shape.block_size ≤ 4194304 }
-        requires got { got ≤ length self.old.block }
-        ensures { self.new ≡ slot_with shape seen (take got self.old.block) }
+    // Keeps the block of which so many bytes came, padded with zeros. Its digest is given later.
+    pub(crate) fn keep_block(&mut self, seen: Meta, got: u32)
+        requires { got ≤ length self.old.block }
+        ensures { self.new ≡ slot_unhashed (length self.old.block) seen (take got self.old.block) }
     {
         self.cell = CellRead {
             found: Found::Bytes,
             got,
             seen: Some(seen),
         };
-        let got = got as usize;
-        self.digest = Some(digest(shape.kind, &shape.seed, &self.block[..got]));
-        self.block[got..].fill(0);
+        self.digest = None;
+        self.block[got as usize..].fill(0);
     }
+
+    // The block.
+    pub(crate) fn bytes(&self) -> &[u8]
+        ensures { result.now ≡ self.now.block }
+    {
+        self.block.as_slice()
+    }
+
+    // Whether the whole block was found, and has this size.
+    pub(crate) fn is_full(&self, block_size: u32) -> bool
+        ensures { IsTrue result ↔ HasFullBlock block_size self.now }
+    {
+        self.cell.found == Found::Bytes && self.cell.got == block_size
+    }
+
+    // Gives the block its digest.
+    pub(crate) fn give_digest(&mut self, digest: Digest16)
+        ensures { self.new ≡ record self.old { digest = Some digest } }
+    {
+        self.digest = Some(digest);
+    }
+
+    // Hashes the block at its real length, where the whole block was found and has no digest yet.
+    pub(crate) fn hash(&mut self, shape: Shape)
+        requires most { shape.block_size ≤ 4194304 }
+        requires none_other { HasNoOtherDigest shape self.old }
+        ensures { self.new ≡ hashed shape self.old }
+    {
+        if self.cell.found == Found::Bytes && self.digest.is_none() {
+            let bytes = &self.block[..self.cell.got as usize];
+            self.digest = Some(digest(shape.kind, &shape.seed, bytes));
+        }
+    }
+
+    // Keeps these bytes of the block, which were not read of its file.
+    pub(crate) fn put(&mut self, bytes: &[u8])
+        requires few { length bytes.now ≤ length self.old.block }
+        requires size { length self.old.block < 4294967296 }
+        ensures { self.new ≡ slot_given (length self.old.block) bytes.now self.old }
+    {
+        self.cell = CellRead {
+            found: Found::Bytes,
+            got: bytes.len() as u32,
+            seen: self.cell.seen,
+        };
+        self.digest = None;
+        put_padded(bytes, &mut self.block);
+    }
+}
+
+// Puts bytes into a block, and zeros behind them.
+fn put_padded(bytes: &[u8], block: &mut [u8])
+    requires { length bytes.now ≤ length block.old }
+    ensures { block.new ≡ resized bytes.now (length block.old) }
+{
+    let (front, back) = block.split_at_mut(bytes.len());
+    front.copy_from_slice(bytes);
+    back.fill(0);
 }
 
 /// What is kept of one column, slot after slot.
@@ -111,7 +168,7 @@ impl Model for Lane {
 }
 
 impl Lane {
-    ghost use Rattle.std.specs.Prelude.{◌<◌, IfOk, slice_index_or};
+    ghost use Rattle.std.specs.Prelude.{IfOk, slice_index_or};
     ghost use Rattle.stripe_reader.specs.WindowValue.{IsLane, no_slot};
 
     // A lane with so many slots.

@@ -1,6 +1,7 @@
 // The room that stripes are read into.
-ghost use Rattle.std.specs.Prelude.{◌≡◌, ◌<◌, ◌↔◌, length, IfOk, IsTrue};
-ghost use Rattle.stripe_reader.specs.WindowValue.{Fits, slot_at, stripe_count as stripe_count_of};
+ghost use Rattle.std.specs.Prelude.{◌≡◌, ◌<◌, ◌≤◌, ◌↔◌, length, IfOk, IsTrue};
+ghost use Rattle.stripe_reader.specs.WindowValue.{Fits, lane_at, slot_at, window_given};
+ghost use Rattle.stripe_reader.specs.WindowValue.{stripe_count as stripe_count_of};
 
 use crate::slot::{CellRead, Lane};
 use block_hash::Digest16;
@@ -126,5 +127,19 @@ impl Window {
         ensures { result ≡ (slot_at self.now i d).digest }
     {
         self.lanes[d as usize].at(i as usize).digest
+    }
+
+    /// Puts the bytes of a block there, as they were recovered or given. They count as found, at their real length,
+    /// and have no digest. No memory is taken.
+    pub fn put(&mut self, i: u32, d: u32, bytes: &[u8])
+        requires stripe { i < self.old.count }
+        requires column { d < length self.old.lanes }
+        requires size { length bytes.now ≤ self.old.block_size }
+        ensures value { self.new ≡ window_given self.old i d bytes.now }
+        ensures slot { i < length (lane_at self.old d) }
+    {
+        let lane = &mut self.lanes[d as usize];
+        let slot = &mut lane.slots[i as usize];
+        slot.put(bytes);
     }
 }

@@ -6,11 +6,11 @@ use block_hash::Kind;
 use disk_memory::{MemFolder, MemVault};
 use disk_model::{Failed, Meta, Path, Stamp, Text, Vault};
 use file_table::{Builder, Info, Mark, Shape, Table};
-use parity_writer::write_window;
+use parity_writer::{sum_row, write_window};
 use std::alloc::Global;
 use std::test::Fail;
 use std::thread::Threads;
-use stripe_reader::{Starts, Window, read_window};
+use stripe_reader::{CellRead, Found, Starts, Window, read_window};
 
 const STAMP: Stamp = Stamp {
     seconds: 1,
@@ -127,5 +127,44 @@ fn chosen_stripes_have_their_sums(rt: HostRuntime) -> Result<(), Fail> {
     assert_eq!(rt; seen(&mut vault, 1)?, (1024, 5, 1, 9));
     write(&mut vault, &table, &window, [false, true])?;
     assert_eq!(rt; seen(&mut vault, 0)?, (2048, 3, 1, 1));
+    Ok(())
+}
+
+// Puts four bytes into the second column of the second stripe, where there is no block.
+fn put(table: &Table, window: &mut Window) -> Result<[u8; 1024], Fail> {
+    if !window.fits(table)
+        || table.shape().block_size != 1024
+        || table.disks() != 2
+        || window.count() != 2
+    {
+        return Err(Fail::new(format_args!("another window")));
+    }
+    window.put(1, 1, &[6, 7, 8, 9]);
+    let mut sum = [0; 1024];
+    sum_row(window, 1, 1, &mut sum);
+    Ok(sum)
+}
+
+// The weights of the columns in the second level are 1 and 2; the first column has 976 bytes there.
+#[test]
+fn a_block_that_is_put_counts_in_the_sums(rt: HostRuntime) -> Result<(), Fail> {
+    let alloc = rt.alloc();
+    let table = table(alloc)?;
+    let mut window = read(&rt, alloc, &table)?;
+    let sum = put(&table, &mut window)?;
+    assert_eq!(rt; [sum[0], sum[1], sum[2], sum[3]], [13, 15, 17, 19]);
+    assert_eq!(rt; [sum[4], sum[975], sum[976], sum[1023]], [1, 1, 0, 0]);
+    if window.count() < 2 || window.columns() < 2 {
+        return Err(Fail::new(format_args!("another window")));
+    }
+    let there = CellRead {
+        found: Found::Bytes,
+        got: 4,
+        seen: None,
+    };
+    assert_eq!(rt; window.cell(1, 1), there);
+    assert_eq!(rt; window.digest(1, 1), None);
+    assert!(rt; window.block(1, 1).starts_with(&[6, 7, 8, 9, 0]));
+    assert!(rt; window.digest(1, 0).is_some());
     Ok(())
 }

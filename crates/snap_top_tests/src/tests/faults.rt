@@ -1,80 +1,71 @@
 // Each call failing in turn.
-use crate::tests::array::{Array, Case, EMPTY, Failing, LISTED, NONE, ONE_FILE, plays};
+use crate::tests::array::{Array, Case, Failing, LISTED, NONE, ONE, REFUSED, STATUS, plays};
 use std::test::Fail;
 
-const ONE: Array = Array {
-    content: Some(&ONE_FILE),
-    ..EMPTY
-};
-
 const OPENING: Case = Case {
-    array: ONE,
     status: 3,
     err: "snapraid: configuration or opening failed\n",
-    is_opened: false,
-    ..LISTED
+    ..REFUSED
 };
 
 const VAULT: Case = Case {
-    array: ONE,
     status: 3,
     err: "snapraid: parity or content failed\n",
     ..LISTED
 };
 
 const OUTPUT: Case = Case {
-    array: ONE,
+    array: Array {
+        failing: Failing { out: 1, ..NONE },
+        ..ONE
+    },
     status: 3,
     err: "snapraid: output failed\n",
     ..LISTED
 };
 
+fn with(failing: Failing) -> Array<'static> {
+    Array { failing, ..ONE }
+}
+
 #[test]
 fn one_call_fails(rt: HostRuntime) -> Result<(), Fail> {
-    static CASES: [Case; 6] = [
+    let cases = [
         Case {
-            array: Array {
-                failing: Failing { opener: 1, ..NONE },
-                ..ONE
-            },
+            array: with(Failing { opener: 1, ..NONE }),
             ..OPENING
         },
         Case {
-            array: Array {
-                failing: Failing { opener: 2, ..NONE },
-                ..ONE
-            },
+            array: with(Failing { opener: 2, ..NONE }),
             ..OPENING
         },
         Case {
-            array: Array {
-                failing: Failing { vault: 1, ..NONE },
-                ..ONE
-            },
+            array: with(Failing { vault: 1, ..NONE }),
             ..VAULT
         },
         Case {
-            array: Array {
-                failing: Failing { vault: 2, ..NONE },
-                ..ONE
-            },
+            array: with(Failing { vault: 2, ..NONE }),
             ..VAULT
         },
+        OUTPUT,
         Case {
-            array: Array {
-                failing: Failing { out: 1, ..NONE },
-                ..ONE
-            },
+            words: STATUS,
             ..OUTPUT
         },
         Case {
-            array: Array {
-                failing: Failing { out: 2, ..NONE },
-                ..ONE
-            },
-            out: "10 1.000000005 d1:a\n",
-            ..OUTPUT
+            array: with(Failing { err: 1, ..NONE }),
+            out: "10 1.000000005 d1:a\n1 files, 10 bytes\n",
+            ..LISTED
+        },
+        Case {
+            array: with(Failing {
+                vault: 1,
+                err: 1,
+                ..NONE
+            }),
+            err: "",
+            ..VAULT
         },
     ];
-    plays(rt.alloc(), &CASES)
+    plays(&rt, rt.alloc(), &cases)
 }

@@ -1,39 +1,39 @@
 // Content of another array than the configuration's.
-use crate::tests::array::{Array, Case, EMPTY, LISTED, ONE_FILE, SYNC, plays};
+use crate::tests::array::{Array, Case, EMPTY, LISTED, ONE, STATUS, plays};
 use std::test::Fail;
+
+const OTHER: Case = Case {
+    array: ONE,
+    status: 2,
+    ..LISTED
+};
 
 const OTHER_SIZE: Case = Case {
     array: Array {
-        config: "blocksize 2\nparity p\ncontent content\ndata d1 d\n",
-        content: Some(&ONE_FILE),
-        ..EMPTY
+        config: "blocksize 2\nparity p\ncontent content\ndata d2 d\n",
+        ..ONE
     },
-    status: 2,
     err: "snapraid: content has block size 1024, the configuration 2048\n",
-    ..LISTED
+    ..OTHER
+};
+
+const OTHER_LEVELS: Case = Case {
+    array: Array {
+        config: "blocksize 1\nparity p\n2-parity q\ncontent content\ndata d2 d\n",
+        levels: 2,
+        ..ONE
+    },
+    err: "snapraid: content has 1 levels, the configuration 2\n",
+    ..OTHER
 };
 
 const OTHER_NAME: Case = Case {
     array: Array {
         config: "blocksize 1\nparity p\ncontent content\ndata d2 d\n",
-        content: Some(&ONE_FILE),
-        ..EMPTY
+        ..ONE
     },
-    status: 2,
     err: "snapraid: content has disk 'd1' in column 0, the configuration 'd2'\n",
-    ..LISTED
-};
-
-const OTHER_LEVELS: Case = Case {
-    array: Array {
-        config: "blocksize 1\nparity p\n2-parity q\ncontent content\ndata d1 d\n",
-        levels: 2,
-        content: Some(&ONE_FILE),
-        ..EMPTY
-    },
-    status: 2,
-    err: "snapraid: content has 1 levels, the configuration 2\n",
-    ..LISTED
+    ..OTHER
 };
 
 #[test]
@@ -41,19 +41,28 @@ fn another_configuration_is_refused(rt: HostRuntime) -> Result<(), Fail> {
     static CASES: [Case; 6] = [
         OTHER_SIZE,
         Case {
-            words: SYNC,
+            words: STATUS,
             ..OTHER_SIZE
         },
+        OTHER_LEVELS,
         OTHER_NAME,
         Case {
-            words: SYNC,
-            ..OTHER_NAME
+            array: Array {
+                config: "blocksize 1\nparity p\ncontent content\ndata d1 d\ndata d2 e\n",
+                disks: 2,
+                ..ONE
+            },
+            err: "snapraid: content has disk '-' in column 1, the configuration 'd2'\n",
+            ..OTHER
         },
-        OTHER_LEVELS,
         Case {
-            words: SYNC,
-            ..OTHER_LEVELS
+            array: Array {
+                config: "blocksize 2\nparity p\ncontent content\ndata d2 d\n",
+                ..EMPTY
+            },
+            out: "0 files, 0 bytes\n",
+            ..LISTED
         },
     ];
-    plays(rt.alloc(), &CASES)
+    plays(&rt, rt.alloc(), &CASES)
 }

@@ -2,9 +2,7 @@
 use disk_host::{DiskOpener, StreamSink};
 use snap_top::run;
 use std::alloc::{AllocError, Global};
-use std::io::Write;
 use std::test::Fail;
-use std::time::{Duration, UNIX_EPOCH};
 use std::{env, fs, io, process};
 
 // What a command ends with, and what it prints.
@@ -23,68 +21,51 @@ fn words(alloc: Global, command: &str) -> Result<Vec<String>, AllocError> {
     Ok(words)
 }
 
-// The status of a command over the array. What it prints goes to new files.
-fn status_of(rt: HostRuntime, command: &str) -> io::Result<u8> {
-    let words = words(rt.alloc(), command)?;
-    let mut opener = DiskOpener::new(rt);
-    let mut out = StreamSink::new(fs::create(&rt, "out")?);
-    let mut err = StreamSink::new(fs::create(&rt, "err")?);
-    let seed = *b"abcdefghijklmnop";
-    let ended = run(
-        rt.alloc(),
-        words.as_slice(),
-        &mut opener,
-        &mut out,
-        &mut err,
-        100,
-        seed,
-    );
-    Ok(ended.status)
-}
-
 fn holds(rt: HostRuntime, name: &str, text: &str) -> io::Result<bool> {
     Ok(fs::read_to_string(&rt, name)?.as_str() == text)
 }
 
-// A file with a time of last change.
-fn put(rt: HostRuntime, name: &str, bytes: &[u8]) -> Result<(), Fail> {
-    let mut file = fs::create(&rt, name)?;
-    file.write_all(bytes)?;
-    if let Some(time) = UNIX_EPOCH.checked_add(Duration::new(5, 7)) {
-        file.set_modified(time)?;
-    }
-    Ok(())
-}
-
-// An array of one disk with two files.
+// An array of one disk, with its content.
 fn make_array(rt: HostRuntime) -> Result<(), Fail> {
     static CONFIG: &str = "blocksize 1\nparity parity\ncontent content\ndata d1 d1\n";
     fs::create_dir(&rt, "d1")?;
-    put(rt, "d1/a", b"qrstuvwxyz")?;
-    put(rt, "d1/b", b"")?;
+    fs::write(&rt, "content", CONTENT.as_slice())?;
     Ok(fs::write(&rt, "array.conf", CONFIG)?)
 }
 
+// The content of an array of one disk with a file of ten bytes that was synced at 100.
+static CONTENT: [u8; 127] = [
+    0x53, 0x4e, 0x41, 0x50, 0x52, 0x43, 0x46, 0x01, 0x01, 0x00, 0x00, 0x00, 0x01, 0x01, 0x61, 0x62,
+    0x63, 0x64, 0x65, 0x66, 0x67, 0x68, 0x69, 0x6a, 0x6b, 0x6c, 0x6d, 0x6e, 0x6f, 0x70, 0x01, 0x00,
+    0x00, 0x00, 0x01, 0x02, 0x64, 0x31, 0x01, 0x00, 0x00, 0x00, 0x01, 0x00, 0x61, 0x0a, 0x00, 0x00,
+    0x00, 0x00, 0x00, 0x00, 0x00, 0x01, 0x00, 0x00, 0x00, 0x00, 0x00, 0x00, 0x00, 0x05, 0x00, 0x00,
+    0x00, 0x00, 0x00, 0x00, 0x00, 0x01, 0xc3, 0xfc, 0xd3, 0xd7, 0x61, 0x92, 0xe4, 0x00, 0x7d, 0xfb,
+    0x49, 0x6c, 0xca, 0x67, 0xe1, 0x3b, 0x05, 0x64, 0x00, 0x00, 0x00, 0x00, 0x00, 0x00, 0x00, 0x02,
+    0xc3, 0xa9, 0xa1, 0x60, 0x02, 0x75, 0xe4, 0xf6, 0x5c, 0x85, 0xb7, 0x03, 0xd4, 0x92, 0x6f, 0xa4,
+    0xa6, 0x56, 0xec, 0x18, 0x84, 0x31, 0x7a, 0xe9, 0xa2, 0x8c, 0x6b, 0x3d, 0xf8, 0xd5, 0xd1,
+];
+
 #[test]
-fn syncs_a_folder_and_lists_it(rt: HostRuntime) -> Result<(), Fail> {
+fn lists_a_synced_file(rt: HostRuntime) -> Result<(), Fail> {
     static CASES: [Case; 3] = [
-        Case {
-            command: "sync",
-            status: 0,
-            out: "sync: 1 stripes synced, 0 pending\n",
-            err: "",
-        },
         Case {
             command: "list",
             status: 0,
-            out: "10 5.000000007 d1:a\n0 5.000000007 d1:b\n2 files, 10 bytes\n",
+            out: "10 1.000000005 d1:a\n1 files, 10 bytes\n",
             err: "",
         },
         Case {
-            command: "sync",
+            command: "status",
+            status: 0,
+            out: "files 1\nbytes 10\nstripes 1\nsynced 1\npending 0\nfresh 1\nbad 0\noldest 100\n\
+                  disk d1 files 1 blocks 1 free 0\n",
+            err: "",
+        },
+        Case {
+            command: "scrub",
             status: 2,
             out: "",
-            err: "snapraid: sync over content is not built yet\n",
+            err: "snapraid: unknown command 'scrub'\n",
         },
     ];
     let process = process::id(rt.process());
@@ -93,11 +74,22 @@ fn syncs_a_folder_and_lists_it(rt: HostRuntime) -> Result<(), Fail> {
     env::set_current_dir(&rt, top.as_str())?;
     make_array(rt)?;
     for case in &CASES {
-        assert_eq!(rt; status_of(rt, case.command)?, case.status);
+        let words = words(rt.alloc(), case.command)?;
+        let mut reports = Vec::new(rt.alloc());
+        let ended = run(
+            &rt,
+            rt.alloc(),
+            words.as_slice(),
+            &mut DiskOpener::new(rt),
+            &mut reports,
+            &mut StreamSink::new(fs::create(&rt, "out")?),
+            &mut StreamSink::new(fs::create(&rt, "err")?),
+            100,
+            *b"abcdefghijklmnop",
+        );
+        assert_eq!(rt; ended.status, case.status);
         assert!(rt; holds(rt, "out", case.out)?, "out of {}", case.command);
         assert!(rt; holds(rt, "err", case.err)?, "err of {}", case.command);
     }
-    let parity = fs::read(&rt, "parity")?;
-    assert!(rt; parity.len() == 1024 && parity.as_slice().starts_with(b"qrstuvwxyz\0"));
     Ok(fs::remove_dir_all(&rt, top.as_str())?)
 }

@@ -95,9 +95,10 @@ const CASES: [Case; 14] = [
         ..NOTHING
     },
     Case {
-        name: "the reading fails",
+        name: "the reading fails after the look",
         fails: 2,
         found: Found::Unread,
+        seen: Some(10),
         ..NOTHING
     },
     Case {

@@ -1,6 +1,6 @@
 use Rattle.std.proofs.Common.{◌≡◌, take}
 use Rattle.array_scan.specs.Laying.{bare}
-use Rattle.array_scan.specs.Pushing.{with_blocks}
+use Rattle.file_table.specs.Pushing.{with_blocks}
 use Rattle.array_scan.proofs.building.push_bare.Given as goal
 
 abbrev pub invariant-loop-position : goal.invariant-loop-position

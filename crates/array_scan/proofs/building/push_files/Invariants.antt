@@ -1,7 +1,7 @@
 use Rattle.std.proofs.Common.{◌≡◌, List, ◌++◌, length, drop}
 use Rattle.file_table.specs.Table.{Record, column_at}
 use Rattle.array_scan.specs.Laying.{all_needed, laid_records}
-use Rattle.array_scan.specs.Pushing.{with_records}
+use Rattle.file_table.specs.Pushing.{with_records}
 use Rattle.array_scan.proofs.building.push_files.Given as goal
 
 abbrev pub invariant-loop-file : goal.invariant-loop-file

@@ -1,5 +1,5 @@
 use Rattle.std.proofs.Common.{◌≡◌, take}
-use Rattle.array_scan.specs.Pushing.{with_blocks}
+use Rattle.file_table.specs.Pushing.{with_blocks}
 use Rattle.array_scan.proofs.building.push_kept.Given as goal
 
 abbrev pub invariant-loop-block : goal.invariant-loop-block

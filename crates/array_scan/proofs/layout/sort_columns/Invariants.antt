@@ -1,10 +1,11 @@
-use Rattle.std.proofs.Common.{◌≡◌, ℕ, ◌<◌, length, get_or, All}
-use Rattle.file_table.specs.Table.{column_at}
+use Rattle.std.proofs.Common.{◌≡◌, All}
 use Rattle.snap_config.specs.Setup.{setup_value}
 use Rattle.array_scan.specs.Kept.{each_column, kept_lists, lists_of}
-use Rattle.array_scan.specs.Fates.{IsSound}
+use Rattle.array_scan.specs.Fates.{HasMeta}
 use Rattle.array_scan.specs.Layout.{sorted_of, sorted_at}
 use Rattle.array_scan.proofs.layout.sort_columns.Given as goal
 
 abbrev pub invariant-loop-d : goal.invariant-loop-d
-invariant-loop-d l = sorted_of l.columns.items ≡ each_column (sorted_at l.old (kept_lists (setup_value l.setup) (lists_of l.lists))) l.d
+invariant-loop-d l =
+    (sorted_of l.columns.items ≡ each_column (sorted_at l.old (kept_lists (setup_value l.setup) (lists_of l.lists))) l.d)
+    × All (All HasMeta) (sorted_of l.columns.items)

@@ -1,8 +1,7 @@
-use Rattle.std.proofs.Common.{◌≡◌, ℕ, ◌+◌, List, [], ◌∷◌, length, map, ap, sym, ◌∙◌, subst, arith, Result, Ok, Err, IfErr}
+use Rattle.std.proofs.Common.{◌+◌, [], ◌∷◌, map, ap, sym, ◌∙◌, subst, arith, Result, Ok, Err, IfErr}
 use Rattle.std.specs.Result.{IsErrAnd}
 use Rattle.std.proofs.lemmas.List.{length-map, map-append}
-use Rattle.array_scan.specs.declared.listing.ListingFault.TheVariants.{Memory}
-use Rattle.array_scan.specs.Kept.{ListedFile, files_of, lists_of}
+use Rattle.array_scan.specs.Kept.{files_of, lists_of}
 use Rattle.array_scan.specs.Listings.{FailsListing}
 use Rattle.array_scan.proofs.ListingLemmas.{ListsSome, lists_none, lists_all, lists_lent, first_listed, fails_at}
 use Rattle.array_scan.proofs.listing.listings.Goals as goal

@@ -1,4 +1,4 @@
-use Rattle.std.proofs.Common.{◌≡◌, ℕ, ◌<◌, length, sym, ◌∙◌, subst}
+use Rattle.std.proofs.Common.{ℕ, ◌<◌, length, sym, ◌∙◌, subst}
 use Rattle.file_table.specs.Table.{column_at}
 use Rattle.array_scan.specs.Fates.{record_of}
 use Rattle.array_scan.specs.Marks.{StandBelow}

@@ -1,12 +1,27 @@
-use Rattle.std.proofs.Common.{◌≡◌, ℕ, ◌≤◌, List, [], ◌++◌, length, get_or, replicate, take, Bool, false, ap, sym, ◌∙◌, subst, arith, append_assoc, nat_cmp}
-use Rattle.std.specs.FinSet.{FinSet, contains, contains-empty}
+use Rattle.std.proofs.Common.{◌≡◌, ℕ, ◌≤◌, List, ◌++◌, length, get_or, Bool, false, ap, sym, ◌∙◌, subst, arith, append_assoc, nat_cmp}
+use Rattle.std.specs.FinSet.{FinSet, contains, len, contains-empty}
 use Rattle.file_table.specs.declared.shape.Shape.{Shape}
 use Rattle.file_table.specs.Table.{column_at, column_blocks, positions_of}
 use Rattle.array_scan.specs.Laying.{taken, all_needed, free_positions, given, freed, touched}
-use Rattle.array_scan.specs.Refusals.{capped, size_of}
+use Rattle.array_scan.specs.Refusals.{capped}
 use Rattle.array_scan.specs.Marks.{AreHeld, AreTouched}
 use Rattle.array_scan.proofs.PlacingLemmas.{unmarked, written, small, needed_within, unheld, freed_is}
+use Rattle.array_scan.proofs.LaidLemmas.{keeps_whole, room_left}
 use Rattle.array_scan.proofs.placing.place.Goals as goal
+
+pub hold_column-requires-clause-apart : goal.hold_column-requires-clause-apart
+hold_column-requires-clause-apart c = c.requires.fates.apart
+
+pub take_free-requires : goal.take_free-requires
+take_free-requires c =
+    let old = c.args.old.now in
+    let size = old.shape.block_size in
+    let records = (column_at old.columns c.args.d).records in
+    let files = c.args.files.now in
+    let capped_count : c.all_needed-count.result ≡ capped (all_needed size files) = c.all_needed-count.ensures ∙ ap (λ (s : Shape). capped (all_needed s.block_size files)) c.shape.ensures.shape in
+    let room = room_left size records files (keeps_whole old c.args.d files c.shape.ensures.valid c.requires.column c.requires.fates c.requires.sound) in
+    let count : c.all_needed-count.result ≡ all_needed size files = small c.all_needed-count.result (all_needed size files) capped_count (omega (arith, needed_within size files, c.requires.few)) in
+    omega (arith, count, room, c.requires.few, ap len c.in_ok-hold_column.ensures.list)
 
 pub hold_column-requires-clause-held : goal.hold_column-requires-clause-held
 hold_column-requires-clause-held c =

@@ -1,4 +1,4 @@
-use Rattle.std.proofs.Common.{◌≡◌, ℕ, ◌+◌, ◌<◌, ◌≤◌, List, [], ◌∷◌, ◌++◌, length, get_or, map, take, drop, replicate, Bool, false, All, ap, sym, ◌∙◌, subst, arith}
+use Rattle.std.proofs.Common.{◌≡◌, ℕ, ◌+◌, ◌<◌, ◌≤◌, List, [], ◌∷◌, ◌++◌, length, get_or, take, drop, Bool, false, All, ap, sym, ◌∙◌, subst, arith}
 use Rattle.std.specs.List.{flat_map, range_with_len}
 use Rattle.std.proofs.lemmas.List.{length-replicate, map-append}
 use Rattle.std.proofs.lemmas.List.FromFn.{map-range_with_len_more}
@@ -7,10 +7,10 @@ use Rattle.file_table.specs.Valid.{most_blocks}
 use Rattle.array_scan.specs.declared.placing.Given.{Given}
 use Rattle.array_scan.specs.declared.sorting.Sorted.{Sorted}
 use Rattle.array_scan.specs.Kept.{each_column}
-use Rattle.array_scan.specs.Fates.{IsSound}
+use Rattle.array_scan.specs.Fates.{IsSound, AreFates}
 use Rattle.array_scan.specs.Laying.{given, touched}
-use Rattle.array_scan.specs.Layout.{sorted_of, given_of, given_at, touched_at, all_touched}
-use Rattle.array_scan.specs.Refusals.{size_of, blocks_in}
+use Rattle.array_scan.specs.Layout.{sorted_of, given_of, given_at, touched_at}
+use Rattle.array_scan.specs.Refusals.{size_of}
 use Rattle.array_scan.specs.Marks.{AreTouched}
 use Rattle.array_scan.proofs.ColumnLemmas.{files_at, files_sound, column_count}
 use Rattle.array_scan.proofs.PlacingLemmas.{unmarked, written, column_within, flat_range_more}
@@ -32,6 +32,16 @@ place-requires-clause-few c =
     let many : d < length (sorted_of columns) = omega (arith, c.loop-d-test.true, c.disks-d-end.ensures.count, c.requires.sound.count) in
     let files : get_or (sorted_of columns) d [] ≡ c.deref.result.now = files_at columns d c.index-columns-d.result below ∙ sym c.deref.ensures.value in
     subst (λ (fs : List Sorted). size_of old.shape.block_size fs ≤ most_blocks) files (omega (arith, column_within old.shape.block_size (sorted_of columns) d many, c.requires.few))
+
+pub place-requires-clause-fates : goal.place-requires-clause-fates
+place-requires-clause-fates c =
+    let old = c.args.old.now in
+    let columns = c.args.columns.now in
+    let d = c.loop-d.d in
+    let below : d < length old.columns = omega (arith, c.loop-d-test.true, c.disks-d-end.ensures.count) in
+    let within : d < length columns = omega (arith, below, column_count old columns c.requires.sound) in
+    let files : get_or (sorted_of columns) d [] ≡ c.deref.result.now = files_at columns d c.index-columns-d.result within ∙ sym c.deref.ensures.value in
+    subst (AreFates (column_at old.columns d).records) files (c.requires.sound.fates d below)
 
 pub place-requires-clause-sound : goal.place-requires-clause-sound
 place-requires-clause-sound c =

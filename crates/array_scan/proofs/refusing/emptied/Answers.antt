@@ -1,7 +1,6 @@
-use Rattle.std.proofs.Common.{◌≡◌, ℕ, ◌+◌, ◌-◌, ◌<◌, List, [], length, map, get_or, Bool, true, false, Option, None, Some, cond, ap, sym, ◌∙◌, arith}
+use Rattle.std.proofs.Common.{◌≡◌, ◌+◌, ◌-◌, ◌<◌, [], length, map, get_or, Bool, true, false, None, Some, cond, ap, sym, ◌∙◌, arith}
 use Rattle.std.specs.List.{range_with_len}
 use Rattle.file_table.specs.Table.{column_at}
-use Rattle.array_scan.specs.declared.fault.ScanFault.{ScanFault}
 use Rattle.array_scan.specs.declared.fault.ScanFault.TheVariants.{Emptied}
 use Rattle.array_scan.specs.Layout.{sorted_of}
 use Rattle.array_scan.specs.Refusals.{or_else, first_some, is_emptied, emptied_at}

@@ -1,9 +1,7 @@
-use Rattle.std.proofs.Common.{◌≡◌, ℕ, ◌+◌, ◌-◌, ◌<◌, List, [], length, map, get_or, All, Option, None, Some, ap, sym, ◌∙◌, subst, arith}
+use Rattle.std.proofs.Common.{◌≡◌, ℕ, ◌+◌, ◌-◌, ◌<◌, [], length, map, get_or, All, Option, None, Some, ap, sym, ◌∙◌, subst, arith}
 use Rattle.std.specs.List.{range_with_len}
 use Rattle.std.specs.Option.{option_map}
 use Rattle.file_table.specs.Table.{column_at}
-use Rattle.array_scan.specs.declared.sorting.Sorted.{Sorted}
-use Rattle.array_scan.specs.declared.fault.ScanFault.{ScanFault}
 use Rattle.array_scan.specs.declared.fault.ScanFault.TheVariants.{Zeroed}
 use Rattle.array_scan.specs.Fates.{IsSound}
 use Rattle.array_scan.specs.Layout.{sorted_of}

@@ -1,8 +1,7 @@
-use Rattle.std.proofs.Common.{◌≡◌, ℕ, ◌+◌, ◌-◌, ◌<◌, ◌≤◌, List, [], get_or, length, filter, Bool, true, false, ap, sym, ◌∙◌, subst, arith}
+use Rattle.std.proofs.Common.{◌≡◌, ℕ, ◌+◌, ◌-◌, ◌<◌, [], length, filter, ap, sym, ◌∙◌, subst, arith}
 use Rattle.std.specs.List.{range_with_len}
-use Rattle.disk_model.specs.declared.meta.Meta.{Meta}
 use Rattle.file_table.specs.Table.{column_at}
-use Rattle.array_scan.specs.Fates.{record_of, is_listed, is_vanished, vanished}
+use Rattle.array_scan.specs.Fates.{is_vanished, vanished}
 use Rattle.array_scan.specs.Lost.{with_first}
 use Rattle.array_scan.proofs.FatesLemmas.{left_like, vanished_from, one_vanished, none_vanished}
 use Rattle.array_scan.proofs.sorting.lost_of.Goals as goal

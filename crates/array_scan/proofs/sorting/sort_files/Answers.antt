@@ -1,4 +1,4 @@
-use Rattle.std.proofs.Common.{◌≡◌, ℕ, ◌+◌, ◌<◌, List, [], ◌∷◌, ◌++◌, get_or, length, map, All, ap, sym, ◌∙◌, subst, arith, rules}
+use Rattle.std.proofs.Common.{◌≡◌, ℕ, ◌<◌, List, [], ◌∷◌, ◌++◌, get_or, length, map, All, ap, sym, ◌∙◌, subst, arith, rules}
 use Rattle.std.specs.List.{range_with_len}
 use Rattle.std.proofs.lemmas.List.{length-map, length_push}
 use Rattle.std.proofs.lemmas.List.FromFn.{map-range_with_len_more, length-map-range_with_len, get_or-map-range_with_len}
@@ -6,11 +6,12 @@ use Rattle.std.proofs.lemmas.Iterator.Consumers.{YieldsList-turn, YieldsList-end
 use Rattle.std.proofs.lemmas.Iterator.Adapters.{YieldsList-from_vec}
 use Rattle.disk_model.specs.Tree.{listed}
 use Rattle.disk_model.specs.declared.meta.FileInfo.{FileInfo}
-use Rattle.file_table.specs.Table.{Record, column_at}
+use Rattle.file_table.specs.Table.{Record, column_at, no_meta}
+use Rattle.std.proofs.lemmas.List.Elements.{All-push}
 use Rattle.array_scan.specs.declared.sorting.Fate.{Fate}
 use Rattle.array_scan.specs.declared.sorting.Sorted.{Sorted}
 use Rattle.array_scan.specs.Kept.{ListedFile}
-use Rattle.array_scan.specs.Fates.{file_of, fate_of, sorted_file, sorted_files, IsSound}
+use Rattle.array_scan.specs.Fates.{file_of, fate_of, sorted_file, IsSound, HasMeta}
 use Rattle.array_scan.proofs.FatesLemmas.{file_at}
 use Rattle.array_scan.proofs.SortedLemmas.{sorted_sound}
 use Rattle.array_scan.proofs.sorting.sort_files.Goals as goal
@@ -52,6 +53,8 @@ loop-file-preserved c =
           ∙ ap (λ (f : Sorted). map (sorted_file records (listed files)) (range_with_len 0 k) ++ f ∷ []) one
           ∙ sym (map-range_with_len_more (sorted_file records (listed files)) 0 k k (omega arith)),
       omega (arith, length_push c.loop-file.yielded c.in-Some.file, same),
+      subst (All HasMeta) (sym c.in_ok-push.ensures.items) (All-push HasMeta c.loop-file.sorted.items (made c.in-Some.file c.index.result.now) c.loop-file.invariant.2
+          (record { size = search rules; seconds = search rules; nanos = subst (λ (f : ListedFile). f.1.stamp.nanos < 1000000000) (sym file) (c.requires.stamps k ([], no_meta) (omega (arith, below, length-map {B = ListedFile} files (λ f. (f.path, f.meta))))) })),
     )
 
 pub returns-clause-sorted : goal.returns-clause-sorted

@@ -10,6 +10,7 @@ use Rattle.parity_writer.specs.Parity.{Rows, HoldsRows, WritesBlocks}
 use Rattle.parity_writer.specs.Rows.{HasSums}
 use Rattle.parity_writer.specs.WindowRow.{row_at}
 use Rattle.parity_writer.proofs.ChosenLemmas.{calls_chosen, calls_none, rows_chosen, rows_none}
+use Rattle.parity_writer.proofs.ElsewhereLemmas.{elsewhere_more}
 use Rattle.parity_writer.proofs.Keeping.{keeping_more}
 use Rattle.parity_writer.proofs.WriteLemmas.{sums_hold, blocks_more}
 use Rattle.parity_writer.proofs.writing.write_window.Goals as goal
@@ -29,6 +30,7 @@ loop-i-preserved-then-not-chosen-i g c =
       end = so_far.end;
       long = so_far.long;
       written = λ rows before. subst (λ (its : Rows). Reads (HoldsRows old.levels window.block_size its) mid) (sym (rows_none window choice c.loop-i.i rows off)) (so_far.written rows before);
+      elsewhere = so_far.elsewhere;
     }
 
 pub loop-i-preserved : goal.loop-i-preserved
@@ -56,6 +58,10 @@ loop-i-preserved g c =
           subst (λ (its : Rows). HoldsRows old.levels window.block_size its new.files) (sym (rows_chosen window choice c.loop-i.i rows on))
           (sums_hold old.levels window.block_size stripe row (rows_with window choice c.loop-i.i rows) mid.files new.files
           (subst (λ (n : ℕ). HasSums n window.block_size stripe row mid.files new.files) levels (c.in_ok-write_row.ensures.written told)) (so_far.written rows before was));
+      elsewhere = λ told.
+          let was : IsTrue mid.tells = sym c.write_row.ensures.calls.goes_on.tells ∙ told in
+          elsewhere_more old.levels window.block_size (IsChosen choice) stripe row one old.files mid.files new.files (so_far.elsewhere was)
+          (subst (λ (n : ℕ). HasSums n window.block_size stripe row mid.files new.files) levels (c.in_ok-write_row.ensures.written told));
     }
 
 pub returns-in_err-write_row-clause-calls : goal.returns-in_err-write_row-clause-calls

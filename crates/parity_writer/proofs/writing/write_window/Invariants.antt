@@ -2,7 +2,7 @@ use Rattle.std.proofs.Common.{◌≡◌, length}
 use Rattle.disk_model.specs.Ran.{RanAll, vault_done, log_of}
 use Rattle.disk_model.specs.Vault.{Reads, state_of}
 use Rattle.parity_writer.specs.Chosen.{Choice, IsChosen, rows_with, window_calls}
-use Rattle.parity_writer.specs.Parity.{Rows, HoldsRows, WritesBlocks}
+use Rattle.parity_writer.specs.Parity.{Rows, HoldsRows, SameElsewhere, WritesBlocks}
 use Rattle.parity_writer.proofs.Keeping.{Keeping}
 use Rattle.parity_writer.proofs.writing.write_window.Given as goal
 
@@ -18,4 +18,5 @@ invariant-loop-i g l =
       end : l.i-end ≡ l.window.count;
       long : length l.block ≡ size;
       written : (rows : Rows) → Reads (HoldsRows old.levels size rows) old → Reads (HoldsRows old.levels size (rows_with l.window choice l.i rows)) new;
+      elsewhere : Reads (SameElsewhere old.levels size (IsChosen choice) old.files) new;
     }

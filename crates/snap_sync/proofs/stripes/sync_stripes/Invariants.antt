@@ -1,13 +1,14 @@
-use Rattle.std.proofs.Common.{◌≡◌, length, map}
-use Rattle.disk_model.specs.Vault.{ChangesBy}
-use Rattle.snap_sync.specs.Steps.{SameCopies, LeavesNoDraft}
-use Rattle.snap_sync.proofs.SyncLemmas.{Syncing}
+use Rattle.std.proofs.Common.{◌-◌, map}
+use Rattle.snap_sync.specs.Course.{outside}
+use Rattle.snap_sync.specs.Run.{plan_for, HasSynced}
 use Rattle.snap_sync.proofs.stripes.sync_stripes.Given as goal
 
-abbrev pub invariant-loop-stripe : goal.invariant-loop-stripe
-invariant-loop-stripe g l = record {
-  syncing : Syncing l.stripe l.fn.work l.work (map g.F.Folder.view l.fn.folders) (map g.F.Folder.view l.folders) (g.V.Vault.view l.fn.vault) (g.V.Vault.view l.vault) (g.W.Sink.view l.fn.out) (g.W.Sink.view l.out);
-  changes : ChangesBy SameCopies (g.V.Vault.view l.fn.vault) (g.V.Vault.view l.vault);
-  drafts : LeavesNoDraft (g.V.Vault.view l.fn.vault) (g.V.Vault.view l.vault);
-  end : l.stripe-end ≡ length l.fn.work.table.infos;
-}
+abbrev pub invariant-loop-progress : goal.invariant-loop-progress
+invariant-loop-progress g l =
+    HasSynced g.W.Sink.view (λ b. (goal.Report-dyn g (b.vtable, b.value)).standing b.value) (λ b. (goal.Report-dyn g (b.vtable, b.value)).stands b.value)
+    (plan_for l.fn.work l.fn.pace (g.V.Vault.view l.fn.vault)) l.progress l.work
+    (outside (map g.F.Folder.view l.fn.folders) (g.V.Vault.view l.fn.vault) l.fn.lines l.fn.reports.items)
+    (outside (map g.F.Folder.view l.folders) (g.V.Vault.view l.vault) l.lines l.reports.items)
+
+abbrev pub decreases-loop-progress : goal.decreases-loop-progress
+decreases-loop-progress g l = l.all - l.progress.done

@@ -1,6 +1,16 @@
-use Rattle.std.proofs.Common.{arith}
-use Rattle.snap_top.proofs.MatchingLemmas.{same_by_places, length-table_names}
+use Rattle.std.proofs.Common.{arith, ap, length}
+use Rattle.std.proofs.lemmas.List.{length-map}
+use Rattle.snap_config.specs.Setup.{setup_value}
+use Rattle.snap_top.specs.Array.{column_names, disk_names}
+use Rattle.snap_top.proofs.MatchingLemmas.{same_by_places, length-columns, length-disks}
 use Rattle.snap_top.proofs.matching.first_other_disk.Goals as goal
 
 pub returns : goal.returns
-returns c = same_by_places _ _ c.loop-column.column (omega (arith, length-table_names c.args.table.now, c.disks.ensures.count, c.max-columns.ensures, c.loop-column-test.false)) (omega (arith, c.max-columns.ensures, c.loop-column-test.false)) c.loop-column.invariant
+returns c =
+    let table = c.args.table.now in
+    let setup = setup_value c.args.setup.now in
+    let disks = ap length c.as_slice.ensures in
+    same_by_places _ _ c.loop-column.column
+    (omega (arith, length-columns table, c.disks.ensures.count, c.max-columns.ensures, c.loop-column-test.false))
+    (omega (arith, length-disks setup, c.requires.few_disks, c.max-columns.ensures, c.loop-column-test.false, disks))
+    c.loop-column.invariant

@@ -12,4 +12,4 @@ returns-in-Ok-read_at-clause-read g c =
 pub returns-in-Err-Failed-read_at-clause-read : goal.returns-in-Err-Failed-read_at-clause-read
 returns-in-Err-Failed-read_at-clause-read g c =
     cell_unread c.args.path.now c.args.lost c.args.at c.args.size (g.F.Folder.view c.args.folder.now) (g.F.Folder.view c.look.new.self) (g.F.Folder.view c.read_at.new.self)
-    _ (length-take-le _ _ (omega arith)) c.in-Ok.ensures.call (rw c.in-Err-Failed-read_at.field-0-is at c.in-Err-Failed-read_at.ensures.call)
+    c.in-Ok.meta _ (length-take-le _ _ (omega arith)) c.in-Ok.ensures.call (rw c.in-Err-Failed-read_at.field-0-is at c.in-Err-Failed-read_at.ensures.call) c.in-Ok.ensures.found

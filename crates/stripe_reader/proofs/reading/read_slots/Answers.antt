@@ -1,19 +1,15 @@
-use Rattle.std.proofs.Common.{◌≡◌, length, get_or, arith}
-use Rattle.std.proofs.lemmas.List.Elements.{All-set}
-use Rattle.stripe_reader.specs.Reading.{task_at}
+use Rattle.std.proofs.Common.{List, sym, subst, arith}
+use Rattle.stripe_reader.specs.Column.{ReadsColumn}
+use Rattle.stripe_reader.specs.Reading.{tasks_at}
 use Rattle.stripe_reader.specs.SlotValue.{SlotValue}
-use Rattle.stripe_reader.proofs.ColumnLemmas.{length-slot, no_cells, one_slot_more}
+use Rattle.stripe_reader.proofs.HashingLemmas.{front_blocks, front_read}
 use Rattle.stripe_reader.proofs.reading.read_slots.Goals as goal
 
-pub loop-i-init : goal.loop-i-init
-loop-i-init g c = record { blocks = c.requires.blocks; read = no_cells _ _ }
+pub returns-clause-blocks : goal.returns-clause-blocks
+returns-clause-blocks g c = front_blocks c.args.table.now.shape.block_size c.shape.result _ _ c.hash_slots.new.slots c.read_cells.ensures.blocks c.hash_slots.ensures
 
-pub loop-i-preserved : goal.loop-i-preserved
-loop-i-preserved g c =
-    let so_far = c.loop-i.invariant in
-    let slot = c.read_slot.new.slot in
-    record {
-      blocks = All-set (λ (it : SlotValue). length it.block ≡ c.args.table.now.shape.block_size) c.loop-i.slots c.loop-i.i slot (length-slot c.args.table.now.shape (task_at c.args.table.now c.args.starts.now c.args.d (get_or c.args.stripes.now c.loop-i.i 0)) slot (g.F.Folder.view c.loop-i.folder) (g.F.Folder.view c.read_slot.new.folder) c.read_slot.ensures) so_far.blocks;
-      read = one_slot_more c.args.table.now.shape (task_at c.args.table.now c.args.starts.now c.args.d) c.loop-i.i c.args.stripes.now c.loop-i.slots slot (g.F.Folder.view c.args.folder.now) (g.F.Folder.view c.loop-i.folder) (g.F.Folder.view c.read_slot.new.folder)
-          (omega arith) (omega (arith, c.requires.enough, c.loop-i.auto.slots)) so_far.read c.read_slot.ensures;
-    }
+pub returns-clause-read : goal.returns-clause-read
+returns-clause-read g c =
+    let table = c.args.table.now in
+    let are = front_read table.shape c.shape.result _ c.read_cells.new.slots c.hash_slots.new.slots _ c.shape.ensures.shape (omega (arith, c.requires.enough, c.read_cells.auto.slots)) c.hash_slots.ensures in
+    subst (λ (slots : List SlotValue). ReadsColumn table.shape (tasks_at table c.args.starts.now c.args.d c.args.stripes.now) slots (g.F.Folder.view c.args.folder.now) (g.F.Folder.view c.read_cells.new.folder)) (sym are) c.read_cells.ensures.read

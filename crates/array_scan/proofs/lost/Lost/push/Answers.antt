@@ -1,5 +1,4 @@
-use Rattle.std.proofs.Common.{◌≡◌, ℕ, List, Option, ap, sym, subst, ◌∙◌, length, Some, arith}
-use Rattle.std.specs.Option.{option_copied}
+use Rattle.std.proofs.Common.{◌≡◌, ℕ, List, ap, sym, subst, ◌∙◌, length, Some, arith}
 use Rattle.array_scan.specs.declared.lost.Node.{Node}
 use Rattle.array_scan.specs.Lost.{Key, key_of, key_cmp, with_first}
 use Rattle.std.specs.BTreeMap.{get, Updates}

@@ -1,12 +1,11 @@
-use Rattle.std.proofs.Common.{◌≡◌, ℕ, ◌<◌, List, Option, Bool, ap, sym, subst, refl, ◌∙◌, length, get_or, arith, Some, None}
+use Rattle.std.proofs.Common.{◌≡◌, ℕ, ◌<◌, List, Option, ap, sym, subst, ◌∙◌, length, get_or, Some, None}
 use Rattle.std.specs.Borrow.{Bor}
 use Rattle.std.specs.Option.{option_copied, IfSome, IsSome}
 use Rattle.std.specs.BTreeMap.{get, Updates, UpdatesBy}
 use Rattle.std.proofs.lemmas.List.{get_or_default}
-use Rattle.disk_model.specs.declared.meta.Meta.{Meta}
 use Rattle.array_scan.specs.declared.lost.Node.{Node}
-use Rattle.array_scan.specs.Lost.{Key, key_of, key_cmp, node_at, no_node, without_first}
-use Rattle.array_scan.proofs.LostLemmas.{Left, taken_first, left_taken, none_first, left_same}
+use Rattle.array_scan.specs.Lost.{Key, key_of, key_cmp, node_at, no_node}
+use Rattle.array_scan.proofs.LostLemmas.{taken_first, left_taken}
 use Rattle.array_scan.proofs.lost.Lost.take.Goals as goal
 
 -- what was copied is what stands there

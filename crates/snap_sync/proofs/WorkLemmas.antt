@@ -1,0 +1,172 @@
+-- What a sync works with, from window to window.
+use Rattle.std.proofs.Common.{◌≡◌, Vec, Global, Bool, not, ℕ, ◌+◌, ◌<◌, ◌≤◌, List, length, take, drop, All, Option, None, Some, IfSome, refl, sym, ap, ap₂, ◌∙◌, subst, arith}
+use Rattle.std.specs.List.{range_with_len}
+use Rattle.std.proofs.lemmas.List.Elements.{All-from_get_or, All-filter}
+use Rattle.std.proofs.lemmas.List.Filters.{length-filter_both}
+use Rattle.std.proofs.lemmas.List.FromFn.{length-range_with_len, get_or-range_with_len}
+use Rattle.array_scan.specs.Layout.{pending_stripes, is_pending}
+use Rattle.disk_model.specs.Folder.{FolderView}
+use Rattle.file_table.specs.Table.{TableValue, info_at}
+use Rattle.file_table.specs.Valid.{most_blocks}
+use Rattle.stripe_reader.specs.Columns.{ReadsWindow}
+use Rattle.stripe_reader.specs.WindowValue.{WindowValue, Fits}
+use Rattle.snap_sync.specs.declared.beginning.Work.{Work}
+use Rattle.snap_sync.specs.declared.room.Room.{Room}
+use Rattle.snap_sync.specs.Closing.{closed}
+use Rattle.snap_sync.specs.Reading.{StripeReading, readings_in}
+use Rattle.snap_sync.specs.Run.{all_of, count_after, stripes_next, readings_near, IsWork, IsReady, Judges, ReadsFar, KeepsWork}
+use Rattle.snap_sync.specs.Schedule.{window_count}
+use Rattle.snap_sync.specs.Work.{IsRoomFor}
+use Rattle.snap_sync.proofs.StaysLemmas.{differs-closed}
+use Rattle.snap_sync.proofs.TasksLemmas.{recorded_starts-closed}
+use Rattle.snap_sync.proofs.ReadLemmas.{length_after}
+
+-- a window takes no more than there are
+pub window_within : (every : Option ℕ) (room all count : ℕ) → count ≤ all → count + window_count every room all count ≤ all
+window_within every room all count within = omega arith
+
+-- and at least one
+pub window_some : (every : Option ℕ) (room all count : ℕ) → IfSome every (λ every. 0 < every) → 0 < room → count < all → 0 < window_count every room all count
+window_some None room all count some has more = omega arith
+window_some (Some every) room all count some has more = omega arith
+
+-- ---- a window was judged
+
+room_closed : (now : ℕ) (table : TableValue) (readings : List StripeReading) (room : Room) → IsRoomFor table room → IsRoomFor (closed now table readings) room
+room_closed now table readings room is =
+    let width = (differs-closed now table readings).columns in
+    let shape = (differs-closed now table readings).shape in
+    record {
+      starts = is.starts ∙ sym (recorded_starts-closed now table readings);
+      some = is.some;
+      near = record { lanes = is.near.lanes ∙ sym width; block_size = is.near.block_size ∙ sym (ap (λ it. it.block_size) shape) };
+      far = record { lanes = is.far.lanes ∙ sym width; block_size = is.far.block_size ∙ sym (ap (λ it. it.block_size) shape) };
+      as_much = is.as_much;
+      chosen = is.chosen;
+      block = is.block ∙ sym (ap (λ it. it.block_size) shape);
+      piece = is.piece;
+    }
+
+work_closed : (now : ℕ) (work : Work) (readings : List StripeReading) → IsWork work → IsWork (record work { table = closed now work.table readings })
+work_closed now work readings is = record {
+  room = room_closed now work.table readings work.room is.room;
+  pending = subst (λ (n : ℕ). All (λ stripe. stripe < n) work.pending.items) (sym ((differs-closed now work.table readings).stripes)) is.pending;
+  few = is.few;
+}
+
+work_chosen : (work : Work) (chosen : Vec Bool Global) → length chosen.items ≡ length work.room.chosen.items → IsWork work → IsWork (record work { room = record work.room { chosen = chosen } })
+work_chosen work chosen as_many is = record {
+  room = record { starts = is.room.starts; some = is.room.some; near = is.room.near; far = is.room.far; as_much = is.room.as_much; chosen = as_many ∙ is.room.chosen; block = is.room.block; piece = is.room.piece };
+  pending = is.pending;
+  few = is.few;
+}
+
+-- a work that was judged, by its parts
+judged_is : (now : ℕ) (work judged : Work) (done : ℕ) → Judges now work judged done → judged ≡ record work { table = closed now work.table (readings_near work done); room = record work.room { chosen = judged.room.chosen } }
+judged_is now work judged done judges = judges.rest ∙ ap (λ (table : TableValue). record work { table = table; room = record work.room { chosen = judged.room.chosen } }) judges.table
+
+pub judged_ready : (every : Option ℕ) (now : ℕ) (work judged : Work) (done : ℕ) → IsReady every work done → Judges now work judged done → IsReady every judged done
+judged_ready every now work judged done ready judges =
+    subst (λ (it : Work). IsReady every it done) (sym (judged_is now work judged done judges)) (record {
+      is_work = work_chosen (record work { table = closed now work.table (readings_near work done) }) judged.room.chosen judges.as_many (work_closed now work (readings_near work done) ready.is_work);
+      within = ready.within;
+      near = ready.near;
+    })
+
+-- ---- the next window was read
+
+pub turned_work : (work turned : Work) → IsWork work → ReadsFar work turned → Fits work.table turned.room.far → turned.room.far.room ≡ work.room.far.room → IsWork turned
+turned_work work turned is far fits as_much =
+    subst IsWork (sym far.rest) (record {
+      room = record { starts = is.room.starts; some = is.room.some; near = is.room.near; far = fits; as_much = as_much ∙ is.room.as_much; chosen = is.room.chosen; block = far.block ∙ is.room.block; piece = is.room.piece };
+      pending = is.pending;
+      few = is.few;
+    })
+
+pub kept_work : (work saved : Work) → IsWork work → KeepsWork work saved → IsWork saved
+kept_work work saved is keeps =
+    subst IsWork (sym keeps.rest) (record {
+      room = record { starts = is.room.starts; some = is.room.some; near = is.room.near; far = is.room.far; as_much = is.room.as_much; chosen = is.room.chosen; block = is.room.block; piece = keeps.piece ∙ is.room.piece };
+      pending = is.pending;
+      few = is.few;
+    })
+
+-- the far window is the near one then
+abbrev pub swapped_of : Work → Work
+swapped_of work = record work { room = record work.room { near = work.room.far; far = work.room.near } }
+
+swapped_work : (work : Work) → IsWork work → IsWork (swapped_of work)
+swapped_work work is = record {
+  room = record { starts = is.room.starts; some = omega (arith, is.room.some, is.room.as_much); near = is.room.far; far = is.room.near; as_much = sym is.room.as_much; chosen = is.room.chosen ∙ sym is.room.as_much; block = is.room.block; piece = is.room.piece };
+  pending = is.pending;
+  few = is.few;
+}
+
+-- ---- all of a turn
+
+-- the windows, the pending stripes and the table after a turn
+pub record Turned (work new : Work) (far : WindowValue) : Type 0 where
+  pub near : new.room.near ≡ far
+  pub pending : new.pending ≡ work.pending
+  pub table : new.table ≡ work.table
+
+pub turned_is : (judged turned saved swapped : Work) → ReadsFar judged turned → KeepsWork turned saved → swapped ≡ swapped_of saved → Turned judged swapped turned.room.far
+turned_is judged turned saved swapped far keeps swap = record {
+  near = ap (λ (work : Work). work.room.near) swap ∙ ap (λ (work : Work). work.room.far) keeps.rest;
+  pending = ap (λ (work : Work). work.pending) swap ∙ ap (λ (work : Work). work.pending) keeps.rest ∙ ap (λ (work : Work). work.pending) far.rest;
+  table = ap (λ (work : Work). work.table) swap ∙ ap (λ (work : Work). work.table) keeps.rest ∙ ap (λ (work : Work). work.table) far.rest;
+}
+
+module _ (every : Option ℕ) (judged new : Work) (done : ℕ) (far window : WindowValue) (folders news : List FolderView) (ready : IsReady every judged done) (turned : Turned judged new window)
+    (read : ReadsWindow judged.table judged.room.starts (stripes_next every judged done) far window folders news) (as_much : window.room ≡ judged.room.near.room) where
+  abbrev next : ℕ
+  next = done + judged.room.near.count
+
+  abbrev more : ℕ
+  more = count_after every judged next
+
+  next_within : next ≤ all_of judged
+  next_within = omega (arith, ready.near, window_within every judged.room.near.room (all_of judged) done ready.within)
+
+  count_is : window.count ≡ more
+  count_is = read.count ∙ length_after judged.pending.items next more (window_within every judged.room.near.room (all_of judged) next next_within)
+
+  -- what stands in the near window is what was read ahead
+  pub near_is : readings_near new next ≡ readings_in (stripes_next every judged done) window
+  near_is =
+      ap₂ (λ (items : List ℕ) (it : WindowValue). readings_in (take it.count (drop next items)) it) (ap (λ it. it.items) turned.pending) turned.near
+      ∙ ap (λ (n : ℕ). readings_in (take n (drop next judged.pending.items)) window) count_is
+
+  pub new_ready : IsWork new → IsReady every new next
+  new_ready is = record {
+    is_work = is;
+    within = subst (λ (n : ℕ). next ≤ n) (sym (ap (λ it. length it.items) turned.pending)) next_within;
+    near = ap (λ (it : WindowValue). it.count) turned.near ∙ count_is
+        ∙ ap₂ (λ (room all : ℕ). window_count every room all next) (sym as_much ∙ sym (ap (λ (it : WindowValue). it.room) turned.near)) (sym (ap (λ it. length it.items) turned.pending));
+  }
+
+-- as the code has it
+pub turn_ready : (every : Option ℕ) (judged turned saved swapped : Work) (done : ℕ) (folders news : List FolderView) → IsReady every judged done → ReadsFar judged turned → Fits judged.table turned.room.far
+    → ReadsWindow judged.table judged.room.starts (stripes_next every judged done) judged.room.far turned.room.far folders news → KeepsWork turned saved → swapped ≡ swapped_of saved
+    → IsReady every swapped (done + judged.room.near.count)
+turn_ready every judged turned saved swapped done folders news ready far fits read keeps swap =
+    let is = kept_work turned saved (turned_work judged turned ready.is_work far fits read.room) keeps in
+    new_ready every judged swapped done judged.room.far turned.room.far folders news ready (turned_is judged turned saved swapped far keeps swap) read (read.room ∙ ready.is_work.room.as_much)
+    (subst IsWork (sym swap) (swapped_work saved is))
+
+-- ---- before the first window
+
+range_below : (n : ℕ) → All (λ i. i < n) (range_with_len 0 n)
+range_below n = All-from_get_or (λ i. i < n) (range_with_len 0 n) 0 (λ k within.
+    let below : k < n = omega (arith, within, length-range_with_len 0 n) in
+    omega (arith, below, get_or-range_with_len 0 n k 0 below))
+
+pub work_begun : (work : Work) → IsRoomFor work.table work.room → work.pending.items ≡ pending_stripes work.table.infos → length work.table.infos ≤ most_blocks → IsWork work
+work_begun work room pending short =
+    let test = λ (stripe : ℕ). is_pending (info_at work.table.infos stripe).mark in
+    let all = range_with_len 0 (length work.table.infos) in
+    record {
+      room = room;
+      pending = subst (All (λ stripe. stripe < length work.table.infos)) (sym pending) (All-filter test (λ stripe. stripe < length work.table.infos) all (range_below (length work.table.infos)));
+      few = omega (arith, ap (λ (its : List ℕ). length its) pending, length-filter_both test (λ (stripe : ℕ). not (test stripe)) (λ stripe. refl) all, length-range_with_len 0 (length work.table.infos), short);
+    }

@@ -1,0 +1,53 @@
+// What a sync does once all its memory is taken.
+ghost use Rattle.std.specs.Prelude.{◌≡◌, ◌<◌, IfSome, IfOk, OnErr, length, map};
+ghost use Rattle.array_scan.specs.Layout.{pending_stripes};
+ghost use Rattle.snap_sync.specs.Course.{outside, Ends, Breaks};
+ghost use Rattle.snap_sync.specs.Run.{plan_for, IsWork};
+
+use crate::SyncEnd;
+use crate::beginning::Work;
+use crate::opening::checkpoint;
+use crate::stripes::{Pace, sync_stripes};
+use disk_model::{Failed, Folder, Sink, Vault};
+use snap_report::{Lines, Report};
+use std::thread::Threads;
+
+/// Goes through the pending stripes, and ends with a checkpoint and the last line. It fails only by the vault.
+pub(crate) fn carry_out<R: Threads + Sync, F: Folder, V: Vault, W: Sink>(
+    rt: &R,
+    work: Work,
+    pace: Pace,
+    folders: &mut [F],
+    vault: &mut V,
+    lines: &mut Lines<'_, W>,
+    reports: &mut Vec<Box<dyn Report>>,
+) -> Result<SyncEnd, Failed>
+    requires work { IsWork work }
+    requires pending { work.pending.items ≡ pending_stripes work.table.infos }
+    requires every { IfSome pace.every (λ every. 0 < every) }
+    requires folders { length folders.old ≡ length work.table.columns }
+    requires levels { (V.view vault.old).levels ≡ work.table.shape.levels }
+    ensures ends { IfOk result (Ends W.view standing stands (plan_for work pace (V.view vault.old))
+        (outside (map F.view folders.old) (V.view vault.old) lines.old reports.old.items)
+        (outside (map F.view folders.new) (V.view vault.new) lines.new reports.new.items)) }
+    ensures broke { OnErr result (Breaks W.view standing stands (plan_for work pace (V.view vault.old))
+        (outside (map F.view folders.old) (V.view vault.old) lines.old reports.old.items)
+        (outside (map F.view folders.new) (V.view vault.new) lines.new reports.new.items)) }
+{
+    let mut work = work;
+    let progress = sync_stripes(rt, &mut work, pace, folders, vault, lines, reports)?;
+    let Work {
+        table,
+        pending,
+        mut room,
+    } = work;
+    checkpoint(vault, &table, room.piece.as_mut_slice())?;
+    let rest = pending.len() as u32 - progress.synced;
+    lines.end_sync(progress.synced, rest);
+    Ok(SyncEnd {
+        table,
+        synced: progress.synced,
+        pending: rest,
+        findings: progress.findings,
+    })
+}

@@ -1,0 +1,108 @@
+// A window that was read: what is found in it, and which of its stripes are verified and closed.
+ghost use Rattle.std.specs.Prelude.{◌≡◌, ◌<◌, ◌+◌, ◌^◌, ◌==◌, if◌then◌else◌, All, length, map};
+ghost use Rattle.snap_report.specs.Told.{Told};
+ghost use Rattle.stripe_reader.specs.WindowValue.{Fits};
+ghost use Rattle.snap_sync.specs.Closing.{closed, verified_in};
+ghost use Rattle.snap_sync.specs.Findings.{events_of};
+ghost use Rattle.snap_sync.specs.Reading.{readings_in, is_verified};
+ghost use Rattle.snap_sync.specs.Work.{more_findings};
+
+mod closing;
+mod finding;
+mod telling;
+
+use closing::close_chosen;
+use disk_model::Sink;
+use file_table::Table;
+use snap_report::{Lines, Report};
+use stripe_reader::Window;
+use telling::tell_stripe;
+
+/// How many stripes are verified, and how many findings were told.
+#[derive(Clone, Copy)]
+pub(crate) struct Counts {
+    pub synced: u32,
+    /// It stays at the greatest u64.
+    pub findings: u64,
+}
+
+impl Counts {
+    // With one stripe more, in which so much was found.
+    fn with(self, found: u32) -> Counts
+        requires few { self.synced + 1 < 2 ^ 32 }
+        ensures synced { result.synced ≡ self.synced + (if found == 0 then 1 else 0) }
+        ensures findings { result.findings ≡ more_findings self.findings found }
+    {
+        let synced = if found == 0 {
+            self.synced + 1
+        } else {
+            self.synced
+        };
+        Counts {
+            synced,
+            findings: self.findings.saturating_add(u64::from(found)),
+        }
+    }
+}
+
+// Tells what is found in the stripes of a window, and chooses those in which nothing is.
+fn look_over<W: Sink>(
+    table: &Table,
+    stripes: &[u32],
+    window: &Window,
+    chosen: &mut [bool],
+    lines: &mut Lines<'_, W>,
+    reports: &mut Vec<Box<dyn Report>>,
+) -> Counts
+    requires fits { Fits table.now window.now }
+    requires count { length stripes.now ≡ window.now.count }
+    requires chosen { length chosen.old ≡ length stripes.now }
+    requires stripes { All (λ stripe. stripe < length table.now.infos) stripes.now }
+    ensures chosen { chosen.new ≡ map (is_verified table.now) (readings_in stripes.now window.now) }
+    ensures told { Told W.view standing stands table.now.columns
+        (events_of table.now (readings_in stripes.now window.now))
+        lines.old lines.new reports.old.items reports.new.items }
+    ensures synced { result.synced ≡ verified_in table.now (readings_in stripes.now window.now) }
+    ensures findings { result.findings
+        ≡ more_findings 0 (length (events_of table.now (readings_in stripes.now window.now))) }
+{
+    let mut counts = Counts {
+        synced: 0,
+        findings: 0,
+    };
+    for i in 0..window.count() {
+        let found = tell_stripe(table, stripes, window, i, lines, reports);
+        chosen[i as usize] = found == 0;
+        counts = counts.with(found);
+    }
+    counts
+}
+
+/// Tells what is found in the stripes of a window, chooses those that are verified, and closes these in the table in
+/// hand, with their hashes.
+pub(crate) fn judge<W: Sink>(
+    table: &mut Table,
+    stripes: &[u32],
+    window: &Window,
+    chosen: &mut [bool],
+    now: u64,
+    lines: &mut Lines<'_, W>,
+    reports: &mut Vec<Box<dyn Report>>,
+) -> Counts
+    requires fits { Fits table.old window.now }
+    requires count { length stripes.now ≡ window.now.count }
+    requires chosen { length chosen.old ≡ length stripes.now }
+    requires stripes { All (λ stripe. stripe < length table.old.infos) stripes.now }
+    ensures chosen { chosen.new ≡ map (is_verified table.old) (readings_in stripes.now window.now) }
+    ensures table { table.new ≡ closed now table.old (readings_in stripes.now window.now) }
+    ensures told { Told W.view standing stands table.old.columns
+        (events_of table.old (readings_in stripes.now window.now))
+        lines.old lines.new reports.old.items reports.new.items }
+    ensures synced { result.synced ≡ verified_in table.old (readings_in stripes.now window.now) }
+    ensures findings { result.findings
+        ≡ more_findings 0 (length (events_of table.old (readings_in stripes.now window.now))) }
+{
+    let counts = look_over(table, stripes, window, chosen, lines, reports);
+    close_chosen(table, stripes, window, chosen, now);
+    counts
+}

@@ -1,0 +1,78 @@
+// What is found in a stripe, told.
+ghost use Rattle.std.specs.Prelude.{◌≡◌, ◌<◌, All, length};
+ghost use Rattle.stripe_reader.specs.WindowValue.{Fits};
+ghost use Rattle.snap_report.specs.Told.{Told};
+ghost use Rattle.snap_sync.specs.Findings.{events_at, stripe_events};
+ghost use Rattle.snap_sync.specs.Reading.{reading_at};
+
+use super::finding::finding;
+use disk_model::Sink;
+use file_table::Table;
+use snap_report::{Lines, Report, tell};
+use stripe_reader::Window;
+
+// Tells what is found in the cell of a column, and how many findings that are.
+fn tell_cell<W: Sink>(
+    table: &Table,
+    stripes: &[u32],
+    window: &Window,
+    i: u32,
+    d: u32,
+    lines: &mut Lines<'_, W>,
+    reports: &mut Vec<Box<dyn Report>>,
+) -> u32
+    requires fits { Fits table.now window.now }
+    requires count { length stripes.now ≡ window.now.count }
+    requires stripes { All (λ stripe. stripe < length table.now.infos) stripes.now }
+    requires stripe { i < length stripes.now }
+    requires column { d < length table.now.columns }
+    ensures told { Told W.view standing stands table.now.columns
+        (events_at table.now (reading_at stripes.now window.now i) d)
+        lines.old lines.new reports.old.items reports.new.items }
+    ensures count { result ≡ length (events_at table.now (reading_at stripes.now window.now i) d) }
+    ensures most { result < 2 }
+{
+    let stripe = stripes[i as usize];
+    let Some(cell) = table.cell(stripe, d) else {
+        return 0;
+    };
+    match finding(
+        table,
+        stripe,
+        d,
+        cell,
+        window.cell(i, d),
+        window.digest(i, d),
+    ) {
+        None => 0,
+        Some(event) => {
+            tell(reports, lines, table, &event);
+            1
+        }
+    }
+}
+
+/// Tells what is found in a stripe of a window, column by column, and how many findings that are.
+pub(super) fn tell_stripe<W: Sink>(
+    table: &Table,
+    stripes: &[u32],
+    window: &Window,
+    i: u32,
+    lines: &mut Lines<'_, W>,
+    reports: &mut Vec<Box<dyn Report>>,
+) -> u32
+    requires fits { Fits table.now window.now }
+    requires count { length stripes.now ≡ window.now.count }
+    requires stripes { All (λ stripe. stripe < length table.now.infos) stripes.now }
+    requires stripe { i < length stripes.now }
+    ensures told { Told W.view standing stands table.now.columns
+        (stripe_events table.now (reading_at stripes.now window.now i))
+        lines.old lines.new reports.old.items reports.new.items }
+    ensures count { result ≡ length (stripe_events table.now (reading_at stripes.now window.now i)) }
+{
+    let mut count = 0;
+    for d in 0..table.disks() {
+        count += tell_cell(table, stripes, window, i, d, lines, reports);
+    }
+    count
+}

@@ -1,0 +1,51 @@
+// The memory of a run.
+ghost use Rattle.std.specs.Prelude.{◌≡◌, ◌<◌, IfOk, length};
+ghost use Rattle.snap_sync.specs.Work.{IsRoomFor};
+
+use disk_model::NoMemory;
+use file_table::Table;
+use std::alloc::Global;
+use stripe_reader::{Starts, Window, stripe_count};
+
+// How many bytes are written to a draft at once.
+const PIECE: usize = 65_536;
+
+/// All that a sync needs besides its table, taken before the vault is touched.
+#[derive(Drop)]
+pub(crate) struct Room {
+    pub starts: Starts,
+    /// The window that is judged and written.
+    pub near: Window,
+    /// The window that is read meanwhile.
+    pub far: Window,
+    /// Of each stripe of the near window, whether it is verified.
+    pub chosen: Vec<bool>,
+    /// A block for the sums.
+    pub block: Vec<u8>,
+    /// A piece of the table's spelling.
+    pub piece: Vec<u8>,
+}
+
+impl Room {
+    /// Room for a sync of a table.
+    pub fn make(alloc: Global, table: &Table) -> Result<Room, NoMemory>
+        ensures { IfOk result (IsRoomFor table.now) }
+    {
+        let block_size = table.shape().block_size;
+        let stripes = stripe_count(table.disks(), block_size);
+        let starts = Starts::recorded(alloc, table)?;
+        let near = Window::make(alloc, table.disks(), stripes, block_size)?;
+        let far = Window::make(alloc, table.disks(), stripes, block_size)?;
+        let chosen = vec![in alloc; false; stripes as usize]?;
+        let block = vec![in alloc; 0u8; block_size as usize]?;
+        let piece = vec![in alloc; 0u8; PIECE]?;
+        Ok(Room {
+            starts,
+            near,
+            far,
+            chosen,
+            block,
+            piece,
+        })
+    }
+}

@@ -1,0 +1,450 @@
+-- What every run promises by its status alone, from its end.
+use Rattle.std.proofs.Common.{◌≡◌, ◌≢◌, ◌⊎◌, inl, inr, ⊎_elim, ℕ, ◌+◌, ◌<◌, ◌≤◌, List, [], ◌∷◌, ◌++◌, take, length, count_by, Bool, true, false, IsTrue, Option, Some, None, Result, Ok, Err, refl, sym, ap, ◌∙◌, subst, arith, cond, ◌==◌, ◌||◌, slice_get, append_assoc}
+use Rattle.std.specs.List.{list_any}
+use Rattle.std.proofs.lemmas.List.{append-nil}
+use Rattle.disk_model.specs.Cause.{Rose, RoseBy}
+use Rattle.disk_model.specs.Folder.{FolderView}
+use Rattle.array_scan.specs.declared.fault.ScanFault.{ScanFault}
+use Rattle.array_scan.specs.declared.fault.ScanFault.TheVariants as scans
+use Rattle.snap_sync.specs.Beginning.{RefusesLayout, BeginsNot}
+use Rattle.snap_sync.specs.Work.{VaultBroke, broke_sync}
+use Rattle.snap_sync.specs.declared.fault.SyncFault.{SyncFault}
+use Rattle.snap_sync.specs.declared.fault.SyncFault.TheVariants.{Scan, Run}
+use Rattle.snap_top.proofs.SyncLemmas.{broke_more}
+use Rattle.disk_model.specs.Files.{Files, Stays, content_of}
+use Rattle.disk_model.specs.Sink.{SinkView}
+use Rattle.disk_model.specs.Vault.{VaultView, VaultState, VaultCall, SomeCalls, ChangesBy, state_of}
+use Rattle.disk_model.specs.declared.fault.OpenFault.{OpenFault}
+use Rattle.disk_model.specs.declared.fault.OpenFault.TheVariants as opens
+use Rattle.content_file.specs.Load.{Loads, LoadsTable, LoadFails, LoadIsDamaged, HasFailed, IsUseless, IsReadOf}
+use Rattle.content_file.specs.Spelling.{IsContent, spelling}
+use Rattle.content_file.specs.declared.loading.LoadFault.{LoadFault}
+use Rattle.content_file.specs.declared.loading.LoadFault.TheVariants as loads
+use Rattle.file_table.specs.Table.{TableValue}
+use Rattle.snap_config.specs.Config.{read_setup}
+use Rattle.snap_config.specs.Setup.{SetupValue, setup_value}
+use Rattle.snap_config.specs.declared.options.Command.{Command}
+use Rattle.snap_config.specs.declared.options.Command.TheVariants as commands
+use Rattle.snap_config.specs.declared.options.Options.{Options}
+use Rattle.snap_config.specs.declared.options.WordsFault.{WordsFault}
+use Rattle.snap_config.specs.declared.options.WordsFault.TheVariants as words
+use Rattle.snap_config.specs.declared.why.ConfigFault.{ConfigFault}
+use Rattle.snap_config.specs.declared.why.ConfigFault.TheVariants as config
+use Rattle.snap_report.specs.Answer.{done_answer, status_of as answer_status, answer_line, broke_vault, is_io_of, Gained, FolderFailed}
+use Rattle.snap_report.specs.declared.answer.Answer.{Answer}
+use Rattle.snap_report.specs.declared.answer.Answer.TheVariants.{Clean, Found, OutputFailed, Zeroed, Emptied, Full, Broken}
+use Rattle.snap_report.specs.declared.answer.RunFault.TheVariants.{Folder, Vault, Memory}
+use Rattle.snap_report.specs.declared.events.Event.{Event}
+use Rattle.snap_top.specs.Array.{Matches, DiffersIn}
+use Rattle.snap_top.specs.Complete.{TouchesNothing, RefusalsTouchNothing, IsSilent, BreaksVault, BreaksFolder, HasContentOrNone, MayBegin, AreHeld, IsUnrefused, IsSmooth, held_vault, left_vault, SmoothRunsAreDone}
+use Rattle.snap_top.specs.Does.{PrintsAlone, DoesCommand}
+use Rattle.snap_config.specs.declared.options.SyncWay.{SyncWay}
+use Rattle.snap_top.specs.Syncing.{SyncsBy, SyncEnds, SyncBreaks, SyncRefuses, answer_of}
+use Rattle.snap_top.specs.Task.{Task, Did, reads_only, may_stand, Left}
+use Rattle.snap_top.specs.End.{status_of, line_of, ending_status, ending_line, refusal_status, refusal_line, words_status, words_line, config_status, config_line, open_status, open_line, load_status, load_line, disk_named, path_named}
+use Rattle.snap_top.specs.Opening.{Says, SaysNot, asked_by, IsConfigured, IsWordsFault, is_failure}
+use Rattle.snap_top.specs.Run.{Entry, Exit, Goes, IsIdle, OnlyLoads, IsRun, IsRefused, Ran, IsAnswered, IsSaid, ReadsCopies, LoadsFrom, BeginsWith}
+use Rattle.snap_top.specs.Views.{World, world_of, view_of, folder_at}
+use Rattle.snap_top.proofs.RunLemmas.{any_later}
+use Rattle.snap_top.specs.declared.end.Difference.{Difference}
+use Rattle.snap_top.specs.declared.end.Difference.TheVariants.{BlockSize, Levels, DiskName}
+use Rattle.snap_top.specs.declared.end.End.{End}
+use Rattle.snap_top.specs.declared.end.End.TheVariants.{Refused, Worked}
+use Rattle.snap_top.specs.declared.end.Ending.{Ending}
+use Rattle.snap_top.specs.declared.end.Ending.TheVariants.{NotLoaded, NoTable, OtherArray, Answered}
+use Rattle.snap_top.specs.declared.end.Refusal.{Refusal}
+use Rattle.snap_top.specs.declared.end.Refusal.TheVariants as refusals
+
+-- ---- a refusal touches nothing
+
+no_refusal : (n : ℕ) → n ≢ 2 → n ≢ 5 → (n ≡ 2) ⊎ (n ≡ 5) → ⊥
+no_refusal n two five (inl is) = two is
+no_refusal n two five (inr is) = five is
+
+-- an engine that is done is not refused
+done_is_no_refusal : (counted : ℕ) (failed : Bool) → (answer_status (done_answer counted failed) ≡ 2) ⊎ (answer_status (done_answer counted failed) ≡ 5) → ⊥
+done_is_no_refusal counted true refused = no_refusal 3 (omega arith) (omega arith) refused
+done_is_no_refusal counted false refused = by (counted == 0) refused
+  where
+    by : (none : Bool) → (answer_status (cond none Clean Found) ≡ 2) ⊎ (answer_status (cond none Clean Found) ≡ 5) → ⊥
+    by true is = no_refusal 0 (omega arith) (omega arith) is
+    by false is = no_refusal 1 (omega arith) (omega arith) is
+
+-- what is not touched
+record Untouched (given after : World) (did : Did) : Type 0 where
+  out : after.out ≡ given.out
+  did_is : did ≡ reads_only
+
+only_loads_out : (given after : World) → OnlyLoads given after → after.out ≡ given.out
+only_loads_out given after only = ap (λ (w : World). w.out) only.others
+
+refused_sync : (task : Task) (way : SyncWay) (table : TableValue) (start after : World) (left : Left) (did : Did) → SyncRefuses task way table start after left did → Untouched start after did
+refused_sync task way table start after left did refuses = record { out = ap (λ (w : World). w.out) refuses.others; did_is = refuses.did_is }
+
+sync_untouched : (answer : Answer) (task : Task) (way : SyncWay) (table : TableValue) (start after : World) (left : Left) (did : Did) → SyncsBy answer task way table start after left did
+    → (answer_status answer ≡ 2) ⊎ (answer_status answer ≡ 5) → Untouched start after did
+sync_untouched Clean task way table start after left did does refused = absurd (no_refusal 0 (omega arith) (omega arith) refused)
+sync_untouched Found task way table start after left did does refused = absurd (no_refusal 1 (omega arith) (omega arith) refused)
+sync_untouched OutputFailed task way table start after left did does refused = absurd (no_refusal 3 (omega arith) (omega arith) refused)
+sync_untouched (Zeroed disk rec) task way table start after left did does refused = refused_sync task way table start after left did does
+sync_untouched (Emptied disk) task way table start after left did does refused = refused_sync task way table start after left did does
+sync_untouched (Full blocks files) task way table start after left did does refused = refused_sync task way table start after left did does
+sync_untouched (Broken (Folder disk)) task way table start after left did does refused = refused_sync task way table start after left did does
+sync_untouched (Broken Vault) task way table start after left did does refused = absurd (no_refusal 3 (omega arith) (omega arith) refused)
+sync_untouched (Broken Memory) task way table start after left did does refused = refused_sync task way table start after left did does
+
+command_untouched : (command : Command) (task : Task) (table : TableValue) (start after : World) (left : Left) (did : Did) → DoesCommand command task table start after left did
+    → (answer_status left.answer ≡ 2) ⊎ (answer_status left.answer ≡ 5) → Untouched start after did
+command_untouched commands.List task table start after left did does refused =
+    absurd (done_is_no_refusal 0 does.prints.failed (subst (λ a. (answer_status a ≡ 2) ⊎ (answer_status a ≡ 5)) does.prints.answer_is refused))
+command_untouched commands.Status task table start after left did does refused =
+    absurd (done_is_no_refusal _ does.prints.failed (subst (λ a. (answer_status a ≡ 2) ⊎ (answer_status a ≡ 5)) does.prints.answer_is refused))
+command_untouched (commands.Sync way) task table start after left did does refused = sync_untouched left.answer task way table start after left did does refused
+command_untouched (commands.Scrub way) task table start after left did does refused = absurd does
+command_untouched (commands.Check selection) task table start after left did does refused = absurd does
+command_untouched (commands.Audit selection) task table start after left did does refused = absurd does
+command_untouched (commands.Fix selection) task table start after left did does refused = absurd does
+
+ending_untouched : (ending : Ending) (task : Task) (given after : World) (told : List Event) (did : Did) → Goes task given after ending told did
+    → (ending_status ending ≡ 2) ⊎ (ending_status ending ≡ 5) → Untouched given after did
+ending_untouched (NotLoaded fault) task given after told did goes refused = record { out = only_loads_out given after goes.1; did_is = goes.0.1 }
+ending_untouched NoTable task given after told did goes refused = record { out = only_loads_out given after goes.1.reads; did_is = goes.0.1 }
+ending_untouched (OtherArray difference content) task given after told did goes refused = record { out = only_loads_out given after goes.1.reads; did_is = goes.0.1 }
+ending_untouched (Answered answer named) task given after told did goes refused =
+    let one = goes.1 in
+    let same = command_untouched task.command task one.table one.start after _ did one.does refused in
+    record { out = same.out ∙ only_loads_out given one.start one.reads; did_is = same.did_is }
+
+pub refusal_touches_nothing : (before : Entry) (exit : Exit) (end : End) (told : List Event) (status : ℕ) → status ≡ status_of end → Ran before exit end told → RefusalsTouchNothing before exit status
+refusal_touches_nothing before exit (Refused why) told status is ran refused = record {
+  out = ran.out;
+  opened = λ has told. absurd (let clash : false ≡ true = sym ran.no_vault ∙ has in cc);
+  unopened = λ none. ran.kept;
+}
+refusal_touches_nothing before exit (Worked setup ending) told status is ran refused =
+    let same = ending_untouched ending ran.task ran.given (world_of exit.after) told ran.did ran.goes (subst (λ n. (n ≡ 2) ⊎ (n ≡ 5)) is refused) in
+    record {
+      out = same.out ∙ ran.given_out;
+      opened = λ has tells. subst (λ did. ChangesBy (may_stand did) before.opener.vault exit.after.vault) same.did_is (ran.changes tells);
+      unopened = λ none. absurd (let clash : true ≡ false = sym ran.has_vault ∙ none in cc);
+    }
+
+-- ---- a run that is done is silent
+
+high : (n : ℕ) → 2 ≤ n → n ≤ 1 → ⊥
+high n two one = omega (arith, two, one)
+
+silent_answer : (name path : List ℕ) (answer : Answer) → answer_status answer ≤ 1 → answer_line name path answer ≡ []
+silent_answer name path Clean done = refl
+silent_answer name path Found done = refl
+silent_answer name path OutputFailed done = absurd (omega (arith, done))
+silent_answer name path (Zeroed disk rec) done = absurd (omega (arith, done))
+silent_answer name path (Emptied disk) done = absurd (omega (arith, done))
+silent_answer name path (Full blocks files) done = absurd (omega (arith, done))
+silent_answer name path (Broken (Folder disk)) done = absurd (omega (arith, done))
+silent_answer name path (Broken Vault) done = absurd (omega (arith, done))
+silent_answer name path (Broken Memory) done = absurd (omega (arith, done))
+
+open_high : (fault : OpenFault) → 2 ≤ open_status fault
+open_high opens.Failed = omega arith
+open_high opens.Memory = omega arith
+
+load_high : (fault : LoadFault) → 2 ≤ load_status fault
+load_high loads.Failed = omega arith
+load_high loads.Damaged = omega arith
+load_high loads.Memory = omega arith
+
+words_high : (fault : WordsFault) → 2 ≤ words_status fault
+words_high words.Usage = omega arith
+words_high (words.Command word) = omega arith
+words_high (words.Unfit option command) = omega arith
+words_high (words.Value option) = omega arith
+words_high words.Memory = omega arith
+
+config_high : (fault : ConfigFault) → 2 ≤ config_status fault
+config_high (config.BadLine line why) = omega arith
+config_high config.Memory = omega arith
+
+refusal_high : (why : Refusal) → 2 ≤ refusal_status why
+refusal_high (refusals.Words fault) = words_high fault
+refusal_high (refusals.Unread fault) = open_high fault
+refusal_high (refusals.Config file fault) = config_high fault
+refusal_high (refusals.Unopened fault) = open_high fault
+
+silent_ending : (setup : SetupValue) (ending : Ending) → ending_status ending ≤ 1 → ending_line setup ending ≡ []
+silent_ending setup (NotLoaded fault) done = absurd (high _ (load_high fault) done)
+silent_ending setup NoTable done = absurd (omega (arith, done))
+silent_ending setup (OtherArray difference content) done = absurd (omega (arith, done))
+silent_ending setup (Answered answer named) done = silent_answer (disk_named setup answer) (path_named named answer) answer done
+
+silent_end : (end : End) → status_of end ≤ 1 → line_of end ≡ []
+silent_end (Refused why) done = absurd (high _ (refusal_high why) done)
+silent_end (Worked setup ending) done = silent_ending (setup_value setup) ending done
+
+nothing_said : (err err_new : SinkView) → IsSaid [] err err_new → IsTrue err.tells → err_new.written ≡ err.written
+nothing_said err err_new said tells = let part = said.told.part tells in part.appended ∙ ap (λ bytes. err.written ++ bytes) (no_front part.front part.rest part.whole) ∙ append-nil err.written
+  where
+    no_front : (front rest : List ℕ) → front ++ rest ≡ [] → front ≡ []
+    no_front [] rest is = refl
+    no_front (b ∷ front) rest is = absurd (let clash : b ∷ (front ++ rest) ≡ [] = is in cc)
+
+pub done_is_silent : (end : End) (status : ℕ) (err err_new : SinkView) → status ≡ status_of end → IsSaid (line_of end) err err_new → IsSilent status err err_new
+done_is_silent end status err err_new is said done tells =
+    let none : line_of end ≡ [] = silent_end end (subst (λ n. n ≤ 1) is done) in
+    nothing_said err err_new (subst (λ line. IsSaid line err err_new) none said) tells
+
+-- ---- completeness
+
+abbrev IsDoneOrMemory : ℕ → Type 0
+IsDoneOrMemory status = (status ≤ 1) ⊎ (status ≡ 4)
+
+same_ok : {A E : Type 0} (said : Result A E) (x y : A) → said ≡ Ok x → said ≡ Ok y → x ≡ y
+same_ok said x y one other = let same : Ok x ≡ Ok y = sym one ∙ other in cc
+
+ok_or_err : {A E : Type 0} (said : Result A E) (x : A) (e : E) → said ≡ Ok x → said ≡ Err e → ⊥
+ok_or_err said x e one other = let clash : Ok x ≡ Err e = sym one ∙ other in cc
+
+smooth_words : (before : Entry) (exit : Exit) (fault : WordsFault) → IsSmooth before exit → IsWordsFault before.texts fault → IsDoneOrMemory (words_status fault)
+smooth_words before exit fault smooth (inl memory) = inr (ap words_status memory)
+smooth_words before exit fault smooth (inr said) = absurd (ok_or_err (asked_by before.texts) smooth.asked fault smooth.words said)
+
+smooth_open : (fault : OpenFault) → (IsTrue (is_failure fault) → ⊥) → IsDoneOrMemory (open_status fault)
+smooth_open opens.Failed never = absurd (never refl)
+smooth_open opens.Memory never = inr refl
+
+smooth_config : (before : Entry) (exit : Exit) (asked : Options) (fault : ConfigFault) → IsSmooth before exit → asked_by before.texts ≡ Ok asked → SaysNot before.opener asked.log fault → IsDoneOrMemory (config_status fault)
+smooth_config before exit asked (config.BadLine line why) smooth read not =
+    let same : asked ≡ smooth.asked = same_ok (asked_by before.texts) asked smooth.asked read smooth.words in
+    let bytes = not.held smooth.tells in
+    let said = ap (λ bs. read_setup bs asked.log) (sym bytes) ∙ not.refused in
+    let accepted = ap (λ (a : Options). read_setup (take 1048577 before.opener.config) a.log) same ∙ smooth.configuration in
+    absurd (ok_or_err (read_setup (take 1048577 before.opener.config) asked.log) smooth.setup _ accepted said)
+smooth_config before exit asked config.Memory smooth read not = inr refl
+
+smooth_refusal : (before : Entry) (exit : Exit) (why : Refusal) (told : List Event) → IsSmooth before exit → IsRefused before exit why told → IsDoneOrMemory (refusal_status why)
+smooth_refusal before exit (refusals.Words fault) told smooth ran = smooth_words before exit fault smooth ran.refuses.0
+smooth_refusal before exit (refusals.Unread fault) told smooth ran = smooth_open fault (λ failed. smooth.opener (ran.refuses.why_not.0 failed))
+smooth_refusal before exit (refusals.Config file fault) told smooth ran = smooth_config before exit ran.refuses.asked fault smooth ran.refuses.read ran.refuses.why_not.1
+smooth_refusal before exit (refusals.Unopened fault) told smooth ran = smooth_open fault (λ failed. smooth.opener (ran.refuses.rose failed))
+
+-- the configuration of a run is the one that is accepted
+same_setup : (before : Entry) (exit : Exit) (command : Command) (readers : ℕ) (setup : SetupValue) → (smooth : IsSmooth before exit) → IsConfigured before.texts before.opener command readers setup → setup ≡ smooth.setup
+same_setup before exit command readers setup smooth is =
+    let same : is.asked ≡ smooth.asked = same_ok (asked_by before.texts) is.asked smooth.asked is.read smooth.words in
+    let said = ap (λ bs. read_setup bs is.asked.log) (sym (is.says.held smooth.tells)) ∙ is.says.says in
+    let accepted = ap (λ (a : Options). read_setup (take 1048577 before.opener.config) a.log) same ∙ smooth.configuration in
+    same_ok (read_setup (take 1048577 before.opener.config) is.asked.log) setup smooth.setup said accepted
+
+-- a reading of a copy that failed is a call that reads no parity
+reading_broke : (copy : ℕ) (call : VaultCall) → IsReadOf copy call → broke_vault (record { call = call; failed = true }) ≡ true
+reading_broke copy call (inl size) = ap (λ c. broke_vault (record { call = c; failed = true })) size
+reading_broke copy call (inr read) = ap (λ c. broke_vault (record { call = c; failed = true })) read.2
+
+any_here : {A : Type 0} (test : A → Bool) (earlier : List A) (x : A) (later : List A) → test x ≡ true → IsTrue (list_any test (earlier ++ x ∷ later))
+any_here test earlier x later is = any_later test earlier (x ∷ later) (first (test x) (list_any test later) is)
+  where
+    first : (b c : Bool) → b ≡ true → IsTrue (b || c)
+    first true c is' = refl
+    first false c is' = absurd (let clash : false ≡ true = is' in cc)
+
+useless_is_none : (v : VaultView) (copy : ℕ) (bytes : List ℕ) → content_of v.files copy ≡ Some bytes → IsContent bytes → IsUseless v copy → ⊥
+useless_is_none v copy bytes held is (inl none) = let clash : Some bytes ≡ None = sym held ∙ none in cc
+useless_is_none v copy bytes held is (inr damaged) =
+    let both : Some damaged.bytes ≡ Some bytes = sym damaged.held ∙ held in
+    let same : damaged.bytes ≡ bytes = cc in
+    damaged.damaged (subst IsContent (sym same) is)
+
+failed_load_breaks : (old new : VaultView) → LoadFails old new → BreaksVault old new
+failed_load_breaks old new fails =
+    let one = fails.some.1 in
+    record {
+      rose = one.rose;
+      call = λ told. record {
+        gained = one.earlier ++ record { call = one.call; failed = true } ∷ one.later;
+        now_is = one.made told ∙ append_assoc old.calls one.earlier (record { call = one.call; failed = true } ∷ one.later);
+        one = any_here broke_vault one.earlier (record { call = one.call; failed = true }) one.later (reading_broke fails.some.0 one.call one.read);
+      };
+      copies = inr (λ told copy bytes below held is. ⊎_elim (λ useless. absurd (useless_is_none old copy bytes held is useless)) (λ failed. failed) (fails.useless told copy below));
+    }
+
+not_damaged : (old new : VaultView) → IsTrue old.tells → HasContentOrNone old → LoadIsDamaged old new → ⊥
+not_damaged old new tells (inl none) damaged =
+    let one = damaged.some tells in
+    let clash : Some one.2.bytes ≡ None = sym one.2.held ∙ none one.0 one.1 in cc
+not_damaged old new tells (inr good) damaged = useless_is_none old good.0 good.1 good.3 good.4 (damaged.useless tells good.0 good.2)
+
+matches_not_differs : (setup : SetupValue) (table : TableValue) (difference : Difference) → Matches setup table → DiffersIn setup table difference → ⊥
+matches_not_differs setup table (BlockSize content configuration) same other = other.2 (other.0 ∙ same.block_size ∙ sym other.1)
+matches_not_differs setup table (Levels content configuration) same other = other.3 (other.1 ∙ same.levels ∙ sym other.2)
+matches_not_differs setup table (DiskName column) same other = other.2.here (ap (λ names. slice_get names column) same.names)
+
+-- an engine that is done has status 0 or 1, unless the output failed
+done_status : (counted : ℕ) (failed : Bool) → (IsTrue failed → ⊥) → answer_status (done_answer counted failed) ≤ 1
+done_status counted true never = absurd (never refl)
+done_status counted false never = by (counted == 0)
+  where
+    by : (none : Bool) → answer_status (cond none Clean Found) ≤ 1
+    by true = omega arith
+    by false = omega arith
+
+-- only a sync is refused for its layout
+refused_is_sync : (command : Command) (task : Task) (table : TableValue) (start after : World) (left : Left) (did : Did) → DoesCommand command task table start after left did → answer_status left.answer ≡ 2
+    → (way : SyncWay) × (command ≡ commands.Sync way) × SyncRefuses task way table start after left did
+refused_is_sync commands.List task table start after left did does two =
+    absurd (done_is_no_refusal 0 does.prints.failed (subst (λ a. (answer_status a ≡ 2) ⊎ (answer_status a ≡ 5)) does.prints.answer_is (inl two)))
+refused_is_sync commands.Status task table start after left did does two =
+    absurd (done_is_no_refusal _ does.prints.failed (subst (λ a. (answer_status a ≡ 2) ⊎ (answer_status a ≡ 5)) does.prints.answer_is (inl two)))
+refused_is_sync (commands.Sync way) task table start after left did does two = (way, refl, by left.answer two does)
+  where
+    by : (answer : Answer) → answer_status answer ≡ 2 → SyncsBy answer task way table start after left did → SyncRefuses task way table start after left did
+    by Clean is does' = absurd (omega (arith, is))
+    by Found is does' = absurd (omega (arith, is))
+    by OutputFailed is does' = absurd (omega (arith, is))
+    by (Zeroed disk rec) is does' = does'
+    by (Emptied disk) is does' = does'
+    by (Full blocks files) is does' = does'
+    by (Broken (Folder disk)) is does' = absurd (omega (arith, is))
+    by (Broken Vault) is does' = absurd (omega (arith, is))
+    by (Broken Memory) is does' = absurd (omega (arith, is))
+refused_is_sync (commands.Scrub way) task table start after left did does two = absurd does
+refused_is_sync (commands.Check selection) task table start after left did does two = absurd does
+refused_is_sync (commands.Audit selection) task table start after left did does two = absurd does
+refused_is_sync (commands.Fix selection) task table start after left did does two = absurd does
+
+-- a fault that is answered with status 2 is one of the layout, which is not for memory
+fault_of_layout : (setup : SetupValue) (way : SyncWay) (table : TableValue) (olds news : List FolderView) (fault : SyncFault) → answer_status (answer_of fault) ≡ 2 → BeginsNot setup way table olds news fault
+    → (scan : ScanFault) × (scan ≢ scans.Memory) × RefusesLayout setup way table olds news scan
+fault_of_layout setup way table olds news (Scan (scans.Zeroed disk rec) of) two why = (scans.Zeroed disk rec, (λ same. absurd (let clash : scans.Zeroed disk rec ≡ scans.Memory = same in cc)), why.1)
+fault_of_layout setup way table olds news (Scan (scans.Emptied disk) of) two why = (scans.Emptied disk, (λ same. absurd (let clash : scans.Emptied disk ≡ scans.Memory = same in cc)), why.1)
+fault_of_layout setup way table olds news (Scan (scans.Full blocks files) of) two why = (scans.Full blocks files, (λ same. absurd (let clash : scans.Full blocks files ≡ scans.Memory = same in cc)), why.1)
+fault_of_layout setup way table olds news (Scan scans.Memory of) two why = absurd (omega (arith, two))
+fault_of_layout setup way table olds news (Run (Folder disk)) two why = absurd (omega (arith, two))
+fault_of_layout setup way table olds news (Run Vault) two why = absurd (omega (arith, two))
+fault_of_layout setup way table olds news (Run Memory) two why = absurd (omega (arith, two))
+
+-- only a sync ends by the vault once it is loaded
+done_is_no_break : (counted : ℕ) (failed : Bool) → done_answer counted failed ≡ Broken Vault → ⊥
+done_is_no_break counted true is = let clash : OutputFailed ≡ Broken Vault = is in cc
+done_is_no_break counted false is = by (counted == 0) is
+  where
+    by : (none : Bool) → cond none Clean Found ≡ Broken Vault → ⊥
+    by true is' = let clash : Clean ≡ Broken Vault = is' in cc
+    by false is' = let clash : Found ≡ Broken Vault = is' in cc
+
+vault_broke : (command : Command) (task : Task) (table : TableValue) (start after : World) (left : Left) (did : Did) → DoesCommand command task table start after left did → left.answer ≡ Broken Vault
+    → VaultBroke (view_of start.vault) (view_of after.vault) × SomeCalls (view_of start.vault) (view_of after.vault)
+vault_broke commands.List task table start after left did does broken = absurd (done_is_no_break 0 does.prints.failed (sym does.prints.answer_is ∙ broken))
+vault_broke commands.Status task table start after left did does broken = absurd (done_is_no_break _ does.prints.failed (sym does.prints.answer_is ∙ broken))
+vault_broke (commands.Sync way) task table start after left did does broken =
+    let breaks : SyncBreaks task way table start after left did = subst (λ a. SyncsBy a task way table start after left did) broken does in
+    (breaks.course.vault.broke refl, breaks.course.vault.calls)
+vault_broke (commands.Scrub way) task table start after left did does broken = absurd does
+vault_broke (commands.Check selection) task table start after left did does broken = absurd does
+vault_broke (commands.Audit selection) task table start after left did does broken = absurd does
+vault_broke (commands.Fix selection) task table start after left did does broken = absurd does
+
+-- a failure since loading is one since the opening
+breaks_since : (given mid new : VaultState) → ReadsCopies given mid → VaultBroke (view_of mid) (view_of new) → SomeCalls (view_of mid) (view_of new) → BreaksVault (view_of given) (view_of new)
+breaks_since given mid new reads broke calls =
+    let since : IsTrue new.tells_calls → Gained broke_sync given.calls new.calls = λ told.
+    let gained = broke.call told in
+    record {
+      gained = reads.calls.done ++ gained.gained;
+      now_is = gained.now_is ∙ ap (λ cs. cs ++ gained.gained) (reads.calls.goes_on.calls.more (calls.goes_on.calls.told told)) ∙ append_assoc given.calls reads.calls.done gained.gained;
+      one = any_later broke_sync reads.calls.done gained.gained gained.one;
+    } in
+    record {
+      rose = rose_after given.faults mid.faults new.faults reads.calls.goes_on.later broke.rose;
+      call = λ told. let gained = since told in record { gained = gained.gained; now_is = gained.now_is; one = broke_more gained.gained gained.one };
+      copies = inl since;
+    }
+  where
+    rose_after : (a b c : ℕ) → a ≤ b → Rose b c → Rose a c
+    rose_after a b c later rose = omega (arith, later, rose)
+
+-- a folder that is answered for failed so that the run ends
+folder_breaks : (disk : ℕ) (told : List Event) (old new : FolderView) → FolderFailed disk told old new → BreaksFolder old new
+folder_breaks disk told old new failed = record { rose = rose_by_more (count_by (is_io_of disk) told) old.faults new.faults failed.rose; call = failed.call }
+  where
+    rose_by_more : (n old' new' : ℕ) → RoseBy (n + 1) old' new' → Rose old' new'
+    rose_by_more n old' new' rose = omega (arith, rose)
+
+-- the table that a run begins with is one that it may begin with
+begins_may : (before : Entry) (setup : SetupValue) (given mid : VaultState) (loaded : Option TableValue) (table : TableValue) → given ≡ state_of before.opener.vault → IsTrue before.opener.vault.tells
+    → LoadsFrom given mid loaded → BeginsWith setup before.seed loaded table → MayBegin before setup table
+begins_may before setup given mid None table same tells loads begins = inl begins
+begins_may before setup given mid (Some of) table same tells loads begins =
+    let told : IsTrue given.tells = ap (λ (s : VaultState). s.tells) same ∙ tells in
+    inr (loads.copy, sym (ap (λ (s : VaultState). content_of s.files loads.copy) same) ∙ loads.held told ∙ ap (λ t. Some (spelling t)) (sym begins.0))
+
+-- what was given is what was held
+given_held : (before : Entry) (exit : Exit) (setup : SetupValue) (ending : Ending) (told : List Event) (run : IsRun before exit setup ending told) → IsTrue before.opener.tells → run.given.vault ≡ state_of before.opener.vault
+given_held before exit setup ending told run tells = run.is_given.state.whole tells
+
+-- the folders that were given are those that were held
+are_held : (before : Entry) (exit : Exit) (setup : SetupValue) (ending : Ending) (told : List Event) (run : IsRun before exit setup ending told) → IsTrue before.opener.tells → AreHeld before run.given.folders
+are_held before exit setup ending told run tells = λ d below. (run.is_given.each d below).whole tells
+
+-- the command of a run is the one that was asked for
+same_command : (before : Entry) (exit : Exit) (command : Command) (readers : ℕ) (setup : SetupValue) → (smooth : IsSmooth before exit) → IsConfigured before.texts before.opener command readers setup → command ≡ smooth.asked.command
+same_command before exit command readers setup smooth is =
+    is.command_is ∙ ap (λ (a : Options). a.command) (same_ok (asked_by before.texts) is.asked smooth.asked is.read smooth.words)
+
+layout_smooth : (before : Entry) (exit : Exit) (setup : SetupValue) (ending : Ending) (told : List Event) → (smooth : IsSmooth before exit) → (run : IsRun before exit setup ending told)
+    → (given : VaultState) → given ≡ state_of before.opener.vault → (left : Left)
+    → IsAnswered run.task (record { folders = run.given.folders; vault = given; out = run.given.out }) (world_of exit.after) left run.did
+    → answer_status left.answer ≡ 2 → ⊥
+layout_smooth before exit setup ending told smooth run given same left one two =
+    let sync = refused_is_sync run.task.command run.task one.table one.start (world_of exit.after) left run.did one.does two in
+    let refuses = sync.2 in
+    let status : answer_status (answer_of refuses.fault) ≡ 2 = sym (ap (λ (l : Left). answer_status l.answer) refuses.left_is) ∙ two in
+    let layout = fault_of_layout run.task.setup sync.0 one.table one.start.folders exit.after.folders refuses.fault status refuses.why in
+    let folders : one.start.folders ≡ run.given.folders = ap (λ (w : World). w.folders) one.reads.others in
+    let of : run.task.setup ≡ smooth.setup = run.setup_is ∙ same_setup before exit run.task.command run.task.readers setup smooth run.is_given.configured in
+    let asked : smooth.asked.command ≡ commands.Sync sync.0 = sym (same_command before exit run.task.command run.task.readers setup smooth run.is_given.configured) ∙ sync.1 in
+    let begins = subst (λ seed. BeginsWith run.task.setup seed one.loaded one.table) run.seed_is one.begins in
+    let may = begins_may before run.task.setup given one.start.vault one.loaded one.table same smooth.tells_vault one.loads begins in
+    let refused = subst (λ fs. RefusesLayout run.task.setup sync.0 one.table fs exit.after.folders layout.0) folders layout.2 in
+    layout.1 (smooth.layout sync.0 one.table run.given.folders layout.0 asked (subst (λ (s : SetupValue). MayBegin before s one.table) of may)
+    (are_held before exit setup ending told run smooth.tells)
+    (subst (λ (s : SetupValue). RefusesLayout s sync.0 one.table run.given.folders exit.after.folders layout.0) of refused))
+
+smooth_answer : (before : Entry) (exit : Exit) (setup : SetupValue) (ending : Ending) (told : List Event) → IsSmooth before exit → (run : IsRun before exit setup ending told)
+    → (given : VaultState) → given ≡ state_of before.opener.vault → (answer : Answer) (named : Option TableValue) (counted : ℕ)
+    → IsAnswered run.task (record { folders = run.given.folders; vault = given; out = run.given.out }) (world_of exit.after) (record { answer = answer; named = named; counted = counted; told = told }) run.did
+    → IsDoneOrMemory (answer_status answer)
+smooth_answer before exit setup ending told smooth run given same Clean named counted one = inl (omega arith)
+smooth_answer before exit setup ending told smooth run given same Found named counted one = inl (omega arith)
+smooth_answer before exit setup ending told smooth run given same OutputFailed named counted one =
+    absurd (smooth.out (subst (λ (s : SinkView). Rose s.faults exit.after.out.faults) run.given_out one.caused))
+smooth_answer before exit setup ending told smooth run given same (Zeroed disk rec) named counted one = absurd (layout_smooth before exit setup ending told smooth run given same _ one refl)
+smooth_answer before exit setup ending told smooth run given same (Emptied disk) named counted one = absurd (layout_smooth before exit setup ending told smooth run given same _ one refl)
+smooth_answer before exit setup ending told smooth run given same (Full blocks files) named counted one = absurd (layout_smooth before exit setup ending told smooth run given same _ one refl)
+smooth_answer before exit setup ending told smooth run given same (Broken (Folder disk)) named counted one =
+    let held = are_held before exit setup ending told run smooth.tells in
+    absurd (smooth.folders disk (subst (λ v. BreaksFolder v (folder_at exit.after.folders disk)) (held disk one.caused.0) (folder_breaks disk told _ _ one.caused.1)))
+smooth_answer before exit setup ending told smooth run given same (Broken Vault) named counted one =
+    let broke = vault_broke run.task.command run.task one.table one.start (world_of exit.after) _ run.did one.does refl in
+    absurd (smooth.vault (subst (λ (s : VaultState). BreaksVault (view_of s) (left_vault exit)) same (breaks_since given one.start.vault (state_of exit.after.vault) one.reads.vault broke.0 broke.1)))
+smooth_answer before exit setup ending told smooth run given same (Broken Memory) named counted one = inr refl
+
+smooth_ending : (before : Entry) (exit : Exit) (setup : SetupValue) (ending : Ending) (told : List Event) → IsSmooth before exit → (run : IsRun before exit setup ending told)
+    → (given : VaultState) → given ≡ state_of before.opener.vault → Goes run.task (record { folders = run.given.folders; vault = given; out = run.given.out }) (world_of exit.after) ending told run.did
+    → IsDoneOrMemory (ending_status ending)
+smooth_ending before exit setup (NotLoaded loads.Failed) told smooth run given same goes =
+    absurd (smooth.vault (failed_load_breaks (held_vault before) (left_vault exit) (subst (λ (s : VaultState). LoadFails (view_of s) (left_vault exit)) same goes.2)))
+smooth_ending before exit setup (NotLoaded loads.Damaged) told smooth run given same goes =
+    absurd (not_damaged (held_vault before) (left_vault exit) smooth.tells_vault smooth.content (subst (λ (s : VaultState). LoadIsDamaged (view_of s) (left_vault exit)) same goes.2))
+smooth_ending before exit setup (NotLoaded loads.Memory) told smooth run given same goes = inr refl
+smooth_ending before exit setup NoTable told smooth run given same goes = inr refl
+smooth_ending before exit setup (OtherArray difference content) told smooth run given same goes =
+    let loaded = subst (λ (s : VaultState). LoadsTable (view_of s) (left_vault exit) content) same goes.1.loads in
+    let of = run.setup_is ∙ same_setup before exit run.task.command run.task.readers setup smooth run.is_given.configured in
+    absurd (matches_not_differs smooth.setup content difference (smooth.agrees content loaded) (subst (λ (s : SetupValue). DiffersIn s content difference) of goes.1.differs))
+smooth_ending before exit setup (Answered answer named) told smooth run given same goes =
+    smooth_answer before exit setup (Answered answer named) told smooth run given same answer named goes.0 goes.1
+
+pub smooth_is_done : (before : Entry) (exit : Exit) (end : End) (told : List Event) (status : ℕ) → status ≡ status_of end → Ran before exit end told → SmoothRunsAreDone before exit status
+smooth_is_done before exit (Refused why) told status is ran smooth = subst IsDoneOrMemory (sym is) (smooth_refusal before exit why told smooth ran)
+smooth_is_done before exit (Worked setup ending) told status is ran smooth =
+    subst IsDoneOrMemory (sym is) (smooth_ending before exit (setup_value setup) ending told smooth ran ran.given.vault (given_held before exit (setup_value setup) ending told ran smooth.tells) ran.goes)

@@ -1,0 +1,65 @@
+-- What loading says of views of a vault, said of its states.
+use Rattle.std.proofs.Common.{◌≡◌, ◌⊎◌, inl, inr, ℕ, ◌<◌, IsTrue, Option, None, Some, Result, Err, refl, sym, ◌∙◌, subst}
+use Rattle.content_file.specs.Load.{IsReadBelow, Loads, LoadsTable, LoadsNothing, LoadFails, LoadIsDamaged, HasFailed, NoneFailed, IsReadWell, IsDamaged, IsUseless}
+use Rattle.content_file.specs.declared.loading.LoadFault.{LoadFault}
+use Rattle.content_file.specs.declared.loading.LoadFault.TheVariants as loads
+use Rattle.disk_model.specs.Calls.{MakesOnly}
+use Rattle.disk_model.specs.Files.{Stays}
+use Rattle.disk_model.specs.Vault.{VaultView, SomeCalls, DraftsStay, ChangesBy, copies_of, state_of}
+use Rattle.file_table.specs.Table.{TableValue}
+use Rattle.snap_top.specs.Run.{ReadsCopies, LoadsFrom, LoadsNot}
+use Rattle.snap_top.specs.Views.{view_of}
+use Rattle.snap_top.proofs.ViewsLemmas.{some_calls_of}
+
+module _ (old new : VaultView) where
+  failed_of : (copy : ℕ) → HasFailed old new copy → HasFailed (view_of (state_of old)) (view_of (state_of new)) copy
+  failed_of copy is = record { within = is.within; rose = is.rose; earlier = is.earlier; call = is.call; later = is.later; read = is.read; made = is.made }
+
+  none_of : NoneFailed old new → NoneFailed (view_of (state_of old)) (view_of (state_of new))
+  none_of is = record { done = is.done; grown = is.grown; each = is.each }
+
+  damaged_of : (copy : ℕ) → IsDamaged old copy → IsDamaged (view_of (state_of old)) copy
+  damaged_of copy is = record { bytes = is.bytes; held = is.held; damaged = is.damaged }
+
+  useless_of : (copy : ℕ) → IsUseless old copy → IsUseless (view_of (state_of old)) copy
+  useless_of copy (inl none) = inl none
+  useless_of copy (inr damaged) = inr (damaged_of copy damaged)
+
+  either_of : (copy : ℕ) → IsUseless old copy ⊎ HasFailed old new copy → IsUseless (view_of (state_of old)) copy ⊎ HasFailed (view_of (state_of old)) (view_of (state_of new)) copy
+  either_of copy (inl useless) = inl (useless_of copy useless)
+  either_of copy (inr failed) = inr (failed_of copy failed)
+
+  pub loads_of : (loaded : Option TableValue) → Loads old new loaded → LoadsFrom (state_of old) (state_of new) loaded
+  loads_of None is = record { none = is.none; none_failed = none_of is.none_failed }
+  loads_of (Some table) is = record {
+    copy = is.copy;
+    within = is.within;
+    valid = is.valid;
+    held = is.held;
+    read = record { done = is.read.done; grown = is.read.grown; each = is.read.each };
+    earlier = λ told k below. either_of k (is.earlier told k below);
+  }
+
+  fails_of : LoadFails old new → LoadFails (view_of (state_of old)) (view_of (state_of new))
+  fails_of is = record { some = (is.some.0, failed_of is.some.0 is.some.1); useless = λ told k below. either_of k (is.useless told k below) }
+
+  is_damaged_of : LoadIsDamaged old new → LoadIsDamaged (view_of (state_of old)) (view_of (state_of new))
+  is_damaged_of is = record {
+    some = λ told. let one = is.some told in (one.0, one.1, damaged_of one.0 one.2);
+    useless = λ told k below. useless_of k (is.useless told k below);
+    none_failed = none_of is.none_failed;
+  }
+
+  pub loads_not_of : {T : Type 0} (fault : LoadFault) (result : Result T LoadFault) → result ≡ Err fault → (result ≡ Err loads.Failed → LoadFails old new) → (result ≡ Err loads.Damaged → LoadIsDamaged old new)
+      → LoadsNot fault (state_of old) (state_of new)
+  loads_not_of loads.Failed result is failed damaged = fails_of (failed is)
+  loads_not_of loads.Damaged result is failed damaged = is_damaged_of (damaged is)
+  loads_not_of loads.Memory result is failed damaged = tt
+
+  pub reads_of : SomeCalls old new → MakesOnly (IsReadBelow (copies_of old)) old new → ChangesBy Stays old new → DraftsStay old new → ReadsCopies (state_of old) (state_of new)
+  reads_of calls made changes drafts = record {
+    calls = some_calls_of old new calls;
+    made = record { done = made.done; grown = made.grown; each = made.each };
+    drafts = record { state = drafts.state; bytes = drafts.bytes };
+    files = changes.reads;
+  }

@@ -1,0 +1,70 @@
+-- Objects that were not touched, and one thing done after another.
+use Rattle.std.proofs.Common.{◌≡◌, ℕ, ◌<◌, ◌≤◌, List, [], ◌++◌, length, get_or, IsTrue, arith, refl, sym, ap, ◌∙◌, subst, append_assoc}
+use Rattle.std.proofs.lemmas.List.{append-nil}
+use Rattle.disk_model.specs.Folder.{FolderView}
+use Rattle.disk_model.specs.Sink.{SinkView, SinkGoesOn}
+use Rattle.disk_model.specs.Vault.{VaultView, SomeCalls, state_of}
+use Rattle.disk_model.proofs.VaultLemmas.{no_calls, calls_then}
+use Rattle.snap_top.specs.Views.{World, world_of, view_of, folder_at, ReadsOnly, AllReadOnly, Keeps}
+
+pub sink_stays : (out : SinkView) → SinkGoesOn out out
+sink_stays out = record { later = omega arith; tells = refl }
+
+pub sink_then : (old mid new : SinkView) → SinkGoesOn old mid → SinkGoesOn mid new → SinkGoesOn old new
+sink_then old mid new one two = record { later = omega (arith, one.later, two.later); tells = two.tells ∙ one.tells }
+
+pub read_nothing : (v : FolderView) → ReadsOnly v v
+read_nothing v = record {
+  calls = record {
+    done = [];
+    goes_on = record { later = omega arith; keeps_stamps = refl; closed = refl; tells = refl; calls = record { told = λ t. t; more = λ t. sym (append-nil v.calls) } };
+  };
+  tree = λ t. refl;
+}
+
+pub read_then : (old mid new : FolderView) → ReadsOnly old mid → ReadsOnly mid new → ReadsOnly old new
+read_then old mid new one two =
+    let a = one.calls.goes_on in
+    let b = two.calls.goes_on in
+    record {
+      calls = record {
+        done = one.calls.done ++ two.calls.done;
+        goes_on = record {
+          later = omega (arith, a.later, b.later);
+          keeps_stamps = b.keeps_stamps ∙ a.keeps_stamps;
+          closed = b.closed ∙ a.closed;
+          tells = b.tells ∙ a.tells;
+          calls = record {
+            told = λ t. a.calls.told (b.calls.told t);
+            more = λ t. b.calls.more t ∙ ap (λ xs. xs ++ two.calls.done) (a.calls.more (b.calls.told t)) ∙ append_assoc old.calls one.calls.done two.calls.done;
+          };
+        };
+      };
+      tree = λ t. two.tree (a.tells ∙ t) ∙ one.tree t;
+    }
+
+pub all_read_nothing : (folders : List FolderView) → AllReadOnly folders folders
+all_read_nothing folders = record { count = refl; each = λ d below. read_nothing (folder_at folders d) }
+
+pub all_read_then : (olds mids news : List FolderView) → AllReadOnly olds mids → AllReadOnly mids news → AllReadOnly olds news
+all_read_then olds mids news one two = record {
+  count = two.count ∙ one.count;
+  each = λ d below. read_then _ _ _ (one.each d below) (two.each d (omega (arith, one.count, below)));
+}
+
+-- calls of a vault, by its states
+pub some_calls_of : (old new : VaultView) → SomeCalls old new → SomeCalls (view_of (state_of old)) (view_of (state_of new))
+some_calls_of old new calls = let g = calls.goes_on in record {
+  done = calls.done;
+  goes_on = record { later = g.later; levels = g.levels; copies = g.copies; tells = g.tells; calls = g.calls };
+}
+
+pub keeps_nothing : (world : World) → Keeps world world
+keeps_nothing world = record { folders = all_read_nothing world.folders; vault = no_calls (view_of world.vault); out = sink_stays world.out }
+
+pub keeps_then : (before mid after : World) → Keeps before mid → Keeps mid after → Keeps before after
+keeps_then before mid after one two = record {
+  folders = all_read_then before.folders mid.folders after.folders one.folders two.folders;
+  vault = calls_then (view_of before.vault) (view_of mid.vault) (view_of after.vault) one.vault two.vault;
+  out = sink_then before.out mid.out after.out one.out two.out;
+}

@@ -1,0 +1,17 @@
+use Rattle.std.proofs.Common.{refl, ◌∙◌}
+use Rattle.snap_top.proofs.OpeningLemmas.{config_asked}
+use Rattle.snap_top.proofs.opening.configure.Goals as goal
+
+pub returns-in-Ok-read_config-clause-says : goal.returns-in-Ok-read_config-clause-says
+returns-in-Ok-read_config-clause-says g c = record {
+  bytes = c.as_slice.result.now;
+  held = λ told. c.as_slice.ensures.value ∙ c.in-Ok.ensures.found told;
+  says = c.in-Ok-read_config.ensures.ok;
+}
+
+pub returns-in-Err-read_config-clause-refused : goal.returns-in-Err-read_config-clause-refused
+returns-in-Err-read_config-clause-refused g c = (
+  refl,
+  record { bytes = c.as_slice.result.now; held = λ told. c.as_slice.ensures.value ∙ c.in-Ok.ensures.found told; refused = c.in-Err-read_config.ensures.refused },
+  config_asked _ _ _ _ _ c.as_str.ensures.value c.in-Ok.ensures.call,
+)

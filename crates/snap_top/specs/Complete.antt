@@ -1,0 +1,110 @@
+-- What every run promises by its status alone, and when a run surely ends well.
+use Rattle.std.specs.Prelude.{◌≡◌, ◌⊎◌, ℕ, ◌<◌, ◌≤◌, List, length, take, true, false, IsTrue, Some, None, Ok}
+use Rattle.array_scan.specs.declared.fault.ScanFault.{ScanFault}
+use Rattle.array_scan.specs.declared.fault.ScanFault.TheVariants as scans
+use Rattle.content_file.specs.Load.{LoadsTable, HasFailed}
+use Rattle.content_file.specs.Spelling.{IsContent, spelling}
+use Rattle.disk_model.specs.Cause.{Rose}
+use Rattle.disk_model.specs.Files.{Stays, content_of}
+use Rattle.disk_model.specs.Folder.{FolderView}
+use Rattle.disk_model.specs.Opener.{HoldsSame, folder_held}
+use Rattle.disk_model.specs.Sink.{SinkView}
+use Rattle.disk_model.specs.Vault.{VaultView, ChangesBy, copies_of, state_of}
+use Rattle.file_table.specs.Table.{TableValue}
+use Rattle.snap_config.specs.Config.{read_setup}
+use Rattle.snap_config.specs.Setup.{SetupValue}
+use Rattle.snap_config.specs.declared.options.Command.{Command}
+use Rattle.snap_config.specs.declared.options.Command.TheVariants as commands
+use Rattle.snap_config.specs.declared.options.Options.{Options}
+use Rattle.snap_config.specs.declared.options.SyncWay.{SyncWay}
+use Rattle.snap_report.specs.Answer.{Gained, broke_folder, broke_vault}
+use Rattle.snap_sync.specs.Beginning.{RefusesLayout}
+use Rattle.snap_sync.specs.Work.{broke_sync}
+use Rattle.snap_top.specs.Array.{Matches, empty_table}
+use Rattle.snap_top.specs.Opening.{asked_by}
+use Rattle.snap_top.specs.Run.{Entry, Exit}
+use Rattle.snap_top.specs.Views.{view_of, folder_at}
+
+-- ---- refusals, and the standard error of a run that is done
+
+-- Nothing was printed, and neither parity nor content changed: what was opened reads as it did and a stop leaves the same, or nothing was opened.
+pub record TouchesNothing (before : Entry) (exit : Exit) : Type 0 where
+  pub out : exit.after.out ≡ before.out
+  pub opened : exit.has_vault ≡ true → IsTrue before.opener.tells → ChangesBy Stays before.opener.vault exit.after.vault
+  pub unopened : exit.has_vault ≡ false → HoldsSame before.opener exit.opener
+
+-- so does a run with status 2 or 5
+abbrev pub RefusalsTouchNothing : Entry → Exit → ℕ → Type 0
+RefusalsTouchNothing before exit status = (status ≡ 2) ⊎ (status ≡ 5) → TouchesNothing before exit
+
+-- with status 0 or 1 nothing is written to the standard error
+abbrev pub IsSilent : ℕ → SinkView → SinkView → Type 0
+IsSilent status err err_new = status ≤ 1 → IsTrue err.tells → err_new.written ≡ err.written
+
+-- ---- completeness
+
+-- A folder failed so that a run ends: its count rose and, where it tells its calls, one failed that neither looks nor reads.
+pub record BreaksFolder (old new : FolderView) : Type 0 where
+  pub rose : Rose old.faults new.faults
+  pub call : IsTrue new.tells_calls → Gained broke_folder old.calls new.calls
+
+-- each copy that is a content file had a reading that failed
+abbrev pub NoCopyWasRead : VaultView → VaultView → Type 0
+NoCopyWasRead old new = (copy : ℕ) (bytes : List ℕ) → copy < copies_of old → content_of old.files copy ≡ Some bytes → IsContent bytes → HasFailed old new copy
+
+-- The vault failed so that a run ends: its count rose and, where it tells its calls, one failed that reads no parity. That one reads no copy
+-- either, or each copy that is a content file had one that failed.
+pub record BreaksVault (old new : VaultView) : Type 0 where
+  pub rose : Rose old.faults new.faults
+  pub call : IsTrue new.tells_calls → Gained broke_vault old.calls new.calls
+  pub copies : (IsTrue new.tells_calls → Gained broke_sync old.calls new.calls) ⊎ (IsTrue old.tells → NoCopyWasRead old new)
+
+-- content is absent, or some copy is a content file
+abbrev pub HasContentOrNone : VaultView → Type 0
+HasContentOrNone v =
+    ((copy : ℕ) → copy < copies_of v → content_of v.files copy ≡ None)
+    ⊎ ((copy : ℕ) × (bytes : List ℕ) × (copy < copies_of v) × (content_of v.files copy ≡ Some bytes) × IsContent bytes)
+
+-- the vault that the opener held, and what it is at the end
+abbrev pub held_vault : Entry → VaultView
+held_vault before = view_of (state_of before.opener.vault)
+
+abbrev pub left_vault : Exit → VaultView
+left_vault exit = view_of (state_of exit.after.vault)
+
+-- a table that a run may begin with: some copy spells it, or it is that of an array without content
+abbrev pub MayBegin : Entry → SetupValue → TableValue → Type 0
+MayBegin before setup table =
+    (table ≡ empty_table setup before.seed)
+    ⊎ ((copy : ℕ) × (content_of before.opener.vault.files copy ≡ Some (spelling table)))
+
+-- these are the folders that the opener held
+abbrev pub AreHeld : Entry → List FolderView → Type 0
+AreHeld before folders = (d : ℕ) → d < length folders → folder_at folders d ≡ folder_held before.opener d
+
+-- A sync's layout is not refused: of a table that the run may begin with, over what its folders list.
+abbrev pub IsUnrefused : Entry → Exit → Command → SetupValue → Type 0
+IsUnrefused before exit command setup = (way : SyncWay) (table : TableValue) (folders : List FolderView) (fault : ScanFault) → command ≡ commands.Sync way → MayBegin before setup table → AreHeld before folders
+    → RefusesLayout setup way table folders exit.after.folders fault → fault ≡ scans.Memory
+
+-- Words and configuration are accepted, nothing failed so that a run ends, what is first read of the content is of the configuration's array, and
+-- no layout is refused.
+-- All that is said here of what the opener holds, it tells.
+pub record IsSmooth (before : Entry) (exit : Exit) : Type 0 where
+  pub asked : Options
+  pub words : asked_by before.texts ≡ Ok asked
+  pub setup : SetupValue
+  pub tells : IsTrue before.opener.tells
+  pub tells_vault : IsTrue before.opener.vault.tells
+  pub configuration : read_setup (take 1048577 before.opener.config) asked.log ≡ Ok setup
+  pub opener : ¬ (Rose before.opener.faults exit.opener.faults)
+  pub out : ¬ (Rose before.out.faults exit.after.out.faults)
+  pub folders : (d : ℕ) → ¬ (BreaksFolder (folder_held before.opener d) (folder_at exit.after.folders d))
+  pub vault : ¬ (BreaksVault (held_vault before) (left_vault exit))
+  pub content : HasContentOrNone (held_vault before)
+  pub layout : IsUnrefused before exit asked.command setup
+  pub agrees : (table : TableValue) → LoadsTable (held_vault before) (left_vault exit) table → Matches setup table
+
+-- then it is done, or memory ran out
+abbrev pub SmoothRunsAreDone : Entry → Exit → ℕ → Type 0
+SmoothRunsAreDone before exit status = IsSmooth before exit → (status ≤ 1) ⊎ (status ≡ 4)

@@ -1,0 +1,46 @@
+-- What each command does, once its table is there: one line for each.
+use Rattle.std.specs.Prelude.{◌≡◌, ℕ, List, [], None, Option}
+use Rattle.disk_model.specs.Vault.{ChangesBy}
+use Rattle.file_table.specs.Table.{TableValue}
+use Rattle.snap_config.specs.declared.options.Command.{Command}
+use Rattle.snap_config.specs.declared.options.Command.TheVariants as commands
+use Rattle.snap_report.specs.Answer.{IsCaused}
+use Rattle.snap_report.specs.ListText.{list_text}
+use Rattle.snap_report.specs.Report.{ReportView, AllGiven}
+use Rattle.snap_report.specs.StatusText.{status_text, bad_in}
+use Rattle.snap_report.specs.declared.answer.Answer.{Answer}
+use Rattle.snap_report.specs.declared.events.Event.{Event}
+use Rattle.snap_top.specs.Syncing.{SyncsBy}
+use Rattle.snap_top.specs.Task.{Task, Did, reads_only, may_stand, Left, Prints}
+use Rattle.snap_top.specs.Views.{World, WorldView, world_of, outside_of, Keeps}
+
+-- it prints a text, tells no event, and touches nothing but the output
+pub record PrintsAlone (text : List ℕ) (counted : ℕ) (before after : World) (left : Left) (did : Did) : Type 0 where
+  pub did_is : did ≡ reads_only
+  pub others : after ≡ record before { out = after.out }
+  pub left_is : left ≡ record { answer = left.answer; named = None; counted = counted; told = [] }
+  pub prints : Prints text counted before.out after.out left.answer
+
+-- By the command, from this table: what it did to the files of the vault, what else it touched, and its own relation.
+abbrev pub DoesCommand : Command → Task → TableValue → World → World → Left → Did → Type 0
+DoesCommand commands.List task table before after left did = PrintsAlone (list_text table.columns) 0 before after left did
+DoesCommand commands.Status task table before after left did = PrintsAlone (status_text table) (bad_in table.infos) before after left did
+DoesCommand (commands.Sync way) task table before after left did = SyncsBy left.answer task way table before after left did
+-- the others are not built
+DoesCommand _ task table before after left did = ⊥
+
+abbrev pub Does : Task → TableValue → World → World → Left → Did → Type 0
+Does task table before after left did = DoesCommand task.command task table before after left did
+
+-- what holds of every command that was carried out
+pub record IsDone {R : Type 0} (standing : R → ReportView) (stands : R → List Event → Type 0) (task : Task) (table : TableValue)
+    (before after : WorldView) (olds news : List R) (answer : Answer) (named : Option TableValue) : Type 0 where
+  pub left : Left
+  pub answer_is : left.answer ≡ answer
+  pub named_is : left.named ≡ named
+  pub did : Did
+  pub does : Does task table (world_of before) (world_of after) left did
+  pub changes : ChangesBy (may_stand did) before.vault after.vault
+  pub caused : IsCaused left.answer left.counted left.told (outside_of (world_of before)) (outside_of (world_of after))
+  pub keeps : Keeps (world_of before) (world_of after)
+  pub reports : AllGiven standing stands left.told olds news

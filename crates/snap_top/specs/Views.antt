@@ -1,0 +1,61 @@
+-- All that a command may touch, before and after it.
+use Rattle.std.specs.Prelude.{◌≡◌, ℕ, ◌<◌, List, length, slice_index_or, false}
+use Rattle.disk_model.specs.Folder.{FolderView, SomeFolderCalls, TreeStays, quiet_folder}
+use Rattle.disk_model.specs.Sink.{SinkView, SinkGoesOn}
+use Rattle.disk_model.specs.Vault.{VaultView, VaultState, SomeCalls, state_of, no_images}
+use Rattle.snap_report.specs.Answer.{Outside}
+
+-- The folders, the vault and the output, but for what a stop may leave of the vault: so a relation can hold it.
+pub record World : Type 0 where
+  pub folders : List FolderView
+  pub vault : VaultState
+  pub out : SinkView
+
+-- the same with what a stop may leave
+pub record WorldView : Type 1 where
+  pub folders : List FolderView
+  pub vault : VaultView
+  pub out : SinkView
+
+abbrev pub world_view : List FolderView → VaultView → SinkView → WorldView
+world_view folders vault out = record { folders = folders; vault = vault; out = out }
+
+abbrev pub world_of : WorldView → World
+world_of view = record { folders = view.folders; vault = state_of view.vault; out = view.out }
+
+-- a vault in this state that tells nothing of what a stop may leave
+abbrev pub view_of : VaultState → VaultView
+view_of state = record {
+  faults = state.faults;
+  levels = state.levels;
+  drafts = state.drafts;
+  tells = state.tells;
+  files = state.files;
+  staged = state.staged;
+  tells_calls = state.tells_calls;
+  calls = state.calls;
+  images = no_images;
+}
+
+-- what is outside of an engine, as the causes of its answer speak of it
+abbrev pub outside_of : World → Outside
+outside_of world = record { folders = world.folders; vault = world.vault; output_faults = world.out.faults }
+
+abbrev pub folder_at : List FolderView → ℕ → FolderView
+folder_at folders d = slice_index_or folders d (quiet_folder 0 false)
+
+-- a folder was only read
+pub record ReadsOnly (old new : FolderView) : Type 0 where
+  pub calls : SomeFolderCalls old new
+  pub tree : TreeStays old new
+
+-- the folders were only read
+pub record AllReadOnly (olds news : List FolderView) : Type 0 where
+  pub count : length news ≡ length olds
+  pub each : (d : ℕ) → d < length olds → ReadsOnly (folder_at olds d) (folder_at news d)
+
+-- what stays whatever was done, and what only grows
+pub record Keeps (before after : World) : Type 0 where
+  pub folders : AllReadOnly before.folders after.folders
+  pub vault : SomeCalls (view_of before.vault) (view_of after.vault)
+  pub out : SinkGoesOn before.out after.out

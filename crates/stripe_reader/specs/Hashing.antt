@@ -1,0 +1,56 @@
+-- The digests of blocks, which are given to their slots after all blocks of a column were read.
+use Rattle.std.specs.Prelude.{◌≡◌, ◌⊎◌, ℕ, ◌<◌, ◌≤◌, List, length, take, Option, None, Some, slice_index_or}
+use Rattle.std.specs.List.{AllZip}
+use Rattle.block_hash.specs.Hash.{hash}
+use Rattle.block_hash.specs.declared.Digest16.{Digest16}
+use Rattle.file_table.specs.declared.shape.Shape.{Shape}
+use Rattle.stripe_reader.specs.declared.slot.Found.{Found}
+use Rattle.stripe_reader.specs.declared.slot.Found.TheVariants as found
+use Rattle.stripe_reader.specs.SlotValue.{SlotValue}
+use Rattle.stripe_reader.specs.WindowValue.{no_slot}
+
+-- the hash of so many bytes of a block, where the whole block was found, else none
+abbrev pub digest_in : Shape → Found → ℕ → List ℕ → Option Digest16
+digest_in shape found.Empty got block = None
+digest_in shape found.Bytes got block = Some (record { 0 = hash shape.kind shape.seed (take got block) })
+digest_in shape found.Missing got block = None
+digest_in shape found.Short got block = None
+digest_in shape found.Unread got block = None
+
+-- a slot with the digest that its cell has
+abbrev pub hashed : Shape → SlotValue → SlotValue
+hashed shape slot = record slot { digest = digest_in shape slot.cell.found slot.cell.got slot.block }
+
+-- a slot that a cell was read into, and that has no digest yet
+pub record IsUnhashed (block_size : ℕ) (slot : SlotValue) : Type 0 where
+  pub digest : slot.digest ≡ None
+  pub got : slot.cell.got ≤ block_size
+  pub block : length slot.block ≡ block_size
+
+-- a slot that a cell was read into, and that has no digest or the one that its cell has
+pub record HasNoOtherDigest (shape : Shape) (slot : SlotValue) : Type 0 where
+  pub digest : (slot.digest ≡ None) ⊎ (slot ≡ hashed shape slot)
+  pub got : slot.cell.got ≤ shape.block_size
+  pub block : length slot.block ≡ shape.block_size
+
+-- a slot is as it was, or has its digest
+abbrev pub MayHash : Shape → SlotValue → SlotValue → Type 0
+MayHash shape before after = (after ≡ before) ⊎ (after ≡ hashed shape before)
+
+-- some of these slots have their digests now
+abbrev pub HashesSome : Shape → List SlotValue → List SlotValue → Type 0
+HashesSome shape before after = AllZip (MayHash shape) before after
+
+-- the slot of a number
+abbrev pub slot_in : List SlotValue → ℕ → SlotValue
+slot_in slots i = slice_index_or slots i no_slot
+
+-- a slot whose whole block was found, and has the greatest size
+pub record HasFullBlock (block_size : ℕ) (slot : SlotValue) : Type 0 where
+  pub found : slot.cell.found ≡ found.Bytes
+  pub got : slot.cell.got ≡ block_size
+
+-- the number of a slot with a full block
+pub record IsFullAt (block_size : ℕ) (slots : List SlotValue) (i : ℕ) : Type 0 where
+  pub within : i < length slots
+  pub full : HasFullBlock block_size (slot_in slots i)
