@@ -36,27 +36,6 @@ many_apart Fits spelled apart (x ∷ xs) (y ∷ ys) a b fits_x fits_y len e =
     let others = many_apart Fits spelled apart xs ys a b fits_x.1 fits_y.1 fewer first.1 in
     ((cc (first.0, others.0)), others.1)
 
--- fewer parts stand at the front of more: then those are the same, and the next one begins what follows
-pub record IsNext {X : Type 0} (Fits : X → Type 0) (spelled : X → List ℕ) (xs ys : List X) (a b : List ℕ) : Type 0 where
-  pub next : X
-  pub more : List X
-  pub parts : ys ≡ xs ++ next ∷ more
-  pub fits : Fits next
-  pub rest : a ≡ spelled next ++ (flat_map spelled more ++ b)
-
-pub next_is : {X : Type 0} (Fits : X → Type 0) (spelled : X → List ℕ) → TellsApart Fits spelled → (xs ys : List X) (a b : List ℕ)
-    → AllByRecursion Fits xs → AllByRecursion Fits ys → length xs < length ys → flat_map spelled xs ++ a ≡ flat_map spelled ys ++ b → IsNext Fits spelled xs ys a b
-next_is Fits spelled apart [] [] a b fits_x fits_y lt e = absurd (omega arith)
-next_is Fits spelled apart [] (y ∷ ys) a b fits_x fits_y lt e =
-    record { next = y; more = ys; parts = refl; fits = fits_y.0; rest = e ∙ append_assoc (spelled y) (flat_map spelled ys) b }
-next_is Fits spelled apart (x ∷ xs) [] a b fits_x fits_y lt e = absurd (omega arith)
-next_is Fits spelled apart (x ∷ xs) (y ∷ ys) a b fits_x fits_y lt e =
-    let first = apart x y (flat_map spelled xs ++ a) (flat_map spelled ys ++ b) fits_x.0 fits_y.0
-    (sym (append_assoc (spelled x) (flat_map spelled xs) a) ∙ e ∙ append_assoc (spelled y) (flat_map spelled ys) b) in
-    let fewer : length xs < length ys = omega arith in
-    let others = next_is Fits spelled apart xs ys a b fits_x.1 fits_y.1 fewer first.1 in
-    record { next = others.next; more = others.more; parts = (cc (first.0, others.parts)); fits = others.fits; rest = others.rest }
-
 -- ---- the parts of a table
 
 abbrev pub IsShort : ℕ → List ℕ → Type 0

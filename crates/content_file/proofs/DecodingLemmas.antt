@@ -136,9 +136,6 @@ ends_told decoder fed (Err (refusals.Flawed why field)) is here ends =
 ends_told decoder fed (Err refusals.Length) is here ends = absurd ends
 ends_told decoder fed (Err refusals.Memory) is here ends = tt
 
-pub fields_told : (decoder : Decoder) (fed : List ℕ) (fault : DecodeFault) → ReadsFields decoder fed (Err fault) → ReadsWhole decoder fed (Err fault)
-fields_told decoder fed fault is = is
-
 -- ---- the digest
 
 -- the bytes before the last ones
@@ -192,10 +189,6 @@ pub cut_off : (fed : List ℕ) (fault : DecodeFault) → IsFaultOf fed fault →
 cut_off fed (faults.Damaged here) known cut damage e = sym (ap (λ (d : Damage). d.why) (some_is here damage (sym known ∙ e))) ∙ cut
 cut_off fed faults.Memory known cut damage e = absurd cut
 
-pub refused : (fed : List ℕ) (fault : DecodeFault) → IsFaultOf fed fault → ¬ (IsCut fault) → IsRefused fed fault
-refused fed (faults.Damaged damage) known other = (known, other)
-refused fed faults.Memory known other = tt
-
 pub bytes_all : (bytes : List ℕ) → ((i : ℕ) → get_or bytes i 0 < 256) → All (λ byte. byte < 256) bytes
 bytes_all bytes fit k d lt = rw (get_or_default bytes k d 0 lt) (fit k)
 
@@ -225,9 +218,6 @@ finishes (Ok table) body fed bytes read ok err = content_taken fed table (bytes_
 finishes (Err fault) body fed bytes read ok err = subst (IsFaultOf fed) (sym err) tt
 
 -- ---- a piece, chunk by chunk
-
-pub front_start : (decoder : Decoder) (piece : List ℕ) → FeedsFront decoder piece decoder piece
-front_start decoder piece = record { front = []; parts = refl; fed = λ fed has. subst (HasFed decoder) (sym (append-nil fed)) has }
 
 pub front_more : (old mid new : Decoder) (piece rest chunk after : List ℕ) → FeedsFront old piece mid rest → rest ≡ chunk ++ after → ((fed : List ℕ) → HasFed mid fed → HasFed new (fed ++ chunk)) → FeedsFront old piece new after
 front_more old mid new piece rest chunk after before next step = record {

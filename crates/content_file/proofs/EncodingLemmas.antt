@@ -1,36 +1,16 @@
 -- Fields of a table's spelling, and a hasher that they go into.
-use Rattle.std.proofs.Common.{◌≢◌, ℕ, ◌+◌, ◌<◌, ◌≤◌, List, [], ◌++◌, length, drop, refl, sym, ◌∙◌, subst, append_assoc, arith}
+use Rattle.std.proofs.Common.{◌≢◌, ℕ, ◌+◌, ◌≤◌, List, length, drop, refl, arith}
 use Rattle.std.specs.List.{flat_map}
-use Rattle.std.proofs.lemmas.Grind.{common_steps}
 use Rattle.std.proofs.lemmas.List.{length-append}
-use Rattle.sha2.specs.declared.Sha256.{Sha256}
-use Rattle.sha2.specs.Hashers.{Holds256}
 use Rattle.file_table.specs.Table.{TableValue, column_at, record_at}
 use Rattle.content_file.specs.Spelling.{body, record_bytes, block_bytes, column_bytes, info_bytes}
-use Rattle.content_file.specs.Encoding.{IsBody, field_of, from, stripes_from, columns_from, records_from}
-use Rattle.content_file.specs.Hashed.{HoldsFront}
+use Rattle.content_file.specs.Encoding.{from, stripes_from, columns_from, records_from}
 use Rattle.content_file.specs.declared.place.Place.{Place}
 use Rattle.content_file.specs.declared.place.Place.TheVariants as places
-
-pub not_end : (place : Place) → IsBody place → place ≢ places.End
-not_end place body is = subst IsBody is body
-
-pub not_digest : (place : Place) → IsBody place → place ≢ places.Digest
-not_digest place body is = subst IsBody is body
 
 columns_left : (table : TableValue) (end : List ℕ) (d : ℕ) → length end ≤ length (columns_from table end d)
 columns_left table end d =
     omega (arith, length-append (flat_map info_bytes (drop 0 table.infos)) end, length-append (flat_map column_bytes (drop d table.columns)) (stripes_from table end 0))
-
--- each field of the body has a byte
-pub some_byte : (table : TableValue) (place : Place) → IsBody place → 0 < length (field_of table [] place)
-some_byte table places.Head body = grind (arith, common_steps)
-some_byte table (places.Column d) body = grind (arith, common_steps)
-some_byte table (places.Record d i) body = grind (arith, common_steps)
-some_byte table (places.Block d i k) body = grind (arith, common_steps)
-some_byte table (places.Stripe s) body = grind (arith, common_steps)
-some_byte table places.Digest body = absurd body
-some_byte table places.End body = absurd body
 
 -- what stands at a place, but for the end, has all bytes behind the body
 pub some_left : (table : TableValue) (end : List ℕ) (place : Place) → place ≢ places.End → length end ≤ length (from table end place)
@@ -46,12 +26,3 @@ some_left table end (places.Block d i k) other =
 some_left table end (places.Stripe s) other = omega (arith, length-append (flat_map info_bytes (drop s table.infos)) end)
 some_left table end places.Digest other = omega arith
 some_left table end places.End other = absurd (other refl)
-
--- the next field was hashed
-pub hashed_more : (table : TableValue) (old new : Sha256) (field rest : List ℕ) → ((message : List ℕ) → Holds256 old message → Holds256 new (message ++ field))
-    → HoldsFront table old (field ++ rest) → HoldsFront table new rest
-hashed_more table old new field rest update held = record {
-  message = held.message ++ field;
-  held = update held.message held.held;
-  front = held.front ∙ sym (append_assoc held.message field rest);
-}

@@ -1,6 +1,5 @@
 -- A field that is read is spelled so at the front of the bytes, and a field that is spelled there is read again.
 use Rattle.std.proofs.Common.{◌≡◌, ℕ, suc, ◌+◌, ◌^◌, ◌<◌, ◌≤◌, Bool, true, false, cond, ltb, List, [], ◌∷◌, ◌++◌, length, get_or, take, drop, Option, Some, None, refl, sym, ap, subst, ◌∙◌, append_assoc, arith, inl, inr}
-use Rattle.std.specs.Prelude.{Result, Ok, Err, IfOk, OnOk}
 use Rattle.std.specs.Int.{Width, w16, w32, w64, byte_len, from_le_bytes, to_le_bytes}
 use Rattle.std.proofs.lemmas.Bool.{cases_lt, ltb-false, le-ltb}
 use Rattle.std.proofs.lemmas.List.{take_at, drop_at, take-append-drop, length-append, length-take, get_or-drop, get_or-take, get_or_past}
@@ -23,11 +22,6 @@ IsBytes-take n bytes h i =
 
 pub IsBytes-rest : (byte : ℕ) (bytes : List ℕ) → IsBytes (byte ∷ bytes) → IsBytes bytes
 IsBytes-rest byte bytes h i = h (suc i)
-
--- the bytes that follow others
-pub IsBytes-after : (bytes text rest : List ℕ) → bytes ≡ text ++ rest → IsBytes bytes → IsBytes rest
-IsBytes-after bytes text rest parts fits =
-    subst IsBytes (ap (λ (b : List ℕ). drop (length text) b) parts ∙ drop_at text rest (length text) refl) (IsBytes-drop (length text) bytes fits)
 
 -- the value of a step that did not fail
 pub bind_some : {A B : Type 0} (read : Option A) (f : A → Option B) (y : B) → (read >>= f) ≡ Some y → (x : A) × (read ≡ Some x) × (f x ≡ Some y)
@@ -61,11 +55,6 @@ pub record Takes (bytes text rest : List ℕ) : Type 0 where
 
 pub takes_then : (a x b y c : List ℕ) → Takes a x b → Takes b y c → Takes a (x ++ y) c
 takes_then a x b y c p q = record { parts = p.parts ∙ ap (λ (t : List ℕ). x ++ t) q.parts ∙ sym (append_assoc x y c); rest_fits = q.rest_fits }
-
--- what follows from two facts on a result that is `Ok`
-pub if_ok_then : {T E : Type 0} (r : Result T E) (P : T → Type 0) (Q : Type 0) (R : Type 0) → IfOk r P → OnOk r Q → ((x : T) → P x → Q → R) → OnOk r R
-if_ok_then (Ok x) P Q R p q go = go x p q
-if_ok_then (Err e) P Q R p q go = tt
 
 -- ---- a byte
 

@@ -7,10 +7,8 @@ use Rattle.std.proofs.lemmas.Grind.{flat_map-append}
 use Rattle.file_table.specs.declared.block.Block.{Block}
 use Rattle.file_table.specs.Table.{Record, Column, records_of, positions_of}
 use Rattle.file_table.specs.Valid.{AreColumns, IsColumn, IsRecord, HasDigest, IsWhole, most_blocks, most_records}
-use Rattle.file_table.specs.Building.{last_column, newest_record}
-use Rattle.content_file.specs.Pushing.{with_blocks, with_records}
-use Rattle.content_file.proofs.Columns.{column_of, record_of, front_of}
-use Rattle.content_file.proofs.Fronts.{All-left, All-right, last_is, positions_in, positions_in-append, positions_in-push, records_last, blocks_last}
+use Rattle.content_file.proofs.Columns.{column_of}
+use Rattle.content_file.proofs.Fronts.{All-left, All-right, positions_in, positions_in-append}
 use Rattle.content_file.proofs.Parts.{FitsBlock}
 use Rattle.content_file.proofs.Apart.{FitsRecord, FitsColumn}
 
@@ -22,18 +20,6 @@ each_block the_length [] short digests below = tt
 each_block the_length (b ∷ blocks) short digests below =
     let first = All-head (λ p. p < the_length) b.position (positions_of blocks) below in
     (record { position = omega arith; digest = digests.0 }, each_block the_length blocks short digests.1 (All-tail (λ p. p < the_length) b.position (positions_of blocks) below))
-
-pub blocks_fit : (the_length size : ℕ) (columns : List Column) (blocks : List Block) → the_length ≤ most_blocks → AreColumns the_length size (with_blocks columns blocks) → AllByRecursion FitsBlock blocks
-blocks_fit the_length size columns blocks short are =
-    let last = newest_record columns in
-    let records = front_of (last_column columns).records in
-    let kept = record_of last.path last.meta (last.blocks ++ blocks) in
-    let column = blocks_last the_length size columns blocks are in
-    let digests : All HasDigest blocks = All-right HasDigest last.blocks blocks (last_is IsRecord records kept column.records).digests in
-    let here : AllBelow the_length (positions_in records ++ positions_of (last.blocks ++ blocks)) = subst (AllBelow the_length) (positions_in-push records kept) column.below in
-    let both : AllBelow the_length (positions_of last.blocks ++ positions_of blocks) =
-    subst (AllBelow the_length) (map-append (λ (b : Block). b.position) last.blocks blocks) (All-right (λ p. p < the_length) (positions_in records) _ here) in
-    each_block the_length blocks short (recursion_from_All HasDigest blocks digests) (All-right (λ p. p < the_length) (positions_of last.blocks) (positions_of blocks) both)
 
 each_record : (the_length size : ℕ) (records : List Record) → the_length ≤ most_blocks → AllByRecursion IsRecord records → AllByRecursion (IsWhole size) records → AllBelow the_length (positions_in records) → AllByRecursion (FitsRecord size) records
 each_record the_length size [] short are whole below = tt
@@ -50,10 +36,6 @@ records_of_column the_length size name before records short column whole =
     let are = recursion_from_All IsRecord records (All-right IsRecord before records column.records) in
     let below = All-right (λ p. p < the_length) (positions_in before) (positions_in records) (subst (AllBelow the_length) (positions_in-append before records) column.below) in
     each_record the_length size records short are (recursion_from_All (IsWhole size) records whole) below
-
-pub records_fit : (the_length size : ℕ) (columns : List Column) (records : List Record) → the_length ≤ most_blocks → AreColumns the_length size (with_records columns records) → All (IsWhole size) records → AllByRecursion (FitsRecord size) records
-records_fit the_length size columns records short are whole =
-    records_of_column the_length size (last_column columns).name (last_column columns).records records short (records_last the_length size columns records are) whole
 
 each_column : (the_length size : ℕ) (columns : List Column) → the_length ≤ most_blocks → AllByRecursion (IsColumn the_length) columns → All (IsWhole size) (records_of columns) → length (records_of columns) ≤ most_records → AllByRecursion (FitsColumn size) columns
 each_column the_length size [] short are whole few = tt

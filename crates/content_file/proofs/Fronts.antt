@@ -1,7 +1,7 @@
 -- What holds of columns holds of columns that are cut short: fewer columns, fewer records in the last, fewer blocks in the last of those.
-use Rattle.std.proofs.Common.{◌≡◌, ◌≢◌, ℕ, ◌+◌, ◌<◌, ◌≤◌, List, [], ◌∷◌, ◌++◌, length, get_or, refl, sym, ap, subst, ◌∙◌, append_assoc, arith, All}
+use Rattle.std.proofs.Common.{◌≡◌, ◌≢◌, ℕ, ◌+◌, ◌<◌, List, [], ◌∷◌, ◌++◌, length, get_or, refl, sym, ap, subst, ◌∙◌, append_assoc, arith, All}
 use Rattle.std.specs.Prelude.{AllPairs}
-use Rattle.std.specs.List.{flat_map, AllByRecursion}
+use Rattle.std.specs.List.{flat_map}
 use Rattle.std.proofs.lemmas.List.{append-nil, length-append, get_or_append_left, get_or-append-add, get_or_at, map-append}
 use Rattle.std.proofs.lemmas.List.Elements.{All-push}
 use Rattle.std.proofs.lemmas.List.Quantifiers.{all_pairs_push}
@@ -11,9 +11,7 @@ use Rattle.disk_model.specs.declared.meta.Meta.{Meta}
 use Rattle.file_table.specs.declared.block.Block.{Block}
 use Rattle.file_table.specs.Table.{Record, Column, records_of, column_blocks, positions_of, blocks_due, block_count}
 use Rattle.file_table.specs.Valid.{AreColumns, IsColumn, IsRecord, ComesBefore, HasDigest}
-use Rattle.file_table.specs.Building.{last_column, newest_record}
-use Rattle.content_file.specs.Pushing.{with_blocks, with_records}
-use Rattle.content_file.proofs.Columns.{column_of, record_of, front_of, records_of-push}
+use Rattle.content_file.proofs.Columns.{column_of, record_of}
 
 pub All-left : {X : Type 0} (P : X → Type 0) (xs ys : List X) → All P (xs ++ ys) → All P xs
 All-left P xs ys all k d lt =
@@ -36,14 +34,6 @@ pub AllPairs-last : {X : Type 0} (R : X → X → Type 0) (xs : List X) (y : X) 
 AllPairs-last R xs y all k d lt =
     let inside : length xs < length (xs ++ y ∷ []) = omega (arith, length-append xs (y ∷ [])) in
     subst (R (get_or xs k d)) (get_or_at xs y [] d (length xs) refl) (subst (λ x. R x (get_or (xs ++ y ∷ []) (length xs) d)) (get_or_append_left xs (y ∷ []) d k lt) (all k (length xs) d lt inside))
-
-pub recursion-left : {X : Type 0} (P : X → Type 0) (xs ys : List X) → AllByRecursion P (xs ++ ys) → AllByRecursion P xs
-recursion-left P [] ys all = tt
-recursion-left P (x ∷ xs) ys all = (all.0, recursion-left P xs ys all.1)
-
-pub recursion-right : {X : Type 0} (P : X → Type 0) (xs ys : List X) → AllByRecursion P (xs ++ ys) → AllByRecursion P ys
-recursion-right P [] ys all = all
-recursion-right P (x ∷ xs) ys all = recursion-right P xs ys all.1
 
 -- ---- the positions of a column
 
@@ -103,24 +93,6 @@ blocks_cut the_length name records path meta blocks more is =
 pub due-append : (size : ℕ) (records more : List Record) → blocks_due size (records ++ more) ≡ blocks_due size records + blocks_due size more
 due-append size records more = sum_by-append (λ (r : Record). block_count size r.meta.size) records more
 
-last_cut : (the_length size : ℕ) (front : List Column) (name : List ℕ) (long short : List Record) → IsColumn the_length (column_of name short) → length short ≤ length long → blocks_due size short ≤ blocks_due size long
-    → AreColumns the_length size (front ++ column_of name long ∷ []) → AreColumns the_length size (front ++ column_of name short ∷ [])
-last_cut the_length size front name long short is fewer less are =
-    let old = column_of name long in
-    let new = column_of name short in
-    let old_records = records_of-push front old in
-    let new_records = records_of-push front new in
-    record {
-      few = omega (arith, are.few, length-append front (old ∷ []), length-append front (new ∷ []));
-      each = All-push (IsColumn the_length) front new (All-left (IsColumn the_length) front (old ∷ []) are.each) is;
-      names = all_pairs_push (λ (a b : Column). a.name ≢ b.name) front new (AllPairs-left (λ (a b : Column). a.name ≢ b.name) front (old ∷ []) are.names) (AllPairs-last (λ (a b : Column). a.name ≢ b.name) front old are.names);
-      few_records = omega (arith, are.few_records, ap length old_records, ap length new_records, length-append (records_of front) long, length-append (records_of front) short);
-      few_blocks = omega (arith, are.few_blocks, ap (blocks_due size) old_records, ap (blocks_due size) new_records, due-append size (records_of front) long, due-append size (records_of front) short);
-    }
-
-last_of_columns : (the_length size : ℕ) (front : List Column) (column : Column) → AreColumns the_length size (front ++ column ∷ []) → IsColumn the_length column
-last_of_columns the_length size front column are = last_is (IsColumn the_length) front column are.each
-
 pub columns_front : (the_length size : ℕ) (columns more : List Column) → AreColumns the_length size (columns ++ more) → AreColumns the_length size columns
 columns_front the_length size columns more are =
     let all = flat_map-append (λ (c : Column). c.records) columns more in
@@ -131,36 +103,3 @@ columns_front the_length size columns more are =
       few_records = omega (arith, are.few_records, ap length all, length-append (records_of columns) (records_of more));
       few_blocks = omega (arith, are.few_blocks, ap (blocks_due size) all, due-append size (records_of columns) (records_of more));
     }
-
-pub records_front : (the_length size : ℕ) (columns : List Column) (records more : List Record) → AreColumns the_length size (with_records columns (records ++ more)) → AreColumns the_length size (with_records columns records)
-records_front the_length size columns records more are =
-    let front = front_of columns in
-    let name = (last_column columns).name in
-    let before = (last_column columns).records in
-    let same : before ++ (records ++ more) ≡ (before ++ records) ++ more = sym (append_assoc before records more) in
-    let whole : AreColumns the_length size (front ++ column_of name ((before ++ records) ++ more) ∷ []) = subst (λ (rs : List Record). AreColumns the_length size (front ++ column_of name rs ∷ [])) same are in
-    last_cut the_length size front name ((before ++ records) ++ more) (before ++ records) (records_cut the_length name (before ++ records) more (last_of_columns the_length size front _ whole))
-    (omega (arith, length-append (before ++ records) more)) (omega (arith, due-append size (before ++ records) more)) whole
-
-pub blocks_front : (the_length size : ℕ) (columns : List Column) (blocks more : List Block) → AreColumns the_length size (with_blocks columns (blocks ++ more)) → AreColumns the_length size (with_blocks columns blocks)
-blocks_front the_length size columns blocks more are =
-    let front = front_of columns in
-    let name = (last_column columns).name in
-    let records = front_of (last_column columns).records in
-    let last = newest_record columns in
-    let same : last.blocks ++ (blocks ++ more) ≡ (last.blocks ++ blocks) ++ more = sym (append_assoc last.blocks blocks more) in
-    let long = records ++ record_of last.path last.meta ((last.blocks ++ blocks) ++ more) ∷ [] in
-    let short = records ++ record_of last.path last.meta (last.blocks ++ blocks) ∷ [] in
-    let whole : AreColumns the_length size (front ++ column_of name long ∷ []) = subst (λ (bs : List Block). AreColumns the_length size (front ++ column_of name (records ++ record_of last.path last.meta bs ∷ []) ∷ [])) same are in
-    last_cut the_length size front name long short (blocks_cut the_length name records last.path last.meta (last.blocks ++ blocks) more (last_of_columns the_length size front _ whole))
-    (omega (arith, length-append records (record_of last.path last.meta ((last.blocks ++ blocks) ++ more) ∷ []), length-append records (record_of last.path last.meta (last.blocks ++ blocks) ∷ [])))
-    (omega (arith, due-append size records (record_of last.path last.meta ((last.blocks ++ blocks) ++ more) ∷ []), due-append size records (record_of last.path last.meta (last.blocks ++ blocks) ∷ []))) whole
-
--- the last column of columns with more records, or with more blocks
-pub records_last : (the_length size : ℕ) (columns : List Column) (records : List Record) → AreColumns the_length size (with_records columns records)
-    → IsColumn the_length (column_of (last_column columns).name ((last_column columns).records ++ records))
-records_last the_length size columns records are = last_of_columns the_length size (front_of columns) _ are
-
-pub blocks_last : (the_length size : ℕ) (columns : List Column) (blocks : List Block) → AreColumns the_length size (with_blocks columns blocks)
-    → IsColumn the_length (column_of (last_column columns).name (front_of (last_column columns).records ++ record_of (newest_record columns).path (newest_record columns).meta ((newest_record columns).blocks ++ blocks) ∷ []))
-blocks_last the_length size columns blocks are = last_of_columns the_length size (front_of columns) _ are

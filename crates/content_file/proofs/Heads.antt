@@ -12,7 +12,7 @@ use Rattle.file_table.specs.declared.info.Mark.TheVariants.{Pending, Synced}
 use Rattle.file_table.specs.Valid.{IsShape, IsInfo, IsState, HasNoHistory}
 use Rattle.content_file.specs.Spelling.{shape_bytes, info_bytes, flags, kind_code}
 use Rattle.content_file.specs.Reading.{◌>>=◌, byte_at, number_at, piece_at, info_of, info_at, from_one, kibibytes_at, levels_at, kind_of, kind_at, shape_at, length_at, count_at}
-use Rattle.content_file.proofs.Fields.{IsBytes, from_some, bind_some, guard_false, some_is, Takes, takes_then, byte_takes, wide32, wide64, number_takes, number_again, piece_takes, piece_again}
+use Rattle.content_file.proofs.Fields.{IsBytes, from_some, guard_false, some_is, Takes, takes_then, byte_takes, wide32, wide64, number_takes, number_again, piece_takes, piece_again}
 
 -- a choice whose answer is known
 pub chosen : {A : Type 0} (b : Bool) (x y z : A) → cond b x y ≡ z → ((b ≡ true) × (x ≡ z)) ⊎ ((b ≡ false) × (y ≡ z))
@@ -49,19 +49,6 @@ info_again_of Synced last true true state = refl
 info_again_of Synced last true false state = refl
 info_again_of Synced last false true state = refl
 info_again_of Synced last false false state = refl
-
-pub info_takes : (bytes : List ℕ) (info : Info) (rest : List ℕ) → IsBytes bytes → info_at bytes ≡ Some (info, rest) → Takes bytes (info_bytes info) rest
-unfolding info_at
-info_takes bytes info rest fits e =
-    let a = bind_some (byte_at bytes) (λ flags. number_at w64 flags.1 >>= λ last. info_of flags.0 last.0 >>= λ info. Some (info, last.1)) (info, rest) e in
-    let b = bind_some (number_at w64 a.0.1) (λ last. info_of a.0.0 last.0 >>= λ info. Some (info, last.1)) (info, rest) a.2 in
-    let c = bind_some (info_of a.0.0 b.0.0) (λ info. Some (info, b.0.1)) (info, rest) b.2 in
-    let t0 = byte_takes bytes a.0.0 a.0.1 fits a.1 in
-    let t1 = number_takes w64 (2 ^ 64) wide64 a.0.1 b.0.0 b.0.1 t0.0.rest_fits b.1 in
-    let same = info_is a.0.0 b.0.0 c.0 c.1 in
-    let all : Takes bytes (a.0.0 ∷ to_le_bytes w64 b.0.0) b.0.1 = takes_then bytes (a.0.0 ∷ []) a.0.1 (to_le_bytes w64 b.0.0) b.0.1 t0.0 t1.0 in
-    let made : Takes bytes (info_bytes c.0) b.0.1 = subst (λ (p : ℕ × ℕ). Takes bytes (p.0 ∷ to_le_bytes w64 p.1) b.0.1) (let e : (a.0.0, b.0.0) ≡ (flags c.0, c.0.last) = cc in e) all in
-    subst (λ (x : Info × List ℕ). Takes bytes (info_bytes x.0) x.1) (some_is (c.0, b.0.1) (info, rest) c.2) made
 
 pub info_again : (info : Info) (rest : List ℕ) → IsInfo info → info_at (info_bytes info ++ rest) ≡ Some (info, rest)
 unfolding info_at

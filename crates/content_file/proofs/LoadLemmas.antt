@@ -81,7 +81,7 @@ copy_in _ = 0
 is_of : (copy : ℕ) (call : VaultCall) → IsReadOf copy call → copy_in call ≡ copy
 unfolding copy_in
 is_of copy call (inl size) = ap copy_in size
-is_of copy call (inr read) = ap copy_in read.2
+is_of copy call (inr read) = ap copy_in read.3
 
 -- the copies so far, and one more
 pub below_then : (copies : ℕ) (old mid new : VaultView) → MakesOnly (IsReadBelow copies) old mid → MakesOnly (IsReadOf copies) mid new → MakesOnly (IsReadBelow (copies + 1)) old new

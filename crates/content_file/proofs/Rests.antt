@@ -40,9 +40,6 @@ rest_then a b c first second = record {
   parts = (ends_then a b c (ends_of a b first) second).parts;
 }
 
-pub ends_same : (bytes : List ℕ) → EndsIn bytes bytes
-ends_same bytes = record { before = []; parts = refl }
-
 byte_rest : (bytes : List ℕ) (x : ℕ × List ℕ) → byte_at bytes ≡ Some x → RestOf bytes x.1
 byte_rest [] x e = absurd cc
 byte_rest (byte ∷ rest) x e = subst (λ (p : ℕ × List ℕ). RestOf (byte ∷ rest) p.1) (some_is (byte, rest) x e) (record { before = byte ∷ []; some = omega arith; parts = refl })

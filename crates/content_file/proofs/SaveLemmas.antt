@@ -1,6 +1,6 @@
 -- A copy is replaced by its sealed draft, and copies are saved one after another.
 use Rattle.std.proofs.Common.{◌≡◌, ◌⊎◌, inl, inr, ⊎_elim, ℕ, ◌+◌, ◌<◌, List, [], length, None, Some, true, IsTrue, Result, OnOk, refl, sym, ◌∙◌, ap, subst, arith, below_more, get_or, set}
-use Rattle.std.proofs.lemmas.List.{set-get_or, get_or-set_same, get_or-set_other, get_or_past, set_past}
+use Rattle.std.proofs.lemmas.List.{set-get_or, get_or-set_same, get_or-set_other, set_past}
 use Rattle.std.proofs.lemmas.Bool.{cases_eq, cases_lt}
 use Rattle.disk_model.specs.Files.{Files, Stays, MayPublish, content_of}
 use Rattle.disk_model.specs.Vault.{VaultView, SomeCalls, ChangesBy, Holds, DraftIs, staged_of, draft_of, copies_of, is_sealed, IsWellFormed}
@@ -71,14 +71,6 @@ other_draft copy other content old new gone absent =
         | inr past ↦ is ∙ ap (λ ds. get_or ds other Absent) (set_past old.drafts copy Absent past) ∙ absent
       ]
       | inr differs ↦ is ∙ get_or-set_other old.drafts copy other Absent Absent differs ∙ absent
-    ]
-
--- no draft, where there is none of any copy
-pub no_draft : (copies : ℕ) (v : VaultView) → copies_of v ≡ copies → ((copy : ℕ) → copy < copies → draft_of v copy ≡ Absent) → HasNoDraft v
-no_draft copies v are absent copy =
-    elim (cases_lt copy copies) [
-      | inl within ↦ absent copy within
-      | inr past ↦ get_or_past v.drafts copy Absent (omega (arith, are, past))
     ]
 
 -- ---- all copies

@@ -20,7 +20,7 @@ use Rattle.content_file.proofs.Whole.{head_takes}
 use Rattle.content_file.proofs.TakenHead.{head_found}
 use Rattle.content_file.proofs.Stays.{with_more}
 use Rattle.content_file.proofs.FlawStays.{head_stays, head_long}
-use Rattle.content_file.proofs.Rests.{ends_then, ends_same}
+use Rattle.content_file.proofs.Rests.{ends_then}
 use Rattle.content_file.proofs.StepLemmas.{then_is, then_bad, stays_is, is_length, stripes_end, body_no_records}
 use Rattle.content_file.proofs.Steps.{past_on}
 
@@ -70,9 +70,6 @@ head_starts bytes head rest built fits read new building =
     subst (λ (b : BuildingValue). StartsWith bytes (first_body head b) rest) (sym new) start
 
 -- ---- the whole body
-
-pub goes_same : (place : Option BodyValue) (bytes : List ℕ) → GoesOn place bytes place bytes
-goes_same place bytes = record { goes = λ whole more. refl; ends = ends_same bytes }
 
 pub goes_then : (a b c : Option BodyValue) (x y z : List ℕ) → GoesOn a x b y → GoesOn b y c z → GoesOn a x c z
 goes_then a b c x y z first second = record { goes = λ whole more. first.goes whole more ∙ second.goes whole more; ends = ends_then x y z first.ends second.ends }

@@ -1,6 +1,6 @@
 -- What is read without a flaw is a valid table, and the bytes are its spelling.
-use Rattle.std.proofs.Common.{◌≡◌, ℕ, ◌-◌, List, [], ◌∷◌, ◌++◌, length, take, Option, Some, None, refl, sym, ap, subst, ◌∙◌, arith, All, inl, inr}
-use Rattle.std.specs.Prelude.{◌<◌, IsSome}
+use Rattle.std.proofs.Common.{◌≡◌, ℕ, ◌-◌, List, [], ◌∷◌, ◌++◌, length, take, None, refl, sym, ap, subst, ◌∙◌, arith, All, inl, inr}
+use Rattle.std.specs.Prelude.{◌<◌}
 use Rattle.std.specs.List.{flat_map}
 use Rattle.std.proofs.lemmas.Bool.Decides.{Decides-eqb}
 use Rattle.std.proofs.lemmas.Bool.{cases_lt}
@@ -12,7 +12,7 @@ use Rattle.file_table.specs.Valid.{AreColumns, IsValid}
 use Rattle.content_file.specs.declared.head.Head.{Head}
 use Rattle.content_file.specs.Head.{head_bytes}
 use Rattle.content_file.specs.Spelling.{column_bytes, info_bytes, body, spelling, IsContent}
-use Rattle.content_file.specs.Flaw.{Read, Good, Bad, Damage, damage_of}
+use Rattle.content_file.specs.Flaw.{Read, Good, Bad, damage_of}
 use Rattle.content_file.specs.FirstFlaw.{read_end, read_content, first_flaw}
 use Rattle.content_file.proofs.Fields.{IsBytes, piece_takes}
 use Rattle.content_file.proofs.Whole.{head_takes, head_of_table, body-parts, whole_read}
@@ -87,11 +87,3 @@ content_from_none bytes fits e =
     let r = no_damage bytes (read_content bytes) e in
     let t = content_taken bytes r.0 fits r.1 in
     record { table = r.0; valid = t.0; spelled = t.1 }
-
--- bytes that are no content file have a first wrong field
-pub some_flaw : (bytes : List ℕ) → IsBytes bytes → ¬ (IsContent bytes) → IsSome (first_flaw bytes)
-some_flaw bytes fits other = by (first_flaw bytes) refl
-  where
-    by : (o : Option Damage) → first_flaw bytes ≡ o → IsSome o
-    by None none = absurd (other (content_from_none bytes fits none))
-    by (Some d) some = refl

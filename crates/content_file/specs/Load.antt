@@ -1,18 +1,32 @@
 -- What loading from the content copies gives, and why.
-use Rattle.std.specs.Prelude.{◌≡◌, ◌⊎◌, ℕ, ◌<◌, List, ◌∷◌, ◌++◌, true, false, IsTrue, Option, None, Some}
+use Rattle.std.specs.Prelude.{◌≡◌, ◌⊎◌, ℕ, ◌<◌, ◌≤◌, List, ◌∷◌, ◌++◌, length, true, false, IsTrue, Option, None, Some}
 use Rattle.std.specs.List.{AllByRecursion}
 use Rattle.disk_model.specs.Cause.{Rose, Grows}
-use Rattle.disk_model.specs.Files.{content_of}
-use Rattle.disk_model.specs.Vault.{VaultView, VaultCall, VaultDone, ContentSize, ContentRead, copies_of}
+use Rattle.disk_model.specs.Calls.{MakesOnly}
+use Rattle.disk_model.specs.Files.{Stays, content_of}
+use Rattle.disk_model.specs.Vault.{VaultView, VaultCall, VaultDone, SomeCalls, ChangesBy, DraftsStay, ContentSize, ContentRead, copies_of}
 use Rattle.file_table.specs.Table.{TableValue}
 use Rattle.file_table.specs.Valid.{IsValid}
 use Rattle.content_file.specs.Spelling.{spelling, IsContent}
+use Rattle.content_file.specs.Flaw.{Damage}
+use Rattle.content_file.specs.FirstFlaw.{first_flaw}
+use Rattle.content_file.specs.Damages.{damages_below}
+use Rattle.content_file.specs.Decoding.{HasFed}
+use Rattle.content_file.specs.declared.decoder.Decoder.{Decoder}
+use Rattle.content_file.specs.declared.loading.CopyFault.{CopyFault}
+use Rattle.content_file.specs.declared.loading.CopyFault.TheVariants as copies
+use Rattle.content_file.specs.declared.loading.LoadFault.{LoadFault}
+use Rattle.content_file.specs.declared.loading.LoadFault.TheVariants as loads
 
--- a call that reads a copy or its size
+-- how many bytes of a copy are read at once, at most
+abbrev pub most_read : ℕ
+most_read = 65536
+
+-- a call that reads a piece of a copy, or its size
 abbrev pub IsReadOf : ℕ → VaultCall → Type 0
-IsReadOf copy call = (call ≡ ContentSize copy) ⊎ ((at : ℕ) × (n : ℕ) × (call ≡ ContentRead copy at n))
+IsReadOf copy call = (call ≡ ContentSize copy) ⊎ ((at : ℕ) × (n : ℕ) × (n ≤ most_read) × (call ≡ ContentRead copy at n))
 
--- a call that reads one of the first copies or its size
+-- a call that reads a piece of one of the first copies, or its size
 abbrev pub IsReadBelow : ℕ → VaultCall → Type 0
 IsReadBelow copies call = (copy : ℕ) × (copy < copies) × IsReadOf copy call
 
@@ -48,15 +62,54 @@ pub record IsDamaged (v : VaultView) (copy : ℕ) : Type 0 where
 abbrev pub IsUseless : VaultView → ℕ → Type 0
 IsUseless v copy = (content_of v.files copy ≡ None) ⊎ IsDamaged v copy
 
--- a damaged copy was read without failure, and passed over
-pub record IsPassedOver (old new : VaultView) (copy : ℕ) : Type 0 where
-  pub damaged : IsTrue old.tells → IsDamaged old copy
-  pub none_failed : NoneFailed old new
+-- ---- one copy
+
+-- what reading a copy does to the vault, whatever it answers
+pub record ReadsCopy (copy : ℕ) (old new : VaultView) : Type 0 where
+  pub calls : SomeCalls old new
+  pub made : MakesOnly (IsReadOf copy) old new
+  pub changes : ChangesBy Stays old new
+  pub drafts : DraftsStay old new
+
+-- a decoder was fed all bytes of a copy, if it is so long
+abbrev pub IsFedAll : Option (List ℕ) → ℕ → Decoder → Type 0
+IsFedAll held size decoder = (bytes : List ℕ) → held ≡ Some bytes → length bytes ≡ size → HasFed decoder bytes
+
+-- a decoder was fed the bytes of a copy, or there is no such copy
+abbrev pub IsFedBy : Option Decoder → Option (List ℕ) → Type 0
+IsFedBy None held = held ≡ None
+IsFedBy (Some decoder) held = (bytes : List ℕ) × (held ≡ Some bytes) × HasFed decoder bytes
 
 -- what a copy that was read holds: this table, or nothing
 abbrev pub IsCopyOf : VaultView → ℕ → Option TableValue → Type 0
 IsCopyOf v copy None = IsTrue v.tells → content_of v.files copy ≡ None
 IsCopyOf v copy (Some table) = IsValid table × (IsTrue v.tells → content_of v.files copy ≡ Some (spelling table))
+
+-- a copy holds bytes whose first wrong field is this
+pub record HasDamage (v : VaultView) (copy : ℕ) (damage : Damage) : Type 0 where
+  pub bytes : List ℕ
+  pub held : content_of v.files copy ≡ Some bytes
+  pub flaw : first_flaw bytes ≡ Some damage
+
+-- a damaged copy was read without failure
+pub record IsFoundDamaged (old new : VaultView) (copy : ℕ) (damage : Damage) : Type 0 where
+  pub damaged : IsTrue old.tells → HasDamage old copy damage
+  pub none_failed : NoneFailed old new
+
+-- why a copy gave no table
+abbrev pub GivesNoTable : VaultView → VaultView → ℕ → CopyFault → Type 0
+GivesNoTable old new copy copies.Failed = HasFailed old new copy
+GivesNoTable old new copy (copies.Damaged damage) = IsFoundDamaged old new copy damage
+GivesNoTable old new copy copies.Memory = Unit {0}
+
+-- ---- all copies
+
+-- what reading the first copies does to the vault, whatever it answers
+pub record ReadsBelow (copies : ℕ) (old new : VaultView) : Type 0 where
+  pub calls : SomeCalls old new
+  pub made : MakesOnly (IsReadBelow copies) old new
+  pub changes : ChangesBy Stays old new
+  pub drafts : DraftsStay old new
 
 -- the table of the first copy that was read and is a content file
 pub record LoadsTable (old new : VaultView) (table : TableValue) : Type 0 where
@@ -81,8 +134,16 @@ pub record LoadFails (old new : VaultView) : Type 0 where
   pub some : (copy : ℕ) × HasFailed old new copy
   pub useless : IsTrue old.tells → (k : ℕ) → k < copies_of old → IsUseless old k ⊎ HasFailed old new k
 
--- some copy is there, each is absent or damaged, and no reading failed
-pub record LoadIsDamaged (old new : VaultView) : Type 0 where
+-- Some copy is there, each is absent or damaged, and no reading failed. The damaged ones are all listed, in order.
+pub record LoadIsDamaged (old new : VaultView) (damages : List (ℕ × Damage)) : Type 0 where
   pub some : IsTrue old.tells → (k : ℕ) × (k < copies_of old) × IsDamaged old k
   pub useless : IsTrue old.tells → (k : ℕ) → k < copies_of old → IsUseless old k
   pub none_failed : NoneFailed old new
+  pub not_empty : 0 < length damages
+  pub listed : IsTrue old.tells → damages ≡ damages_below (copies_of old) old.files
+
+-- why no table was loaded
+abbrev pub LoadsNot : VaultView → VaultView → LoadFault → Type 0
+LoadsNot old new loads.Failed = LoadFails old new
+LoadsNot old new (loads.Damaged damages) = LoadIsDamaged old new damages
+LoadsNot old new loads.Memory = Unit {0}

@@ -1,5 +1,6 @@
 // Why bytes gave no table.
 ghost use Rattle.std.specs.Prelude.{◌≡◌};
+ghost use Rattle.content_file.specs.FlawText.{printed_flaw};
 ghost use Rattle.content_file.specs.declared.fault.DecodeFault.TheVariants.{Memory};
 ghost use Rattle.content_file.specs.declared.fault.Refusal.TheVariants as refusals;
 
@@ -35,6 +36,29 @@ pub enum Flaw {
     Digest,
     /// Bytes behind the digest.
     Extra,
+}
+
+impl Flaw {
+    /// The words that are printed for it.
+    pub fn as_str(self) -> &'static str
+        ensures { result.now ≡ printed_flaw self }
+    {
+        match self {
+            Flaw::Short => "too short",
+            Flaw::Magic => "not a content file",
+            Flaw::Version => "unknown version",
+            Flaw::Value => "bad value",
+            Flaw::Name => "bad name",
+            Flaw::Path => "bad path",
+            Flaw::Order => "out of order",
+            Flaw::Full => "too many",
+            Flaw::Position => "bad position",
+            Flaw::Length => "wrong length",
+            Flaw::Hash => "missing hash",
+            Flaw::Digest => "wrong digest",
+            Flaw::Extra => "bytes after the end",
+        }
+    }
 }
 
 /// The first wrong field of a content file.

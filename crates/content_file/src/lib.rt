@@ -13,6 +13,7 @@
 
 mod body;
 mod checked;
+mod damages;
 mod decoder;
 mod decoding;
 mod encoder;
@@ -27,6 +28,7 @@ mod reader;
 mod remaining;
 mod saving;
 
+pub use damages::Damages;
 pub use decoder::Decoder;
 pub use decoding::decode;
 pub use encoder::Encoder;

@@ -4,10 +4,11 @@ ghost use Rattle.disk_model.specs.Vault.{copies_of};
 ghost use Rattle.disk_memory.specs.Vault.{vault_view};
 
 use crate::samples::{NO_FILE, ONE_FILE, THREE_DISKS};
-use content_file::{Encoder, LoadFault, decode, load, save};
+use content_file::{Damage, Encoder, Flaw, LoadFault, decode, load, save};
 use disk_memory::MemVault;
 use disk_model::{Failed, Vault};
 use file_table::Table;
+use sha2::{Digest, Sha256};
 use std::alloc::{AllocError, Global};
 use std::test::Fail;
 
@@ -29,41 +30,107 @@ fn whole_files(rt: HostRuntime) -> Result<(), Fail> {
     Ok(())
 }
 
-// How many files the first good of two copies has, where call `failing` of the vault fails.
-fn files_of(
-    alloc: Global,
-    copies: [Option<&[u8]>; 2],
-    failing: u64,
-) -> Result<Result<Option<u32>, LoadFault>, Fail> {
+// What loading gave.
+#[derive(Clone, Copy, Debug, PartialEq, Eq)]
+enum Loaded {
+    Nothing,
+    /// How many files the table has.
+    Files(u32),
+    Failed,
+    /// How many copies are damaged, and the last of them.
+    Damaged(u32, (u32, Damage)),
+    Memory,
+}
+
+fn outcome_of(answer: Result<Option<Table>, LoadFault>) -> Loaded {
+    match answer {
+        Ok(Some(table)) if table.disks() == 1 => Loaded::Files(table.records(0)),
+        Ok(_) => Loaded::Nothing,
+        Err(LoadFault::Failed) => Loaded::Failed,
+        Err(LoadFault::Damaged(damages)) if !damages.is_empty() => {
+            let count = damages.len();
+            Loaded::Damaged(count, damages.at(count - 1))
+        }
+        Err(_) => Loaded::Memory,
+    }
+}
+
+// What the first good of two copies gives, where call `failing` of the vault fails.
+fn load_of(alloc: Global, copies: [Option<&[u8]>; 2], failing: u64) -> Result<Loaded, Fail> {
     let mut vault = MemVault::new(alloc, 1, 2)?;
     vault.set_content(0, copies[0])?;
     vault.set_content(1, copies[1])?;
     vault.fail_at(failing)?;
-    Ok(match load(alloc, &mut vault) {
-        Ok(Some(table)) if table.disks() == 1 => Ok(Some(table.records(0))),
-        Ok(_) => Ok(None),
-        Err(fault) => Err(fault),
-    })
+    Ok(outcome_of(load(alloc, &mut vault)))
+}
+
+fn damaged(count: u32, copy: u32, offset: u64, why: Flaw) -> Loaded {
+    Loaded::Damaged(count, (copy, Damage { offset, why }))
 }
 
 #[test]
 fn copies_in_order(rt: HostRuntime) -> Result<(), Fail> {
     let whole = Some(ONE_FILE.as_slice());
     let empty = Some(NO_FILE.as_slice());
-    let damaged = Some(&ONE_FILE[..126]);
+    let short = Some(&ONE_FILE[..126]);
+    let other = Some(b"other".as_slice());
     for (copies, failing, answer) in [
-        ([None, None], 0, Ok(None)),
-        ([None, whole], 0, Ok(Some(1))),
-        ([empty, whole], 0, Ok(Some(0))),
-        ([damaged, whole], 0, Ok(Some(1))),
-        ([whole, empty], 1, Ok(Some(0))),
-        ([whole, empty], 2, Ok(Some(0))),
-        ([whole, None], 2, Err(LoadFault::Failed)),
-        ([whole, damaged], 1, Err(LoadFault::Failed)),
-        ([damaged, None], 0, Err(LoadFault::Damaged)),
-        ([damaged, damaged], 0, Err(LoadFault::Damaged)),
+        ([None, None], 0, Loaded::Nothing),
+        ([None, whole], 0, Loaded::Files(1)),
+        ([empty, whole], 0, Loaded::Files(0)),
+        ([short, whole], 0, Loaded::Files(1)),
+        ([whole, empty], 1, Loaded::Files(0)),
+        ([whole, empty], 2, Loaded::Files(0)),
+        ([whole, None], 2, Loaded::Failed),
+        ([whole, short], 1, Loaded::Failed),
+        ([short, None], 0, damaged(1, 0, 95, Flaw::Short)),
+        ([None, short], 0, damaged(1, 1, 95, Flaw::Short)),
+        ([short, other], 0, damaged(2, 1, 0, Flaw::Short)),
     ] {
-        assert_eq!(rt; files_of(rt.alloc(), copies, failing)?, answer);
+        assert_eq!(rt; load_of(rt.alloc(), copies, failing)?, answer);
+    }
+    Ok(())
+}
+
+// A content file of one file of 8,000 blocks of 1 KiB, each in a pending stripe: 112,097 bytes.
+fn long_file(alloc: Global) -> Result<Vec<u8>, Fail> {
+    let blocks = 8_000u32;
+    let mut file = Vec::from_slice(alloc, &ONE_FILE[..30])?;
+    file.extend_from_slice(&blocks.to_le_bytes())?;
+    file.extend_from_slice(&ONE_FILE[34..45])?;
+    file.extend_from_slice(&(u64::from(blocks) * 1024).to_le_bytes())?;
+    file.extend_from_slice(&ONE_FILE[53..65])?;
+    for position in 0..blocks {
+        file.extend_from_slice(&position.to_le_bytes())?;
+        file.push(0)?;
+    }
+    for _ in 0..blocks {
+        file.extend_from_slice(&[0; 9])?;
+    }
+    let digest = Sha256::digest(file.as_slice());
+    file.extend_from_slice(digest.as_slice())?;
+    Ok(file)
+}
+
+#[test]
+fn a_copy_in_several_pieces(rt: HostRuntime) -> Result<(), Fail> {
+    let long = long_file(rt.alloc())?;
+    let whole = Some(long.as_slice());
+    let one = Some(ONE_FILE.as_slice());
+    let mut longer = Vec::from_slice(rt.alloc(), &ONE_FILE)?;
+    longer.resize(200_000, 0)?;
+    for (copies, failing, answer) in [
+        ([whole, None], 0, Loaded::Files(1)),
+        ([whole, None], 3, Loaded::Failed),
+        ([whole, one], 3, Loaded::Files(1)),
+        (
+            [Some(longer.as_slice()), None],
+            0,
+            damaged(1, 0, 127, Flaw::Extra),
+        ),
+        ([Some(longer.as_slice()), None], 5, Loaded::Failed),
+    ] {
+        assert_eq!(rt; load_of(rt.alloc(), copies, failing)?, answer);
     }
     Ok(())
 }

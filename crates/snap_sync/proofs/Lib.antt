@@ -47,3 +47,4 @@ pub mod DigestLemmas
 pub mod HashedLemmas
 pub mod ValidLemmas
 pub mod UnreadLemmas
+pub mod FullLemmas

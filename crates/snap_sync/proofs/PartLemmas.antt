@@ -1,5 +1,5 @@
 -- A sync over folders that tell their trees: what was laid out, and that it is a part sync of that.
-use Rattle.std.proofs.Common.{◌≡◌, ◌⊎◌, inl, inr, ⊎_elim, Some, ℕ, ◌<◌, ◌≤◌, List, [], ◌∷◌, ◌++◌, length, map, take, get_or, Bool, true, false, if◌then◌else◌, IsTrue, refl, sym, ap, ◌∙◌, subst, arith}
+use Rattle.std.proofs.Common.{◌≡◌, ◌⊎◌, inl, inr, ⊎_elim, Some, ℕ, ◌<◌, ◌≤◌, List, [], ◌∷◌, ◌++◌, length, map, take, get_or, Bool, true, false, if◌then◌else◌, IsTrue, refl, sym, ap, ap₂, ◌∙◌, subst, suc, arith}
 use Rattle.std.specs.List.{All, Contains, filter}
 use Rattle.std.specs.FinMap as finite_map
 use Rattle.std.proofs.lemmas.Bool.{cases_Bool}
@@ -25,7 +25,7 @@ use Rattle.snap_sync.specs.Part.{AreOfPartSyncs, IsFullSync, IsPartSync, IsPartT
 use Rattle.snap_sync.specs.Reading.{StripeReading, is_verified, row_of, stripes_of}
 use Rattle.snap_sync.proofs.CellLemmas.{FindsCells, IsStripeRead, stripes_read}
 use Rattle.snap_sync.proofs.GivenLemmas.{AreTrees, given_stripe, verified_is_given}
-use Rattle.snap_sync.proofs.ListFacts.{filter_all, kept_made, kept_among, kept_pass, All-through, All-take, All-first, contains_first}
+use Rattle.snap_sync.proofs.ListFacts.{filter_all, kept_made, kept_among, kept_pass, All-left, All-through, All-take, All-first, contains_first}
 use Rattle.snap_sync.proofs.StillPending.{first_stripes}
 
 -- ---- stripes that are not verified change nothing
@@ -82,6 +82,11 @@ tree_of_folder folders d below = get_or-map (λ (folder : FolderView). folder.tr
 
 pub length-layout : (old : TableValue) (kept : List (List ListedFile)) → length (layout old kept).columns ≡ length old.columns
 length-layout old kept = length-map-range_with_len (column_laid old (all_sorted old kept)) 0 (length old.columns)
+
+-- a list whose elements are each made of their keys
+made_again : {K A : Type 0} (f : K → A) (key : A → K) (xs : List A) → All (λ (x : A). x ≡ f (key x)) xs → xs ≡ map f (map key xs)
+made_again f key [] each = refl
+made_again f key (x ∷ xs) each = ap₂ (λ y ys. y ∷ ys) (each 0 x (omega arith)) (made_again f key xs (λ k d within. each (suc k) d (omega arith)))
 
 module _ (setup : SetupValue) (old start : TableValue) (read_all : List StripeReading) (olds mids news : List FolderView) (syncs : SyncsTold setup old start read_all olds mids news) where
   abbrev trees : List Tree
@@ -181,16 +186,26 @@ module _ (setup : SetupValue) (old start : TableValue) (read_all : List StripeRe
             absurd (none d there (rose_since _ _ _ lists.call.called.goes_on.later ((read.cells d below).unread failed)))
       ]
 
+      -- then what was read is what the trees give
+      all_as_given : All (λ (reading : StripeReading). reading ≡ reading_by start trees reading.stripe) read_all
+      all_as_given k d within =
+          let reading : StripeReading = get_or read_all k d in
+          let read : IsStripeRead start mids news reading = all_stripes_read k d within in
+          given_stripe finds start mids news trees are_trees reading read (no_cell_failed reading read)
+
+      pub read_as_given : (readings ahead : List StripeReading) → read_all ≡ readings ++ ahead → readings ≡ readings_by start trees (stripes_of readings)
+      read_as_given readings ahead is = made_again (reading_by start trees) (λ (reading : StripeReading). reading.stripe) readings
+          (All-left (λ (reading : StripeReading). reading ≡ reading_by start trees reading.stripe) readings ahead
+          (subst (All (λ (reading : StripeReading). reading ≡ reading_by start trees reading.stripe)) is all_as_given))
+
       pub unfailed : All (IsVerifiedBy start trees) (pending_stripes start.infos) → All (λ (reading : StripeReading). is_verified start reading ≡ true) read_all
       unfailed verified k d within =
           let reading : StripeReading = get_or read_all k d in
-          let read : IsStripeRead start mids news reading = all_stripes_read k d within in
-          let is : reading ≡ reading_by start trees reading.stripe = given_stripe finds start mids news trees are_trees reading read (no_cell_failed reading read) in
           let first : All (IsVerifiedBy start trees) (take (length read_all) (pending_stripes start.infos)) = All-take (IsVerifiedBy start trees) (length read_all) (pending_stripes start.infos) verified in
           let all : All (IsVerifiedBy start trees) (stripes_of read_all) = subst (All (IsVerifiedBy start trees)) (sym syncs.of_lists.reads.stripes) first in
           let long : length (stripes_of read_all) ≡ length read_all = length-map read_all (λ (r : StripeReading). r.stripe) in
           let here : IsVerifiedBy start trees reading.stripe = subst (IsVerifiedBy start trees) (get_or-map (λ (r : StripeReading). r.stripe) read_all k d 0 within) (all k 0 (omega (arith, within, long))) in
-          subst (λ (r : StripeReading). is_verified start r ≡ true) (sym is) here
+          subst (λ (r : StripeReading). is_verified start r ≡ true) (sym (all_as_given k d within)) here
 
 -- each copy at a moment of it
 pub part_copies : FindsCells → (setup : SetupValue) (old : TableValue) (plan : SyncPlan) (readings ahead : List StripeReading) (olds mids news : List FolderView)

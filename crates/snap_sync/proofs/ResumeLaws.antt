@@ -32,7 +32,7 @@ use Rattle.snap_sync.proofs.LeftLemmas.{is_left, pending_left, same_files, verif
 use Rattle.snap_sync.proofs.ListFacts.{All-through, contains_left, kept_pass}
 use Rattle.snap_sync.proofs.PartLemmas.{given_again, laid_by_trees, rows_filter, stripes_are, mids_are, trees_long}
 use Rattle.snap_sync.proofs.StillPending.{pending_distinct}
-use Rattle.snap_sync.proofs.ResumeLemmas.{left_shape, same_table}
+use Rattle.snap_sync.proofs.ResumeLemmas.{left_reading, left_shape, left_verified, same_table}
 use Rattle.snap_sync.proofs.ResumeParity.{contains_kept, row_among, same_parity}
 use Rattle.snap_sync.proofs.SeenLemmas.{GivesItsHashes, LeavesTheOthers, infos_closed}
 use Rattle.snap_sync.proofs.SoundLemmas.{saved_valid, start_sound}
@@ -198,13 +198,13 @@ module _ (finds : FindsCells) (leaves : LeavesTheOthers) (gives : GivesItsHashes
     kept_parity same = record { bytes = λ level i x inside has. subst (λ (parities : List (List ℕ)). HasByte (get_or parities level []) i x) (sym same) has }
 
     -- the table that was loaded, as it is laid out
-    loaded_ends : mid.parities ≡ files.parities → IsFullSync setup old trees again mid other_table other → EndsAs start is_changed table other_table one other
-    loaded_ends same rest_full =
+    loaded_ends : KeepsSynced start files mid → IsFullSync setup old trees again mid other_table other → EndsAs start is_changed table other_table one other
+    loaded_ends keeps rest_full =
         let rest : IsPartSync start trees (pending_stripes start.infos) again mid other_table other =
         subst (λ (t : TableValue). IsPartSync t trees (pending_stripes t.infos) again mid other_table other) (sym laid_start) rest_full in
         ends_as finds leaves gives start trees plan.now [] 0 refl refl all files mid one other snapshot is_changed no_rows no_rows_hold
         (λ stripe has done. absurd (both_ways (is_pending (info_at start.infos stripe).mark) done (passes_among (λ (s : ℕ). is_pending (info_at start.infos s).mark) (range_with_len 0 (length start.infos)) stripe has)))
-        (kept_parity same) sound now again table other_table whole rest
+        keeps sound now again table other_table whole rest
 
   -- from each moment
   pub resumed : IsOnlyCell → ((a b : TableValue) → IsValid a → IsValid b → spelling a ≡ spelling b → a ≡ b) → (files mid : Files) (snapshot : Snapshot) (is_changed : ℕ → ℕ → Bool) (now again : ℕ) (found table other_table : TableValue) (one other : Files)
@@ -232,7 +232,8 @@ module _ (finds : FindsCells) (leaves : LeavesTheOthers) (gives : GivesItsHashes
 
       by_moment : MayStand plan readings files mid → EndsAs start is_changed table other_table one other
       by_moment (Opening saves) = ⊎_elim
-          (λ same. loaded_ends all files mid one other snapshot is_changed sound now again table other_table full saves.parities
+          (λ same. loaded_ends all files mid one other snapshot is_changed sound now again table other_table full
+          (kept_parity all files mid one other snapshot is_changed sound now again table other_table full saves.parities)
           (subst (λ (t : TableValue). IsFullSync setup t trees again mid other_table other) (at.as_loaded (sym same ∙ at.spells)) rest))
           (λ laid. saved 0 0 (omega arith) (omega arith) (no_rows_hold all files mid one other snapshot is_changed sound now again table other_table full)
           (kept_parity all files mid one other snapshot is_changed sound now again table other_table full saves.parities) laid)
@@ -240,4 +241,65 @@ module _ (finds : FindsCells) (leaves : LeavesTheOthers) (gives : GivesItsHashes
       by_moment (AtWork c k work) = ⊎_elim
           (λ first. saved c k work.order work.within work.rows work.kept first)
           (λ second. saved k k (omega arith) work.within work.rows work.kept second)
+          (work.copies at.copy at.within)
+
+  -- from each moment, by the table that was loaded: as if none had been found
+  pub again_from : (files mid : Files) (snapshot : Snapshot) (is_changed : ℕ → ℕ → Bool) (now again : ℕ) (table other_table : TableValue) (one other : Files)
+      → StandsOn plan old files → AreSound plan.copies files snapshot is_changed → MayStand plan readings files mid → All (IsVerifiedBy start trees) (pending_stripes start.infos)
+      → IsFullSync setup old trees now files table one → IsFullSync setup old trees again mid other_table other → EndsAs start is_changed table other_table one other
+  again_from files mid snapshot is_changed now again table other_table one other stands are moment all full rest = by_moment moment
+    where
+      sound : Sound start files snapshot is_changed
+      sound = start_sound plan.copies start old files snapshot is_changed stands.keeps stands.valid stands.is_loaded are
+
+      by_moment : MayStand plan readings files mid → EndsAs start is_changed table other_table one other
+      by_moment (Opening saves) = loaded_ends all files mid one other snapshot is_changed sound now again table other_table full
+          (kept_parity all files mid one other snapshot is_changed sound now again table other_table full saves.parities) rest
+      by_moment (AtWork c k work) = loaded_ends all files mid one other snapshot is_changed sound now again table other_table full work.kept rest
+
+  -- ---- what is found verifies as much
+
+  verified_after : (count : ℕ) → count ≤ length readings → All (IsVerifiedBy start trees) (pending_stripes start.infos)
+      → All (IsVerifiedBy (table_after plan readings count) trees) (pending_stripes (table_after plan readings count).infos)
+  verified_after count within all =
+      let left : TableValue = table_after plan readings count in
+      let first : List StripeReading = take count readings in
+      subst (All (IsVerifiedBy left trees)) (sym (open_are count within))
+      (kept_pass (is_open count within) (IsVerifiedBy left trees) (pending_stripes start.infos) (λ k d below passes.
+      let stripe : ℕ = get_or (pending_stripes start.infos) k d in
+      subst (λ (r : StripeReading). is_verified left r ≡ true)
+      (sym (left_reading finds start trees leaves gives plan.now first count (stripes_after count within) (again_after count within) all stripe passes))
+      (left_verified finds start trees leaves gives plan.now first count (stripes_after count within) (again_after count within) all stripe passes (all k d below))))
+
+  verified_laid : (count : ℕ) → count ≤ length readings → IsValid (table_after plan readings count) → All (IsVerifiedBy start trees) (pending_stripes start.infos)
+      → All (IsVerifiedBy (layout_by setup (table_after plan readings count) trees) trees) (pending_stripes (layout_by setup (table_after plan readings count) trees).infos)
+  verified_laid count within valid all =
+      subst (λ (t : TableValue). All (IsVerifiedBy t trees) (pending_stripes t.infos)) (sym (laid_after count valid)) (verified_after count within all)
+
+  -- the trees verify all that is pending in the layout of a table
+  abbrev VerifiesLayout : TableValue → Type 0
+  VerifiesLayout table = All (IsVerifiedBy (layout_by setup table trees) trees) (pending_stripes (layout_by setup table trees).infos)
+
+  pub verified_found : IsOnlyCell → ((a b : TableValue) → IsValid a → IsValid b → spelling a ≡ spelling b → a ≡ b) → (files mid : Files) (found : TableValue)
+      → StandsOn plan old files → IsFoundAt plan readings old files mid found → All (IsVerifiedBy start trees) (pending_stripes start.infos)
+      → All (IsVerifiedBy (layout_by setup found trees) trees) (pending_stripes (layout_by setup found trees).infos)
+  verified_found only one_table files mid found stands at all = by_moment at.moment
+    where
+      tables : (n : ℕ) → n ≤ length readings → IsValid (table_after plan readings n)
+      tables n within = saved_valid finds leaves gives plan readings ahead mids news (mids_are setup old start (readings ++ ahead) olds mids news syncs) syncs.of_lists.reads only stands.laid stands.in_time n within
+
+      saved : (n : ℕ) → n ≤ length readings → content_of mid at.copy ≡ Some (spelling (table_after plan readings n)) → VerifiesLayout found
+      saved n within is =
+          let bytes : Some (spelling found) ≡ Some (spelling (table_after plan readings n)) = sym at.spells ∙ is in
+          let spelled : spelling found ≡ spelling (table_after plan readings n) = cc in
+          subst VerifiesLayout (sym (one_table found (table_after plan readings n) at.valid (tables n within) spelled)) (verified_laid n within (tables n within) all)
+
+      by_moment : MayStand plan readings files mid → VerifiesLayout found
+      by_moment (Opening saves) = ⊎_elim
+          (λ same. subst VerifiesLayout (sym (at.as_loaded (sym same ∙ at.spells))) (subst (λ (t : TableValue). All (IsVerifiedBy t trees) (pending_stripes t.infos)) laid_start all))
+          (λ laid. saved 0 (omega arith) laid)
+          (saves.contents at.copy)
+      by_moment (AtWork c k work) = ⊎_elim
+          (λ first. saved c (omega (arith, work.order, work.within)) first)
+          (λ second. saved k work.within second)
           (work.copies at.copy at.within)

@@ -68,7 +68,7 @@ module _ (finds : FindsCells) (start : TableValue) (trees : List Tree) where
     pub left_reading : (stripe : ℕ) → is_open stripe ≡ true → reading_by left trees stripe ≡ reading_by start trees stripe
     left_reading stripe is = reading_same finds left start left_shape (columns_closed_by start before readings start) stripe (left_was leaves gives start before readings count stripes stripe is).1 trees
 
-    left_verified : (stripe : ℕ) → is_open stripe ≡ true → IsVerifiedBy start trees stripe → is_verified left (reading_by start trees stripe) ≡ true
+    pub left_verified : (stripe : ℕ) → is_open stripe ≡ true → IsVerifiedBy start trees stripe → is_verified left (reading_by start trees stripe) ≡ true
     left_verified stripe is verified = verified_same finds left start left_shape (columns_closed_by start before readings start) stripe (left_was leaves gives start before readings count stripes stripe is).1
         (reading_by start trees stripe) refl verified
 

@@ -81,7 +81,7 @@ row_among by table trees ns n distinct verified has =
     (row_read by (readings_by table trees ns) no_rows has.0 d (made_distinct table trees ns distinct) inside (verified has.0 d inside))
 
 -- and one that is none of them has none
-no_row_apart : (by table : TableValue) (trees : List Tree) (ns : List ℕ) (n : ℕ) → All (λ (m : ℕ). m ≢ n) ns → rows_of by (readings_by table trees ns) n ≡ None
+pub no_row_apart : (by table : TableValue) (trees : List Tree) (ns : List ℕ) (n : ℕ) → All (λ (m : ℕ). m ≢ n) ns → rows_of by (readings_by table trees ns) n ≡ None
 no_row_apart by table trees ns n apart = row_apart by (readings_by table trees ns) no_rows n (All-through (reading_by table trees) (λ (r : StripeReading). r.stripe ≢ n) ns apart)
 
 -- ---- which stripes pass

@@ -5,12 +5,13 @@ ghost use Rattle.array_scan.specs.Layout.{all_sorted, pending_stripes};
 ghost use Rattle.array_scan.specs.Refusals.{refusal};
 ghost use Rattle.disk_model.specs.Files.{Files};
 ghost use Rattle.disk_model.specs.Folder.{FolderView};
-ghost use Rattle.disk_model.specs.Vault.{Holds};
+ghost use Rattle.disk_model.specs.Tree.{Tree};
 ghost use Rattle.file_table.specs.Cells.{cell_in};
 ghost use Rattle.file_table.specs.Table.{TableValue, column_at};
 ghost use Rattle.file_table.specs.Valid.{IsValid};
 ghost use Rattle.file_table.specs.declared.block.Cell.{Cell};
 ghost use Rattle.parity_writer.specs.Sound.{Snapshot};
+ghost use Rattle.snap_config.specs.Setup.{SetupValue};
 ghost use Rattle.snap_report.specs.declared.events.Event.TheVariants.{Io};
 ghost use Rattle.stripe_reader.specs.Columns.{folder_at};
 ghost use Rattle.snap_sync.specs.Calls.{SyncPlan};
@@ -18,9 +19,10 @@ ghost use Rattle.snap_sync.specs.Closing.{closed};
 ghost use Rattle.snap_sync.specs.Ended.{IsEndOf, IsFoundIn, NotAChangedBlock};
 ghost use Rattle.snap_sync.specs.Findings.{stripe_events, events_of};
 ghost use Rattle.snap_sync.specs.Images.{HasParityAfter, MayStand, table_after};
-ghost use Rattle.snap_sync.specs.Part.{AllVerified, AreOfPartSyncs, IsFullSync, IsPartSync, IsListedRun, IsToldRun, NoneRose};
-ghost use Rattle.snap_sync.specs.Part.{SyncRun, TreesVerifyAll, layout_by, run_kept, run_table, run_trees, run_verified};
-ghost use Rattle.snap_sync.specs.Reading.{AreRead, StripeReading, is_unread, is_verified, slot_of, ReadsFirst};
+ghost use Rattle.snap_sync.specs.Part.{AllVerified, AreOfPartSyncs, IsFullSync, IsPartSync, IsVerifiedBy};
+ghost use Rattle.snap_sync.specs.Part.{IsListedRun, IsToldRun, NoneRose};
+ghost use Rattle.snap_sync.specs.Part.{SyncRun, TreesVerifyAll, layout_by, readings_by, run_kept, run_table, run_trees, run_verified};
+ghost use Rattle.snap_sync.specs.Reading.{AreRead, StripeReading, is_unread, is_verified, slot_of, stripes_of, ReadsFirst};
 ghost use Rattle.snap_sync.specs.Resumed.{EndsAs, IsFoundAt};
 ghost use Rattle.snap_sync.specs.Soundness.{AreSound, AreSoundAfter, StandsOn};
 
@@ -29,7 +31,6 @@ use array_scan::laws::{
     a_layout_is_of_the_kept_files, a_table_of_the_kept_files_is_laid_out_as_it_is,
 };
 use content_file::laws::one_table_has_a_spelling;
-use disk_model::Vault;
 use file_table::laws::{
     a_cell_stands_at_its_position, closing_a_stripe_gives_its_hashes,
     closing_a_stripe_leaves_the_others,
@@ -65,27 +66,41 @@ pub fn what_is_pending_is_found()
 
 /// Where all folders tell their trees, a sync is a part sync of their layout after each number of the stripes that it
 /// read, with those that are verified, and each copy at any moment is as it was or of a part sync. Where all pending
-/// stripes were read and are verified, it is the full sync. They are verified where no count of the folders rose and the
-/// trees verify all pending stripes.
-pub fn a_sync_is_a_part_sync<V: Vault>()
+/// stripes were read and are verified, it is the full sync. Where no count of the folders rose, what was read is what the
+/// trees give; so all are verified where the trees verify all pending stripes.
+pub fn a_sync_is_a_part_sync()
     ensures laid { (run : SyncRun) → IsToldRun run →
         run.plan.start ≡ layout_by run.setup run.loaded (run_trees run) }
     ensures copies { (run : SyncRun) (files new : Files) → IsToldRun run → MayStand run.plan run.readings files new →
         AreOfPartSyncs run.plan.start (run_trees run) run.plan.now run.plan.copies files new }
-    ensures part { (run : SyncRun) (count : ℕ) (files : Files) (vault : V) → IsToldRun run → count ≤ length run.readings →
-        Holds (HasParityAfter run.plan run.readings count files) (V.view vault) →
-        Holds (IsPartSync run.plan.start (run_trees run) (run_verified run count) run.plan.now files (run_table run count))
-        (V.view vault) }
-    ensures full { (run : SyncRun) (files : Files) (vault : V) → IsToldRun run →
+    ensures part { (run : SyncRun) (count : ℕ) (files new : Files) → IsToldRun run → count ≤ length run.readings →
+        HasParityAfter run.plan run.readings count files new →
+        IsPartSync run.plan.start (run_trees run) (run_verified run count) run.plan.now files (run_table run count) new }
+    ensures full { (run : SyncRun) (files new : Files) → IsToldRun run →
         length run.readings ≡ length (pending_stripes run.plan.start.infos) → AllVerified run.plan.start run.readings →
-        Holds (HasParityAfter run.plan run.readings (length run.readings) files) (V.view vault) →
-        Holds (IsFullSync run.setup run.loaded (run_trees run) run.plan.now files
-        (closed run.plan.now run.plan.start run.readings)) (V.view vault) }
+        HasParityAfter run.plan run.readings (length run.readings) files new →
+        IsFullSync run.setup run.loaded (run_trees run) run.plan.now files
+        (closed run.plan.now run.plan.start run.readings) new }
+    ensures given { (run : SyncRun) → IsToldRun run → NoneRose run.folders run.ended →
+        run.readings ≡ readings_by run.plan.start (run_trees run) (stripes_of run.readings) }
     ensures unfailed { (run : SyncRun) → IsToldRun run → NoneRose run.folders run.ended → TreesVerifyAll run →
         AllVerified run.plan.start run.readings }
 {
     a_cell_stands_at_its_position();
 }
+
+/// Where the trees verify all pending stripes of a layout, there is a full sync of it. What is pending there is verified,
+/// and its table has the shape of the layout and as many stripes.
+pub fn there_is_a_full_sync()
+    ensures there_is { (setup : SetupValue) (old_table : TableValue) (trees : List Tree) (now : ℕ) (files : Files) →
+        (let start = layout_by setup old_table trees in
+        0 < start.shape.block_size → All (IsVerifiedBy start trees) (pending_stripes start.infos) →
+        (table : TableValue) × (new : Files) × IsFullSync setup old_table trees now files table new) }
+    ensures shape { (setup : SetupValue) (old_table : TableValue) (trees : List Tree) (now : ℕ) (table : TableValue)
+        (files new : Files) → IsFullSync setup old_table trees now files table new →
+        (let start = layout_by setup old_table trees in
+        (table.shape ≡ start.shape) × (length table.infos ≡ length start.infos)) }
+{}
 
 /// Where the laid out table is valid, so is each table that a sync closes stripes in.
 pub fn what_a_sync_saves_is_valid()
@@ -116,7 +131,8 @@ pub fn every_moment_is_sound()
 /// A sync that was stopped is resumed. Over the same trees a table that it saved is laid out as it is, and is not
 /// refused; what is pending in it is what was and is not verified yet. Where the trees verify all pending stripes, the
 /// full sync of a table that is found at any moment ends as the one that was not stopped: with the same table but for the
-/// times of the last checks, and the same parity but for what was changed from outside.
+/// times of the last checks, and the same parity but for what was changed from outside. They verify all that is pending
+/// in its layout. The same is so of the table that was loaded, from what stands at any moment.
 pub fn a_stopped_sync_is_resumed()
     ensures laid { (run : SyncRun) (count : ℕ) → IsToldRun run → IsValid (run_table run count) →
         layout_by run.setup (run_table run count) (run_trees run) ≡ run_table run count }
@@ -133,6 +149,17 @@ pub fn a_stopped_sync_is_resumed()
         IsFullSync run.setup run.loaded (run_trees run) now files table one →
         IsFullSync run.setup found (run_trees run) again left other_table other →
         EndsAs run.plan.start is_changed table other_table one other }
+    ensures again { (run : SyncRun) (files left : Files) (snapshot : Snapshot) (is_changed : ℕ → ℕ → Bool)
+        (now again : ℕ) (table other_table : TableValue) (one other : Files) → IsToldRun run →
+        StandsOn run.plan run.loaded files → AreSound run.plan.copies files snapshot is_changed →
+        MayStand run.plan run.readings files left → TreesVerifyAll run →
+        IsFullSync run.setup run.loaded (run_trees run) now files table one →
+        IsFullSync run.setup run.loaded (run_trees run) again left other_table other →
+        EndsAs run.plan.start is_changed table other_table one other }
+    ensures verified { (run : SyncRun) (files left : Files) (found : TableValue) → IsToldRun run →
+        StandsOn run.plan run.loaded files → IsFoundAt run.plan run.readings run.loaded files left found →
+        TreesVerifyAll run → (let start = layout_by run.setup found (run_trees run) in
+        All (IsVerifiedBy start (run_trees run)) (pending_stripes start.infos)) }
 {
     a_layout_is_of_the_kept_files();
     a_table_of_the_kept_files_is_laid_out_as_it_is();

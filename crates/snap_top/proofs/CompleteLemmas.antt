@@ -1,7 +1,6 @@
--- What every run promises by its status alone, from its end.
-use Rattle.std.proofs.Common.{◌≡◌, ◌≢◌, ◌⊎◌, inl, inr, ⊎_elim, ℕ, ◌+◌, ◌<◌, ◌≤◌, List, [], ◌∷◌, ◌++◌, take, length, count_by, Bool, true, false, IsTrue, Option, Some, None, Result, Ok, Err, refl, sym, ap, ◌∙◌, subst, arith, cond, ◌==◌, ◌||◌, slice_get, append_assoc}
+-- When a run surely ends well, from its end.
+use Rattle.std.proofs.Common.{◌≡◌, ◌≢◌, ◌⊎◌, inl, inr, ⊎_elim, ℕ, ◌+◌, ◌≤◌, List, ◌∷◌, ◌++◌, take, count_by, Bool, true, false, IsTrue, Option, Some, None, Result, Ok, Err, refl, sym, ap, ◌∙◌, subst, arith, cond, ◌==◌, ◌||◌, slice_get, append_assoc}
 use Rattle.std.specs.List.{list_any}
-use Rattle.std.proofs.lemmas.List.{append-nil}
 use Rattle.disk_model.specs.Cause.{Rose, RoseBy}
 use Rattle.disk_model.specs.Folder.{FolderView}
 use Rattle.array_scan.specs.declared.fault.ScanFault.{ScanFault}
@@ -11,14 +10,14 @@ use Rattle.snap_sync.specs.Work.{VaultBroke, broke_sync}
 use Rattle.snap_sync.specs.declared.fault.SyncFault.{SyncFault}
 use Rattle.snap_sync.specs.declared.fault.SyncFault.TheVariants.{Scan, Run}
 use Rattle.snap_top.proofs.SyncLemmas.{broke_more}
-use Rattle.disk_model.specs.Files.{Files, Stays, content_of}
+use Rattle.disk_model.specs.Files.{content_of}
 use Rattle.disk_model.specs.Sink.{SinkView}
-use Rattle.disk_model.specs.Vault.{VaultView, VaultState, VaultCall, SomeCalls, ChangesBy, state_of}
+use Rattle.disk_model.specs.Vault.{VaultView, VaultState, VaultCall, SomeCalls, state_of}
 use Rattle.disk_model.specs.declared.fault.OpenFault.{OpenFault}
 use Rattle.disk_model.specs.declared.fault.OpenFault.TheVariants as opens
-use Rattle.content_file.specs.Load.{Loads, LoadsTable, LoadFails, LoadIsDamaged, HasFailed, IsUseless, IsReadOf}
+use Rattle.content_file.specs.declared.fault.Damage.{Damage}
+use Rattle.content_file.specs.Load.{LoadsTable, LoadFails, LoadIsDamaged, IsUseless, IsReadOf}
 use Rattle.content_file.specs.Spelling.{IsContent, spelling}
-use Rattle.content_file.specs.declared.loading.LoadFault.{LoadFault}
 use Rattle.content_file.specs.declared.loading.LoadFault.TheVariants as loads
 use Rattle.file_table.specs.Table.{TableValue}
 use Rattle.snap_config.specs.Config.{read_setup}
@@ -27,24 +26,24 @@ use Rattle.snap_config.specs.declared.options.Command.{Command}
 use Rattle.snap_config.specs.declared.options.Command.TheVariants as commands
 use Rattle.snap_config.specs.declared.options.Options.{Options}
 use Rattle.snap_config.specs.declared.options.WordsFault.{WordsFault}
-use Rattle.snap_config.specs.declared.options.WordsFault.TheVariants as words
 use Rattle.snap_config.specs.declared.why.ConfigFault.{ConfigFault}
 use Rattle.snap_config.specs.declared.why.ConfigFault.TheVariants as config
-use Rattle.snap_report.specs.Answer.{done_answer, status_of as answer_status, answer_line, broke_vault, is_io_of, Gained, FolderFailed}
+use Rattle.snap_report.specs.Answer.{done_answer, status_of as answer_status, broke_vault, is_io_of, Gained, FolderFailed}
 use Rattle.snap_report.specs.declared.answer.Answer.{Answer}
 use Rattle.snap_report.specs.declared.answer.Answer.TheVariants.{Clean, Found, OutputFailed, Zeroed, Emptied, Full, Broken}
 use Rattle.snap_report.specs.declared.answer.RunFault.TheVariants.{Folder, Vault, Memory}
 use Rattle.snap_report.specs.declared.events.Event.{Event}
 use Rattle.snap_top.specs.Array.{Matches, DiffersIn}
-use Rattle.snap_top.specs.Complete.{TouchesNothing, RefusalsTouchNothing, IsSilent, BreaksVault, BreaksFolder, HasContentOrNone, MayBegin, AreHeld, IsUnrefused, IsSmooth, held_vault, left_vault, SmoothRunsAreDone}
-use Rattle.snap_top.specs.Does.{PrintsAlone, DoesCommand}
+use Rattle.snap_top.specs.Complete.{BreaksVault, BreaksFolder, HasContentOrNone, MayBegin, AreHeld, IsSmooth, held_vault, left_vault, SmoothRunsAreDone}
+use Rattle.snap_top.specs.Does.{DoesCommand}
 use Rattle.snap_config.specs.declared.options.SyncWay.{SyncWay}
-use Rattle.snap_top.specs.Syncing.{SyncsBy, SyncEnds, SyncBreaks, SyncRefuses, answer_of}
-use Rattle.snap_top.specs.Task.{Task, Did, reads_only, may_stand, Left}
-use Rattle.snap_top.specs.End.{status_of, line_of, ending_status, ending_line, refusal_status, refusal_line, words_status, words_line, config_status, config_line, open_status, open_line, load_status, load_line, disk_named, path_named}
-use Rattle.snap_top.specs.Opening.{Says, SaysNot, asked_by, IsConfigured, IsWordsFault, is_failure}
-use Rattle.snap_top.specs.Run.{Entry, Exit, Goes, IsIdle, OnlyLoads, IsRun, IsRefused, Ran, IsAnswered, IsSaid, ReadsCopies, LoadsFrom, BeginsWith}
+use Rattle.snap_top.specs.Syncing.{SyncsBy, SyncBreaks, SyncRefuses, answer_of}
+use Rattle.snap_top.specs.Task.{Task, Did, Left}
+use Rattle.snap_top.specs.End.{status_of, ending_status, refusal_status, words_status, config_status, open_status}
+use Rattle.snap_top.specs.Opening.{SaysNot, asked_by, IsConfigured, IsWordsFault, is_failure}
+use Rattle.snap_top.specs.Run.{Entry, Exit, Goes, IsRun, IsRefused, Ran, IsAnswered, ReadsCopies, LoadsFrom, BeginsWith}
 use Rattle.snap_top.specs.Views.{World, world_of, view_of, folder_at}
+use Rattle.snap_top.proofs.RefusalLemmas.{done_is_no_refusal}
 use Rattle.snap_top.proofs.RunLemmas.{any_later}
 use Rattle.snap_top.specs.declared.end.Difference.{Difference}
 use Rattle.snap_top.specs.declared.end.Difference.TheVariants.{BlockSize, Levels, DiskName}
@@ -55,150 +54,10 @@ use Rattle.snap_top.specs.declared.end.Ending.TheVariants.{NotLoaded, NoTable, O
 use Rattle.snap_top.specs.declared.end.Refusal.{Refusal}
 use Rattle.snap_top.specs.declared.end.Refusal.TheVariants as refusals
 
--- ---- a refusal touches nothing
-
-no_refusal : (n : ℕ) → n ≢ 2 → n ≢ 5 → (n ≡ 2) ⊎ (n ≡ 5) → ⊥
-no_refusal n two five (inl is) = two is
-no_refusal n two five (inr is) = five is
-
--- an engine that is done is not refused
-done_is_no_refusal : (counted : ℕ) (failed : Bool) → (answer_status (done_answer counted failed) ≡ 2) ⊎ (answer_status (done_answer counted failed) ≡ 5) → ⊥
-done_is_no_refusal counted true refused = no_refusal 3 (omega arith) (omega arith) refused
-done_is_no_refusal counted false refused = by (counted == 0) refused
-  where
-    by : (none : Bool) → (answer_status (cond none Clean Found) ≡ 2) ⊎ (answer_status (cond none Clean Found) ≡ 5) → ⊥
-    by true is = no_refusal 0 (omega arith) (omega arith) is
-    by false is = no_refusal 1 (omega arith) (omega arith) is
-
--- what is not touched
-record Untouched (given after : World) (did : Did) : Type 0 where
-  out : after.out ≡ given.out
-  did_is : did ≡ reads_only
-
-only_loads_out : (given after : World) → OnlyLoads given after → after.out ≡ given.out
-only_loads_out given after only = ap (λ (w : World). w.out) only.others
-
-refused_sync : (task : Task) (way : SyncWay) (table : TableValue) (start after : World) (left : Left) (did : Did) → SyncRefuses task way table start after left did → Untouched start after did
-refused_sync task way table start after left did refuses = record { out = ap (λ (w : World). w.out) refuses.others; did_is = refuses.did_is }
-
-sync_untouched : (answer : Answer) (task : Task) (way : SyncWay) (table : TableValue) (start after : World) (left : Left) (did : Did) → SyncsBy answer task way table start after left did
-    → (answer_status answer ≡ 2) ⊎ (answer_status answer ≡ 5) → Untouched start after did
-sync_untouched Clean task way table start after left did does refused = absurd (no_refusal 0 (omega arith) (omega arith) refused)
-sync_untouched Found task way table start after left did does refused = absurd (no_refusal 1 (omega arith) (omega arith) refused)
-sync_untouched OutputFailed task way table start after left did does refused = absurd (no_refusal 3 (omega arith) (omega arith) refused)
-sync_untouched (Zeroed disk rec) task way table start after left did does refused = refused_sync task way table start after left did does
-sync_untouched (Emptied disk) task way table start after left did does refused = refused_sync task way table start after left did does
-sync_untouched (Full blocks files) task way table start after left did does refused = refused_sync task way table start after left did does
-sync_untouched (Broken (Folder disk)) task way table start after left did does refused = refused_sync task way table start after left did does
-sync_untouched (Broken Vault) task way table start after left did does refused = absurd (no_refusal 3 (omega arith) (omega arith) refused)
-sync_untouched (Broken Memory) task way table start after left did does refused = refused_sync task way table start after left did does
-
-command_untouched : (command : Command) (task : Task) (table : TableValue) (start after : World) (left : Left) (did : Did) → DoesCommand command task table start after left did
-    → (answer_status left.answer ≡ 2) ⊎ (answer_status left.answer ≡ 5) → Untouched start after did
-command_untouched commands.List task table start after left did does refused =
-    absurd (done_is_no_refusal 0 does.prints.failed (subst (λ a. (answer_status a ≡ 2) ⊎ (answer_status a ≡ 5)) does.prints.answer_is refused))
-command_untouched commands.Status task table start after left did does refused =
-    absurd (done_is_no_refusal _ does.prints.failed (subst (λ a. (answer_status a ≡ 2) ⊎ (answer_status a ≡ 5)) does.prints.answer_is refused))
-command_untouched (commands.Sync way) task table start after left did does refused = sync_untouched left.answer task way table start after left did does refused
-command_untouched (commands.Scrub way) task table start after left did does refused = absurd does
-command_untouched (commands.Check selection) task table start after left did does refused = absurd does
-command_untouched (commands.Audit selection) task table start after left did does refused = absurd does
-command_untouched (commands.Fix selection) task table start after left did does refused = absurd does
-
-ending_untouched : (ending : Ending) (task : Task) (given after : World) (told : List Event) (did : Did) → Goes task given after ending told did
-    → (ending_status ending ≡ 2) ⊎ (ending_status ending ≡ 5) → Untouched given after did
-ending_untouched (NotLoaded fault) task given after told did goes refused = record { out = only_loads_out given after goes.1; did_is = goes.0.1 }
-ending_untouched NoTable task given after told did goes refused = record { out = only_loads_out given after goes.1.reads; did_is = goes.0.1 }
-ending_untouched (OtherArray difference content) task given after told did goes refused = record { out = only_loads_out given after goes.1.reads; did_is = goes.0.1 }
-ending_untouched (Answered answer named) task given after told did goes refused =
-    let one = goes.1 in
-    let same = command_untouched task.command task one.table one.start after _ did one.does refused in
-    record { out = same.out ∙ only_loads_out given one.start one.reads; did_is = same.did_is }
-
-pub refusal_touches_nothing : (before : Entry) (exit : Exit) (end : End) (told : List Event) (status : ℕ) → status ≡ status_of end → Ran before exit end told → RefusalsTouchNothing before exit status
-refusal_touches_nothing before exit (Refused why) told status is ran refused = record {
-  out = ran.out;
-  opened = λ has told. absurd (let clash : false ≡ true = sym ran.no_vault ∙ has in cc);
-  unopened = λ none. ran.kept;
-}
-refusal_touches_nothing before exit (Worked setup ending) told status is ran refused =
-    let same = ending_untouched ending ran.task ran.given (world_of exit.after) told ran.did ran.goes (subst (λ n. (n ≡ 2) ⊎ (n ≡ 5)) is refused) in
-    record {
-      out = same.out ∙ ran.given_out;
-      opened = λ has tells. subst (λ did. ChangesBy (may_stand did) before.opener.vault exit.after.vault) same.did_is (ran.changes tells);
-      unopened = λ none. absurd (let clash : true ≡ false = sym ran.has_vault ∙ none in cc);
-    }
-
--- ---- a run that is done is silent
-
-high : (n : ℕ) → 2 ≤ n → n ≤ 1 → ⊥
-high n two one = omega (arith, two, one)
-
-silent_answer : (name path : List ℕ) (answer : Answer) → answer_status answer ≤ 1 → answer_line name path answer ≡ []
-silent_answer name path Clean done = refl
-silent_answer name path Found done = refl
-silent_answer name path OutputFailed done = absurd (omega (arith, done))
-silent_answer name path (Zeroed disk rec) done = absurd (omega (arith, done))
-silent_answer name path (Emptied disk) done = absurd (omega (arith, done))
-silent_answer name path (Full blocks files) done = absurd (omega (arith, done))
-silent_answer name path (Broken (Folder disk)) done = absurd (omega (arith, done))
-silent_answer name path (Broken Vault) done = absurd (omega (arith, done))
-silent_answer name path (Broken Memory) done = absurd (omega (arith, done))
-
-open_high : (fault : OpenFault) → 2 ≤ open_status fault
-open_high opens.Failed = omega arith
-open_high opens.Memory = omega arith
-
-load_high : (fault : LoadFault) → 2 ≤ load_status fault
-load_high loads.Failed = omega arith
-load_high loads.Damaged = omega arith
-load_high loads.Memory = omega arith
-
-words_high : (fault : WordsFault) → 2 ≤ words_status fault
-words_high words.Usage = omega arith
-words_high (words.Command word) = omega arith
-words_high (words.Unfit option command) = omega arith
-words_high (words.Value option) = omega arith
-words_high words.Memory = omega arith
-
-config_high : (fault : ConfigFault) → 2 ≤ config_status fault
-config_high (config.BadLine line why) = omega arith
-config_high config.Memory = omega arith
-
-refusal_high : (why : Refusal) → 2 ≤ refusal_status why
-refusal_high (refusals.Words fault) = words_high fault
-refusal_high (refusals.Unread fault) = open_high fault
-refusal_high (refusals.Config file fault) = config_high fault
-refusal_high (refusals.Unopened fault) = open_high fault
-
-silent_ending : (setup : SetupValue) (ending : Ending) → ending_status ending ≤ 1 → ending_line setup ending ≡ []
-silent_ending setup (NotLoaded fault) done = absurd (high _ (load_high fault) done)
-silent_ending setup NoTable done = absurd (omega (arith, done))
-silent_ending setup (OtherArray difference content) done = absurd (omega (arith, done))
-silent_ending setup (Answered answer named) done = silent_answer (disk_named setup answer) (path_named named answer) answer done
-
-silent_end : (end : End) → status_of end ≤ 1 → line_of end ≡ []
-silent_end (Refused why) done = absurd (high _ (refusal_high why) done)
-silent_end (Worked setup ending) done = silent_ending (setup_value setup) ending done
-
-nothing_said : (err err_new : SinkView) → IsSaid [] err err_new → IsTrue err.tells → err_new.written ≡ err.written
-nothing_said err err_new said tells = let part = said.told.part tells in part.appended ∙ ap (λ bytes. err.written ++ bytes) (no_front part.front part.rest part.whole) ∙ append-nil err.written
-  where
-    no_front : (front rest : List ℕ) → front ++ rest ≡ [] → front ≡ []
-    no_front [] rest is = refl
-    no_front (b ∷ front) rest is = absurd (let clash : b ∷ (front ++ rest) ≡ [] = is in cc)
-
-pub done_is_silent : (end : End) (status : ℕ) (err err_new : SinkView) → status ≡ status_of end → IsSaid (line_of end) err err_new → IsSilent status err err_new
-done_is_silent end status err err_new is said done tells =
-    let none : line_of end ≡ [] = silent_end end (subst (λ n. n ≤ 1) is done) in
-    nothing_said err err_new (subst (λ line. IsSaid line err err_new) none said) tells
-
--- ---- completeness
-
 abbrev IsDoneOrMemory : ℕ → Type 0
 IsDoneOrMemory status = (status ≤ 1) ⊎ (status ≡ 4)
 
-same_ok : {A E : Type 0} (said : Result A E) (x y : A) → said ≡ Ok x → said ≡ Ok y → x ≡ y
+pub same_ok : {A E : Type 0} (said : Result A E) (x y : A) → said ≡ Ok x → said ≡ Ok y → x ≡ y
 same_ok said x y one other = let same : Ok x ≡ Ok y = sym one ∙ other in cc
 
 ok_or_err : {A E : Type 0} (said : Result A E) (x : A) (e : E) → said ≡ Ok x → said ≡ Err e → ⊥
@@ -238,7 +97,7 @@ same_setup before exit command readers setup smooth is =
 -- a reading of a copy that failed is a call that reads no parity
 reading_broke : (copy : ℕ) (call : VaultCall) → IsReadOf copy call → broke_vault (record { call = call; failed = true }) ≡ true
 reading_broke copy call (inl size) = ap (λ c. broke_vault (record { call = c; failed = true })) size
-reading_broke copy call (inr read) = ap (λ c. broke_vault (record { call = c; failed = true })) read.2
+reading_broke copy call (inr read) = ap (λ c. broke_vault (record { call = c; failed = true })) read.3
 
 any_here : {A : Type 0} (test : A → Bool) (earlier : List A) (x : A) (later : List A) → test x ≡ true → IsTrue (list_any test (earlier ++ x ∷ later))
 any_here test earlier x later is = any_later test earlier (x ∷ later) (first (test x) (list_any test later) is)
@@ -267,11 +126,11 @@ failed_load_breaks old new fails =
       copies = inr (λ told copy bytes below held is. ⊎_elim (λ useless. absurd (useless_is_none old copy bytes held is useless)) (λ failed. failed) (fails.useless told copy below));
     }
 
-not_damaged : (old new : VaultView) → IsTrue old.tells → HasContentOrNone old → LoadIsDamaged old new → ⊥
-not_damaged old new tells (inl none) damaged =
+not_damaged : (old new : VaultView) (damages : List (ℕ × Damage)) → IsTrue old.tells → HasContentOrNone old → LoadIsDamaged old new damages → ⊥
+not_damaged old new damages tells (inl none) damaged =
     let one = damaged.some tells in
     let clash : Some one.2.bytes ≡ None = sym one.2.held ∙ none one.0 one.1 in cc
-not_damaged old new tells (inr good) damaged = useless_is_none old good.0 good.1 good.3 good.4 (damaged.useless tells good.0 good.2)
+not_damaged old new damages tells (inr good) damaged = useless_is_none old good.0 good.1 good.3 good.4 (damaged.useless tells good.0 good.2)
 
 matches_not_differs : (setup : SetupValue) (table : TableValue) (difference : Difference) → Matches setup table → DiffersIn setup table difference → ⊥
 matches_not_differs setup table (BlockSize content configuration) same other = other.2 (other.0 ∙ same.block_size ∙ sym other.1)
@@ -378,11 +237,11 @@ begins_may before setup given mid (Some of) table same tells loads begins =
     inr (loads.copy, sym (ap (λ (s : VaultState). content_of s.files loads.copy) same) ∙ loads.held told ∙ ap (λ t. Some (spelling t)) (sym begins.0))
 
 -- what was given is what was held
-given_held : (before : Entry) (exit : Exit) (setup : SetupValue) (ending : Ending) (told : List Event) (run : IsRun before exit setup ending told) → IsTrue before.opener.tells → run.given.vault ≡ state_of before.opener.vault
+pub given_held : (before : Entry) (exit : Exit) (setup : SetupValue) (ending : Ending) (told : List Event) (run : IsRun before exit setup ending told) → IsTrue before.opener.tells → run.given.vault ≡ state_of before.opener.vault
 given_held before exit setup ending told run tells = run.is_given.state.whole tells
 
 -- the folders that were given are those that were held
-are_held : (before : Entry) (exit : Exit) (setup : SetupValue) (ending : Ending) (told : List Event) (run : IsRun before exit setup ending told) → IsTrue before.opener.tells → AreHeld before run.given.folders
+pub are_held : (before : Entry) (exit : Exit) (setup : SetupValue) (ending : Ending) (told : List Event) (run : IsRun before exit setup ending told) → IsTrue before.opener.tells → AreHeld before run.given.folders
 are_held before exit setup ending told run tells = λ d below. (run.is_given.each d below).whole tells
 
 -- the command of a run is the one that was asked for
@@ -433,8 +292,8 @@ smooth_ending : (before : Entry) (exit : Exit) (setup : SetupValue) (ending : En
     → IsDoneOrMemory (ending_status ending)
 smooth_ending before exit setup (NotLoaded loads.Failed) told smooth run given same goes =
     absurd (smooth.vault (failed_load_breaks (held_vault before) (left_vault exit) (subst (λ (s : VaultState). LoadFails (view_of s) (left_vault exit)) same goes.2)))
-smooth_ending before exit setup (NotLoaded loads.Damaged) told smooth run given same goes =
-    absurd (not_damaged (held_vault before) (left_vault exit) smooth.tells_vault smooth.content (subst (λ (s : VaultState). LoadIsDamaged (view_of s) (left_vault exit)) same goes.2))
+smooth_ending before exit setup (NotLoaded (loads.Damaged damages)) told smooth run given same goes =
+    absurd (not_damaged (held_vault before) (left_vault exit) damages smooth.tells_vault smooth.content (subst (λ (s : VaultState). LoadIsDamaged (view_of s) (left_vault exit) damages) same goes.2))
 smooth_ending before exit setup (NotLoaded loads.Memory) told smooth run given same goes = inr refl
 smooth_ending before exit setup NoTable told smooth run given same goes = inr refl
 smooth_ending before exit setup (OtherArray difference content) told smooth run given same goes =

@@ -1,11 +1,11 @@
 -- What each command leaves, as one that was carried out: one lemma for each command.
-use Rattle.std.proofs.Common.{◌≡◌, ℕ, ◌≤◌, ◌==◌, List, [], Bool, true, false, IsTrue, None, arith, refl, sym, ◌∙◌, subst}
+use Rattle.std.proofs.Common.{◌≡◌, ℕ, ◌==◌, List, [], Bool, true, false, IsTrue, None, arith, refl, sym, subst}
 use Rattle.std.proofs.lemmas.Bool.Decides.{Decides-eqb}
 use Rattle.disk_model.specs.Cause.{Rose}
-use Rattle.disk_model.specs.Files.{Stays}
+use Rattle.disk_model.specs.Files.{Files, Stays}
 use Rattle.disk_model.specs.Folder.{FolderView}
 use Rattle.disk_model.specs.Sink.{SinkView}
-use Rattle.disk_model.specs.Vault.{VaultView, state_of}
+use Rattle.disk_model.specs.Vault.{VaultView, Holds, state_of}
 use Rattle.disk_model.proofs.VaultLemmas.{no_calls, changes_start}
 use Rattle.file_table.specs.Table.{TableValue}
 use Rattle.snap_config.specs.declared.options.Command.{Command}
@@ -18,7 +18,7 @@ use Rattle.snap_report.specs.declared.answer.Answer.{Answer}
 use Rattle.snap_report.specs.declared.events.Event.{Event}
 use Rattle.snap_report.proofs.ReportLemmas.{all_given_nothing}
 use Rattle.snap_top.specs.Does.{PrintsAlone, DoesCommand, IsDone}
-use Rattle.snap_top.specs.Task.{Task, Did, reads_only, Left, Prints}
+use Rattle.snap_top.specs.Task.{Task, reads_only, stands_after, Prints}
 use Rattle.snap_top.specs.Views.{world_view, world_of, outside_of, view_of}
 use Rattle.snap_top.proofs.ViewsLemmas.{all_read_nothing}
 
@@ -30,6 +30,10 @@ by_count counted false is told old new = rw is (let some : counted ≡ 0 → fal
 pub by_output : (counted : ℕ) (failed : Bool) (told : List Event) (old new : Outside) → (IsTrue failed → Rose old.output_faults new.output_faults) → IsCaused (done_answer counted failed) counted told old new
 by_output counted true told old new cause = cause refl
 by_output counted false told old new cause = by_count counted (counted == 0) refl told old new
+
+-- a run that only read leaves nothing besides
+pub nothing_more : (files : Files) (v : VaultView) → Holds (stands_after reads_only files) v
+nothing_more files v = record { reads = λ told. tt; leaves = λ told left may. tt }
 
 module _ {R : Type 0} (standing : R → ReportView) (stands : R → List Event → Type 0) where
   -- a command that prints a text, and touches nothing else
@@ -45,6 +49,7 @@ module _ {R : Type 0} (standing : R → ReportView) (stands : R → List Event �
     did = reads_only;
     does = does (record { did_is = refl; others = refl; left_is = refl; prints = prints });
     changes = changes_start Stays vault (λ files. refl);
+    ends = λ tells. nothing_more vault.files vault;
     caused =
         let old = outside_of (world_of (world_view folders vault out)) in
         let new = outside_of (world_of (world_view folders vault out_new)) in

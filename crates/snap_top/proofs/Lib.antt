@@ -1,9 +1,17 @@
 pub mod CompleteLemmas
 pub mod DoneLemmas
 pub mod EmptyLemmas
+pub mod FolderLemmas
 pub mod LoadLemmas
 pub mod MatchingLemmas
+pub mod MomentLemmas
+pub mod OfSyncLemmas
 pub mod OpeningLemmas
+pub mod PartLemmas
+pub mod RefusalLemmas
+pub mod ResumeLemmas
+pub mod ResumedRuns
 pub mod RunLemmas
+pub mod SilentLemmas
 pub mod SyncLemmas
 pub mod ViewsLemmas

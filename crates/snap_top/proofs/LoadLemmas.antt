@@ -1,11 +1,10 @@
 -- What loading says of views of a vault, said of its states.
-use Rattle.std.proofs.Common.{◌≡◌, ◌⊎◌, inl, inr, ℕ, ◌<◌, IsTrue, Option, None, Some, Result, Err, refl, sym, ◌∙◌, subst}
-use Rattle.content_file.specs.Load.{IsReadBelow, Loads, LoadsTable, LoadsNothing, LoadFails, LoadIsDamaged, HasFailed, NoneFailed, IsReadWell, IsDamaged, IsUseless}
+use Rattle.std.proofs.Common.{◌⊎◌, inl, inr, ℕ, List, Option, None, Some}
+use Rattle.content_file.specs.Load.{ReadsBelow, LoadsNot as GivesNoTable, Loads, LoadFails, LoadIsDamaged, HasFailed, NoneFailed, IsDamaged, IsUseless}
+use Rattle.content_file.specs.declared.fault.Damage.{Damage}
 use Rattle.content_file.specs.declared.loading.LoadFault.{LoadFault}
 use Rattle.content_file.specs.declared.loading.LoadFault.TheVariants as loads
-use Rattle.disk_model.specs.Calls.{MakesOnly}
-use Rattle.disk_model.specs.Files.{Stays}
-use Rattle.disk_model.specs.Vault.{VaultView, SomeCalls, DraftsStay, ChangesBy, copies_of, state_of}
+use Rattle.disk_model.specs.Vault.{VaultView, copies_of, state_of}
 use Rattle.file_table.specs.Table.{TableValue}
 use Rattle.snap_top.specs.Run.{ReadsCopies, LoadsFrom, LoadsNot}
 use Rattle.snap_top.specs.Views.{view_of}
@@ -43,23 +42,24 @@ module _ (old new : VaultView) where
   fails_of : LoadFails old new → LoadFails (view_of (state_of old)) (view_of (state_of new))
   fails_of is = record { some = (is.some.0, failed_of is.some.0 is.some.1); useless = λ told k below. either_of k (is.useless told k below) }
 
-  is_damaged_of : LoadIsDamaged old new → LoadIsDamaged (view_of (state_of old)) (view_of (state_of new))
-  is_damaged_of is = record {
+  is_damaged_of : (damages : List (ℕ × Damage)) → LoadIsDamaged old new damages → LoadIsDamaged (view_of (state_of old)) (view_of (state_of new)) damages
+  is_damaged_of damages is = record {
     some = λ told. let one = is.some told in (one.0, one.1, damaged_of one.0 one.2);
     useless = λ told k below. useless_of k (is.useless told k below);
     none_failed = none_of is.none_failed;
+    not_empty = is.not_empty;
+    listed = is.listed;
   }
 
-  pub loads_not_of : {T : Type 0} (fault : LoadFault) (result : Result T LoadFault) → result ≡ Err fault → (result ≡ Err loads.Failed → LoadFails old new) → (result ≡ Err loads.Damaged → LoadIsDamaged old new)
-      → LoadsNot fault (state_of old) (state_of new)
-  loads_not_of loads.Failed result is failed damaged = fails_of (failed is)
-  loads_not_of loads.Damaged result is failed damaged = is_damaged_of (damaged is)
-  loads_not_of loads.Memory result is failed damaged = tt
+  pub loads_not_of : (fault : LoadFault) → GivesNoTable old new fault → LoadsNot fault (state_of old) (state_of new)
+  loads_not_of loads.Failed is = fails_of is
+  loads_not_of (loads.Damaged damages) is = is_damaged_of damages is
+  loads_not_of loads.Memory is = tt
 
-  pub reads_of : SomeCalls old new → MakesOnly (IsReadBelow (copies_of old)) old new → ChangesBy Stays old new → DraftsStay old new → ReadsCopies (state_of old) (state_of new)
-  reads_of calls made changes drafts = record {
-    calls = some_calls_of old new calls;
-    made = record { done = made.done; grown = made.grown; each = made.each };
-    drafts = record { state = drafts.state; bytes = drafts.bytes };
-    files = changes.reads;
+  pub reads_of : ReadsBelow (copies_of old) old new → ReadsCopies (state_of old) (state_of new)
+  reads_of is = record {
+    calls = some_calls_of old new is.calls;
+    made = record { done = is.made.done; grown = is.made.grown; each = is.made.each };
+    drafts = record { state = is.drafts.state; bytes = is.drafts.bytes };
+    files = is.changes.reads;
   }

@@ -1,10 +1,10 @@
 -- The calls of an opener, one after another, and what it gave.
-use Rattle.std.proofs.Common.{◌≡◌, ℕ, ◌<◌, ◌≤◌, List, [], ◌∷◌, ◌++◌, length, map, get_or, Bool, true, false, IsTrue, Option, Result, Ok, Err, arith, refl, sym, ◌∙◌, ap, subst, append_assoc}
+use Rattle.std.proofs.Common.{◌≡◌, ℕ, ◌<◌, ◌≤◌, List, [], ◌∷◌, ◌++◌, length, map, get_or, Bool, true, false, IsTrue, Ok, Err, arith, refl, sym, ◌∙◌, ap, subst, append_assoc}
 use Rattle.std.proofs.lemmas.List.{append-nil, length-map}
 use Rattle.disk_model.specs.Cause.{Rose}
 use Rattle.disk_model.specs.Folder.{FolderView, quiet_folder}
-use Rattle.disk_model.specs.Opener.{OpenerView, OpenerCall, OpenerDone, OpenerGoesOn, IsOpenerCall, HoldsSame, SameVault, SameImages, has_failed, Config, Open, folder_held, FolderIsGiven, VaultIsGiven}
-use Rattle.disk_model.specs.Vault.{VaultView, VaultState, state_of}
+use Rattle.disk_model.specs.Opener.{OpenerView, OpenerCall, OpenerDone, OpenerGoesOn, IsOpenerCall, HoldsSame, SameVault, SameImages, Config, Open, folder_held, FolderIsGiven, VaultIsGiven}
+use Rattle.disk_model.specs.Vault.{VaultView, state_of}
 use Rattle.disk_model.specs.declared.fault.OpenFault.{OpenFault}
 use Rattle.disk_model.specs.declared.fault.OpenFault.TheVariants as opens
 use Rattle.disk_model.proofs.GivenLemmas.{same_state, same_images}

@@ -1,48 +1,48 @@
 -- A run, from what it was given and what it loaded.
-use Rattle.std.proofs.Common.{◌≡◌, ℕ, ◌+◌, ◌≤◌, List, [], ◌∷◌, ◌++◌, length, map, take, Option, None, Some, Bool, ◌||◌, IsTrue, true, false, refl, ap, ◌∙◌, sym, subst, arith, append_assoc}
+use Rattle.std.proofs.Common.{◌≡◌, ℕ, ◌≤◌, List, [], ◌∷◌, ◌++◌, length, map, take, Option, None, Some, Bool, ◌||◌, IsTrue, true, false, refl, ap, ◌∙◌, sym, subst, arith, append_assoc}
 use Rattle.std.specs.List.{list_any}
 use Rattle.std.proofs.Math.Seq.{take-append_seam}
-use Rattle.disk_model.specs.Cause.{Rose, RoseBy}
+use Rattle.disk_model.specs.Cause.{RoseBy}
 use Rattle.disk_model.specs.Files.{Files, Stays}
 use Rattle.disk_model.specs.Folder.{FolderView}
 use Rattle.disk_model.specs.Opener.{OpenerView, SameImages}
 use Rattle.disk_model.specs.Sink.{SinkView}
-use Rattle.disk_model.specs.Vault.{VaultView, VaultState, state_of, ChangesBy, IsSettled}
+use Rattle.disk_model.specs.Vault.{VaultView, VaultState, state_of, ChangesBy, Holds, IsSettled}
 use Rattle.disk_model.proofs.GivenLemmas.{changes_held}
 use Rattle.disk_model.proofs.VaultLemmas.{stays_then}
 use Rattle.content_file.specs.declared.loading.LoadFault.{LoadFault}
 use Rattle.file_table.specs.Table.{TableValue}
+use Rattle.file_table.specs.Valid.{IsValid}
 use Rattle.snap_config.specs.Setup.{SetupValue, setup_value}
 use Rattle.snap_config.specs.declared.setup.Setup.{Setup}
-use Rattle.snap_report.specs.Answer.{IsCaused, Gained, VaultFailed}
-use Rattle.snap_report.specs.Report.{ReportView, AllGiven}
+use Rattle.snap_report.specs.Answer.{IsCaused}
+use Rattle.snap_report.specs.Report.{ReportView}
 use Rattle.snap_report.specs.declared.answer.Answer.{Answer}
 use Rattle.snap_report.specs.declared.answer.Answer.TheVariants.{Clean, Found, OutputFailed, Zeroed, Emptied, Full, Broken}
 use Rattle.snap_report.specs.declared.answer.RunFault.TheVariants.{Folder, Vault, Memory}
 use Rattle.snap_report.specs.declared.events.Event.{Event}
 use Rattle.snap_report.proofs.ReportLemmas.{all_given_nothing}
 use Rattle.snap_top.specs.Does.{IsDone}
-use Rattle.snap_top.specs.Task.{Task, Did, reads_only, syncs, may_stand, Left}
+use Rattle.snap_top.specs.Task.{Task, Did, reads_only, syncs, may_stand, stands_after, Left}
 use Rattle.content_file.specs.Spelling.{spelling}
 use Rattle.content_file.proofs.SaveLemmas.{saves_nothing}
-use Rattle.snap_config.specs.Setup.{IsSetup}
 use Rattle.snap_sync.specs.Images.{Opening}
-use Rattle.snap_top.specs.Array.{column_names, disk_names}
 use Rattle.snap_top.specs.Opening.{IsGiven}
 use Rattle.snap_top.specs.Syncing.{IsOpened}
 use Rattle.snap_top.specs.Run.{Works, IsAnswered, OnlyLoads, ReadsCopies, LoadsFrom, LoadsNot, BeginsWith, BeginsNot, IsRun, RanWith, at_entry, at_exit}
-use Rattle.snap_top.specs.Views.{World, WorldView, world_view, world_of, outside_of}
+use Rattle.snap_top.specs.Views.{WorldView, world_view, world_of, outside_of}
 use Rattle.snap_top.specs.declared.end.End.TheVariants.{Worked}
 use Rattle.snap_top.specs.declared.end.Ending.{Ending}
 use Rattle.snap_top.specs.declared.end.Ending.TheVariants.{NotLoaded, NoTable, OtherArray, Answered}
 use Rattle.std.proofs.lemmas.List.{length-map}
+use Rattle.snap_top.proofs.DoneLemmas.{nothing_more}
 use Rattle.snap_top.proofs.MatchingLemmas.{length-columns, length-disks}
 use Rattle.snap_top.proofs.ViewsLemmas.{all_read_nothing, sink_stays, keeps_then}
 
 -- what a run did, it need not have done
-stands_still : (did : Did) (files : Files) → may_stand did files files
+pub stands_still : (did : Did) (files : Files) → may_stand did files files
 stands_still reads_only files = refl
-stands_still (syncs plan readings) files = Opening (saves_nothing (spelling plan.start) files)
+stands_still (syncs failed run) files = Opening (saves_nothing (spelling run.plan.start) files)
 
 only_loads : (folders : List FolderView) (given mid : VaultView) (out : SinkView) → ReadsCopies (state_of given) (state_of mid) → OnlyLoads (world_of (world_view folders given out)) (world_of (world_view folders mid out))
 only_loads folders given mid out reads = record { vault = reads; others = refl }
@@ -83,6 +83,14 @@ caused_before (Broken Vault) counted told folders given mid out after reads tell
 }
 caused_before (Broken Memory) counted told folders given mid out after reads tells cause = tt
 
+-- ---- the table that a command begins with has as many columns and levels as the configuration
+
+pub table_fits : (setup : SetupValue) (seed : List ℕ) (loaded : Option TableValue) (table : TableValue) → BeginsWith setup seed loaded table → (length table.columns ≡ length setup.disks) × (table.shape.levels ≡ length setup.parities)
+table_fits setup seed None table begins = (ap (λ (t : TableValue). length t.columns) begins ∙ length-map _ _, ap (λ (t : TableValue). t.shape.levels) begins)
+table_fits setup seed (Some loaded) table begins =
+    let names = ap length begins.1.names in
+    (ap (λ (t : TableValue). length t.columns) begins.0 ∙ omega (arith, names, length-columns loaded, length-disks setup), ap (λ (t : TableValue). t.shape.levels) begins.0 ∙ begins.1.levels)
+
 -- ---- after the opening
 
 module _ {R : Type 0} (standing : R → ReportView) (stands : R → List Event → Type 0) where
@@ -95,6 +103,7 @@ module _ {R : Type 0} (standing : R → ReportView) (stands : R → List Event �
     did = reads_only;
     goes = ((refl, refl), only_loads folders given mid out reads, fails);
     changes = changes;
+    ends = λ tells. nothing_more given.files mid;
     keeps = record { folders = all_read_nothing folders; vault = reads.calls; out = sink_stays out };
     reports = all_given_nothing standing stands reports;
   }
@@ -109,6 +118,7 @@ module _ {R : Type 0} (standing : R → ReportView) (stands : R → List Event �
     did = reads_only;
     goes = ((refl, refl), record { reads = only_loads folders given mid out reads; loads = subst (λ l. LoadsFrom (state_of given) (state_of mid) l) why loads });
     changes = changes;
+    ends = λ tells. nothing_more given.files mid;
     keeps = record { folders = all_read_nothing folders; vault = reads.calls; out = sink_stays out };
     reports = all_given_nothing standing stands reports;
   }
@@ -117,6 +127,7 @@ module _ {R : Type 0} (standing : R → ReportView) (stands : R → List Event �
     did = reads_only;
     goes = ((refl, refl), record { reads = only_loads folders given mid out reads; loads = subst (λ l. LoadsFrom (state_of given) (state_of mid) l) why.0 loads; differs = why.1 });
     changes = changes;
+    ends = λ tells. nothing_more given.files mid;
     keeps = record { folders = all_read_nothing folders; vault = reads.calls; out = sink_stays out };
     reports = all_given_nothing standing stands reports;
   }
@@ -124,10 +135,10 @@ module _ {R : Type 0} (standing : R → ReportView) (stands : R → List Event �
 
   -- a command that was carried out after loading
   pub answered : (task : Task) (table : TableValue) (loaded : Option TableValue) (folders : List FolderView) (given mid : VaultView) (out : SinkView) (after : WorldView) (olds news : List R) (answer : Answer) (named : Option TableValue)
-      → ReadsCopies (state_of given) (state_of mid) → ChangesBy Stays given mid → LoadsFrom (state_of given) (state_of mid) loaded → BeginsWith task.setup task.seed loaded table
+      → ReadsCopies (state_of given) (state_of mid) → ChangesBy Stays given mid → LoadsFrom (state_of given) (state_of mid) loaded → BeginsWith task.setup task.seed loaded table → IsValid table → length folders ≡ length task.setup.disks
       → IsDone standing stands task table (world_view folders mid out) after olds news answer named
       → Works standing stands task (world_view folders given out) after olds news (Answered answer named)
-  answered task table loaded folders given mid out after olds news answer named reads changes loads begins done =
+  answered task table loaded folders given mid out after olds news answer named reads changes loads begins valid many done =
       let left = done.left in
       let same : left ≡ record { answer = answer; named = named; counted = left.counted; told = left.told }
       = ap (λ a. record { answer = a; named = left.named; counted = left.counted; told = left.told }) done.answer_is
@@ -145,23 +156,19 @@ module _ {R : Type 0} (standing : R → ReportView) (stands : R → List Event �
             loads = loads;
             table = table;
             begins = begins;
+            valid = valid;
+            columns = many ∙ sym (table_fits task.setup task.seed loaded table begins).0;
             does = done.does;
             caused = caused_before left.answer left.counted left.told folders given mid out after reads tells done.caused;
           }),
         );
         changes = stays_then (may_stand done.did) given mid after.vault reads.calls.goes_on.tells changes done.changes (stands_still done.did);
+        ends = λ told. subst (λ files. Holds (stands_after done.did files) after.vault) (reads.files told) (done.ends (reads.calls.goes_on.tells ∙ told));
         keeps = keeps_then (world_of (world_view folders given out)) (world_of (world_view folders mid out)) (world_of after) (record { folders = all_read_nothing folders; vault = reads.calls; out = sink_stays out }) done.keeps;
         reports = done.reports;
       }
 
--- ---- what was opened goes together with the table that a command begins with
-
-table_fits : (setup : SetupValue) (seed : List ℕ) (loaded : Option TableValue) (table : TableValue) → BeginsWith setup seed loaded table → (length table.columns ≡ length setup.disks) × (table.shape.levels ≡ length setup.parities)
-table_fits setup seed None table begins = (ap (λ (t : TableValue). length t.columns) begins ∙ length-map _ _, ap (λ (t : TableValue). t.shape.levels) begins)
-table_fits setup seed (Some loaded) table begins =
-    let names = ap length begins.1.names in
-    (ap (λ (t : TableValue). length t.columns) begins.0 ∙ omega (arith, names, length-columns loaded, length-disks setup), ap (λ (t : TableValue). t.shape.levels) begins.0 ∙ begins.1.levels)
-
+-- what was opened goes together with it
 pub opened_array : (setup : SetupValue) (seed : List ℕ) (loaded : Option TableValue) (table : TableValue) (folders : List FolderView) (given mid : VaultView) → BeginsWith setup seed loaded table
     → length folders ≡ length setup.disks → given.levels ≡ length setup.parities → mid.levels ≡ given.levels → IsOpened setup table folders mid
 opened_array setup seed loaded table folders given mid begins many levels same =
@@ -203,6 +210,8 @@ opened_runs standing stands view task setup texts seed moment old new opened len
     keeps = works.keeps;
     settled = λ told. settled_held old.vault given (is_given.state.whole told) (images told) settled;
     changes = λ told. changes_held (may_stand works.did) old.vault given vault (is_given.state.whole told) (images told) works.changes;
+    ends = λ told tells. let same = is_given.state.whole told in
+        subst (λ (s : VaultState). Holds (stands_after works.did s.files) vault) same (works.ends (ap (λ (s : VaultState). s.tells) same ∙ tells));
   });
   reports = works.reports;
 }

@@ -1,19 +1,16 @@
 -- What a sync leaves, as a command that was carried out.
-use Rattle.std.proofs.Common.{◌≡◌, ℕ, ◌+◌, ◌<◌, ◌≤◌, ◌==◌, ◌||◌, ◌⊎◌, inl, inr, List, [], ◌∷◌, ◌++◌, length, get_or, map, count_by, cond, Bool, true, false, if◌then◌else◌, not, IsTrue, Option, None, Some, refl, sym, ap, ◌∙◌, subst, arith, append_assoc}
+use Rattle.std.proofs.Common.{◌≡◌, ℕ, ◌+◌, ◌<◌, ◌==◌, ◌||◌, List, [], ◌∷◌, ◌++◌, length, count_by, cond, Bool, true, false, if◌then◌else◌, not, IsTrue, Option, None, Some, refl, sym, ap, ◌∙◌, subst, arith}
 use Rattle.std.specs.List.{flat_map, list_any, range_with_len}
-use Rattle.std.proofs.lemmas.Bool.{cases_lt}
 use Rattle.std.proofs.lemmas.List.{append-nil}
 use Rattle.std.proofs.lemmas.List.Sums.{sum_by-append}
 use Rattle.disk_model.specs.Cause.{Rose, RoseBy}
 use Rattle.disk_model.specs.Files.{Files, Stays}
-use Rattle.disk_model.specs.Folder.{FolderView, FolderGoesOn, IsFolderReading, ListFiles, quiet_folder}
+use Rattle.disk_model.specs.Folder.{FolderView, IsFolderReading, ListFiles}
 use Rattle.disk_model.specs.Sink.{SinkView}
-use Rattle.disk_model.specs.Vault.{VaultView, VaultCall, VaultDone, ParityLen, ParityRead, ParityWrite, ParitySetLen, ParitySync, ContentSize, ContentRead, DraftBegin, DraftAppend, DraftSeal, Publish, SomeCalls, ChangesBy, Holds, state_of}
+use Rattle.disk_model.specs.Vault.{VaultView, VaultCall, VaultDone, ParityLen, ParityRead, ParityWrite, ParitySetLen, ParitySync, ContentSize, ContentRead, DraftBegin, DraftAppend, DraftSeal, Publish, ChangesBy, Holds, state_of}
 use Rattle.disk_model.proofs.VaultLemmas.{no_calls, changes_start}
 use Rattle.content_file.specs.Save.{HasSaved}
 use Rattle.content_file.specs.Spelling.{spelling}
-use Rattle.array_scan.specs.Kept.{ListedFile}
-use Rattle.array_scan.specs.Listings.{ListsAll, FailsAt, ListsFirst}
 use Rattle.array_scan.specs.declared.fault.ScanFault.TheVariants as scans
 use Rattle.block_hash.specs.declared.Digest16.{Digest16}
 use Rattle.file_table.specs.Cells.{CellView, cell_seen, cell_in}
@@ -22,9 +19,9 @@ use Rattle.file_table.specs.declared.block.Cell.{Cell}
 use Rattle.snap_config.specs.declared.options.Command.{Command}
 use Rattle.snap_config.specs.declared.options.Command.TheVariants as commands
 use Rattle.snap_config.specs.declared.options.SyncWay.{SyncWay}
-use Rattle.snap_report.specs.Answer.{Outside, IsCaused, Gained, FolderFailed, VaultFailed, done_answer, is_parity_io, is_io_of, broke_folder, broke_vault}
+use Rattle.snap_report.specs.Answer.{Outside, IsCaused, FolderFailed, done_answer, is_parity_io, broke_vault}
 use Rattle.snap_report.specs.EventLines.{lines_of}
-use Rattle.snap_report.specs.Report.{ReportView, AllGiven}
+use Rattle.snap_report.specs.Report.{ReportView}
 use Rattle.snap_report.specs.State.{state_of as told_of, Puts}
 use Rattle.snap_report.specs.Telling.{Written, Tells, Settled, between}
 use Rattle.snap_report.specs.declared.answer.Answer.{Answer}
@@ -35,63 +32,24 @@ use Rattle.snap_report.specs.declared.events.Event.TheVariants.{Io, ChangedBlock
 use Rattle.snap_report.specs.declared.pages.Lines.{Lines}
 use Rattle.snap_report.proofs.ReportLemmas.{all_given_nothing}
 use Rattle.stripe_reader.specs.SlotValue.{SlotValue}
-use Rattle.snap_sync.specs.Beginning.{LaysOut, BeginsNot}
+use Rattle.snap_sync.specs.Beginning.{BeginsNot}
 use Rattle.snap_sync.specs.Calls.{SyncPlan}
-use Rattle.snap_sync.specs.Course.{TouchesVault, Syncs, SyncsNot, BreaksOff, outside, plan_of}
+use Rattle.snap_sync.specs.Course.{TouchesVault, Syncs, SyncsNot, BreaksOff, outside}
 use Rattle.snap_sync.specs.Findings.{silent_event, wrong_event, block_events, cell_events, events_at, stripe_events, events_of}
-use Rattle.snap_sync.specs.Images.{MayStand}
-use Rattle.snap_sync.specs.Reading.{StripeReading, is_right, is_unread, is_recorded, slot_of, ReadsFirst}
-use Rattle.snap_sync.specs.Work.{VaultBroke, broke_sync}
+use Rattle.snap_sync.specs.Images.{MayStand, HasParityAfter}
+use Rattle.snap_sync.specs.Part.{SyncRun}
+use Rattle.snap_sync.specs.Reading.{StripeReading, is_right, is_unread, is_recorded, slot_of}
+use Rattle.snap_sync.specs.Work.{broke_sync}
 use Rattle.snap_sync.specs.declared.fault.SyncFault.{SyncFault}
 use Rattle.snap_sync.specs.declared.fault.SyncFault.TheVariants.{Scan, Run}
 use Rattle.snap_sync.specs.declared.syncing.SyncEnd.{SyncEnd}
 use Rattle.snap_top.specs.Does.{DoesCommand, IsDone}
-use Rattle.snap_top.specs.Syncing.{plan_for, answer_of, named_of, SyncCourse, SyncEnds, SyncBreaks, SyncRefuses, SyncsBy}
-use Rattle.snap_top.specs.Task.{Task, Did, reads_only, syncs, Left, Prints}
-use Rattle.snap_top.specs.Views.{World, WorldView, world_view, world_of, view_of, outside_of, folder_at, ReadsOnly, AllReadOnly, Keeps}
-use Rattle.snap_top.proofs.DoneLemmas.{by_output}
-use Rattle.snap_top.proofs.ViewsLemmas.{some_calls_of, sink_stays, all_read_nothing, all_read_then, read_then, read_nothing}
-
--- ---- folders that were only read
-
-listing_reads_only : (failed : Bool) (old new : FolderView) → IsFolderReading ListFiles failed old new → ReadsOnly old new
-listing_reads_only failed old new is = record { calls = record { done = record { call = ListFiles; failed = failed } ∷ []; goes_on = is.called.goes_on }; tree = is.tree }
-
-same_reads_only : (old new : FolderView) → new ≡ old → ReadsOnly old new
-same_reads_only old new same = subst (λ v. ReadsOnly old v) (sym same) (read_nothing old)
-
-all_listed : (olds news : List FolderView) (lists : List (List ListedFile)) → length news ≡ length olds → ListsAll olds news lists → AllReadOnly olds news
-all_listed olds news lists many listed = record { count = many; each = λ d below. listing_reads_only false _ _ (listed.each d below).call }
-
-first_listed : (count : ℕ) (olds news : List FolderView) → ListsFirst count olds news → AllReadOnly olds news
-first_listed count olds news first = record { count = first.as_many; each = λ d below. by d (cases_lt d count) }
-  where
-    by : (d : ℕ) → (d < count) ⊎ (count ≤ d) → ReadsOnly (folder_at olds d) (folder_at news d)
-    by d (inl under) = listing_reads_only false _ _ (first.calls d under)
-    by d (inr over) = same_reads_only _ _ (first.others d over)
-
-failed_at : (disk : ℕ) (olds news : List FolderView) → length news ≡ length olds → FailsAt disk olds news → AllReadOnly olds news
-failed_at disk olds news many fails = record { count = many; each = λ d below. by d (cases_lt d disk) }
-  where
-    behind : (d : ℕ) → (disk < d) ⊎ (d ≤ disk) → disk ≤ d → ReadsOnly (folder_at olds d) (folder_at news d)
-    behind d (inl over) least = same_reads_only _ _ (fails.behind d over)
-    behind d (inr under) least = let same : d ≡ disk = omega (arith, under, least) in subst (λ k. ReadsOnly (folder_at olds k) (folder_at news k)) (sym same) (listing_reads_only true _ _ fails.failed)
-
-    by : (d : ℕ) → (d < disk) ⊎ (disk ≤ d) → ReadsOnly (folder_at olds d) (folder_at news d)
-    by d (inl before) = listing_reads_only false _ _ (fails.before d before)
-    by d (inr least) = behind d (cases_lt disk d) least
-
-stripes_read : (start : TableValue) (readings : List StripeReading) (olds news : List FolderView) → ReadsFirst start readings olds news → AllReadOnly olds news
-stripes_read start readings olds news reads = record {
-  count = reads.read.folders;
-  each = λ d below. let folder = (reads.read.each d below).folder in record { calls = record { done = folder.done; goes_on = folder.goes_on }; tree = folder.tree };
-}
-
-begun_not : (task : Task) (way : SyncWay) (table : TableValue) (olds news : List FolderView) (fault : SyncFault) → length news ≡ length olds → BeginsNot task.setup way table olds news fault → AllReadOnly olds news
-begun_not task way table olds news (Scan fault of) many why = all_listed olds news why.1.lists many why.1.listed
-begun_not task way table olds news (Run (runs.Folder disk)) many why = failed_at disk olds news many why
-begun_not task way table olds news (Run runs.Memory) many why = first_listed why.0 olds news why.1
-begun_not task way table olds news (Run runs.Vault) many why = absurd why
+use Rattle.snap_top.specs.Syncing.{plan_for, run_of, answer_of, named_of, SyncEnds, SyncRefuses, SyncsBy}
+use Rattle.snap_top.specs.Task.{Task, Did, reads_only, syncs, LeavesSynced, end_table, Left}
+use Rattle.snap_top.specs.Views.{World, WorldView, world_view, world_of, view_of, outside_of, folder_at}
+use Rattle.snap_top.proofs.DoneLemmas.{by_output, nothing_more}
+use Rattle.snap_top.proofs.FolderLemmas.{all_listed, stripes_read, begun_not}
+use Rattle.snap_top.proofs.ViewsLemmas.{some_calls_of, sink_stays, all_read_then}
 
 -- ---- events of a sync: none is of a level
 
@@ -197,6 +155,14 @@ module _ {W : Type 0} (view : W → SinkView) (text : List ℕ) (out out_new : S
       let told : Tells text (between false out) (told_of view lines_new) = subst (λ w. Tells text w (told_of view lines_new)) start puts.tells in
       subst (λ s. Tells text (between false out) (between lines_new.failed s)) last (settled_tells text out (told_of view lines_new) told (settled first))
 
+-- what a sync that ended leaves
+leaves_synced : (run : SyncRun) (old : Files) (v : VaultView) → Holds (HasSaved run.plan.copies (spelling (end_table run))) v → Holds (HasParityAfter run.plan run.readings (length run.readings) old) v
+    → Holds (LeavesSynced run old) v
+leaves_synced run old v saved parity = record {
+  reads = λ told. record { saved = saved.reads told; parity = parity.reads told };
+  leaves = λ told files left. record { saved = saved.leaves told files left; parity = parity.leaves told files left };
+}
+
 -- ---- the whole
 
 -- by the answer of an engine that is done
@@ -260,6 +226,7 @@ module _ {R : Type 0} (standing : R → ReportView) (stands : R → List Event �
         does = as_command before after left reads_only (refuses_by fault task way table before after left reads_only why
             (record { fault = fault; why = why; left_is = refl; did_is = refl; others = refl }));
         changes = changes_start Stays vault (λ files. refl);
+        ends = λ tells. nothing_more vault.files vault;
         caused = refusal_caused fault task way table folders folders_new (outside_of before) (outside_of after) refl refl why;
         keeps = record { folders = begun_not task way table folders folders_new fault many why; vault = no_calls (view_of (state_of vault)); out = sink_stays out };
         reports = all_given_nothing standing stands reports;
@@ -275,7 +242,8 @@ module _ {R : Type 0} (standing : R → ReportView) (stands : R → List Event �
         let start = syncs_is.start in
         let events = events_of start ends.readings in
         let plan = plan_for task way start (world_of (world_view folders vault out)) in
-        let did : Did = syncs plan ends.readings in
+        let run : SyncRun = run_of task way table (world_of (world_view folders vault out)) (world_of (world_view folders_new vault_new out_new)) start syncs_is.listed ends.readings [] in
+        let did : Did = syncs false run in
         let left : Left = record { answer = done_answer end.findings lines_new.failed; named = None; counted = end.findings; told = events } in
         let told = printed_lines view _ out out_new lines lines_new start_is last_is course.tells.puts course.tells.settled in
         record {
@@ -309,6 +277,7 @@ module _ {R : Type 0} (standing : R → ReportView) (stands : R → List Event �
                 prints = record { failed = lines_new.failed; told = told; answer_is = refl };
               }));
           changes = course.vault.changes;
+          ends = λ tells. leaves_synced run vault.files vault_new (subst (λ t. Holds (HasSaved plan.copies (spelling t)) vault_new) ends.table_is ends.saved) ends.parity;
           caused = by_output end.findings lines_new.failed events (outside_of (world_of (world_view folders vault out))) (outside_of (world_of (world_view folders_new vault_new out_new))) (λ failed. told.cause refl failed);
           keeps = record {
             folders = all_read_then folders syncs_is.listed folders_new (all_listed folders syncs_is.listed syncs_is.laid.lists syncs_is.laid.as_many syncs_is.laid.listed) (stripes_read start _ syncs_is.listed folders_new course.reads);
@@ -326,7 +295,8 @@ module _ {R : Type 0} (standing : R → ReportView) (stands : R → List Event �
         let start = breaks_off.start in
         let events = events_of start breaks.readings in
         let plan = plan_for task way start (world_of (world_view folders vault out)) in
-        let did : Did = syncs plan breaks.readings in
+        let run : SyncRun = run_of task way table (world_of (world_view folders vault out)) (world_of (world_view folders_new vault_new out_new)) start breaks_off.listed breaks.readings breaks.ahead in
+        let did : Did = syncs true run in
         let left : Left = record { answer = answers.Broken runs.Vault; named = None; counted = 0; told = events } in
         let told = printed_lines view _ out out_new lines lines_new start_is last_is course.tells.puts course.tells.settled in
         let broke = course.vault.broke refl in
@@ -354,6 +324,7 @@ module _ {R : Type 0} (standing : R → ReportView) (stands : R → List Event �
             printed = subst (λ text. Tells text (between false out) (between lines_new.failed out_new)) (append-nil (lines_of start.columns events)) told;
           });
           changes = course.vault.changes;
+          ends = λ tells. record { reads = λ told. tt; leaves = λ told files left. tt };
           caused = record {
             rose = rose_by_one (count_by is_parity_io events) vault.faults vault_new.faults (no_level_read start breaks.readings) broke.rose;
             call = λ now. let gained = broke.call now in record { gained = gained.gained; now_is = gained.now_is; one = broke_more gained.gained gained.one };

@@ -1,11 +1,11 @@
 -- Objects that were not touched, and one thing done after another.
-use Rattle.std.proofs.Common.{◌≡◌, ℕ, ◌<◌, ◌≤◌, List, [], ◌++◌, length, get_or, IsTrue, arith, refl, sym, ap, ◌∙◌, subst, append_assoc}
+use Rattle.std.proofs.Common.{List, [], ◌++◌, arith, refl, sym, ap, ◌∙◌, append_assoc}
 use Rattle.std.proofs.lemmas.List.{append-nil}
 use Rattle.disk_model.specs.Folder.{FolderView}
 use Rattle.disk_model.specs.Sink.{SinkView, SinkGoesOn}
 use Rattle.disk_model.specs.Vault.{VaultView, SomeCalls, state_of}
 use Rattle.disk_model.proofs.VaultLemmas.{no_calls, calls_then}
-use Rattle.snap_top.specs.Views.{World, world_of, view_of, folder_at, ReadsOnly, AllReadOnly, Keeps}
+use Rattle.snap_top.specs.Views.{World, view_of, folder_at, ReadsOnly, AllReadOnly, Keeps}
 
 pub sink_stays : (out : SinkView) → SinkGoesOn out out
 sink_stays out = record { later = omega arith; tells = refl }

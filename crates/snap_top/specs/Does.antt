@@ -1,6 +1,6 @@
 -- What each command does, once its table is there: one line for each.
-use Rattle.std.specs.Prelude.{◌≡◌, ℕ, List, [], None, Option}
-use Rattle.disk_model.specs.Vault.{ChangesBy}
+use Rattle.std.specs.Prelude.{◌≡◌, ℕ, List, [], IsTrue, None, Option}
+use Rattle.disk_model.specs.Vault.{ChangesBy, Holds}
 use Rattle.file_table.specs.Table.{TableValue}
 use Rattle.snap_config.specs.declared.options.Command.{Command}
 use Rattle.snap_config.specs.declared.options.Command.TheVariants as commands
@@ -11,7 +11,7 @@ use Rattle.snap_report.specs.StatusText.{status_text, bad_in}
 use Rattle.snap_report.specs.declared.answer.Answer.{Answer}
 use Rattle.snap_report.specs.declared.events.Event.{Event}
 use Rattle.snap_top.specs.Syncing.{SyncsBy}
-use Rattle.snap_top.specs.Task.{Task, Did, reads_only, may_stand, Left, Prints}
+use Rattle.snap_top.specs.Task.{Task, Did, reads_only, may_stand, stands_after, Left, Prints}
 use Rattle.snap_top.specs.Views.{World, WorldView, world_of, outside_of, Keeps}
 
 -- it prints a text, tells no event, and touches nothing but the output
@@ -41,6 +41,7 @@ pub record IsDone {R : Type 0} (standing : R → ReportView) (stands : R → Lis
   pub did : Did
   pub does : Does task table (world_of before) (world_of after) left did
   pub changes : ChangesBy (may_stand did) before.vault after.vault
+  pub ends : IsTrue before.vault.tells → Holds (stands_after did before.vault.files) after.vault
   pub caused : IsCaused left.answer left.counted left.told (outside_of (world_of before)) (outside_of (world_of after))
   pub keeps : Keeps (world_of before) (world_of after)
   pub reports : AllGiven standing stands left.told olds news

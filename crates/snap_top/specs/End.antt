@@ -1,7 +1,10 @@
--- The status of each end of a run, and its line on the standard error.
-use Rattle.std.specs.Prelude.{ℕ, List, [], ◌∷◌, codes, slice_get, slice_index_or, unwrap_or, Option, None, Some}
+-- The status of each end of a run, and its line on the standard error, or lines where content is damaged.
+use Rattle.std.specs.Prelude.{ℕ, ◌+◌, List, [], ◌∷◌, codes, slice_get, unwrap_or, Option}
 use Rattle.std.specs.Fmt.{decimal}
+use Rattle.std.specs.List.{flat_map}
 use Rattle.std.specs.Option.{option_map_or}
+use Rattle.content_file.specs.declared.fault.Damage.{Damage}
+use Rattle.content_file.specs.FlawText.{printed_flaw}
 use Rattle.content_file.specs.declared.loading.LoadFault.{LoadFault}
 use Rattle.content_file.specs.declared.loading.LoadFault.TheVariants as loads
 use Rattle.disk_model.specs.declared.fault.OpenFault.{OpenFault}
@@ -12,7 +15,6 @@ use Rattle.snap_config.specs.Setup.{SetupValue, setup_value}
 use Rattle.snap_config.specs.Why.{printed_why}
 use Rattle.snap_config.specs.declared.options.WordsFault.{WordsFault}
 use Rattle.snap_config.specs.declared.options.WordsFault.TheVariants as words
-use Rattle.snap_config.specs.declared.setup.Disk.{Disk}
 use Rattle.snap_config.specs.declared.why.ConfigFault.{ConfigFault}
 use Rattle.snap_config.specs.declared.why.ConfigFault.TheVariants as config
 use Rattle.snap_report.specs.Answer as answers
@@ -46,7 +48,7 @@ open_status opens.Memory = 4
 
 abbrev pub load_status : LoadFault → ℕ
 load_status loads.Failed = 3
-load_status loads.Damaged = 5
+load_status (loads.Damaged damages) = 5
 load_status loads.Memory = 4
 
 abbrev pub refusal_status : Refusal → ℕ
@@ -102,9 +104,15 @@ refusal_line (Unread fault) = open_line fault
 refusal_line (Config file fault) = config_line file fault
 refusal_line (Unopened fault) = open_line fault
 
+-- the line of a damaged copy: copies are numbered from 0, and printed from 1
+abbrev pub damage_line : ℕ × Damage → List ℕ
+damage_line (copy, damage) =
+    joined (codes "snapraid: content " ∷ decimal (copy + 1) ∷ codes " is damaged at byte " ∷ decimal damage.offset ∷ codes ": " ∷ printed_flaw damage.why ∷ codes "\n" ∷ [])
+
+-- one line a copy where content is damaged
 abbrev pub load_line : LoadFault → List ℕ
 load_line loads.Failed = codes "snapraid: parity or content failed\n"
-load_line loads.Damaged = codes "snapraid: content is damaged\n"
+load_line (loads.Damaged damages) = flat_map damage_line damages
 load_line loads.Memory = memory_line
 
 abbrev pub size_line : ℕ → ℕ → List ℕ

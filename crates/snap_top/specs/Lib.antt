@@ -2,8 +2,11 @@ pub mod Array
 pub mod Complete
 pub mod Does
 pub mod End
+pub mod Moment
 pub mod Opening
+pub mod Resumed
 pub mod Run
+pub mod Sync
 pub mod Syncing
 pub mod Task
 pub mod Views

@@ -3,7 +3,7 @@ use Rattle.std.specs.Prelude.{◌≡◌, ◌⊎◌, ℕ, ◌<◌, List, [], ◌�
 use Rattle.disk_model.specs.Cause.{Rose}
 use Rattle.disk_model.specs.Folder.{FolderView}
 use Rattle.disk_model.specs.Opener.{OpenerView, OpenerDone, OpenerGoesOn, Config, Open, FolderIsGiven, folder_held}
-use Rattle.disk_model.specs.Vault.{VaultView, VaultState, state_of}
+use Rattle.disk_model.specs.Vault.{VaultState, state_of}
 use Rattle.disk_model.specs.declared.draft.Draft.TheVariants.{Absent}
 use Rattle.disk_model.specs.declared.fault.OpenFault.{OpenFault}
 use Rattle.disk_model.specs.declared.fault.OpenFault.TheVariants as opens

@@ -1,13 +1,13 @@
 -- What a run leaves, and why it ended so.
-use Rattle.std.specs.Prelude.{◌≡◌, ℕ, List, [], Bool, true, false, IsTrue, Option, None, Some, is_some, map}
+use Rattle.std.specs.Prelude.{◌≡◌, ℕ, List, [], length, Bool, true, false, IsTrue, Option, None, Some, is_some, map}
 use Rattle.content_file.specs.Load.{IsReadBelow, Loads, LoadFails, LoadIsDamaged}
 use Rattle.content_file.specs.declared.loading.LoadFault.{LoadFault}
 use Rattle.content_file.specs.declared.loading.LoadFault.TheVariants as loads
 use Rattle.disk_model.specs.Calls.{MakesOnly}
 use Rattle.disk_model.specs.Folder.{FolderView}
-use Rattle.disk_model.specs.Opener.{OpenerView, HoldsSame}
+use Rattle.disk_model.specs.Opener.{OpenerView, HoldsSame, SameVault}
 use Rattle.disk_model.specs.Sink.{SinkView}
-use Rattle.disk_model.specs.Vault.{VaultView, VaultState, SomeCalls, DraftsStay, ChangesBy, IsSettled, state_of, copies_of}
+use Rattle.disk_model.specs.Vault.{VaultView, VaultState, SomeCalls, DraftsStay, ChangesBy, Holds, IsSettled, copies_of}
 use Rattle.file_table.specs.Table.{TableValue}
 use Rattle.file_table.specs.Valid.{IsValid}
 use Rattle.snap_config.specs.Setup.{SetupValue, setup_value}
@@ -17,7 +17,7 @@ use Rattle.snap_report.specs.Telling.{Tells, between}
 use Rattle.snap_report.specs.declared.events.Event.{Event}
 use Rattle.snap_top.specs.Array.{empty_table, Matches, DiffersIn}
 use Rattle.snap_top.specs.Does.{Does}
-use Rattle.snap_top.specs.Task.{Task, Did, reads_only, may_stand, Left}
+use Rattle.snap_top.specs.Task.{Task, Did, reads_only, may_stand, stands_after, Left}
 use Rattle.snap_top.specs.End.{status_of, line_of}
 use Rattle.snap_top.specs.Opening.{Refuses, IsGiven}
 use Rattle.snap_top.specs.Views.{World, WorldView, world_view, world_of, view_of, outside_of, Keeps}
@@ -48,7 +48,7 @@ LoadsFrom old new loaded = Loads (view_of old) (view_of new) loaded
 
 abbrev pub LoadsNot : LoadFault → VaultState → VaultState → Type 0
 LoadsNot loads.Failed old new = LoadFails (view_of old) (view_of new)
-LoadsNot loads.Damaged old new = LoadIsDamaged (view_of old) (view_of new)
+LoadsNot (loads.Damaged damages) old new = LoadIsDamaged (view_of old) (view_of new) damages
 LoadsNot loads.Memory old new = Unit {0}
 
 -- the table that a command begins with: the one that was loaded, which is of the configuration's array, or that of an array without content
@@ -81,6 +81,8 @@ pub record IsAnswered (task : Task) (given after : World) (left : Left) (did : D
   pub loads : LoadsFrom given.vault start.vault loaded
   pub table : TableValue
   pub begins : BeginsWith task.setup task.seed loaded table
+  pub valid : IsValid table
+  pub columns : length start.folders ≡ length table.columns
   pub does : Does task table start after left did
   pub caused : IsCaused left.answer left.counted left.told (outside_of given) (outside_of after)
 
@@ -102,6 +104,7 @@ pub record Works {R : Type 0} (standing : R → ReportView) (stands : R → List
   pub did : Did
   pub goes : Goes task (world_of given) (world_of after) ending told did
   pub changes : ChangesBy (may_stand did) given.vault after.vault
+  pub ends : IsTrue given.vault.tells → Holds (stands_after did given.vault.files) after.vault
   pub keeps : Keeps (world_of given) (world_of after)
   pub reports : AllGiven standing stands told olds news
 
@@ -136,12 +139,13 @@ abbrev pub exit_of : {F V : Type 0} → (F → FolderView) → (V → VaultView)
 exit_of folder_view vault_view opener folders vault out =
     at_exit opener (is_some vault) (world_view (map folder_view folders) (vault_in vault_view opener.vault vault) out)
 
--- nothing was opened, told or printed, and the opener holds what it held
+-- nothing was opened, told or printed, and the opener holds what it held, the vault too
 pub record IsRefused (before : Entry) (exit : Exit) (why : Refusal) (told : List Event) : Type 0 where
   pub refuses : Refuses before.texts before.opener exit.opener why
   pub kept : HoldsSame before.opener exit.opener
   pub folders : exit.after.folders ≡ []
   pub no_vault : exit.has_vault ≡ false
+  pub vault : SameVault before.opener.tells before.opener.vault exit.after.vault
   pub out : exit.after.out ≡ before.out
   pub untold : told ≡ []
 
@@ -164,6 +168,7 @@ pub record IsRun (before : Entry) (exit : Exit) (setup : SetupValue) (ending : E
   -- what every stop leaves, and what reads give; it began with nothing unsynced
   pub settled : IsTrue before.opener.tells → IsSettled before.opener.vault
   pub changes : IsTrue before.opener.tells → ChangesBy (may_stand did) before.opener.vault exit.after.vault
+  pub ends : IsTrue before.opener.tells → IsTrue before.opener.vault.tells → Holds (stands_after did before.opener.vault.files) exit.after.vault
 
 abbrev pub Ran : Entry → Exit → End → List Event → Type 0
 Ran before exit (Refused why) told = IsRefused before exit why told

@@ -20,6 +20,7 @@ use Rattle.snap_sync.specs.Closing.{closed, verified_in}
 use Rattle.snap_sync.specs.Course.{TouchesVault, plan_of}
 use Rattle.snap_sync.specs.Findings.{events_of}
 use Rattle.snap_sync.specs.Images.{HasParityAfter}
+use Rattle.snap_sync.specs.Part.{SyncRun}
 use Rattle.snap_sync.specs.Reading.{StripeReading, ReadsFirst}
 use Rattle.snap_sync.specs.Work.{more_findings}
 use Rattle.snap_sync.specs.declared.fault.SyncFault.{SyncFault}
@@ -36,6 +37,19 @@ pub record IsOpened (setup : SetupValue) (table : TableValue) (folders : List Fo
 -- the plan of the sync of a laid out table
 abbrev pub plan_for : Task → SyncWay → TableValue → World → SyncPlan
 plan_for task way start before = plan_of task.setup way start task.moment (view_of before.vault)
+
+-- the sync as a whole, by what was laid out, listed and read
+abbrev pub run_of : Task → SyncWay → TableValue → World → World → TableValue → List FolderView → List StripeReading → List StripeReading → SyncRun
+run_of task way table before after start listed readings ahead = record {
+  setup = task.setup;
+  loaded = table;
+  plan = plan_for task way start before;
+  readings = readings;
+  ahead = ahead;
+  folders = before.folders;
+  listed = listed;
+  ended = after.folders;
+}
 
 -- the answer of a sync that did not end, and the table of the file that it names
 abbrev pub answer_of : SyncFault → Answer
@@ -57,7 +71,7 @@ pub record SyncCourse (task : Task) (way : SyncWay) (table : TableValue) (failed
   pub laid : LaysOut task.setup way table start before.folders listed
   pub readings : List StripeReading
   pub ahead : List StripeReading
-  pub did_is : did ≡ syncs (plan_for task way start before) readings
+  pub did_is : did ≡ syncs failed (run_of task way table before after start listed readings ahead)
   pub reads : ReadsFirst start (readings ++ ahead) listed after.folders
   pub vault : TouchesVault (plan_for task way start before) failed readings (view_of before.vault) (view_of after.vault)
   pub told_is : left.told ≡ events_of start readings

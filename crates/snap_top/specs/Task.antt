@@ -1,5 +1,7 @@
 -- What a run is to do, and what it leaves to be said.
-use Rattle.std.specs.Prelude.{◌≡◌, ℕ, List, Bool, false, Option}
+use Rattle.std.specs.Prelude.{◌≡◌, ℕ, List, length, Bool, true, false, Option}
+use Rattle.content_file.specs.Save.{HasSaved}
+use Rattle.content_file.specs.Spelling.{spelling}
 use Rattle.disk_model.specs.Files.{Files, Stays}
 use Rattle.disk_model.specs.Sink.{SinkView}
 use Rattle.file_table.specs.Table.{TableValue}
@@ -10,9 +12,9 @@ use Rattle.snap_report.specs.Answer.{done_answer}
 use Rattle.snap_report.specs.Telling.{Tells, between}
 use Rattle.snap_report.specs.declared.answer.Answer.{Answer}
 use Rattle.snap_report.specs.declared.events.Event.{Event}
-use Rattle.snap_sync.specs.Calls.{SyncPlan}
-use Rattle.snap_sync.specs.Images.{MayStand}
-use Rattle.snap_sync.specs.Reading.{StripeReading}
+use Rattle.snap_sync.specs.Closing.{closed}
+use Rattle.snap_sync.specs.Images.{MayStand, HasParityAfter}
+use Rattle.snap_sync.specs.Part.{SyncRun}
 use Rattle.snap_top.specs.declared.job.Job.{Job}
 
 -- what a run is to do: its command and its configuration, how many readers it has, the time in seconds since 1970, and the seed of a new array
@@ -33,15 +35,30 @@ IsBuilt commands.Status = Unit {0}
 IsBuilt (commands.Sync way) = Unit {0}
 IsBuilt _ = ⊥
 
--- what a run did to the files of the vault
+-- what a run did to the files of the vault: it only read them, or it synced them, and a call failed in that or none did
 pub data Did : Type 0 where
   reads_only : Did
-  syncs : SyncPlan → List StripeReading → Did
+  syncs : (failed : Bool) → SyncRun → Did
 
 -- whatever the run did and whenever it is stopped, each image comes by this from one that there was before it
 abbrev pub may_stand : Did → Files → Files → Type 0
 may_stand reads_only = Stays
-may_stand (syncs plan readings) = MayStand plan readings
+may_stand (syncs failed run) = MayStand run.plan run.readings
+
+-- the table of a sync that read all its stripes
+abbrev pub end_table : SyncRun → TableValue
+end_table run = closed run.plan.now run.plan.start run.readings
+
+-- What a sync that ended leaves: each copy spells its table, and parity has the sums of the stripes that are synced now.
+pub record LeavesSynced (run : SyncRun) (old new : Files) : Type 0 where
+  pub saved : HasSaved run.plan.copies (spelling (end_table run)) new
+  pub parity : HasParityAfter run.plan run.readings (length run.readings) old new
+
+-- what stands at the end of a run besides, as it reads and in each image, by the files at its beginning
+abbrev pub stands_after : Did → Files → Files → Type 0
+stands_after reads_only old new = Unit {0}
+stands_after (syncs true run) old new = Unit {0}
+stands_after (syncs false run) old new = LeavesSynced run old new
 
 -- what a command leaves to be said of it: its answer, the table of the file that this names, how many findings count, and the events that were told
 pub record Left : Type 0 where

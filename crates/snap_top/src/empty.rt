@@ -1,5 +1,6 @@
 // The table of an array without content.
 ghost use Rattle.std.specs.Prelude.{◌≡◌, IfOk, IfErr};
+ghost use Rattle.file_table.specs.Valid.{IsValid};
 ghost use Rattle.snap_config.specs.Setup.{IsSetup, setup_value};
 ghost use Rattle.snap_top.specs.Array.{empty_table};
 
@@ -12,6 +13,7 @@ use std::alloc::Global;
 fn build(alloc: Global, setup: &Setup, seed: [u8; 16]) -> Result<Table, BuildFault>
     requires { IsSetup (setup_value setup.now) }
     ensures table { IfOk result (λ table. table ≡ empty_table (setup_value setup.now) seed) }
+    ensures valid { IfOk result IsValid }
     ensures memory { IfErr result (λ fault. fault ≡ BuildFault.Memory) }
 {
     let shape = Shape {
@@ -34,7 +36,8 @@ fn build(alloc: Global, setup: &Setup, seed: [u8; 16]) -> Result<Table, BuildFau
 /// nothing of it but for want of memory.
 pub(crate) fn empty(alloc: Global, setup: &Setup, seed: [u8; 16]) -> Result<Table, NoMemory>
     requires { IsSetup (setup_value setup.now) }
-    ensures { IfOk result (λ table. table ≡ empty_table (setup_value setup.now) seed) }
+    ensures table { IfOk result (λ table. table ≡ empty_table (setup_value setup.now) seed) }
+    ensures valid { IfOk result IsValid }
 {
     match build(alloc, setup, seed) {
         Ok(table) => Ok(table),

@@ -82,7 +82,7 @@ impl Ending {
     {
         match self {
             Ending::NotLoaded(LoadFault::Failed) => 3,
-            Ending::NotLoaded(LoadFault::Damaged) => 5,
+            Ending::NotLoaded(LoadFault::Damaged(_)) => 5,
             Ending::NotLoaded(LoadFault::Memory) | Ending::NoTable => 4,
             Ending::OtherArray { .. } => 2,
             Ending::Answered { answer, .. } => answer.status(),

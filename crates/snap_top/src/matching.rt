@@ -1,5 +1,6 @@
 // Whether content and configuration are of one array.
 ghost use Rattle.std.specs.Prelude.{◌≡◌, ◌↔◌, IsTrue, MatchOption, option_map};
+ghost use Rattle.file_table.specs.Valid.{IsValid};
 ghost use Rattle.snap_config.specs.Setup.{IsSetup, setup_value};
 ghost use Rattle.snap_top.specs.Array.{Matches, DiffersIn, DiffersFirst, column_names, disk_names};
 
@@ -36,7 +37,8 @@ fn first_other_disk(table: &Table, setup: &Setup) -> Option<u32>
 /// In what content and configuration differ first.
 pub(crate) fn difference(table: &Table, setup: &Setup) -> Option<Difference>
     requires { IsSetup (setup_value setup.now) }
-    ensures { MatchOption result (Matches (setup_value setup.now) table.now) (DiffersIn (setup_value setup.now) table.now) }
+    ensures differs { MatchOption result (Matches (setup_value setup.now) table.now) (DiffersIn (setup_value setup.now) table.now) }
+    ensures valid { IsValid table.now }
 {
     let shape = table.shape();
     if shape.block_size != setup.block_size {

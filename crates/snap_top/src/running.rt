@@ -1,8 +1,10 @@
 // A run.
 ghost use Rattle.std.specs.Prelude.{◌≡◌, length, map, string_bytes, IfOk, IfErr, Option};
+ghost use Rattle.file_table.specs.Valid.{IsValid};
 ghost use Rattle.snap_config.specs.Setup.{IsSetup, setup_value};
 ghost use Rattle.snap_config.specs.Words.{IsWay};
 ghost use Rattle.snap_top.specs.Complete.{IsSilent, RefusalsTouchNothing, SmoothRunsAreDone};
+ghost use Rattle.snap_top.specs.Moment.{EveryMomentIsSound, SyncsEndInPart};
 ghost use Rattle.snap_top.specs.Task.{IsBuilt, task_of};
 ghost use Rattle.snap_top.specs.Run.{BeginsWith, BeginsNot, Works, Ran, RanWith, EndsWith, at_entry, exit_of};
 ghost use Rattle.snap_top.specs.Views.{world_view};
@@ -14,10 +16,12 @@ use crate::matching::difference;
 use crate::opening::{Session, open_all};
 use crate::saying::say;
 use crate::{End, Ending};
+use array_scan::laws::a_layout_keeps_its_stripes;
 use content_file::load;
 use disk_model::{Folder, Opener, Sink, Vault};
 use file_table::Table;
 use snap_report::Report;
+use snap_sync::laws::{a_sync_is_a_part_sync, every_moment_is_sound, what_is_pending_is_found};
 use std::alloc::Global;
 use std::thread::Threads;
 
@@ -42,6 +46,7 @@ struct Ended<F, V> {
 fn first_table(alloc: Global, job: &Job, loaded: Option<Table>) -> Result<Table, Ending>
     requires { IsSetup (setup_value job.now.setup) }
     ensures begins { IfOk result (BeginsWith (setup_value job.now.setup) job.now.seed loaded) }
+    ensures valid { IfOk result IsValid }
     ensures not { IfErr result (BeginsNot (setup_value job.now.setup) loaded) }
 {
     let Some(content) = loaded else {
@@ -166,10 +171,19 @@ pub fn run<R: Threads + Sync, O: Opener, W: Sink, E: Sink>(
         (exit_of O.Folder.view O.Vault.view (O.view opener.new) result.folders.items result.vault (W.view out.new))
         result.status }
     ensures silent { IsSilent result.status (E.view err.old) (E.view err.new) }
+    ensures sound { EveryMomentIsSound (at_entry (map string_bytes words.now) (O.view opener.old) (W.view out.old) now seed)
+        (exit_of O.Folder.view O.Vault.view (O.view opener.new) result.folders.items result.vault (W.view out.new)) }
+    ensures synced { SyncsEndInPart (at_entry (map string_bytes words.now) (O.view opener.old) (W.view out.old) now seed)
+        (exit_of O.Folder.view O.Vault.view (O.view opener.new) result.folders.items result.vault (W.view out.new))
+        result.status }
     ensures complete { SmoothRunsAreDone (at_entry (map string_bytes words.now) (O.view opener.old) (W.view out.old) now seed)
         (exit_of O.Folder.view O.Vault.view (O.view opener.new) result.folders.items result.vault (W.view out.new))
         result.status }
 {
+    a_layout_keeps_its_stripes();
+    a_sync_is_a_part_sync();
+    what_is_pending_is_found();
+    every_moment_is_sound();
     let Ended {
         end,
         folders,

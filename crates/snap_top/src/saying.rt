@@ -1,14 +1,15 @@
 // What is said of an end on the standard error. It needs no memory.
 ghost use Rattle.std.specs.Prelude.{◌≡◌, option_map, slice_get, false};
+ghost use Rattle.std.specs.List.{flat_map};
 ghost use Rattle.snap_config.specs.Setup.{setup_value};
 ghost use Rattle.snap_report.specs.State.{Puts, state_of};
 ghost use Rattle.snap_report.specs.Telling.{Tells, Settled, between};
 ghost use Rattle.snap_top.specs.Array.{column_names, disk_names};
-ghost use Rattle.snap_top.specs.End.{words_line, unfit_line, value_line, config_line, open_line, refusal_line, load_line, size_line, levels_line, names_line, name_or_sign, difference_line, ending_line, line_of, option_word, disk_named, path_named, memory_line};
+ghost use Rattle.snap_top.specs.End.{words_line, unfit_line, value_line, config_line, open_line, refusal_line, load_line, damage_line, size_line, levels_line, names_line, name_or_sign, difference_line, ending_line, line_of, option_word, disk_named, path_named, memory_line};
 ghost use Rattle.snap_top.specs.Run.{IsSaid};
 
 use crate::{Difference, End, Ending, Refusal};
-use content_file::LoadFault;
+use content_file::{Damage, Damages, LoadFault};
 use disk_model::{OpenFault, Sink};
 use file_table::Table;
 use snap_config::{ConfigFault, OptionName, Setup, WordsFault};
@@ -112,12 +113,36 @@ fn put_refusal<W: Sink>(lines: &mut Lines<'_, W>, refusal: &Refusal)
     }
 }
 
+fn put_damage<W: Sink>(lines: &mut Lines<'_, W>, copy: u32, damage: Damage)
+    ensures { Puts W.view (damage_line (copy, damage)) lines.old lines.new }
+{
+    lines.put_all(&[
+        Piece::Text("snapraid: content "),
+        Piece::Number(u128::from(copy) + 1),
+        Piece::Text(" is damaged at byte "),
+        Piece::Number(u128::from(damage.offset)),
+        Piece::Text(": "),
+        Piece::Text(damage.why.as_str()),
+        Piece::Text("\n"),
+    ]);
+}
+
+// A line for each damaged copy, in order.
+fn put_damages<W: Sink>(lines: &mut Lines<'_, W>, damages: &Damages)
+    ensures { Puts W.view (flat_map damage_line damages.now) lines.old lines.new }
+{
+    for i in 0..damages.len() {
+        let (copy, damage) = damages.at(i);
+        put_damage(lines, copy, damage);
+    }
+}
+
 fn put_load<W: Sink>(lines: &mut Lines<'_, W>, fault: &LoadFault)
     ensures { Puts W.view (load_line fault.now) lines.old lines.new }
 {
     match fault {
         LoadFault::Failed => lines.put(b"snapraid: parity or content failed\n"),
-        LoadFault::Damaged => lines.put(b"snapraid: content is damaged\n"),
+        LoadFault::Damaged(damages) => put_damages(lines, damages),
         LoadFault::Memory => put_memory(lines),
     }
 }

@@ -5,6 +5,7 @@ ghost use Rattle.disk_memory.specs.Given.{HasNoDraft};
 ghost use Rattle.disk_memory.specs.Vault.{vault_view};
 
 use disk_memory::{MemFolder, MemOpener, MemSink, MemVault};
+use disk_model::Vault;
 use snap_top::run;
 use std::alloc::Global;
 use std::test::Fail;
@@ -82,6 +83,8 @@ pub struct Array<'a> {
     pub disks: u32,
     pub levels: u32,
     pub content: Option<&'a [u8]>,
+    /// A second copy, where the configuration names one.
+    pub second: Option<&'a [u8]>,
     pub failing: Failing,
 }
 
@@ -91,6 +94,7 @@ pub const EMPTY: Array = Array {
     disks: 1,
     levels: 1,
     content: None,
+    second: None,
     failing: NONE,
 };
 
@@ -205,8 +209,12 @@ fn vault(alloc: Global, array: Array) -> Result<MemVault, Fail>
     ensures settled { IfOk result (λ vault. IsSettled (vault_view vault)) }
     ensures drafts { IfOk result (λ vault. HasNoDraft (vault_view vault)) }
 {
-    let mut vault = MemVault::new(alloc, array.levels, 1)?;
+    let copies = if array.second.is_some() { 2 } else { 1 };
+    let mut vault = MemVault::new(alloc, array.levels, copies)?;
     vault.set_content(0, array.content)?;
+    if vault.copies() > 1 {
+        vault.set_content(1, array.second)?;
+    }
     vault.fail_at(array.failing.vault)?;
     Ok(vault)
 }

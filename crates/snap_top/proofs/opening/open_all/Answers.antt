@@ -1,4 +1,4 @@
-use Rattle.std.proofs.Common.{refl, arith, ◌∙◌}
+use Rattle.std.proofs.Common.{refl, arith}
 use Rattle.snap_config.specs.Setup.{setup_value}
 use Rattle.snap_top.proofs.OpeningLemmas.{opened_given, unopened, images_given, as_many_levels}
 use Rattle.snap_top.proofs.opening.open_all.Goals as goal

@@ -1,4 +1,9 @@
-use Rattle.snap_top.proofs.CompleteLemmas.{refusal_touches_nothing, done_is_silent, smooth_is_done}
+use Rattle.std.proofs.Common.{arith}
+use Rattle.snap_top.proofs.CompleteLemmas.{smooth_is_done}
+use Rattle.snap_top.proofs.MomentLemmas.{every_moment}
+use Rattle.snap_top.proofs.PartLemmas.{syncs_end_in_part}
+use Rattle.snap_top.proofs.RefusalLemmas.{refusal_touches_nothing}
+use Rattle.snap_top.proofs.SilentLemmas.{done_is_silent}
 use Rattle.snap_top.proofs.running.run.Goals as goal
 
 pub returns-clause-refused : goal.returns-clause-refused
@@ -9,3 +14,16 @@ returns-clause-silent g c = done_is_silent c.work-end.result.end _ _ _ c.status.
 
 pub returns-clause-complete : goal.returns-clause-complete
 returns-clause-complete g c = let ran = c.work-end.ensures in smooth_is_done _ _ c.work-end.result.end ran.told _ c.status.ensures ran.ran
+
+pub returns-clause-sound : goal.returns-clause-sound
+returns-clause-sound g c =
+    let ran = c.work-end.ensures in
+    let parts = c.a_sync_is_a_part_sync.ensures in
+    every_moment parts.laid parts.copies c.every_moment_is_sound.ensures c.a_layout_keeps_its_stripes.ensures _ _ c.work-end.result.end ran.told (omega arith) ran.ran
+
+pub returns-clause-synced : goal.returns-clause-synced
+returns-clause-synced g c =
+    let ran = c.work-end.ensures in
+    let parts = c.a_sync_is_a_part_sync.ensures in
+    syncs_end_in_part parts.laid parts.part parts.full parts.given c.what_is_pending_is_found.ensures.findings c.what_is_pending_is_found.ensures.found c.a_layout_keeps_its_stripes.ensures _ _ c.work-end.result.end ran.told _ (omega arith)
+    c.status.ensures ran.ran

@@ -1,5 +1,4 @@
 use Rattle.std.proofs.Common.{length, ap, arith, refl}
-use Rattle.snap_top.specs.Task.{task_of}
 use Rattle.snap_top.proofs.RunLemmas.{opened_runs, written_back}
 use Rattle.snap_top.proofs.running.work.Goals as goal
 

@@ -1,8 +1,7 @@
-use Rattle.std.proofs.Common.{rules, refl, sym, ap, ◌∙◌, subst, arith, length}
+use Rattle.std.proofs.Common.{rules, refl, sym, ap, ◌∙◌, subst}
 use Rattle.std.proofs.lemmas.List.{length-map}
 use Rattle.snap_report.specs.Answer.{done_answer}
 use Rattle.snap_report.specs.State.{state_of as told_of}
-use Rattle.snap_top.specs.Does.{IsDone}
 use Rattle.snap_top.specs.Task.{task_of}
 use Rattle.snap_top.proofs.SyncLemmas.{ended_done, not_ended_done, same_output, with_answer}
 use Rattle.snap_top.proofs.syncing.sync_array.Goals as goal

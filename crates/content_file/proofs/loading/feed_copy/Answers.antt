@@ -1,0 +1,43 @@
+use Rattle.std.proofs.Common.{◌∙◌}
+use Rattle.disk_model.proofs.VaultLemmas.{on_any}
+use Rattle.content_file.proofs.LoadFeeds.{FeedsPiece, fails_last, reads_then, reads_one, read_piece, asked_few, piece_reads, piece_quiet, feeds_more, never_short}
+use Rattle.content_file.proofs.loading.feed_copy.Given as given
+use Rattle.content_file.proofs.loading.feed_copy.Goals as goal
+use Rattle.content_file.proofs.loading.feed_copy.Goals.{After-feed}
+
+-- a piece was read, and fed
+piece : (g : given.Over) (c : After-feed g)
+    → FeedsPiece c.args.copy c.args.size (g.V.Vault.view c.args.vault.now) (g.V.Vault.view c.loop-at.vault) (g.V.Vault.view c.content_read.new.self) c.loop-at.decoder c.feed.new.self c.loop-at.at c.min-want.result
+    c.in_ok-count.count c.loop-at.buffer c.content_read.new.out
+piece g c = record {
+  one = c.loop-at.invariant;
+  more = c.loop-at-test.true;
+  room = c.loop-at.auto.buffer ∙ c.requires.buffer;
+  want_is = c.min-want.ensures;
+  call = c.in_ok-count.ensures.call;
+  found = c.in_ok-count.ensures.found;
+  bound = c.in_ok-count.ensures.bound;
+  feeds = c.feed.ensures.fed;
+}
+
+pub loop-at-preserved : goal.loop-at-preserved
+loop-at-preserved g c = feeds_more _ _ _ _ _ _ _ _ _ _ _ _ (piece g (goal.at.loop-at-preserved g c).After-feed) c.if-count-want.false
+
+pub returns-then-count-want-clause-reads : goal.returns-then-count-want-clause-reads
+returns-then-count-want-clause-reads g c = piece_reads _ _ _ _ _ _ _ _ _ _ _ _ (piece g (goal.at.returns-then-count-want-clause-reads g c).After-feed)
+
+pub returns-then-count-want-clause-none_failed : goal.returns-then-count-want-clause-none_failed
+returns-then-count-want-clause-none_failed g c = piece_quiet _ _ _ _ _ _ _ _ _ _ _ _ (piece g (goal.at.returns-then-count-want-clause-none_failed g c).After-feed)
+
+pub returns-then-count-want-clause-fed : goal.returns-then-count-want-clause-fed
+returns-then-count-want-clause-fed g c = never_short _ _ _ _ _ _ _ _ _ _ _ _ (piece g (goal.at.returns-then-count-want-clause-fed g c).After-feed) c.if-count-want.true
+
+pub returns-in_err-count-clause-reads : goal.returns-in_err-count-clause-reads
+returns-in_err-count-clause-reads g c =
+    let few = asked_few c.loop-at.buffer c.min-want.result (c.loop-at.auto.buffer ∙ c.requires.buffer) in
+    reads_then c.args.copy _ (g.V.Vault.view c.loop-at.vault) _ c.loop-at.invariant.reads (reads_one c.args.copy _ _ _ _ (read_piece c.args.copy c.loop-at.at _ few) c.in_err-count.ensures.call)
+
+pub returns-in_err-count-clause-failed : goal.returns-in_err-count-clause-failed
+returns-in_err-count-clause-failed g c =
+    let few = asked_few c.loop-at.buffer c.min-want.result (c.loop-at.auto.buffer ∙ c.requires.buffer) in
+    on_any c.from_residual.result (fails_last c.args.copy _ c.in_err-count.field-0.0 _ (g.V.Vault.view c.loop-at.vault) _ c.requires.copy (read_piece c.args.copy c.loop-at.at _ few) c.loop-at.invariant.reads c.in_err-count.ensures.call)

@@ -1,0 +1,121 @@
+-- What stands at each moment of a run is sound.
+use Rattle.std.proofs.Common.{◌≡◌, ◌⊎◌, inl, inr, ⊎_elim, ℕ, ◌<◌, ◌^◌, List, ◌++◌, length, Bool, IsTrue, refl, sym, ap, ◌∙◌, subst, arith}
+use Rattle.disk_model.specs.Files.{Files}
+use Rattle.disk_model.specs.Folder.{FolderView}
+use Rattle.disk_model.specs.Moments.{ComesBy}
+use Rattle.disk_model.specs.Opener.{SameVault}
+use Rattle.disk_model.specs.Vault.{ChangesBy, copies_of}
+use Rattle.file_table.specs.Table.{TableValue}
+use Rattle.parity_writer.specs.Parity.{Rows}
+use Rattle.parity_writer.specs.Sound.{Snapshot}
+use Rattle.snap_report.specs.declared.events.Event.{Event}
+use Rattle.snap_sync.specs.Calls.{SyncPlan}
+use Rattle.snap_sync.specs.Images.{MayStand, rows_after}
+use Rattle.snap_sync.specs.Part.{AreOfPartSyncs, IsToldRun, SyncRun, layout_by, run_trees}
+use Rattle.snap_sync.specs.Reading.{StripeReading, ReadsFirst}
+use Rattle.snap_sync.specs.Soundness.{AreSound, AreSoundAfter, StandsOn, changed_without, snapshot_with}
+use Rattle.snap_top.specs.Moment.{EveryMomentIsSound, HoldsFresh, ChangesNothing, IsSoundAlways, IsSyncOf, StandsIn}
+use Rattle.snap_top.specs.Opening.{asked_by}
+use Rattle.snap_top.specs.Run.{Entry, Exit, Ran}
+use Rattle.snap_top.specs.Task.{Did, reads_only, syncs, may_stand}
+use Rattle.snap_top.specs.declared.end.End.{End}
+use Rattle.snap_top.specs.declared.end.End.TheVariants.{Refused, Worked}
+use Rattle.snap_config.specs.Setup.{setup_value}
+use Rattle.snap_config.specs.declared.options.Options.{Options}
+use Rattle.snap_top.proofs.CompleteLemmas.{same_ok}
+use Rattle.snap_top.proofs.OfSyncLemmas.{KeepsItsStripes, run_did}
+use Rattle.snap_top.proofs.RunLemmas.{stands_still}
+
+-- ---- what snap_sync says of its moments
+
+abbrev pub LayoutIsOfTrees : Type 0
+LayoutIsOfTrees = (run : SyncRun) → IsToldRun run → run.plan.start ≡ layout_by run.setup run.loaded (run_trees run)
+
+abbrev pub CopiesAreOfPartSyncs : Type 0
+CopiesAreOfPartSyncs = (run : SyncRun) (files new : Files) → IsToldRun run → MayStand run.plan run.readings files new
+    → AreOfPartSyncs run.plan.start (run_trees run) run.plan.now run.plan.copies files new
+
+abbrev pub MomentsAreSound : Type 0
+MomentsAreSound = (plan : SyncPlan) (loaded : TableValue) (readings ahead : List StripeReading) (olds news : List FolderView) (old new : Files) (snapshot : Snapshot) (is_changed : ℕ → ℕ → Bool)
+    → length olds ≡ length plan.start.columns → ReadsFirst plan.start (readings ++ ahead) olds news → StandsOn plan loaded old → AreSound plan.copies old snapshot is_changed
+    → MayStand plan readings old new → AreSoundAfter plan readings new snapshot is_changed
+
+-- ---- what stands at a moment
+
+module _ (before : Entry) (exit : Exit) (fresh : HoldsFresh before) where
+  abbrev old : Files
+  old = before.opener.vault.files
+
+  -- by what the run did
+  stands_by : (did : Did) → ChangesBy (may_stand did) before.opener.vault exit.after.vault → (files : Files) → StandsIn before exit files → may_stand did old files
+  stands_by did changes files (inl same) = subst (may_stand did old) (sym same) (changes.reads fresh.tells_vault)
+  stands_by did changes files (inr at) =
+      let told : IsTrue before.opener.vault.images.told = changes.leaves.told at.0 in
+      ⊎_elim
+      (λ was. subst (may_stand did old) (sym (fresh.settled told files was)) (stands_still did old))
+      (λ (by : ComesBy (may_stand did) before.opener.vault.images files). subst (λ (from : Files). may_stand did from files) (fresh.settled told by.0 by.1) by.2)
+      (changes.leaves.within at.0 before.opener.vault.images.moment files (omega arith) at.1)
+
+  -- nothing was opened
+  stands_same : SameVault before.opener.tells before.opener.vault exit.after.vault → (files : Files) → StandsIn before exit files → files ≡ old
+  stands_same same files (inl at_end) = at_end ∙ same.files fresh.tells
+  stands_same same files (inr at) =
+      fresh.settled (sym (same.tells_images fresh.tells) ∙ at.0) files ((same.since fresh.tells before.opener.vault.images.moment files).0 at.1)
+
+  -- a run that only reads
+  pub sound_reading : ((files : Files) → StandsIn before exit files → files ≡ old) → IsSoundAlways before exit
+  sound_reading still = record {
+    did = reads_only;
+    is_did = tt;
+    reads = λ asked words none. refl;
+    moments = still;
+    copies = still;
+    sound = λ files snapshot is_changed at are. record {
+      count = 0;
+      sound = subst (λ (fs : Files). AreSound (copies_of before.opener.vault) fs snapshot is_changed) (sym (still files at)) are;
+    };
+  }
+
+  module _ (laid : LayoutIsOfTrees) (of_parts : CopiesAreOfPartSyncs) (sound : MomentsAreSound) where
+    -- a sync
+    sound_syncing : (failed : Bool) (run : SyncRun) → IsSyncOf before exit run → ((files : Files) → StandsIn before exit files → MayStand run.plan run.readings old files) → IsSoundAlways before exit
+    sound_syncing failed run is moments =
+        let over = is.over in
+        record {
+          did = syncs failed run;
+          is_did = is;
+          reads = λ asked words none.
+              let same = same_ok (asked_by before.texts) is.configured.asked asked is.configured.read words in
+              absurd (subst ChangesNothing (sym (is.configured.command_is ∙ ap (λ (a : Options). a.command) same)) none);
+          moments = moments;
+          copies = λ files at told.
+              let told_run : IsToldRun run = record { told = told; of_lists = over.listed } in
+              subst (λ (n : ℕ). AreOfPartSyncs (layout_by run.setup run.loaded (run_trees run)) (run_trees run) run.plan.now n old files) over.copies_are
+              (subst (λ (start : TableValue). AreOfPartSyncs start (run_trees run) run.plan.now run.plan.copies old files) (laid run told_run) (of_parts run old files told_run (moments files at)));
+          sound = λ files snapshot is_changed at are.
+              let long : length run.listed ≡ length run.plan.start.columns = over.listed.as_many ∙ over.listed.folders ∙ sym over.stands.keeps.columns in
+              let after = sound run.plan run.loaded run.readings run.ahead run.listed run.ended old files snapshot is_changed long over.listed.reads over.stands
+              (subst (λ (n : ℕ). AreSound n old snapshot is_changed) (sym over.copies_are) are) (moments files at) in
+              let rows : Rows = rows_after run.plan run.readings after.count in
+              record {
+                count = after.count;
+                sound = subst (λ (n : ℕ). AreSound n files (snapshot_with rows snapshot) (changed_without rows is_changed)) over.copies_are after.sound;
+              };
+        }
+
+    -- a run that opened its array
+    sound_run : (did : Did) → ChangesBy (may_stand did) before.opener.vault exit.after.vault → (did ≡ reads_only) ⊎ ((failed : Bool) × (run : SyncRun) × (did ≡ syncs failed run) × IsSyncOf before exit run)
+        → IsSoundAlways before exit
+    sound_run did changes (inl read) = sound_reading (stands_by reads_only (subst (λ d. ChangesBy (may_stand d) before.opener.vault exit.after.vault) read changes))
+    sound_run did changes (inr sync) =
+        sound_syncing sync.0 sync.1 sync.3 (stands_by (syncs sync.0 sync.1) (subst (λ d. ChangesBy (may_stand d) before.opener.vault exit.after.vault) sync.2 changes))
+
+-- of each run
+pub every_moment : LayoutIsOfTrees → CopiesAreOfPartSyncs → MomentsAreSound → KeepsItsStripes → (before : Entry) (exit : Exit) (end : End) (told : List Event) → before.moment < 2 ^ 64
+    → Ran before exit end told → EveryMomentIsSound before exit
+every_moment laid of_parts sound keeps before exit (Refused why) told in_time ran fresh = sound_reading before exit fresh (stands_same before exit fresh ran.vault)
+every_moment laid of_parts sound keeps before exit (Worked setup ending) told in_time ran fresh =
+    sound_run before exit fresh laid of_parts sound ran.did (ran.changes fresh.tells) (⊎_elim
+    (λ read. inl read)
+    (λ sync. inr (sync.failed, sync.run, sync.did_is, sync.is_sync))
+    (run_did keeps before exit in_time fresh.tells fresh.tells_vault (setup_value setup) ending told ran))

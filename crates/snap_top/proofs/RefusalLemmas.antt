@@ -1,0 +1,95 @@
+-- A run that is refused touches nothing, from its end.
+use Rattle.std.proofs.Common.{◌≡◌, ◌≢◌, ◌⊎◌, inl, inr, ℕ, List, Bool, true, false, sym, ap, ◌∙◌, subst, arith, cond, ◌==◌}
+use Rattle.disk_model.specs.Vault.{ChangesBy}
+use Rattle.file_table.specs.Table.{TableValue}
+use Rattle.snap_config.specs.declared.options.Command.{Command}
+use Rattle.snap_config.specs.declared.options.Command.TheVariants as commands
+use Rattle.snap_report.specs.Answer.{done_answer, status_of as answer_status}
+use Rattle.snap_report.specs.declared.answer.Answer.{Answer}
+use Rattle.snap_report.specs.declared.answer.Answer.TheVariants.{Clean, Found, OutputFailed, Zeroed, Emptied, Full, Broken}
+use Rattle.snap_report.specs.declared.answer.RunFault.TheVariants.{Folder, Vault, Memory}
+use Rattle.snap_report.specs.declared.events.Event.{Event}
+use Rattle.snap_top.specs.Complete.{RefusalsTouchNothing}
+use Rattle.snap_top.specs.Does.{DoesCommand}
+use Rattle.snap_config.specs.declared.options.SyncWay.{SyncWay}
+use Rattle.snap_top.specs.Syncing.{SyncsBy, SyncRefuses}
+use Rattle.snap_top.specs.Task.{Task, Did, reads_only, may_stand, Left}
+use Rattle.snap_top.specs.End.{status_of, ending_status}
+use Rattle.snap_top.specs.Run.{Entry, Exit, Goes, OnlyLoads, Ran}
+use Rattle.snap_top.specs.Views.{World, world_of}
+use Rattle.snap_top.specs.declared.end.End.{End}
+use Rattle.snap_top.specs.declared.end.End.TheVariants.{Refused, Worked}
+use Rattle.snap_top.specs.declared.end.Ending.{Ending}
+use Rattle.snap_top.specs.declared.end.Ending.TheVariants.{NotLoaded, NoTable, OtherArray, Answered}
+
+no_refusal : (n : ℕ) → n ≢ 2 → n ≢ 5 → (n ≡ 2) ⊎ (n ≡ 5) → ⊥
+no_refusal n two five (inl is) = two is
+no_refusal n two five (inr is) = five is
+
+-- an engine that is done is not refused
+pub done_is_no_refusal : (counted : ℕ) (failed : Bool) → (answer_status (done_answer counted failed) ≡ 2) ⊎ (answer_status (done_answer counted failed) ≡ 5) → ⊥
+done_is_no_refusal counted true refused = no_refusal 3 (omega arith) (omega arith) refused
+done_is_no_refusal counted false refused = by (counted == 0) refused
+  where
+    by : (none : Bool) → (answer_status (cond none Clean Found) ≡ 2) ⊎ (answer_status (cond none Clean Found) ≡ 5) → ⊥
+    by true is = no_refusal 0 (omega arith) (omega arith) is
+    by false is = no_refusal 1 (omega arith) (omega arith) is
+
+-- what is not touched
+record Untouched (given after : World) (did : Did) : Type 0 where
+  out : after.out ≡ given.out
+  did_is : did ≡ reads_only
+
+only_loads_out : (given after : World) → OnlyLoads given after → after.out ≡ given.out
+only_loads_out given after only = ap (λ (w : World). w.out) only.others
+
+refused_sync : (task : Task) (way : SyncWay) (table : TableValue) (start after : World) (left : Left) (did : Did) → SyncRefuses task way table start after left did → Untouched start after did
+refused_sync task way table start after left did refuses = record { out = ap (λ (w : World). w.out) refuses.others; did_is = refuses.did_is }
+
+sync_untouched : (answer : Answer) (task : Task) (way : SyncWay) (table : TableValue) (start after : World) (left : Left) (did : Did) → SyncsBy answer task way table start after left did
+    → (answer_status answer ≡ 2) ⊎ (answer_status answer ≡ 5) → Untouched start after did
+sync_untouched Clean task way table start after left did does refused = absurd (no_refusal 0 (omega arith) (omega arith) refused)
+sync_untouched Found task way table start after left did does refused = absurd (no_refusal 1 (omega arith) (omega arith) refused)
+sync_untouched OutputFailed task way table start after left did does refused = absurd (no_refusal 3 (omega arith) (omega arith) refused)
+sync_untouched (Zeroed disk rec) task way table start after left did does refused = refused_sync task way table start after left did does
+sync_untouched (Emptied disk) task way table start after left did does refused = refused_sync task way table start after left did does
+sync_untouched (Full blocks files) task way table start after left did does refused = refused_sync task way table start after left did does
+sync_untouched (Broken (Folder disk)) task way table start after left did does refused = refused_sync task way table start after left did does
+sync_untouched (Broken Vault) task way table start after left did does refused = absurd (no_refusal 3 (omega arith) (omega arith) refused)
+sync_untouched (Broken Memory) task way table start after left did does refused = refused_sync task way table start after left did does
+
+command_untouched : (command : Command) (task : Task) (table : TableValue) (start after : World) (left : Left) (did : Did) → DoesCommand command task table start after left did
+    → (answer_status left.answer ≡ 2) ⊎ (answer_status left.answer ≡ 5) → Untouched start after did
+command_untouched commands.List task table start after left did does refused =
+    absurd (done_is_no_refusal 0 does.prints.failed (subst (λ a. (answer_status a ≡ 2) ⊎ (answer_status a ≡ 5)) does.prints.answer_is refused))
+command_untouched commands.Status task table start after left did does refused =
+    absurd (done_is_no_refusal _ does.prints.failed (subst (λ a. (answer_status a ≡ 2) ⊎ (answer_status a ≡ 5)) does.prints.answer_is refused))
+command_untouched (commands.Sync way) task table start after left did does refused = sync_untouched left.answer task way table start after left did does refused
+command_untouched (commands.Scrub way) task table start after left did does refused = absurd does
+command_untouched (commands.Check selection) task table start after left did does refused = absurd does
+command_untouched (commands.Audit selection) task table start after left did does refused = absurd does
+command_untouched (commands.Fix selection) task table start after left did does refused = absurd does
+
+ending_untouched : (ending : Ending) (task : Task) (given after : World) (told : List Event) (did : Did) → Goes task given after ending told did
+    → (ending_status ending ≡ 2) ⊎ (ending_status ending ≡ 5) → Untouched given after did
+ending_untouched (NotLoaded fault) task given after told did goes refused = record { out = only_loads_out given after goes.1; did_is = goes.0.1 }
+ending_untouched NoTable task given after told did goes refused = record { out = only_loads_out given after goes.1.reads; did_is = goes.0.1 }
+ending_untouched (OtherArray difference content) task given after told did goes refused = record { out = only_loads_out given after goes.1.reads; did_is = goes.0.1 }
+ending_untouched (Answered answer named) task given after told did goes refused =
+    let one = goes.1 in
+    let same = command_untouched task.command task one.table one.start after _ did one.does refused in
+    record { out = same.out ∙ only_loads_out given one.start one.reads; did_is = same.did_is }
+
+pub refusal_touches_nothing : (before : Entry) (exit : Exit) (end : End) (told : List Event) (status : ℕ) → status ≡ status_of end → Ran before exit end told → RefusalsTouchNothing before exit status
+refusal_touches_nothing before exit (Refused why) told status is ran refused = record {
+  out = ran.out;
+  opened = λ has told. absurd (let clash : false ≡ true = sym ran.no_vault ∙ has in cc);
+  unopened = λ none. ran.kept;
+}
+refusal_touches_nothing before exit (Worked setup ending) told status is ran refused =
+    let same = ending_untouched ending ran.task ran.given (world_of exit.after) told ran.did ran.goes (subst (λ n. (n ≡ 2) ⊎ (n ≡ 5)) is refused) in
+    record {
+      out = same.out ∙ ran.given_out;
+      opened = λ has tells. subst (λ did. ChangesBy (may_stand did) before.opener.vault exit.after.vault) same.did_is (ran.changes tells);
+      unopened = λ none. absurd (let clash : true ≡ false = sym ran.has_vault ∙ none in cc);
+    }

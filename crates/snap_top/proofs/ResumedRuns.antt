@@ -1,0 +1,171 @@
+-- Runs that are stopped one after another: their syncs are those of the law on syncs.
+use Rattle.std.proofs.Common.{◌≡◌, ◌⊎◌, inl, inr, ⊎_elim, ℕ, List, [], ◌∷◌, length, take, Bool, Ok, sym, ap, ◌∙◌, subst, arith}
+use Rattle.content_file.specs.Save.{HasSaved}
+use Rattle.content_file.specs.Spelling.{spelling}
+use Rattle.disk_model.specs.Files.{Files}
+use Rattle.disk_model.specs.Folder.{FolderView}
+use Rattle.disk_model.specs.Opener.{OpenerView}
+use Rattle.disk_model.specs.Sink.{SinkView}
+use Rattle.disk_model.specs.Tree.{Tree}
+use Rattle.disk_model.specs.Vault.{VaultView, Holds, copies_of}
+use Rattle.file_table.specs.Table.{TableValue}
+use Rattle.parity_writer.specs.Sound.{Snapshot}
+use Rattle.snap_config.specs.Config.{read_setup}
+use Rattle.snap_config.specs.Setup.{SetupValue}
+use Rattle.snap_config.specs.declared.options.Options.{Options}
+use Rattle.snap_sync.specs.Images.{MayStand}
+use Rattle.snap_sync.specs.Part.{AllTell, IsFullSync, SyncRun, run_trees, trees_of}
+use Rattle.snap_sync.specs.Resumed.{EndsAs}
+use Rattle.snap_sync.specs.Soundness.{AreSound}
+use Rattle.snap_top.specs.Array.{empty_table}
+use Rattle.snap_top.specs.Moment.{EndsInPart, IsDidOf, IsSoundAlways, IsSyncOf}
+use Rattle.snap_top.specs.Opening.{asked_by}
+use Rattle.snap_top.specs.Resumed.{AreStoppedRuns, AsksForSync, EndAlike, EndsClean, RunOf, StandsAfter, StoppedRun, end_of, entry_of}
+use Rattle.snap_top.specs.Run.{Entry, Exit}
+use Rattle.snap_top.specs.Sync.{AreStopped, IsOfArray, Stop, SyncsFrom}
+use Rattle.snap_top.specs.Task.{Did, reads_only, syncs, may_stand, end_table}
+use Rattle.snap_top.proofs.CompleteLemmas.{same_ok}
+use Rattle.snap_top.proofs.ResumeLemmas.{FullKeepsShape, by_shape}
+
+abbrev pub SyncsAreResumed : Type 0
+SyncsAreResumed = (setup : SetupValue) (trees : List Tree) (seed : List ℕ) (copies : ℕ) (stops : List Stop) (files left : Files) (whole last : SyncRun) (snapshot : Snapshot) (is_changed : ℕ → ℕ → Bool) (now again : ℕ)
+    (table other_table : TableValue) (one other : Files) → SyncsFrom seed copies files whole → IsOfArray setup trees whole → AreSound copies files snapshot is_changed
+    → AreStopped setup trees seed copies stops files left → SyncsFrom seed copies left last → IsOfArray setup trees last → IsFullSync setup whole.loaded trees now files table one
+    → IsFullSync setup last.loaded trees again left other_table other → EndsAs whole.plan.start is_changed table other_table one other
+
+-- ---- the sync of a run that was asked for one
+
+module _ (setup : SetupValue) (trees : List Tree) (seed : List ℕ) (files : Files) (before : Entry) (exit : Exit) (asks : AsksForSync setup trees seed files before exit) (run : SyncRun) (is : IsSyncOf before exit run) where
+  abbrev copies : ℕ
+  copies = length setup.contents
+
+  same_setup : run.setup ≡ setup
+  same_setup =
+      let configured = is.configured in
+      let same : configured.asked ≡ asks.asked = same_ok (asked_by before.texts) configured.asked asks.asked configured.read asks.words in
+      let read : read_setup (take 1048577 before.opener.config) asks.asked.log ≡ Ok run.setup
+      = ap (λ (a : Options). read_setup (take 1048577 before.opener.config) a.log) (sym same)
+      ∙ ap (λ (bytes : List ℕ). read_setup bytes configured.asked.log) (sym (configured.says.held asks.tells.tells)) ∙ configured.says.says in
+      same_ok (read_setup (take 1048577 before.opener.config) asks.asked.log) run.setup setup read asks.says
+
+  same_copies : copies_of before.opener.vault ≡ copies
+  same_copies = is.copies_are ∙ ap (λ (s : SetupValue). length s.contents) same_setup
+
+  pub of_array : IsOfArray setup trees run
+  of_array = record {
+    setup_is = same_setup;
+    told = subst AllTell (sym is.folders_are) asks.tells.tells_folders;
+    trees_are = ap trees_of is.folders_are ∙ asks.trees_are;
+  }
+
+  pub from_files : SyncsFrom seed copies files run
+  from_files =
+      let here : SyncsFrom before.seed copies files run
+      = subst (λ (fs : Files). SyncsFrom before.seed copies fs run) asks.files_are
+      (subst (λ (n : ℕ). SyncsFrom before.seed n before.opener.vault.files run) same_copies (is.from asks.reads_well)) in
+      record {
+        over = here.over;
+        begins = ⊎_elim
+            (λ first. inl first)
+            (λ none. inr (none.0, none.1 ∙ ap (empty_table run.setup) (asks.seed_is none.0)))
+            here.begins;
+      }
+
+-- ---- the stops
+
+-- what a run did is to read, so that all is as it was, or to sync
+by_did : (before : Entry) (exit : Exit) (old left : Files) (did : Did) → IsDidOf before exit did → may_stand did old left
+    → (left ≡ old) ⊎ ((run : SyncRun) × IsSyncOf before exit run × MayStand run.plan run.readings old left)
+by_did before exit old left reads_only is moment = inl moment
+by_did before exit old left (syncs failed run) is moment = inr (run, is, moment)
+
+-- what holds in a vault at the end of a run, holds of what stands then
+stands_after : (P : Files → Type 0) (exit : Exit) (files : Files) → Holds P exit.after.vault → StandsAfter exit files → P files
+stands_after P exit files holds (inl reads) = subst P (sym reads.1) (holds.reads reads.0)
+stands_after P exit files holds (inr left) = holds.leaves left.0 files left.1
+
+module _ {O F V W : Type 0} (opener_view : O → OpenerView) (folder_view : F → FolderView) (vault_view : V → VaultView) (sink_view : W → SinkView) (setup : SetupValue) (trees : List Tree) (seed : List ℕ) where
+  abbrev copies_here : ℕ
+  copies_here = length setup.contents
+
+  stops_are : (stops : List (StoppedRun O F V W)) (files left : Files) → AreStoppedRuns opener_view folder_view vault_view sink_view setup trees seed stops files left
+      → (list : List Stop) × AreStopped setup trees seed copies_here list files left
+  stops_are [] files left are = ([], are)
+  stops_are (stop ∷ stops) files left are =
+      let before : Entry = entry_of opener_view sink_view stop.run in
+      let exit : Exit = end_of opener_view folder_view vault_view sink_view stop.run in
+      let asks = are.0.asks in
+      let always : IsSoundAlways before exit = are.0.sound (record { tells = asks.tells.tells; tells_vault = asks.tells.tells_vault; settled = asks.settled }) in
+      let rest = stops_are stops stop.left left are.1 in
+      ⊎_elim
+      (λ still. (rest.0, subst (λ (fs : Files). AreStopped setup trees seed copies_here rest.0 fs left) (still ∙ asks.files_are) rest.1))
+      (λ did. (
+        record { run = did.0; left = stop.left } ∷ rest.0,
+        (
+          record {
+            syncs = from_files setup trees seed files before exit asks did.0 did.1;
+            of_array = of_array setup trees seed files before exit asks did.0 did.1;
+            moment = subst (λ (fs : Files). MayStand did.0.plan did.0.readings fs stop.left) asks.files_are did.2;
+          },
+          rest.1,
+        ),
+      ))
+      (by_did before exit before.opener.vault.files stop.left always.did always.is_did (always.moments stop.left are.0.stands))
+
+  -- a run that ended with status 0
+  ends_in_part : (files : Files) (run : RunOf O F V W) (left : Files) → EndsClean opener_view folder_view vault_view sink_view setup trees seed files run left
+      → EndsInPart (entry_of opener_view sink_view run) (end_of opener_view folder_view vault_view sink_view run) run.status
+  ends_in_part files run left clean = let zero = clean.clean in clean.ends clean.asks.tells (omega (arith, zero)) clean.asks.asked clean.asks.way clean.asks.words clean.asks.command_is
+
+  full_of : (files : Files) (run : RunOf O F V W) (left : Files) (clean : EndsClean opener_view folder_view vault_view sink_view setup trees seed files run left)
+      → (let sync = (ends_in_part files run left clean).run in IsFullSync setup sync.loaded trees sync.plan.now files (end_table sync) left)
+  full_of files run left clean =
+      let before : Entry = entry_of opener_view sink_view run in
+      let exit : Exit = end_of opener_view folder_view vault_view sink_view run in
+      let part = ends_in_part files run left clean in
+      let sync : SyncRun = part.run in
+      let of : IsOfArray setup trees sync = of_array setup trees seed files before exit clean.asks sync part.is_sync in
+      let full : IsFullSync sync.setup sync.loaded (run_trees sync) sync.plan.now before.opener.vault.files (end_table sync) left
+      = stands_after (λ (new : Files). IsFullSync sync.setup sync.loaded (run_trees sync) sync.plan.now before.opener.vault.files (end_table sync) new) exit left (part.full clean.clean) clean.stands in
+      subst (λ (fs : Files). IsFullSync setup sync.loaded trees sync.plan.now fs (end_table sync) left) clean.asks.files_are
+      (subst (λ (ts : List Tree). IsFullSync setup sync.loaded ts sync.plan.now before.opener.vault.files (end_table sync) left) of.trees_are
+      (subst (λ (s : SetupValue). IsFullSync s sync.loaded (run_trees sync) sync.plan.now before.opener.vault.files (end_table sync) left) of.setup_is full))
+
+  saved_by : (files : Files) (run : RunOf O F V W) (left : Files) (clean : EndsClean opener_view folder_view vault_view sink_view setup trees seed files run left)
+      → HasSaved copies_here (spelling (end_table (ends_in_part files run left clean).run)) left
+  saved_by files run left clean =
+      let before : Entry = entry_of opener_view sink_view run in
+      let exit : Exit = end_of opener_view folder_view vault_view sink_view run in
+      let part = ends_in_part files run left clean in
+      subst (λ (n : ℕ). HasSaved n (spelling (end_table part.run)) left) (same_copies setup trees seed files before exit clean.asks part.run part.is_sync)
+      (stands_after (HasSaved (copies_of before.opener.vault) (spelling (end_table part.run))) exit left part.saved clean.stands)
+
+  ends_alike : SyncsAreResumed → FullKeepsShape → (stops : List (StoppedRun O F V W)) (files left one other : Files) (whole last : RunOf O F V W) (snapshot : Snapshot) (is_changed : ℕ → ℕ → Bool)
+      → EndsClean opener_view folder_view vault_view sink_view setup trees seed files whole one → AreSound copies_here files snapshot is_changed
+      → AreStoppedRuns opener_view folder_view vault_view sink_view setup trees seed stops files left → EndsClean opener_view folder_view vault_view sink_view setup trees seed left last other
+      → EndAlike copies_here is_changed one other
+  ends_alike resumed keeps stops files left one other whole last snapshot is_changed clean are stopped later =
+      let list = stops_are stops files left stopped in
+      let first = ends_in_part files whole one clean in
+      let second = ends_in_part left last other later in
+      let shapes = keeps first.run.setup first.run.loaded (run_trees first.run) first.run.plan.now (end_table first.run) (entry_of opener_view sink_view whole).opener.vault.files one
+      (stands_after _ (end_of opener_view folder_view vault_view sink_view whole) one (first.full clean.clean) clean.stands) in
+      let same : (first.run.plan.start.shape ≡ (end_table first.run).shape) × (length first.run.plan.start.infos ≡ length (end_table first.run).infos)
+      = (ap (λ (t : TableValue). t.shape) first.laid ∙ sym shapes.0, ap (λ (t : TableValue). length t.infos) first.laid ∙ sym shapes.1) in
+      record {
+        table = end_table first.run;
+        other_table = end_table second.run;
+        saved = saved_by files whole one clean;
+        other_saved = saved_by left last other later;
+        alike = by_shape first.run.plan.start (end_table first.run) same.0 same.1 is_changed (end_table first.run) (end_table second.run) one other (resumed setup trees seed copies_here list.0 files left first.run second.run snapshot is_changed first.run.plan.now second.run.plan.now (end_table first.run) (end_table second.run) one other
+            (from_files setup trees seed files _ _ clean.asks first.run first.is_sync) (of_array setup trees seed files _ _ clean.asks first.run first.is_sync) are list.1
+            (from_files setup trees seed left _ _ later.asks second.run second.is_sync) (of_array setup trees seed left _ _ later.asks second.run second.is_sync)
+            (full_of files whole one clean) (full_of left last other later));
+      }
+
+pub runs_resumed : SyncsAreResumed → FullKeepsShape → {O F V W : Type 0} (opener_view : O → OpenerView) (folder_view : F → FolderView) (vault_view : V → VaultView) (sink_view : W → SinkView) (setup : SetupValue) (trees : List Tree) (seed : List ℕ)
+    (stops : List (StoppedRun O F V W)) (files left one other : Files) (whole last : RunOf O F V W) (snapshot : Snapshot) (is_changed : ℕ → ℕ → Bool)
+    → EndsClean opener_view folder_view vault_view sink_view setup trees seed files whole one → AreSound (length setup.contents) files snapshot is_changed
+    → AreStoppedRuns opener_view folder_view vault_view sink_view setup trees seed stops files left → EndsClean opener_view folder_view vault_view sink_view setup trees seed left last other
+    → EndAlike (length setup.contents) is_changed one other
+runs_resumed resumed keeps opener_view folder_view vault_view sink_view setup trees seed = ends_alike opener_view folder_view vault_view sink_view setup trees seed resumed keeps

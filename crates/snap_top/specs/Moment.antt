@@ -1,0 +1,128 @@
+-- What stands at each moment of a run, wherever it is stopped, and what a sync leaves at its end.
+use Rattle.std.specs.Prelude.{◌≡◌, ◌↔◌, ◌⊎◌, ℕ, length, ◌≤◌, All, Bool, false, IsTrue, Ok}
+use Rattle.array_scan.specs.Layout.{pending_stripes}
+use Rattle.content_file.specs.Load.{HasFailed}
+use Rattle.content_file.specs.Save.{HasSaved}
+use Rattle.content_file.specs.Spelling.{spelling}
+use Rattle.disk_model.specs.Files.{Files}
+use Rattle.disk_model.specs.Vault.{Holds, IsSettled, copies_of}
+use Rattle.parity_writer.specs.Parity.{Rows, no_rows}
+use Rattle.parity_writer.specs.Sound.{Snapshot}
+use Rattle.snap_config.specs.declared.options.Command.{Command}
+use Rattle.snap_config.specs.declared.options.Command.TheVariants as commands
+use Rattle.snap_config.specs.declared.options.Options.{Options}
+use Rattle.snap_config.specs.declared.options.SyncWay.{SyncWay}
+use Rattle.snap_sync.specs.Ended.{IsFoundIn}
+use Rattle.snap_sync.specs.Findings.{events_of}
+use Rattle.snap_sync.specs.Images.{rows_after}
+use Rattle.snap_sync.specs.Part.{AllTell, AllVerified, AreOfPartSyncs, IsFullSync, IsPartSync, NoneRose, SyncRun, layout_by, readings_by, run_trees, verified_stripes}
+use Rattle.snap_sync.specs.Reading.{StripeReading, is_verified, stripes_of}
+use Rattle.snap_sync.specs.Soundness.{AreSound, changed_without, snapshot_with}
+use Rattle.snap_top.specs.Opening.{IsConfigured, asked_by}
+use Rattle.snap_top.specs.Run.{Entry, Exit}
+use Rattle.snap_top.specs.Sync.{SyncsFrom, SyncsOver}
+use Rattle.snap_top.specs.Task.{Did, reads_only, syncs, may_stand, end_table}
+
+-- ---- what a run did
+
+-- The sync of a run: it is by the configuration that was asked for, over the folders and the vault that the opener held. Where no copy's reading
+-- failed, the table that it loaded is that of the first copy that is a content file.
+pub record IsSyncOf (before : Entry) (exit : Exit) (run : SyncRun) : Type 0 where
+  pub way : SyncWay
+  pub readers : ℕ
+  pub configured : IsConfigured before.texts before.opener (commands.Sync way) readers run.setup
+  pub folders_are : run.folders ≡ before.opener.folders
+  pub ended_is : run.ended ≡ exit.after.folders
+  pub moment_is : run.plan.now ≡ before.moment
+  pub copies_are : copies_of before.opener.vault ≡ length run.setup.contents
+  pub over : SyncsOver (copies_of before.opener.vault) before.opener.vault.files run
+  pub from : ((copy : ℕ) → ¬ (HasFailed before.opener.vault exit.after.vault copy))
+      → SyncsFrom before.seed (copies_of before.opener.vault) before.opener.vault.files run
+
+-- a run that did more than to read is one that synced, and this is its sync
+abbrev pub IsDidOf : Entry → Exit → Did → Type 0
+IsDidOf before exit reads_only = Unit {0}
+IsDidOf before exit (syncs failed run) = IsSyncOf before exit run
+
+-- the commands that change nothing
+abbrev pub ChangesNothing : Command → Type 0
+ChangesNothing commands.List = Unit {0}
+ChangesNothing commands.Status = Unit {0}
+ChangesNothing _ = ⊥
+
+-- ---- each moment
+
+-- The opener tells what it holds, and so does its vault, which was opened anew: nothing of it is unsynced.
+pub record HoldsFresh (before : Entry) : Type 0 where
+  pub tells : IsTrue before.opener.tells
+  pub tells_vault : IsTrue before.opener.vault.tells
+  pub settled : IsSettled before.opener.vault
+
+-- the files of the vault as they read at the end of a run, or as a stop at some moment since its beginning might leave them
+abbrev pub StandsIn : Entry → Exit → Files → Type 0
+StandsIn before exit files = (files ≡ exit.after.vault.files)
+    ⊎ (IsTrue exit.after.vault.images.told × exit.after.vault.images.since before.opener.vault.images.moment files)
+
+-- the rows of the stripes that a run has closed once it read so many
+abbrev pub rows_closed : Did → ℕ → Rows
+rows_closed reads_only count = no_rows
+rows_closed (syncs failed run) count = rows_after run.plan run.readings count
+
+-- Sound at a moment of a run: with the rows that it has closed by then in the snapshot, and nothing of their stripes changed from outside.
+pub record IsSoundIn (did : Did) (copies : ℕ) (files : Files) (snapshot : Snapshot) (is_changed : ℕ → ℕ → Bool) : Type 0 where
+  pub count : ℕ
+  pub sound : AreSound copies files (snapshot_with (rows_closed did count) snapshot) (changed_without (rows_closed did count) is_changed)
+
+-- What the copies hold at a moment of a run: what they held at its beginning or, where the folders tell their trees, the table of a part sync of
+-- what was laid out of them.
+abbrev pub AreOfRun : Did → ℕ → Files → Files → Type 0
+AreOfRun reads_only copies old new = new ≡ old
+AreOfRun (syncs failed run) copies old new = AllTell run.folders →
+    AreOfPartSyncs (layout_by run.setup run.loaded (run_trees run)) (run_trees run) run.plan.now copies old new
+
+-- Where all copies are sound at the beginning of a run, they are at each moment of it, whatever it answers. What a run did is to read, or to sync.
+pub record IsSoundAlways (before : Entry) (exit : Exit) : Type 0 where
+  pub did : Did
+  pub is_did : IsDidOf before exit did
+  pub reads : (asked : Options) → asked_by before.texts ≡ Ok asked → ChangesNothing asked.command → did ≡ reads_only
+  pub moments : (files : Files) → StandsIn before exit files → may_stand did before.opener.vault.files files
+  pub copies : (files : Files) → StandsIn before exit files
+      → AreOfRun did (copies_of before.opener.vault) before.opener.vault.files files
+  pub sound : (files : Files) (snapshot : Snapshot) (is_changed : ℕ → ℕ → Bool) → StandsIn before exit files
+      → AreSound (copies_of before.opener.vault) before.opener.vault.files snapshot is_changed
+      → IsSoundIn did (copies_of before.opener.vault) files snapshot is_changed
+
+abbrev pub EveryMomentIsSound : Entry → Exit → Type 0
+EveryMomentIsSound before exit = HoldsFresh before → IsSoundAlways before exit
+
+-- ---- the end of a sync
+
+-- the opener tells what it holds, and so do its vault and its folders
+pub record TellsAll (before : Entry) : Type 0 where
+  pub tells : IsTrue before.opener.tells
+  pub tells_vault : IsTrue before.opener.vault.tells
+  pub tells_folders : AllTell before.opener.folders
+
+-- A sync that is done: all pending stripes of the layout were read, and where no folder's count of faults rose this gave what the trees hold. It is
+-- the part sync of those that are verified, and every copy spells its table; in each that is not something was found. It has status 0 exactly where
+-- all are verified, and then it is the full sync. So it stands as the vault reads, and in each image.
+pub record EndsInPart (before : Entry) (exit : Exit) (status : ℕ) : Type 0 where
+  pub run : SyncRun
+  pub is_sync : IsSyncOf before exit run
+  pub all : stripes_of run.readings ≡ pending_stripes run.plan.start.infos
+  pub laid : run.plan.start ≡ layout_by run.setup run.loaded (run_trees run)
+  pub given : NoneRose run.folders exit.after.folders
+      → run.readings ≡ readings_by run.plan.start (run_trees run) (pending_stripes run.plan.start.infos)
+  pub part : Holds (IsPartSync run.plan.start (run_trees run) (verified_stripes run.plan.start run.readings) run.plan.now
+      before.opener.vault.files (end_table run)) exit.after.vault
+  pub saved : Holds (HasSaved (copies_of before.opener.vault) (spelling (end_table run))) exit.after.vault
+  pub found : All (λ (reading : StripeReading). is_verified run.plan.start reading ≡ false
+      → IsFoundIn (events_of run.plan.start run.readings) reading.stripe) run.readings
+  pub verified : (status ≡ 0) ↔ AllVerified run.plan.start run.readings
+  pub full : status ≡ 0 → Holds (IsFullSync run.setup run.loaded (run_trees run) run.plan.now before.opener.vault.files (end_table run))
+      exit.after.vault
+
+-- so a sync that was asked for ends with status 0 or 1
+abbrev pub SyncsEndInPart : Entry → Exit → ℕ → Type 0
+SyncsEndInPart before exit status = TellsAll before → status ≤ 1 → (asked : Options) (way : SyncWay)
+    → asked_by before.texts ≡ Ok asked → asked.command ≡ commands.Sync way → EndsInPart before exit status
