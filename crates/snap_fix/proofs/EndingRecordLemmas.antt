@@ -1,0 +1,108 @@
+-- The file of one record at the end of a fix: it can be finished, and what was done to it, and told.
+use Rattle.std.proofs.Common.{◌≡◌, ◌⊎◌, ℕ, List, [], Bool, true, false, Option, IsTrue, if◌then◌else◌, refl, sym, ap, ◌∙◌, subst}
+use Rattle.disk_model.specs.Folder.{FolderView}
+use Rattle.disk_model.specs.Sink.{SinkView}
+use Rattle.disk_model.specs.Tree.{IsTree}
+use Rattle.disk_model.specs.declared.meta.Meta.{Meta}
+use Rattle.file_table.specs.Table.{record_at}
+use Rattle.snap_report.specs.Report.{ReportView}
+use Rattle.snap_report.specs.Told.{Told}
+use Rattle.snap_report.specs.declared.events.Event.{Event}
+use Rattle.snap_report.specs.declared.pages.Lines.{Lines}
+use Rattle.snap_report.proofs.ToldLemmas.{told_nothing}
+use Rattle.stripe_reader.specs.Starts.{StartsValue, start_in, starts_at}
+use Rattle.snap_fix.specs.declared.counts.Counts.{Counts}
+use Rattle.snap_fix.specs.declared.finishing.Finish.{Finish}
+use Rattle.snap_fix.specs.declared.finishing.Finish.TheVariants.{Kept, Gone}
+use Rattle.snap_fix.specs.declared.state.FileState.{FileState}
+use Rattle.snap_fix.specs.Counts.{AreCounts}
+use Rattle.snap_fix.specs.Ending.{IsCallOf, finish_news, is_finished, news_of, states_at}
+use Rattle.snap_fix.specs.EndingSteps.{CanEndRecord, EndsNotRecord, EndsRecord, FinishesThis, column_outside}
+use Rattle.snap_fix.specs.Finishing.{CanFinish, FinishesNot, FinishesRecord, FitsTree, finish_of}
+use Rattle.snap_fix.specs.Plan.{FixPlan, entry_at, records_in}
+use Rattle.snap_fix.specs.State.{record_path, state_in}
+use Rattle.snap_fix.proofs.FolderCallLemmas.{makes_none, makes_wider}
+use Rattle.snap_fix.proofs.TellingLemmas.{told_as}
+
+module _ (plan : FixPlan) (d i : ℕ) (starts : StartsValue) (states : List (List FileState)) (folder : FolderView) where
+  -- it can be finished, where it is to be
+  pub can_finish : (listed : Option Meta) → is_finished plan d i ≡ true → listed ≡ (entry_at plan d i).listed → (IsTrue folder.tells → IsTree folder.tree)
+      → CanEndRecord plan d i starts states folder → CanFinish plan.table d i listed starts states folder
+  can_finish listed finished same is_tree can = record {
+    column = can.column;
+    rec = can.rec;
+    starts_fit = can.starts_fit;
+    states_fit = can.states_fit;
+    is_tree = is_tree;
+    is_open = can.is_open;
+    free = λ told. (can.can told finished).free;
+    fits = λ told.
+        subst (λ (l : Option Meta). FitsTree (record_path (records_in plan.table d) i) l (start_in (starts_at starts.columns d) i) (state_in states d i) folder.tree)
+        (sym same) (can.can told finished).fits;
+  }
+
+  module _ {W R : Type 0} (view : W → SinkView) (standing : R → ReportView) (stands : R → List Event → Type 0) (lines : Lines W) (reports : List R) where
+    -- it was finished
+    pub ends_done : (listed : Option Meta) (finish : Finish) (starts_new : StartsValue) (states_new : List (List FileState)) (folder_new : FolderView)
+        (lines_new : Lines W) (reports_new : List R) (counts : Counts)
+        → is_finished plan d i ≡ true → listed ≡ (entry_at plan d i).listed
+        → FinishesRecord plan.table d i listed finish starts states folder starts_new states_new folder_new
+        → Told view standing stands plan.table.columns (finish_news d i finish) lines lines_new reports reports_new → AreCounts (finish_news d i finish) counts
+        → EndsRecord view standing stands plan d i (column_outside starts states folder lines reports) (column_outside starts_new states_new folder_new lines_new reports_new) counts
+    ends_done listed finish starts_new states_new folder_new lines_new reports_new counts finished same does told counted = record {
+      finish = finish;
+      starts_fit = does.starts_fit;
+      states_fit = does.states_fit;
+      other_starts = does.other_starts;
+      other_states = does.other_states;
+      makes = makes_wider (IsCallOf plan d (starts_at starts.columns d) (states_at states d) i) (FinishesThis plan d i (starts_at starts.columns d) (states_at states d))
+          (λ call is. (finished, is)) does.makes;
+      is = λ is.
+          subst (λ (l : Option Meta).
+          (finish ≡ finish_of (record_at plan.table.columns d i).meta l (start_in (starts_at starts.columns d) i) (state_in states d i) folder.keeps_stamps)
+          ⊎ ((finish ≡ Gone) × (folder.tells ≡ false))) same does.is;
+      holds = λ tells is. does.holds tells;
+      whole = λ tells is. does.whole tells;
+      others = λ tells name apart. does.others tells name (apart finished);
+      told = told_as view standing stands plan.table.columns (news_of plan d i finish) (finish_news d i finish) lines lines_new reports reports_new news told;
+      counts_are = subst (λ (events : List Event). AreCounts events counts) (sym news) counted;
+    }
+      where
+        news : news_of plan d i finish ≡ finish_news d i finish
+        news = ap (λ (b : Bool). if b then finish_news d i finish else []) finished
+
+    -- it was not to be
+    pub ends_kept : (counts : Counts) → is_finished plan d i ≡ false → CanEndRecord plan d i starts states folder → AreCounts [] counts
+        → EndsRecord view standing stands plan d i (column_outside starts states folder lines reports) (column_outside starts states folder lines reports) counts
+    ends_kept counts kept can counted = record {
+      finish = Kept;
+      starts_fit = can.starts_fit;
+      states_fit = can.states_fit;
+      other_starts = λ k j other. refl;
+      other_states = λ k j other. refl;
+      makes = makes_none (FinishesThis plan d i (starts_at starts.columns d) (states_at states d)) folder;
+      is = λ is. absurd (clash is);
+      holds = λ tells is. absurd (clash is);
+      whole = λ tells is. absurd (clash is);
+      others = λ tells name apart. refl;
+      told = told_as view standing stands plan.table.columns (news_of plan d i Kept) [] lines lines reports reports news (told_nothing view standing stands plan.table.columns lines reports);
+      counts_are = subst (λ (events : List Event). AreCounts events counts) (sym news) counted;
+    }
+      where
+        clash : is_finished plan d i ≡ true → ⊥
+        clash is = let same : false ≡ true = sym kept ∙ is in cc
+
+        news : news_of plan d i Kept ≡ []
+        news = ap (λ (b : Bool). if b then finish_news d i Kept else []) kept
+
+    -- one of its calls failed
+    pub ends_not : (folder_new : FolderView) (starts_new : StartsValue) (states_new : List (List FileState)) → is_finished plan d i ≡ true
+        → FinishesNot plan.table d i starts states folder folder_new
+        → EndsNotRecord view standing stands plan d i (column_outside starts states folder lines reports) (column_outside starts_new states_new folder_new lines reports)
+    ends_not folder_new starts_new states_new finished broke = record {
+      rose = broke.rose;
+      call = broke.call;
+      makes = makes_wider (IsCallOf plan d (starts_at starts.columns d) (states_at states d) i) (FinishesThis plan d i (starts_at starts.columns d) (states_at states d))
+          (λ call is. (finished, is)) broke.makes;
+      told = told_nothing view standing stands plan.table.columns lines reports;
+    }

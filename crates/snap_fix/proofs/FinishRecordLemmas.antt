@@ -1,0 +1,117 @@
+-- The file of a record of a table: it can be finished, and what was done to it.
+use Rattle.std.proofs.Common.{◌≡◌, inl, inr, ℕ, List, true, false, Option, IsTrue, refl, sym, ◌∙◌, subst}
+use Rattle.disk_model.specs.Folder.{FolderView}
+use Rattle.disk_model.specs.declared.fault.FileFault.{FileFault}
+use Rattle.disk_model.specs.declared.fault.FileFault.TheVariants.{Missing, Failed}
+use Rattle.disk_model.specs.declared.meta.Meta.{Meta}
+use Rattle.file_table.specs.Table.{TableValue, record_at, no_column, no_record}
+use Rattle.file_table.specs.Valid.{IsRecord, IsValid}
+use Rattle.stripe_reader.specs.Starts.{StartsValue, starts_at, start_in}
+use Rattle.stripe_reader.specs.declared.starts.Start.{Start}
+use Rattle.snap_fix.specs.declared.finishing.Finish.{Finish}
+use Rattle.snap_fix.specs.declared.finishing.Finish.TheVariants.{Gone}
+use Rattle.snap_fix.specs.declared.state.FileState.{FileState}
+use Rattle.snap_fix.specs.Finishing.{CanFinish, FinishesNot, FinishesRecord, IsFinishCall, finish_of}
+use Rattle.snap_fix.specs.FinishSteps.{BreaksBy, FinishesBy, IsReady}
+use Rattle.snap_fix.specs.State.{FolderMakes, state_in}
+use Rattle.snap_fix.proofs.FinishWholeLemmas.{stands_whole}
+
+-- this is the path of a record, its meta, its start and its state
+pub record AreOf (table : TableValue) (d i : ℕ) (starts : StartsValue) (states : List (List FileState))
+    (path : List ℕ) (meta : Meta) (start : Start) (state : FileState) : Type 0 where
+  pub path_is : path ≡ (record_at table.columns d i).path
+  pub meta_is : meta ≡ (record_at table.columns d i).meta
+  pub start_is : start ≡ start_in (starts_at starts.columns d) i
+  pub state_is : state ≡ state_in states d i
+
+module _ (table : TableValue) (d i : ℕ) (listed : Option Meta) (starts : StartsValue) (states : List (List FileState)) (folder : FolderView)
+    (can : CanFinish table d i listed starts states folder) where
+  abbrev path_there : List ℕ
+  path_there = (record_at table.columns d i).path
+
+  abbrev meta_there : Meta
+  meta_there = (record_at table.columns d i).meta
+
+  abbrev start_there : Start
+  start_there = start_in (starts_at starts.columns d) i
+
+  abbrev state_there : FileState
+  state_there = state_in states d i
+
+  ready_there : IsValid table → IsReady path_there listed meta_there start_there state_there folder
+  ready_there valid =
+      let kept : IsRecord (record_at table.columns d i) = (valid.columns.each d no_column can.column).records i no_record can.rec in
+      record {
+        placed = record {
+          is_path = kept.path;
+          is_open = can.is_open;
+          tree = λ told.
+              let fits = can.fits told in
+              record { is_tree = can.is_tree told; free = can.free told; plain = fits.plain; absent = fits.absent; lost = fits.lost; nowhere = fits.nowhere };
+        };
+        stamp = kept.meta.nanos;
+        fits = can.fits;
+      }
+
+  module _ (path : List ℕ) (meta : Meta) (start : Start) (state : FileState) (are : AreOf table d i starts states path meta start state) where
+    -- what holds of the one holds of the other
+    there : (P : List ℕ → Meta → Start → FileState → Type 0) → P path meta start state → P path_there meta_there start_there state_there
+    there P is =
+        subst (λ (s : FileState). P path_there meta_there start_there s) are.state_is (subst (λ (s : Start). P path_there meta_there s state) are.start_is
+        (subst (λ (m : Meta). P path_there m start state) are.meta_is (subst (λ (p : List ℕ). P p meta start state) are.path_is is)))
+
+    here : (P : List ℕ → Meta → Start → FileState → Type 0) → P path_there meta_there start_there state_there → P path meta start state
+    here P is =
+        subst (λ (s : FileState). P path meta start s) (sym are.state_is) (subst (λ (s : Start). P path meta s state_there) (sym are.start_is)
+        (subst (λ (m : Meta). P path m start_there state_there) (sym are.meta_is) (subst (λ (p : List ℕ). P p meta_there start_there state_there) (sym are.path_is) is)))
+
+    -- its file can be finished
+    pub is_ready : IsValid table → IsReady path listed meta start state folder
+    is_ready valid = here (λ p m s t. IsReady p listed m s t folder) (ready_there valid)
+
+    makes_there : (new : FolderView) → FolderMakes (IsFinishCall state.lost start.place path meta) folder new
+        → FolderMakes (IsFinishCall state_there.lost start_there.place path_there meta_there) folder new
+    makes_there new makes = there (λ p m s t. FolderMakes (IsFinishCall t.lost s.place p m) folder new) makes
+
+    -- it was finished
+    pub is_finished : (finish : Finish) (new : FolderView)
+        → FinishesBy (finish_of meta listed start state folder.keeps_stamps) finish (IsFinishCall state.lost start.place path meta) meta start state path folder new
+        → FinishesRecord table d i listed finish starts states folder starts states new
+    is_finished finish new by =
+        let it = there (λ p m s t. FinishesBy (finish_of m listed s t folder.keeps_stamps) finish (IsFinishCall t.lost s.place p m) m s t p folder new) by in
+        record {
+          is = inl it.is;
+          starts_fit = can.starts_fit;
+          states_fit = can.states_fit;
+          other_starts = λ k j other. refl;
+          other_states = λ k j other. refl;
+          makes = it.makes;
+          holds = it.holds;
+          whole = λ told kept. stands_whole path_there listed meta_there start_there state_there folder.tree new.tree (can.fits told) folder.keeps_stamps finish kept it.is (it.holds told);
+          others = it.others;
+        }
+
+    -- it was gone
+    pub is_gone : (fault : FileFault) (new : FolderView) → fault ≡ Missing → BreaksBy fault (IsFinishCall state.lost start.place path meta) folder new
+        → FinishesRecord table d i listed Gone starts states folder starts states new
+    is_gone fault new missing broke =
+        let finds = subst (λ (f : FileFault). BreaksBy f (IsFinishCall state.lost start.place path meta) folder new) missing broke in
+        let not_told : IsTrue folder.tells → ⊥ = λ told. let clash : true ≡ false = sym told ∙ finds.untold in cc in
+        record {
+          is = inr (refl, finds.untold);
+          starts_fit = can.starts_fit;
+          states_fit = can.states_fit;
+          other_starts = λ k j other. refl;
+          other_states = λ k j other. refl;
+          makes = makes_there new finds.makes;
+          holds = λ told. absurd (not_told told);
+          whole = λ told kept. absurd (not_told told);
+          others = λ told. absurd (not_told told);
+        }
+
+    -- a call of it failed
+    pub is_failed : (fault : FileFault) (new : FolderView) → fault ≡ Failed → BreaksBy fault (IsFinishCall state.lost start.place path meta) folder new
+        → FinishesNot table d i starts states folder new
+    is_failed fault new failed broke =
+        let fails = subst (λ (f : FileFault). BreaksBy f (IsFinishCall state.lost start.place path meta) folder new) failed broke in
+        record { rose = fails.rose; call = fails.call; makes = makes_there new fails.makes }

@@ -1,0 +1,171 @@
+-- The stripes of a window, read of the folders of a fix.
+use Rattle.std.proofs.Common.{◌≡◌, ℕ, ◌+◌, ◌<◌, ◌≤◌, List, [], ◌∷◌, length, map, take, get_or, All, Bool, true, false, None, Some, IsTrue, refl, sym, ap, ◌∙◌, subst, arith, cond}
+use Rattle.std.specs.List.{count_by}
+use Rattle.std.proofs.Math.ListN.{get_or-map as get_or-map-at}
+use Rattle.std.proofs.lemmas.List.{length-map, get_or-map, ext_get_or, get_or-take, length-take-le}
+use Rattle.std.proofs.lemmas.List.Elements.{All-nil, All-cons, All-append}
+use Rattle.std.proofs.lemmas.List.Sums.{sum_by-take-le}
+use Rattle.disk_model.specs.Cause.{RoseBy}
+use Rattle.disk_model.specs.Folder.{FolderView, FolderCall, FolderDone, Look, ReadAt}
+use Rattle.disk_model.specs.Tree.{Tree}
+use Rattle.file_table.specs.declared.shape.Shape.{Shape}
+use Rattle.snap_report.specs.Answer.{is_io_of}
+use Rattle.stripe_reader.specs.Column.{IsReadingOf, ReadsColumn, no_task}
+use Rattle.stripe_reader.specs.Columns.{ReadsWindow, folder_at}
+use Rattle.stripe_reader.specs.FolderCalls.{AreCellCalls, AreColumnCalls, AreFetchCalls, succeeds}
+use Rattle.stripe_reader.specs.Reading.{CellReading, NoBlock, Nowhere, Beyond, Unread, Gone, Part, Whole, Task, Known, Fetch, task_at, is_unread}
+use Rattle.stripe_reader.specs.Slot.{kept}
+use Rattle.stripe_reader.specs.SlotValue.{SlotValue}
+use Rattle.stripe_reader.specs.Starts.{StartsValue}
+use Rattle.stripe_reader.specs.WindowValue.{WindowValue, lane_at, no_slot}
+use Rattle.stripe_reader.proofs.ColumnLemmas.{slot_is}
+use Rattle.snap_fix.specs.declared.state.FileState.{FileState}
+use Rattle.snap_fix.specs.Facts.{StripeFacts, slot_of}
+use Rattle.snap_fix.specs.Fixing.{IsCellRead, facts_of}
+use Rattle.snap_fix.specs.Looking.{facts_at, no_facts, slots_of}
+use Rattle.snap_fix.specs.Marks.{slots_at}
+use Rattle.snap_fix.specs.Mended.{Mended, all_mended_events, column_writes}
+use Rattle.snap_fix.specs.Plan.{FixPlan, records_in}
+use Rattle.snap_fix.specs.State.{FolderMakes, HoldsColumn}
+use Rattle.snap_fix.specs.Underway.{AreUnderway, FixUnderway, IsMendCall}
+use Rattle.stripe_reader.specs.Starts.{starts_at}
+use Rattle.snap_fix.proofs.FixCountLemmas.{count_cons, failed_in, io_in_stripes, slot_unread}
+use Rattle.snap_fix.proofs.FolderCallLemmas.{OfCall, makes_then}
+
+-- ---- only looks and readings
+
+module _ (P : FolderCall → Type 0) (looks : (path : List ℕ) (lost : Bool) → P (Look path lost)) (reads : (path : List ℕ) (lost : Bool) (at n : ℕ) → P (ReadAt path lost at n)) where
+  look_alone : (path : List ℕ) (lost failed : Bool) → All (OfCall P) (record { call = Look path lost; failed = failed } ∷ [])
+  look_alone path lost failed = All-cons (OfCall P) (record { call = Look path lost; failed = failed }) [] (looks path lost) (All-nil (OfCall P))
+
+  look_then_read : (path : List ℕ) (lost : Bool) (at n : ℕ) (failed : Bool) → All (OfCall P) (succeeds (Look path lost) ∷ record { call = ReadAt path lost at n; failed = failed } ∷ [])
+  look_then_read path lost at n failed =
+      All-cons (OfCall P) (succeeds (Look path lost)) (record { call = ReadAt path lost at n; failed = failed } ∷ []) (looks path lost)
+      (All-cons (OfCall P) (record { call = ReadAt path lost at n; failed = failed }) [] (reads path lost at n) (All-nil (OfCall P)))
+
+  of_fetch : (path : List ℕ) (lost : Bool) (at n : ℕ) (reading : CellReading) (done : List FolderDone) → AreFetchCalls path lost at n reading done → All (OfCall P) done
+  of_fetch path lost at n NoBlock done are = absurd are
+  of_fetch path lost at n Nowhere done are = absurd are
+  of_fetch path lost at n Beyond done are = absurd are
+  of_fetch path lost at n (Unread None) done are = subst (All (OfCall P)) (sym are) (look_alone path lost true)
+  of_fetch path lost at n (Unread (Some seen)) done are = subst (All (OfCall P)) (sym are) (look_then_read path lost at n true)
+  of_fetch path lost at n (Gone None) done are = subst (All (OfCall P)) (sym are) (look_alone path lost false)
+  of_fetch path lost at n (Gone (Some seen)) done are = subst (All (OfCall P)) (sym are) (look_then_read path lost at n false)
+  of_fetch path lost at n (Part seen got) done are = subst (All (OfCall P)) (sym are) (look_then_read path lost at n false)
+  of_fetch path lost at n (Whole seen bytes) done are = subst (All (OfCall P)) (sym are) (look_then_read path lost at n false)
+
+  of_cell : (task : Task) (reading : CellReading) (done : List FolderDone) → AreCellCalls task reading done → All (OfCall P) done
+  of_cell (Known known) reading done are = subst (All (OfCall P)) (sym are) (All-nil (OfCall P))
+  of_cell (Fetch path lost at n) reading done are = of_fetch path lost at n reading done are
+
+  of_column : (tasks : List Task) (readings : List CellReading) (done : List FolderDone) → AreColumnCalls tasks readings done → All (OfCall P) done
+  of_column [] readings done are = subst (All (OfCall P)) (sym are) (All-nil (OfCall P))
+  of_column (task ∷ tasks) [] done are = absurd are
+  of_column (task ∷ tasks) (reading ∷ readings) done (first, rest, is, cell, column) =
+      subst (All (OfCall P)) (sym is) (All-append (OfCall P) first rest (of_cell task reading first cell) (of_column tasks readings rest column))
+
+pub reading_makes : (plan : FixPlan) (d : ℕ) (stripes : List Mended) (shape : Shape) (tasks : List Task) (slots : List SlotValue) (old new : FolderView) → ReadsColumn shape tasks slots old new
+    → FolderMakes (IsMendCall plan d stripes) old new
+reading_makes plan d stripes shape tasks slots old new read = record {
+  done = read.folder.done;
+  each = of_column (IsMendCall plan d stripes) (λ path lost. tt) (λ path lost at n. tt) tasks read.readings read.folder.done read.folder.are;
+  goes_on = read.folder.goes_on;
+}
+
+-- ---- a fix goes on over a reading
+
+module _ (plan : FixPlan) (starts : StartsValue) (numbers : List ℕ) (before window : WindowValue) (olds mids : List FolderView)
+    (read : ReadsWindow plan.table starts numbers before window olds mids) (columns : length olds ≡ length plan.table.columns) where
+  abbrev near : (d : ℕ) → d < length plan.table.columns → d < length olds
+  near d below = omega (arith, below, columns)
+
+  pub window_makes : (stripes : List Mended) (d : ℕ) → d < length plan.table.columns → FolderMakes (IsMendCall plan d stripes) (folder_at olds d) (folder_at mids d)
+  window_makes stripes d below = reading_makes plan d stripes plan.table.shape _ _ (folder_at olds d) (folder_at mids d) (read.each d (near d below))
+
+  pub underway_read : (stripes : List Mended) (firsts : List FolderView) (places : StartsValue) (states : List (List FileState)) → AreUnderway plan stripes firsts olds places states → AreUnderway plan stripes firsts mids places states
+  underway_read stripes firsts places states is = record {
+    folders = read.folders ∙ is.folders;
+    each = λ d below.
+        let its = is.each d below in
+        let first = folder_at firsts d in
+        let records = records_in plan.table d in
+        record {
+          makes = makes_then (IsMendCall plan d stripes) its.makes (window_makes stripes d below);
+          holds = λ told.
+              let was : IsTrue (folder_at olds d).tells = subst IsTrue (sym its.makes.goes_on.tells) told in
+              let same = (read.each d (near d below)).folder.tree was in
+              subst (λ (tree : Tree). HoldsColumn records (starts_at places.columns d) (get_or states d []) (column_writes plan stripes d (length records)) first.tree tree) (sym same) (its.holds told);
+          lost = its.lost;
+        };
+  }
+
+  pub fix_read : (places : StartsValue) (states : List (List FileState)) → FixUnderway plan olds places states → FixUnderway plan mids places states
+  fix_read places states is = record {
+    stripes = is.stripes;
+    firsts = is.firsts;
+    fixable = is.fixable;
+    underway = underway_read is.stripes is.firsts places states is.underway;
+  }
+
+  -- ---- what its stripes keep
+
+  module _ (stripes : List Mended) (few : length stripes ≤ length numbers) (slots : (k : ℕ) → k < length stripes → (facts_at (facts_of stripes) k).slots ≡ slots_at window k) where
+    slot_here : (k d : ℕ) → k < length stripes → slot_of (facts_at (facts_of stripes) k) d ≡ get_or (lane_at window d) k no_slot
+    slot_here k d below = ap (λ (its : List SlotValue). get_or its d no_slot) (slots k below) ∙ get_or-map-at (λ (lane : List SlotValue). get_or lane k no_slot) window.lanes d []
+
+    -- a slot keeps a reading of its cell
+    pub cell_read : (k d : ℕ) → k < length stripes → d < length plan.table.columns → (facts_at (facts_of stripes) k).stripe ≡ get_or numbers k 0
+        → IsCellRead plan.table.shape (folder_at olds d) (task_at plan.table starts d (facts_at (facts_of stripes) k).stripe) (slot_of (facts_at (facts_of stripes) k) d)
+    cell_read k d below column number =
+        let its = read.each d (near d column) in
+        let task_of = task_at plan.table starts d in
+        let within : k < length numbers = omega (arith, below, few) in
+        record {
+          reading = get_or its.readings k NoBlock;
+          is_of =
+              subst (λ (task : Task). IsReadingOf (folder_at olds d) task (get_or its.readings k NoBlock))
+              (get_or-map task_of numbers k 0 no_task within ∙ ap task_of (sym number))
+              (its.are_of k (omega (arith, within, length-map numbers task_of)));
+          is_kept = slot_here k d below ∙ slot_is plan.table.shape task_of numbers k (lane_at window d) (folder_at olds d) (folder_at mids d) its within;
+        }
+
+    kept_unread : (shape : Shape) (reading : CellReading) → slot_unread (kept shape reading) ≡ is_unread reading
+    kept_unread shape NoBlock = refl
+    kept_unread shape Nowhere = refl
+    kept_unread shape Beyond = refl
+    kept_unread shape (Unread seen) = refl
+    kept_unread shape (Gone seen) = refl
+    kept_unread shape (Part seen got) = refl
+    kept_unread shape (Whole seen bytes) = refl
+
+    count_kept : (shape : Shape) (readings : List CellReading) → count_by slot_unread (map (kept shape) readings) ≡ count_by is_unread readings
+    count_kept shape [] = refl
+    count_kept shape (reading ∷ readings) =
+        let a = count_cons slot_unread (kept shape reading) (map (kept shape) readings) in
+        let b = count_cons is_unread reading readings in
+        let c : count_by slot_unread (kept shape reading ∷ []) ≡ count_by is_unread (reading ∷ []) = ap (λ (unread : Bool). 0 + cond unread 1 0) (kept_unread shape reading) in
+        omega (arith, a, b, c, count_kept shape readings)
+
+    -- no more failed readings of a column are told of them than its folder failed
+    pub io_read : (d : ℕ) → d < length plan.table.columns → RoseBy (count_by (is_io_of d) (all_mended_events plan stripes)) (folder_at olds d).faults (folder_at mids d).faults
+    io_read d below =
+        let its = read.each d (near d below) in
+        let lane = take (length numbers) (lane_at window d) in
+        let shape = plan.table.shape in
+        let long : length lane ≡ length numbers = ap (λ (ss : List SlotValue). length ss) its.are_kept ∙ length-map its.readings (kept shape) ∙ its.as_many ∙ length-map numbers (task_at plan.table starts d) in
+        let many : length (facts_of stripes) ≡ length stripes = length-map stripes (λ (it : Mended). it.facts) in
+        let same : slots_of d (facts_of stripes) ≡ take (length stripes) lane =
+        ext_get_or no_slot (slots_of d (facts_of stripes)) (take (length stripes) lane)
+        (length-map (facts_of stripes) (λ (it : StripeFacts). slot_of it d) ∙ many ∙ sym (length-take-le (length stripes) lane (omega (arith, few, long))))
+        (λ k within.
+        let here : k < length stripes = omega (arith, within, many, length-map (facts_of stripes) (λ (it : StripeFacts). slot_of it d)) in
+        get_or-map-at (λ (it : StripeFacts). slot_of it d) (facts_of stripes) k no_facts
+        ∙ slot_here k d here
+        ∙ sym (get_or-take (length numbers) (lane_at window d) k no_slot (omega (arith, here, few)))
+        ∙ sym (get_or-take (length stripes) lane k no_slot here)) in
+        let told = io_in_stripes plan d stripes in
+        let slots_are = ap (λ (ss : List SlotValue). count_by slot_unread ss) same in
+        let cut = sum_by-take-le failed_in lane (length stripes) in
+        let whole = ap (λ (ss : List SlotValue). count_by slot_unread ss) its.are_kept in
+        let rose = its.unread in
+        omega (arith, told, slots_are, cut, whole, count_kept shape its.readings, rose)

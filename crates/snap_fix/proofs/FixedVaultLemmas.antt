@@ -1,0 +1,135 @@
+-- What is done to the vault and to folders in a stripe that is written anew: its levels are read, and then the wrong ones written.
+use Rattle.std.proofs.Common.{◌≡◌, ℕ, zero, suc, ◌+◌, ◌≤◌, ◌||◌, count_by, List, [], ◌∷◌, ◌++◌, Bool, true, false, IsTrue, refl, sym, ap, ◌∙◌, subst, append_assoc, arith}
+use Rattle.std.specs.Prelude.{Contains}
+use Rattle.std.specs.List.{list_any}
+use Rattle.disk_model.specs.Cause.{Rose, RoseBy}
+use Rattle.disk_model.specs.Files.{Stays}
+use Rattle.disk_model.specs.Folder.{FolderView, FolderCall, ListFiles, Look, ReadAt, Make, WriteAt, SetSize, SetStamp, Rename}
+use Rattle.disk_model.specs.Vault.{VaultView, VaultDone, SomeCalls, ChangesBy, DraftsStay}
+use Rattle.disk_model.proofs.VaultLemmas.{calls_then, stays_then}
+use Rattle.parity_writer.specs.LevelReading.{LevelReading, has_failed}
+use Rattle.parity_writer.specs.LevelsValue.{LevelsValue}
+use Rattle.snap_report.specs.Answer.{Gained, broke_vault}
+use Rattle.snap_fix.specs.Examining.{ReadsTried}
+use Rattle.snap_fix.specs.Facts.{StripeFacts}
+use Rattle.snap_fix.specs.Fixing.{LevelsWereRead, MendsVault, VaultBroke}
+use Rattle.snap_fix.specs.Looking.{AreAllLevelsOf, LevelsAreRead, unread_in}
+use Rattle.snap_fix.specs.Mended.{Mended}
+use Rattle.snap_fix.specs.Plan.{FixPlan}
+use Rattle.snap_fix.specs.State.{FolderMakes}
+use Rattle.snap_fix.specs.Underway.{IsMendCall, IsMendedLevel, KeepsLevels, WritesCell}
+use Rattle.snap_fix.proofs.FixedParityLemmas.{keeps_all}
+use Rattle.snap_fix.proofs.FolderCallLemmas.{makes_wider}
+
+-- ---- the levels are read first
+
+pub reading_calls : (searched : Bool) (stripe : ℕ) (levels : LevelsValue) (old new : VaultView) → ReadsTried searched stripe levels old new → SomeCalls old new
+reading_calls true stripe levels old new reads = record { done = _; goes_on = reads.goes_on }
+reading_calls false stripe levels old new reads = record { done = _; goes_on = reads.goes_on }
+
+reading_stays : (searched : Bool) (stripe : ℕ) (levels : LevelsValue) (old new : VaultView) → ReadsTried searched stripe levels old new → ChangesBy Stays old new
+reading_stays true stripe levels old new reads = reads.changes
+reading_stays false stripe levels old new reads = reads.changes
+
+reading_drafts : (searched : Bool) (stripe : ℕ) (levels : LevelsValue) (old new : VaultView) → ReadsTried searched stripe levels old new → DraftsStay old new
+reading_drafts true stripe levels old new reads = reads.drafts
+reading_drafts false stripe levels old new reads = reads.drafts
+
+-- the levels of one stripe were read, and then its count of faults may have risen further
+were_read_by : (plan : FixPlan) (facts : StripeFacts) (old mid new : VaultView) → mid.faults ≤ new.faults
+    → (readings : List (List LevelReading)) → AreAllLevelsOf plan.table.shape.block_size old (facts ∷ []) readings → RoseBy (unread_in readings) old.faults mid.faults
+    → LevelsWereRead plan facts old new
+were_read_by plan facts old mid new later [] are unread = absurd are
+were_read_by plan facts old mid new later (one ∷ []) are unread = record { readings = one; are = are.0; unread = omega (arith, unread, later) }
+were_read_by plan facts old mid new later (one ∷ two ∷ more) are unread = absurd are.1
+
+pub were_read : (plan : FixPlan) (facts : StripeFacts) (old mid new : VaultView) → mid.faults ≤ new.faults → LevelsAreRead plan (facts ∷ []) old mid
+    → LevelsWereRead plan facts old new
+were_read plan facts old mid new later read = were_read_by plan facts old mid new later read.readings read.are read.unread
+
+-- or did
+broke_by : (plan : FixPlan) (facts : StripeFacts) (old mid new : VaultView) (later : mid.faults ≤ new.faults) → Rose mid.faults new.faults
+    → (readings : List (List LevelReading)) (are : AreAllLevelsOf plan.table.shape.block_size old (facts ∷ []) readings) (unread : RoseBy (unread_in readings) old.faults mid.faults)
+    → RoseBy (count_by has_failed (were_read_by plan facts old mid new later readings are unread).readings + 1) old.faults new.faults
+unfolding were_read_by
+broke_by plan facts old mid new later rose [] are unread = absurd are
+broke_by plan facts old mid new later rose (one ∷ []) are unread =
+    let broke : RoseBy (count_by has_failed one + 1) old.faults new.faults = omega (arith, unread, rose) in
+    broke
+broke_by plan facts old mid new later rose (one ∷ two ∷ more) are unread = absurd are.1
+
+pub read_broke : (plan : FixPlan) (facts : StripeFacts) (old mid new : VaultView) (later : mid.faults ≤ new.faults) (rose : Rose mid.faults new.faults) (read : LevelsAreRead plan (facts ∷ []) old mid)
+    → RoseBy (count_by has_failed (were_read plan facts old mid new later read).readings + 1) old.faults new.faults
+unfolding were_read
+read_broke plan facts old mid new later rose read = broke_by plan facts old mid new later rose read.readings read.are read.unread
+
+-- ---- and then some are written
+
+module _ (plan : FixPlan) (facts : StripeFacts) (searched : Bool) (stripe : ℕ) (levels : LevelsValue) (old mid new : VaultView)
+    (reads : ReadsTried searched stripe levels old mid) where
+  pub mends_vault : SomeCalls mid new → DraftsStay mid new → ChangesBy (KeepsLevels plan.table.shape.block_size (IsMendedLevel plan (facts ∷ []))) mid new
+      → MendsVault plan (facts ∷ []) old new
+  mends_vault calls drafts changes =
+      let first : SomeCalls old mid = reading_calls searched stripe levels old mid reads in
+      let tells : mid.tells ≡ old.tells = first.goes_on.tells in
+      let before : DraftsStay old mid = reading_drafts searched stripe levels old mid reads in
+      record {
+        calls = calls_then old mid new first calls;
+        drafts = record { state = drafts.state ∙ before.state; bytes = λ told. drafts.bytes (tells ∙ told) ∙ before.bytes told };
+        changes = stays_then (KeepsLevels plan.table.shape.block_size (IsMendedLevel plan (facts ∷ []))) old mid new tells
+            (reading_stays searched stripe levels old mid reads) changes (keeps_all plan.table.shape.block_size (IsMendedLevel plan (facts ∷ [])));
+      }
+
+  -- it fails in a call that reads no parity
+  pub vault_broke : (unread : ℕ) → SomeCalls mid new → RoseBy (unread + 1) old.faults new.faults → (IsTrue new.tells_calls → Gained broke_vault mid.calls new.calls)
+      → VaultBroke unread old new
+  vault_broke unread calls rose call =
+      let first : SomeCalls old mid = reading_calls searched stripe levels old mid reads in
+      record {
+        rose = rose;
+        call = λ tells.
+            let told : IsTrue mid.tells_calls = calls.goes_on.calls.told tells in
+            let gained = call tells in
+            record {
+              gained = first.done ++ gained.gained;
+              now_is = gained.now_is ∙ ap (λ (cs : List VaultDone). cs ++ gained.gained) (first.goes_on.calls.more told) ∙ append_assoc old.calls first.done gained.gained;
+              one = any_later first.done gained.gained gained.one;
+            };
+      }
+    where
+      or_right : (one other : Bool) → IsTrue other → IsTrue (one || other)
+      or_right true other is = cc
+      or_right false other is = is
+
+      any_later : (front back : List VaultDone) → IsTrue (list_any broke_vault back) → IsTrue (list_any broke_vault (front ++ back))
+      any_later [] back one = one
+      any_later (done ∷ front) back one = or_right (broke_vault done) (list_any broke_vault (front ++ back)) (any_later front back one)
+
+-- ---- the calls of a folder, whatever is said of the files that were gone
+
+call_as : (plan : FixPlan) (d : ℕ) (facts : StripeFacts) (one other : List Bool) (call : FolderCall)
+    → IsMendCall plan d (record { facts = facts; answers = one } ∷ []) call → IsMendCall plan d (record { facts = facts; answers = other } ∷ []) call
+call_as plan d facts one other ListFiles is = tt
+call_as plan d facts one other (Look path lost) is = tt
+call_as plan d facts one other (ReadAt path lost at n) is = tt
+call_as plan d facts one other (Make path) is = is
+call_as plan d facts one other (WriteAt path at bytes) is = by is.is_one
+  where
+    by : Contains (record { facts = facts; answers = one } ∷ []) is.mended → IsMendCall plan d (record { facts = facts; answers = other } ∷ []) (WriteAt path at bytes)
+    by (zero, within, same) = record {
+      mended = record { facts = facts; answers = other };
+      is_one = (0, omega arith, refl);
+      writes = subst (λ (mended : Mended). WritesCell plan d mended.facts path at bytes) (sym same) is.writes;
+    }
+    by (suc k, within, same) = absurd (omega (arith, within))
+call_as plan d facts one other (SetSize path size) is = is
+call_as plan d facts one other (SetStamp path stamp) is = is
+call_as plan d facts one other (Rename path true) is = is
+call_as plan d facts one other (Rename path false) is = is
+
+pub makes_as : (plan : FixPlan) (d : ℕ) (facts : StripeFacts) (one other : List Bool) (old new : FolderView)
+    → FolderMakes (IsMendCall plan d (record { facts = facts; answers = one } ∷ [])) old new
+    → FolderMakes (IsMendCall plan d (record { facts = facts; answers = other } ∷ [])) old new
+makes_as plan d facts one other old new makes =
+    makes_wider (IsMendCall plan d (record { facts = facts; answers = one } ∷ [])) (IsMendCall plan d (record { facts = facts; answers = other } ∷ []))
+    (call_as plan d facts one other) makes

@@ -1,0 +1,388 @@
+-- What becomes of the cell of a column of a stripe that is written anew: it stays, it is lost, or it is written.
+use Rattle.std.proofs.Common.{◌≡◌, ◌⊎◌, inl, inr, ℕ, ◌<◌, ◌≤◌, List, [], ◌∷◌, ◌++◌, length, get_or, Bool, true, false, if◌then◌else◌, IsTrue, Option, None, Some, refl, sym, ap, ap₂, ◌∙◌, subst, arith}
+use Rattle.std.specs.Prelude.{◌&&◌, ◌||◌, ◌==◌, not}
+use Rattle.std.proofs.Math.Bool.{or-false}
+use Rattle.std.proofs.lemmas.Bool.{cases_eq, eq-eqb, ne_eqb}
+use Rattle.std.proofs.lemmas.List.{get_or-set_other}
+use Rattle.disk_model.specs.Folder.{FolderView, FolderCall}
+use Rattle.disk_model.specs.Sink.{SinkView}
+use Rattle.file_table.specs.Table.{record_at}
+use Rattle.file_table.specs.declared.block.Cell.{Cell}
+use Rattle.parity_writer.specs.WindowRow.{bytes_of}
+use Rattle.snap_report.specs.Report.{ReportView}
+use Rattle.snap_report.specs.Told.{Told}
+use Rattle.snap_report.specs.declared.events.Event.{Event}
+use Rattle.snap_report.proofs.ToldLemmas.{told_nothing}
+use Rattle.stripe_reader.specs.Starts.{StartsValue, StartsFit, starts_at}
+use Rattle.stripe_reader.specs.WindowValue.{WindowValue, slot_at}
+use Rattle.stripe_reader.specs.declared.starts.Place.{Place}
+use Rattle.snap_fix.specs.declared.marking.CellMark.{CellMark}
+use Rattle.snap_fix.specs.declared.marking.CellMark.TheVariants.{Right, Given, Missing}
+use Rattle.snap_fix.specs.declared.repairing.Repaired.{Repaired}
+use Rattle.snap_fix.specs.declared.state.FileState.{FileState}
+use Rattle.snap_fix.specs.Counts.{AreCounts}
+use Rattle.snap_fix.specs.Facts.{StripeFacts, damaged_at}
+use Rattle.snap_fix.specs.Marks.{mark_in, is_marked_missing}
+use Rattle.snap_fix.specs.Mended.{Mended, known_block, block_or_none, is_repaired, is_written, is_of, loses, column_writes, answer_of, cell_news, mended_event, is_blocked_cell}
+use Rattle.snap_fix.specs.Mending.{StatesFit, IsBlockCall, CanWrite, block_start, cell_path, mended_writes, with_state}
+use Rattle.snap_fix.specs.Plan.{FixPlan, cell_at, entry_at, records_in, has_selected, is_in_scope, selects_cell}
+use Rattle.snap_fix.specs.RepairSteps.{ColumnOutside, IsMendedAs, CanMendColumn, MendsColumn, MendsNotColumn, WritesBlockOf, WritesNotBlockOf, is_repaired_by, is_lost_by}
+use Rattle.snap_fix.specs.State.{Write, HoldsTold, FolderMakes, state_in}
+use Rattle.snap_fix.specs.Underway.{IsForRecord, IsMendCall, IsColumnUnderway, ShowsFacts, is_damaged_mark, is_given_mark}
+use Rattle.snap_fix.proofs.FolderCallLemmas.{makes_none, makes_wider}
+use Rattle.snap_fix.proofs.MendedFactsLemmas.{and_parts, block_known, repaired_shown, lost_shown, writes_same, writes_more, loses_by}
+use Rattle.snap_fix.proofs.RepairLemmas.{column_lost, underway_more, state_same, state_other, row_same, states_fit-with, starts_fit-with}
+use Rattle.snap_fix.proofs.TellingLemmas.{told_as}
+
+and_false : (b : Bool) → (b && false) ≡ false
+and_false true = refl
+and_false false = refl
+
+or_true : (b : Bool) → (b || true) ≡ true
+or_true true = refl
+or_true false = refl
+
+or_swap : (a b : Bool) → (a || b) ≡ (b || a)
+or_swap true true = refl
+or_swap true false = refl
+or_swap false true = refl
+or_swap false false = refl
+
+both : (a b : Bool) → (a && b) ≡ true → b ≡ true
+both true b is = is
+both false b is = absurd cc
+
+not_blocked : (b : Bool) → not b ≡ true → b ≡ false
+not_blocked true is = absurd cc
+not_blocked false is = refl
+
+-- a cell that is to be written is not lost
+not_lost_by : (selected : Bool) (mark : CellMark) (known free : Bool) → (selected && is_damaged_mark mark && (is_given_mark mark || known) && free) ≡ true
+    → (selected && is_marked_missing mark && not known) ≡ false
+not_lost_by selected Missing true free is = and_false (selected && true)
+not_lost_by true Missing false free is = absurd (by free is)
+  where
+    by : (b : Bool) → (false && b) ≡ true → ⊥
+    by true holds = cc
+    by false holds = cc
+not_lost_by false Missing false free is = refl
+not_lost_by true Right known free is = refl
+not_lost_by false Right known free is = refl
+not_lost_by true Given known free is = refl
+not_lost_by false Given known free is = refl
+
+-- a lost cell, and one that isn't damaged, is not to be written
+pub lost_stays : (plan : FixPlan) (stripe d : ℕ) (mark : CellMark) (known : Bool) → is_lost_by plan stripe mark known d ≡ true → is_repaired_by plan stripe mark known d ≡ false
+lost_stays plan stripe d mark known lost = by (is_repaired_by plan stripe mark known d) refl
+  where
+    by : (b : Bool) → is_repaired_by plan stripe mark known d ≡ b → b ≡ false
+    by false is = refl
+    by true is = absurd (
+        let lost_not : is_lost_by plan stripe mark known d ≡ false = not_lost_by (selects_cell plan stripe d) mark known (not (is_blocked_cell plan d (cell_at plan stripe d))) is in
+        let clash : true ≡ false = sym lost ∙ lost_not in cc)
+
+pub right_stays : (plan : FixPlan) (stripe d : ℕ) (mark : CellMark) (known : Bool) → is_damaged_mark mark ≡ false
+    → (is_repaired_by plan stripe mark known d ≡ false) × (is_lost_by plan stripe mark known d ≡ false)
+right_stays plan stripe d Right known is = (
+  ap (λ (b : Bool). b && (is_given_mark Right || known) && not (is_blocked_cell plan d (cell_at plan stripe d))) (and_false (selects_cell plan stripe d)),
+  ap (λ (b : Bool). b && not known) (and_false (selects_cell plan stripe d)),
+)
+right_stays plan stripe d Given known is = absurd cc
+right_stays plan stripe d Missing known is = absurd cc
+
+pub none_stays : (plan : FixPlan) (stripe d : ℕ) (mark : CellMark) (known : Bool) → cell_at plan stripe d ≡ None
+    → (is_repaired_by plan stripe mark known d ≡ false) × (is_lost_by plan stripe mark known d ≡ false)
+none_stays plan stripe d mark known none = (
+  ap (λ (b : Bool). b && is_damaged_mark mark && (is_given_mark mark || known) && not (is_blocked_cell plan d (cell_at plan stripe d))) unselected,
+  ap (λ (b : Bool). b && is_marked_missing mark && not known) unselected,
+)
+  where
+    unselected : selects_cell plan stripe d ≡ false
+    unselected = ap (λ (c : Option Cell). is_in_scope plan stripe && has_selected plan d c) none ∙ and_false (is_in_scope plan stripe)
+
+-- no block of it was written
+abbrev pub none_written : Repaired
+none_written = record { blocks = 0; counts = record { found = 0; left = 0 } }
+
+module _ {W R : Type 0} (view : W → SinkView) (standing : R → ReportView) (stands : R → List Event → Type 0)
+    (plan : FixPlan) (stripe i d : ℕ) (window : WindowValue) (marks : List CellMark) (known : Bool) (old : ColumnOutside W R)
+    (can : CanMendColumn plan stripe i d window marks known old.starts old.states old.folder) where
+  abbrev mark : CellMark
+  mark = mark_in marks d
+
+  abbrev Shown : Bool → Mended → Type 0
+  Shown answer mended = IsMendedAs plan stripe i d window marks known answer mended
+
+  abbrev records : ℕ
+  records = length (records_in plan.table d)
+
+  long : d < length old.states
+  long = omega (arith, can.within, can.states_fit.columns)
+
+  -- nothing is told or written of a cell that is not to be written
+  module _ (stays : is_repaired_by plan stripe mark known d ≡ false) where
+    repaired_not : (answer : Bool) (mended : Mended) → Shown answer mended → is_repaired plan mended.facts d ≡ false
+    repaired_not answer mended shown = repaired_shown plan mended.facts stripe i d window marks known can.within shown.stripe_is shown.shows ∙ stays
+
+    no_news : (mended : Mended) → Shown false mended → cell_news plan mended d ≡ []
+    no_news mended shown = ap (λ (b : Bool). if b then mended_event mended.facts.stripe d (cell_at plan mended.facts.stripe d) (answer_of mended d) else []) (repaired_not false mended shown)
+
+    not_written : (mended : Mended) → Shown false mended → is_written plan mended d ≡ false
+    not_written mended shown = ap (λ (b : Bool). b && answer_of mended d) (repaired_not false mended shown)
+
+    -- of a record it loses the block of its cell, if that is lost
+    loses_then : (lost : Bool) → is_lost_by plan stripe mark known d ≡ lost → (mended : Mended) → Shown false mended → (k : ℕ)
+        → loses plan d k mended ≡ (is_of k (cell_at plan mended.facts.stripe d) && lost)
+    loses_then lost lost_is mended shown k =
+        loses_by plan d k mended lost false false (lost_shown plan mended.facts stripe i d window marks known can.within shown.stripe_is shown.shows ∙ lost_is)
+        (repaired_not false mended shown) shown.answer_is
+        ∙ ap (λ (b : Bool). is_of k (cell_at plan mended.facts.stripe d) && b) (or-false lost)
+
+    holds_still : (mended : Mended) → Shown false mended → (stripes : List Mended) (first : FolderView) → IsColumnUnderway plan d stripes first old.folder old.starts old.states
+        → HoldsTold (records_in plan.table d) (starts_at old.starts.columns d) (get_or old.states d []) (column_writes plan (stripes ++ mended ∷ []) d records) first old.folder
+    holds_still mended shown stripes first before =
+        subst (λ (ws : List (List Write)). HoldsTold (records_in plan.table d) (starts_at old.starts.columns d) (get_or old.states d []) ws first old.folder)
+        (sym (writes_same plan stripes mended d records (not_written mended shown))) before.holds
+
+    -- it is not lost either
+    pub column_stays : is_lost_by plan stripe mark known d ≡ false → MendsColumn view standing stands plan stripe i d window marks known old old none_written
+    column_stays lost_not = record {
+      answer = false;
+      starts_fit = can.starts_fit;
+      states_fit = can.states_fit;
+      keeps = record { same_starts = λ k other. refl; same_states = λ k other. refl };
+      told = λ mended shown. told_as view standing stands plan.table.columns (cell_news plan mended d) [] old.lines old.lines old.reports old.reports (no_news mended shown)
+          (told_nothing view standing stands plan.table.columns old.lines old.reports);
+      counts = λ mended shown. subst (λ (events : List Event). AreCounts events none_written.counts) (sym (no_news mended shown)) (record { found = refl; left = refl });
+      blocks = λ mended shown. sym (ap (λ (b : Bool). if b then 1 else 0) (not_written mended shown));
+      few = omega arith;
+      makes = λ facts is shows. makes_none (IsMendCall plan d (record { facts = facts; answers = [] } ∷ [])) old.folder;
+      underway = λ mended shown stripes first fixable before.
+          underway_more plan d stripes mended first old.folder old.folder old.starts old.starts old.states old.states before
+          (makes_none (IsMendCall plan d (record { facts = mended.facts; answers = [] } ∷ [])) old.folder)
+          (holds_still mended shown stripes first before)
+          (λ k within. sym (ap (λ (b : Bool). (state_in old.states d k).lost || b) (loses_then false lost_not mended shown k ∙ and_false (is_of k (cell_at plan mended.facts.stripe d)))
+          ∙ or-false (state_in old.states d k).lost));
+    }
+
+    -- or it is lost
+    pub column_loses : (cell : Cell) → cell_at plan stripe d ≡ Some cell → cell.rec < records → is_lost_by plan stripe mark known d ≡ true
+        → (new : ColumnOutside W R) → new.starts ≡ old.starts → new.folder ≡ old.folder
+        → new.states ≡ with_state old.states d cell.rec (record (state_in old.states d cell.rec) { lost = true })
+        → Told view standing stands plan.table.columns [] old.lines new.lines old.reports new.reports
+        → MendsColumn view standing stands plan stripe i d window marks known old new none_written
+    column_loses cell cell_is rec lost_is new same_starts same_folder states_are nothing = record {
+      answer = false;
+      starts_fit = subst (StartsFit plan.table) (sym same_starts) can.starts_fit;
+      states_fit = subst (StatesFit plan.table) (sym states_are) (states_fit-with plan old.states d cell.rec state can.within can.states_fit);
+      keeps = record {
+        same_starts = λ k other. ap (λ (s : StartsValue). starts_at s.columns k) same_starts;
+        same_states = λ k other. ap (λ (s : List (List FileState)). get_or s k []) states_are ∙ get_or-set_other old.states d k _ [] other;
+      };
+      told = λ mended shown. told_as view standing stands plan.table.columns (cell_news plan mended d) [] old.lines new.lines old.reports new.reports (no_news mended shown) nothing;
+      counts = λ mended shown. subst (λ (events : List Event). AreCounts events none_written.counts) (sym (no_news mended shown)) (record { found = refl; left = refl });
+      blocks = λ mended shown. sym (ap (λ (b : Bool). if b then 1 else 0) (not_written mended shown));
+      few = omega arith;
+      makes = λ facts is shows. subst (FolderMakes (IsMendCall plan d (record { facts = facts; answers = [] } ∷ [])) old.folder) (sym same_folder)
+          (makes_none (IsMendCall plan d (record { facts = facts; answers = [] } ∷ [])) old.folder);
+      underway = λ mended shown stripes first fixable before.
+          underway_more plan d stripes mended first old.folder new.folder old.starts new.starts old.states new.states before
+          (subst (FolderMakes (IsMendCall plan d (record { facts = mended.facts; answers = [] } ∷ [])) old.folder) (sym same_folder)
+          (makes_none (IsMendCall plan d (record { facts = mended.facts; answers = [] } ∷ [])) old.folder))
+          (subst (λ (v : FolderView). HoldsTold (records_in plan.table d) (starts_at new.starts.columns d) (get_or new.states d []) (column_writes plan (stripes ++ mended ∷ []) d records) first v) (sym same_folder)
+          (subst (λ (s : StartsValue). HoldsTold (records_in plan.table d) (starts_at s.columns d) (get_or new.states d []) (column_writes plan (stripes ++ mended ∷ []) d records) first old.folder) (sym same_starts)
+          (subst (λ (s : List FileState). HoldsTold (records_in plan.table d) (starts_at old.starts.columns d) s (column_writes plan (stripes ++ mended ∷ []) d records) first old.folder)
+          (sym (ap (λ (s : List (List FileState)). get_or s d []) states_are ∙ row_same old.states d cell.rec state long))
+          (λ tells. column_lost (records_in plan.table d) (starts_at old.starts.columns d) (get_or old.states d []) (column_writes plan (stripes ++ mended ∷ []) d records) first.tree old.folder.tree cell.rec true rec
+          (holds_still mended shown stripes first before tells)))))
+          (λ k within. ap (λ (s : List (List FileState)). (state_in s d k).lost) states_are ∙ by mended shown k within (cases_eq cell.rec k));
+    }
+      where
+        state : FileState
+        state = record (state_in old.states d cell.rec) { lost = true }
+
+        here : (mended : Mended) → Shown false mended → (k : ℕ) → loses plan d k mended ≡ (cell.rec == k)
+        here mended shown k =
+            loses_then true lost_is mended shown k
+            ∙ ap (λ (c : Option Cell). is_of k c && true) (ap (λ (s : ℕ). cell_at plan s d) shown.stripe_is ∙ cell_is) ∙ and_true (cell.rec == k)
+          where
+            and_true : (b : Bool) → (b && true) ≡ b
+            and_true true = refl
+            and_true false = refl
+
+        by : (mended : Mended) → Shown false mended → (k : ℕ) → k < records → (cell.rec ≡ k) ⊎ (cell.rec ≡ k → ⊥)
+            → (state_in (with_state old.states d cell.rec state) d k).lost ≡ ((state_in old.states d k).lost || loses plan d k mended)
+        by mended shown k within (inl same) =
+            ap (λ (n : ℕ). (state_in (with_state old.states d cell.rec state) d n).lost) (sym same)
+            ∙ ap (λ (s : FileState). s.lost) (state_same old.states d cell.rec state long (omega (arith, rec, can.states_fit.records d can.within)))
+            ∙ sym (ap (λ (b : Bool). (state_in old.states d k).lost || b) (here mended shown k ∙ eq-eqb cell.rec k same) ∙ or_true (state_in old.states d k).lost)
+        by mended shown k within (inr other) =
+            ap (λ (s : FileState). s.lost) (state_other old.states d cell.rec k state long (λ same. other (sym same)))
+            ∙ sym (ap (λ (b : Bool). (state_in old.states d k).lost || b) (here mended shown k ∙ ne_eqb cell.rec k other) ∙ or-false (state_in old.states d k).lost)
+
+  -- ---- or it is written
+
+  module _ (cell : Cell) (cell_is : cell_at plan stripe d ≡ Some cell) (rec : cell.rec < records) (goes : is_repaired_by plan stripe mark known d ≡ true) where
+    abbrev parts : (selects_cell plan stripe d ≡ true) × (is_damaged_mark mark ≡ true) × ((is_given_mark mark || known) ≡ true) × (not (is_blocked_cell plan d (cell_at plan stripe d)) ≡ true)
+    parts = and_parts (selects_cell plan stripe d) (is_damaged_mark mark) (is_given_mark mark || known) (not (is_blocked_cell plan d (cell_at plan stripe d))) goes
+
+    pub is_selected : (entry_at plan d cell.rec).selected ≡ true
+    is_selected = both (is_in_scope plan stripe) (entry_at plan d cell.rec).selected
+        (ap (λ (c : Option Cell). is_in_scope plan stripe && has_selected plan d c) (sym cell_is) ∙ parts.0)
+
+    pub is_free : (entry_at plan d cell.rec).blocked ≡ false
+    is_free = not_blocked (entry_at plan d cell.rec).blocked (ap (λ (c : Option Cell). not (is_blocked_cell plan d c)) (sym cell_is) ∙ parts.3)
+
+    -- the facts that are shown have its block
+    cell_of : (facts : StripeFacts) → facts.stripe ≡ stripe → cell_at plan facts.stripe d ≡ Some cell
+    cell_of facts is = ap (λ (s : ℕ). cell_at plan s d) is ∙ cell_is
+
+    damaged_of : (facts : StripeFacts) → ShowsFacts plan facts i marks known window → damaged_at plan facts d ≡ true
+    damaged_of facts shows = shows.damaged d can.within ∙ parts.1
+
+    block_of : (facts : StripeFacts) → facts.stripe ≡ stripe → ShowsFacts plan facts i marks known window → bytes_of (slot_at window i d) ≡ block_or_none (known_block facts d)
+    block_of facts is shows = shows.block d can.within (damaged_of facts shows) (block_known plan facts stripe i d window marks known can.within is shows ∙ parts.2)
+
+    repaired_of : (facts : StripeFacts) → facts.stripe ≡ stripe → ShowsFacts plan facts i marks known window → is_repaired plan facts d ≡ true
+    repaired_of facts is shows = repaired_shown plan facts stripe i d window marks known can.within is shows ∙ goes
+
+    pub can_write : (bytes : List ℕ) → bytes ≡ bytes_of (slot_at window i d) → cell.index < length (record_at plan.table.columns d cell.rec).blocks
+        → CanWrite plan.table d cell bytes old.starts old.states old.folder
+    can_write bytes bytes_are index = record {
+      column = can.within;
+      rec = rec;
+      block = index;
+      long = ap (λ (bs : List ℕ). length bs) (bytes_are ∙ block_of can.facts can.stripe_is can.shows)
+          ∙ can.shows.long d cell can.within (cell_of can.facts can.stripe_is) (damaged_of can.facts can.shows)
+          (block_known plan can.facts stripe i d window marks known can.within can.stripe_is can.shows ∙ parts.2);
+      starts_fit = can.starts_fit;
+      states_fit = can.states_fit;
+      is_open = can.underway.makes.goes_on.closed ∙ can.fixable.is_open;
+      underway = λ told.
+          let first_told : IsTrue can.first.tells = subst IsTrue can.underway.makes.goes_on.tells told in
+          record {
+            first = can.first.tree;
+            writes = column_writes plan can.stripes d records;
+            is_tree = can.fixable.is_tree first_told;
+            holds = can.underway.holds first_told;
+            free = can.fixable.free first_told cell.rec rec is_free;
+          };
+    }
+
+    -- its calls
+    module _ (bytes : List ℕ) (bytes_are : bytes ≡ bytes_of (slot_at window i d)) where
+      call_of : (facts : StripeFacts) → facts.stripe ≡ stripe → ShowsFacts plan facts i marks known window → (place : Place) → (call : FolderCall)
+          → IsBlockCall place (cell_path plan.table d cell) (block_start plan.table cell) bytes call → IsMendCall plan d (record { facts = facts; answers = [] } ∷ []) call
+      call_of facts is shows place call = λ made. elim made [
+        | inl write ↦ subst Mends (sym write) (record {
+          mended = record { facts = facts; answers = [] };
+          is_one = (0, omega arith, refl);
+          writes = record {
+            repaired = repaired_of facts is shows;
+            cell = cell;
+            cell_is = cell_of facts is;
+            path_is = refl;
+            at_is = refl;
+            bytes_are = bytes_are ∙ block_of facts is shows;
+          };
+        })
+        | inr up ↦ elim up [
+          | inl back ↦ subst Mends (sym back.1) (cell.rec, for_record)
+          | inr anew ↦ subst Mends (sym anew.1) (cell.rec, for_record)
+        ]
+      ]
+        where
+          Mends : FolderCall → Type 0
+          Mends = IsMendCall plan d (record { facts = facts; answers = [] } ∷ [])
+
+          for_record : IsForRecord plan d cell.rec (cell_path plan.table d cell)
+          for_record = record { within = rec; path_is = refl; selected = is_selected; free = is_free }
+
+      calls_of : (facts : StripeFacts) → facts.stripe ≡ stripe → ShowsFacts plan facts i marks known window → (place : Place) → (new : FolderView)
+          → FolderMakes (IsBlockCall place (cell_path plan.table d cell) (block_start plan.table cell) bytes) old.folder new
+          → FolderMakes (IsMendCall plan d (record { facts = facts; answers = [] } ∷ [])) old.folder new
+      calls_of facts is shows place new makes =
+          makes_wider (IsBlockCall place (cell_path plan.table d cell) (block_start plan.table cell) bytes) (IsMendCall plan d (record { facts = facts; answers = [] } ∷ []))
+          (call_of facts is shows place) makes
+
+      -- a call failed
+      pub column_not : (new : ColumnOutside W R) → WritesNotBlockOf view standing stands plan.table d cell bytes old new
+          → MendsNotColumn view standing stands plan stripe i d window marks known old new
+      column_not new fails = record {
+        rose = fails.rose;
+        call = fails.call;
+        told = fails.told;
+        makes = λ facts is shows. calls_of facts is shows _ new.folder fails.makes;
+      }
+
+      -- it was written, or its file was gone
+      module _ (new : ColumnOutside W R) (repaired : Repaired) (writes : WritesBlockOf view standing stands plan.table stripe d cell bytes old new repaired) where
+        news : (mended : Mended) → Shown writes.written mended → cell_news plan mended d ≡ mended_event stripe d (Some cell) writes.written
+        news mended shown =
+            ap (λ (b : Bool). if b then mended_event mended.facts.stripe d (cell_at plan mended.facts.stripe d) (answer_of mended d) else []) (repaired_of mended.facts shown.stripe_is shown.shows)
+            ∙ ap (λ (c : Option Cell). mended_event mended.facts.stripe d c (answer_of mended d)) (cell_of mended.facts shown.stripe_is)
+            ∙ ap₂ (λ (s : ℕ) (b : Bool). mended_event s d (Some cell) b) shown.stripe_is shown.answer_is
+
+        written_is : (mended : Mended) → Shown writes.written mended → is_written plan mended d ≡ writes.written
+        written_is mended shown =
+            ap₂ (λ (b answer : Bool). b && answer) (repaired_of mended.facts shown.stripe_is shown.shows) shown.answer_is
+
+        one_at_most : (b : Bool) → (if b then 1 else 0) ≤ 1
+        one_at_most true = omega arith
+        one_at_most false = omega arith
+
+        writes_are : (mended : Mended) → Shown writes.written mended → (stripes : List Mended)
+            → column_writes plan (stripes ++ mended ∷ []) d records ≡ mended_writes plan.table cell bytes writes.written (column_writes plan stripes d records)
+        writes_are mended shown stripes = by writes.written (written_is mended shown)
+          where
+            by : (b : Bool) → is_written plan mended d ≡ b → column_writes plan (stripes ++ mended ∷ []) d records ≡ mended_writes plan.table cell bytes b (column_writes plan stripes d records)
+            by true is = writes_more plan stripes mended d records cell bytes rec (cell_of mended.facts shown.stripe_is) is (bytes_are ∙ block_of mended.facts shown.stripe_is shown.shows)
+            by false is = writes_same plan stripes mended d records is
+
+        loses_is : (mended : Mended) → Shown writes.written mended → (k : ℕ) → loses plan d k mended ≡ ((cell.rec == k) && not writes.written)
+        loses_is mended shown k =
+            loses_by plan d k mended (is_lost_by plan stripe mark known d) true writes.written (lost_shown plan mended.facts stripe i d window marks known can.within shown.stripe_is shown.shows)
+            (repaired_of mended.facts shown.stripe_is shown.shows) shown.answer_is
+            ∙ ap₂ (λ (c : Option Cell) (l : Bool). is_of k c && (l || not writes.written)) (cell_of mended.facts shown.stripe_is) (not_lost mark goes)
+          where
+            not_lost : (m : CellMark) → is_repaired_by plan stripe m known d ≡ true → is_lost_by plan stripe m known d ≡ false
+            not_lost m repaired = not_lost_by (selects_cell plan stripe d) m known (not (is_blocked_cell plan d (cell_at plan stripe d))) repaired
+
+        lost_is : (mended : Mended) → Shown writes.written mended → (k : ℕ) → k < records → (cell.rec ≡ k) ⊎ (cell.rec ≡ k → ⊥)
+            → (state_in new.states d k).lost ≡ ((state_in old.states d k).lost || loses plan d k mended)
+        lost_is mended shown k within (inl same) =
+            ap (λ (s : List (List FileState)). (state_in s d k).lost) writes.states_are
+            ∙ ap (λ (n : ℕ). (state_in (with_state old.states d cell.rec writes.state) d n).lost) (sym same)
+            ∙ ap (λ (s : FileState). s.lost) (state_same old.states d cell.rec writes.state long (omega (arith, rec, can.states_fit.records d can.within)))
+            ∙ writes.lost ∙ ap (λ (n : ℕ). not writes.written || (state_in old.states d n).lost) same
+            ∙ or_swap (not writes.written) (state_in old.states d k).lost
+            ∙ sym (ap (λ (b : Bool). (state_in old.states d k).lost || b) (loses_is mended shown k ∙ ap (λ (b : Bool). b && not writes.written) (eq-eqb cell.rec k same)))
+        lost_is mended shown k within (inr other) =
+            ap (λ (s : List (List FileState)). (state_in s d k).lost) writes.states_are
+            ∙ ap (λ (s : FileState). s.lost) (state_other old.states d cell.rec k writes.state long (λ same. other (sym same)))
+            ∙ sym (ap (λ (b : Bool). (state_in old.states d k).lost || b) (loses_is mended shown k ∙ ap (λ (b : Bool). b && not writes.written) (ne_eqb cell.rec k other)) ∙ or-false (state_in old.states d k).lost)
+
+        pub column_written : MendsColumn view standing stands plan stripe i d window marks known old new repaired
+        column_written = record {
+          answer = writes.written;
+          starts_fit = subst (StartsFit plan.table) (sym writes.starts_are) (starts_fit-with plan old.starts d cell.rec writes.place can.within can.starts_fit);
+          states_fit = subst (StatesFit plan.table) (sym writes.states_are) (states_fit-with plan old.states d cell.rec writes.state can.within can.states_fit);
+          keeps = record {
+            same_starts = λ k other. ap (λ (s : StartsValue). starts_at s.columns k) writes.starts_are ∙ get_or-set_other old.starts.columns d k _ [] other;
+            same_states = λ k other. ap (λ (s : List (List FileState)). get_or s k []) writes.states_are ∙ get_or-set_other old.states d k _ [] other;
+          };
+          told = λ mended shown. told_as view standing stands plan.table.columns (cell_news plan mended d) (mended_event stripe d (Some cell) writes.written) old.lines new.lines old.reports new.reports
+              (news mended shown) writes.told;
+          counts = λ mended shown. subst (λ (events : List Event). AreCounts events repaired.counts) (sym (news mended shown)) writes.counts;
+          blocks = λ mended shown. writes.blocks ∙ ap (λ (b : Bool). if b then 1 else 0) (sym (written_is mended shown));
+          few = omega (arith, writes.blocks, one_at_most writes.written);
+          makes = λ facts is shows. calls_of facts is shows _ new.folder writes.makes;
+          underway = λ mended shown stripes first fixable before.
+              let tells : old.folder.tells ≡ first.tells = before.makes.goes_on.tells in
+              underway_more plan d stripes mended first old.folder new.folder old.starts new.starts old.states new.states before
+              (calls_of mended.facts shown.stripe_is shown.shows _ new.folder writes.makes)
+              (subst (λ (ws : List (List Write)). HoldsTold (records_in plan.table d) (starts_at new.starts.columns d) (get_or new.states d []) ws first new.folder)
+              (sym (writes_are mended shown stripes))
+              (writes.holds first (column_writes plan stripes d records) (sym tells) (λ told. fixable.free told cell.rec rec is_free) fixable.is_tree before.holds))
+              (λ k within. lost_is mended shown k within (cases_eq cell.rec k));
+        }

@@ -1,0 +1,23 @@
+use Rattle.std.proofs.Common.{◌≡◌, ◌≤◌, ◌-◌, length, map, take, List}
+use Rattle.snap_fix.specs.Checking.{KeepsWork, plan_for}
+use Rattle.snap_fix.specs.Facts.{StripeFacts}
+use Rattle.snap_fix.specs.Looking.{AreRead, LooksAt, numbers_of, scene}
+use Rattle.snap_fix.proofs.checking.check_stripes.Given as goal
+
+abbrev pub invariant-loop-done : goal.invariant-loop-done
+invariant-loop-done g l =
+    record {
+      stripes : List StripeFacts;
+      numbers : numbers_of stripes ≡ take l.done l.fn.work.stripes.items;
+      read : AreRead (plan_for l.table l.fn.work) l.fn.work.starts stripes (map g.F.Folder.view l.fn.folders) (map g.F.Folder.view l.folders);
+      looks : LooksAt g.W.Sink.view (λ b. (goal.Report-dyn g (b.vtable, b.value)).standing b.value) (λ b. (goal.Report-dyn g (b.vtable, b.value)).stands b.value)
+          (plan_for l.table l.fn.work) stripes l.counts
+          (scene (g.V.Vault.view l.fn.vault) l.fn.lines l.fn.reports.items) (scene (g.V.Vault.view l.vault) l.lines l.reports.items);
+      within : l.done ≤ length l.fn.work.stripes.items;
+      kept : KeepsWork l.table l.fn.work l.work;
+      folders : length l.folders ≡ length l.table.columns;
+      levels : (g.V.Vault.view l.vault).levels ≡ l.table.shape.levels;
+    }
+
+abbrev pub decreases-loop-done : goal.decreases-loop-done
+decreases-loop-done g l = length l.fn.work.stripes.items - l.done

@@ -1,0 +1,64 @@
+use Rattle.std.proofs.Common.{length, map, take, drop, arith, refl, ap}
+use Rattle.snap_fix.specs.Checking.{plan_for}
+use Rattle.snap_fix.specs.FixRun.{BreaksStripes}
+use Rattle.snap_fix.specs.Fixing.{fix_scene}
+use Rattle.snap_fix.proofs.FixIntoLemmas.{still_underway}
+use Rattle.snap_fix.proofs.FixStripesLemmas.{breaks_for, into_for, items_same, keeps_fix_then, stripes_break, stripes_more, stripes_none, underway_for, work_goes_on}
+use Rattle.snap_fix.proofs.GoesOnLemmas.{handed_on}
+use Rattle.snap_fix.proofs.fixes.fix_stripes.Goals as goal
+
+pub loop-done-init : goal.loop-done-init
+loop-done-init g c = record {
+  fixed = stripes_none _ _ _ _ _ _ c.requires.fits (record { counts = record { found = refl; left = refl }; blocks = refl; parities = refl });
+  within = omega arith;
+  kept = record { rest = refl; room = c.requires.work.room };
+  work = c.requires.work;
+}
+
+pub fix_window-requires-clause-underway : goal.fix_window-requires-clause-underway
+fix_window-requires-clause-underway g c κs within =
+    let so_far = c.loop-done.invariant in
+    underway_for c.args.table.now c.args.work.now c.loop-done.work so_far.kept (map g.F.Folder.view c.loop-done.folders) c.loop-done.work.starts c.loop-done.states
+    (still_underway _ _ _ _ _ _ _ _ c.requires.underway so_far.fixed.fixes)
+
+pub returns-in_err-more-clause-broke : goal.returns-in_err-more-clause-broke
+returns-in_err-more-clause-broke g c =
+    let table = c.args.table.now in
+    let first = c.args.work.now in
+    let plan = plan_for table first in
+    let so_far = c.loop-done.invariant in
+    let work = c.loop-done.work in
+    let old = fix_scene first.starts c.args.states.now c.args.written.now (map g.F.Folder.view c.args.folders.now) (g.V.Vault.view c.args.vault.now) c.args.lines.now c.args.reports.now.items in
+    let mid = fix_scene work.starts c.loop-done.states c.loop-done.written (map g.F.Folder.view c.loop-done.folders) (g.V.Vault.view c.loop-done.vault) c.loop-done.lines c.loop-done.reports.items in
+    let it = c.fix_window.new in
+    let new = fix_scene it.work.starts it.states it.written (map g.F.Folder.view it.folders) (g.V.Vault.view it.vault) it.lines it.reports.items in
+    let fault = c.in_err-more.field-0.0 in
+    handed_on c.from_residual.result (BreaksStripes _ _ _ plan old new) fault c.from_residual.ensures.1
+    (stripes_break _ _ _ plan (take c.loop-done.done first.stripes.items) c.loop-done.totals old mid new fault c.requires.fits so_far.fixed
+    (breaks_for table first work so_far.kept _ _ _ mid new fault c.in_err-more.ensures.broke))
+
+pub loop-done-preserved : goal.loop-done-preserved
+loop-done-preserved g c =
+    let table = c.args.table.now in
+    let first = c.args.work.now in
+    let plan = plan_for table first in
+    let so_far = c.loop-done.invariant in
+    let work = c.loop-done.work in
+    let done = c.loop-done.done in
+    let count = c.min-count.result in
+    let window = c.in_ok-more.ensures.fixed in
+    let numbers = take count (drop done work.stripes.items) in
+    let old = fix_scene first.starts c.args.states.now c.args.written.now (map g.F.Folder.view c.args.folders.now) (g.V.Vault.view c.args.vault.now) c.args.lines.now c.args.reports.now.items in
+    let mid = fix_scene work.starts c.loop-done.states c.loop-done.written (map g.F.Folder.view c.loop-done.folders) (g.V.Vault.view c.loop-done.vault) c.loop-done.lines c.loop-done.reports.items in
+    let it = c.fix_window.new in
+    let new = fix_scene it.work.starts it.states it.written (map g.F.Folder.view it.folders) (g.V.Vault.view it.vault) it.lines it.reports.items in
+    let more = stripes_more _ _ _ plan numbers work.room.window window.window mid window.mids window.read so_far.fixed.fixes.fits first.stripes.items done count c.requires.distinct
+    (items_same table first work so_far.kept done count) c.loop-done.totals c.in_ok-more.more c.and-totals.result old new so_far.fixed
+    (into_for table first work so_far.kept _ _ _ numbers window.window _ new c.in_ok-more.more window.fixes) (c.and-totals.ensures plan) in
+    let kept = keeps_fix_then table first work it.work so_far.kept c.in_ok-more.ensures.kept in
+    record {
+      fixed = more;
+      within = omega (arith, c.min-count.ensures, c.len-in-loop-done.ensures, c.loop-done-test.true, ap (λ it. length it.stripes.items) so_far.kept.rest, so_far.within);
+      kept = kept;
+      work = work_goes_on table first it.work kept c.requires.work more.fixes.fits.starts;
+    }

@@ -1,0 +1,16 @@
+use Rattle.std.proofs.Common.{◌≡◌, ℕ, ◌<◌, ◌≤◌}
+use Rattle.file_table.specs.Cells.{cell_view}
+use Rattle.file_table.specs.Table.{column_at}
+use Rattle.stripe_reader.specs.WindowValue.{slot_at}
+use Rattle.snap_fix.specs.Marks.{ChangesStripe, IsMarked, mark_in}
+use Rattle.snap_fix.proofs.marking.mark_cells.Given as goal
+
+-- the columns so far are marked, and the others are as they were
+abbrev pub invariant-loop-d : goal.invariant-loop-d
+invariant-loop-d g l = record {
+  changes : ChangesStripe l.i l.fn.window l.window;
+  marked : (e : ℕ) → e < l.d
+      → IsMarked l.searched l.table.shape (cell_view (column_at l.table.columns e) l.stripe)
+      (slot_at l.fn.window l.i e) (mark_in l.marks e) (slot_at l.window l.i e);
+  rest : (e : ℕ) → l.d ≤ e → slot_at l.window l.i e ≡ slot_at l.fn.window l.i e;
+}

@@ -1,0 +1,12 @@
+use Rattle.std.proofs.Common.{ℕ, ◌*◌, ap₂, ap, ◌∙◌}
+use Rattle.cauchy.specs.Matrix.{parity_of as level_of}
+use Rattle.parity_writer.specs.WindowRow.{row_at}
+use Rattle.snap_fix.proofs.MendedLevelLemmas.{level_written}
+use Rattle.snap_fix.proofs.repairing.levels.write_level.Goals as goal
+
+pub returns-clause-written : goal.returns-clause-written
+returns-clause-written g c =
+    level_written _ _ _ _ c.args.window.now.block_size c.args.stripe c.args.r _ (row_at c.args.window.now c.args.i) c.sum_row.new.out _ _
+    (ap₂ (λ (m n : ℕ). m * n) c.from.ensures c.requires.block) (c.sum_row.auto.out ∙ c.requires.block)
+    (c.sum_row.ensures ∙ ap (λ (n : ℕ). level_of c.args.r n (row_at c.args.window.now c.args.i)) c.requires.block)
+    _ c.parity_write.ensures.call.goes_on c.in_ok-parity_write.ensures.written c.parity_write.ensures.changes c.parity_write.ensures.drafts c.tell.ensures

@@ -1,0 +1,47 @@
+-- All stripes that a run is for are looked at, and nothing is written.
+use Rattle.std.specs.Prelude.{◌≡◌, ℕ, ◌<◌, List, length, All}
+use Rattle.disk_model.specs.Folder.{FolderView}
+use Rattle.disk_model.specs.Sink.{SinkView}
+use Rattle.file_table.specs.Table.{TableValue}
+use Rattle.snap_report.specs.Report.{ReportView}
+use Rattle.snap_report.specs.declared.events.Event.{Event}
+use Rattle.stripe_reader.specs.Columns.{ReadsWindow}
+use Rattle.stripe_reader.specs.Starts.{StartsFit}
+use Rattle.stripe_reader.specs.WindowValue.{WindowValue}
+use Rattle.snap_fix.specs.declared.beginning.Work.{Work}
+use Rattle.snap_fix.specs.declared.counts.Counts.{Counts}
+use Rattle.snap_fix.specs.Facts.{StripeFacts}
+use Rattle.snap_fix.specs.Looking.{AreRead, LooksAt, LooksInto, Scene, numbers_of}
+use Rattle.snap_fix.specs.Plan.{FixPlan, EntriesFit, plan_of}
+use Rattle.snap_fix.specs.Room.{IsRoomFor}
+
+-- the plan of this work
+abbrev pub plan_for : TableValue → Work → FixPlan
+plan_for table work = plan_of work.scope table work.entries
+
+-- what a run works with fits a table
+pub record IsWorkFor (table : TableValue) (work : Work) : Type 0 where
+  pub entries : EntriesFit table work.entries
+  pub starts : StartsFit table work.starts
+  pub within : All (λ stripe. stripe < length table.infos) work.stripes.items
+  pub room : IsRoomFor table work.room
+
+-- room was used, and all else stays
+pub record KeepsWork (table : TableValue) (old new : Work) : Type 0 where
+  pub rest : new ≡ record old { room = new.room }
+  pub room : IsRoomFor table new.room
+
+-- Some stripes of the work were read into the window and looked at.
+pub record ChecksWindow {W R : Type 0} (view : W → SinkView) (standing : R → ReportView) (stands : R → List Event → Type 0)
+    (table : TableValue) (work : Work) (stripes : List ℕ) (counts : Counts) (olds news : List FolderView) (old new : Scene W R) : Type 0 where
+  pub window : WindowValue
+  pub read : ReadsWindow table work.starts stripes work.room.window window olds news
+  pub looks : LooksInto view standing stands (plan_for table work) stripes window counts old new
+
+-- The stripes of the work were read and looked at.
+pub record ChecksStripes {W R : Type 0} (view : W → SinkView) (standing : R → ReportView) (stands : R → List Event → Type 0)
+    (table : TableValue) (work : Work) (counts : Counts) (olds news : List FolderView) (old new : Scene W R) : Type 0 where
+  pub stripes : List StripeFacts
+  pub numbers : numbers_of stripes ≡ work.stripes.items
+  pub read : AreRead (plan_for table work) work.starts stripes olds news
+  pub looks : LooksAt view standing stands (plan_for table work) stripes counts old new

@@ -1,0 +1,143 @@
+-- The damaged blocks and wrong levels of a stripe of the window are written anew.
+use Rattle.std.specs.Prelude.{◌≡◌, ℕ, ◌<◌, ◌≤◌, ◌||◌, List, [], ◌∷◌, ◌++◌, length, take, get_or, Bool, false, IsTrue}
+use Rattle.disk_model.specs.Cause.{Rose}
+use Rattle.disk_model.specs.Folder.{FolderView}
+use Rattle.disk_model.specs.Sink.{SinkView}
+use Rattle.disk_model.specs.Vault.{VaultView, SomeCalls, ChangesBy, DraftsStay, Reads}
+use Rattle.parity_writer.specs.LevelsValue.{LevelsValue}
+use Rattle.snap_report.specs.Answer.{Gained, broke_folder, broke_vault}
+use Rattle.snap_report.specs.Report.{ReportView}
+use Rattle.snap_report.specs.Told.{Told}
+use Rattle.snap_report.specs.declared.events.Event.{Event}
+use Rattle.snap_report.specs.declared.pages.Lines.{Lines}
+use Rattle.stripe_reader.specs.Columns.{folder_at}
+use Rattle.stripe_reader.specs.Starts.{StartsValue, StartsFit}
+use Rattle.stripe_reader.specs.WindowValue.{WindowValue}
+use Rattle.snap_fix.specs.declared.marking.CellMark.{CellMark}
+use Rattle.snap_fix.specs.declared.repairing.Repaired.{Repaired}
+use Rattle.snap_fix.specs.declared.state.FileState.{FileState}
+use Rattle.snap_fix.specs.Counts.{AreCounts}
+use Rattle.snap_fix.specs.Facts.{StripeFacts}
+use Rattle.snap_fix.specs.Marks.{row_if}
+use Rattle.snap_fix.specs.Mended.{Mended, all_cell_news, all_level_news, is_wrong_level, written_in, wrong_in}
+use Rattle.snap_fix.specs.Mending.{StatesFit}
+use Rattle.snap_fix.specs.Plan.{FixPlan}
+use Rattle.snap_fix.specs.State.{FolderMakes}
+use Rattle.snap_fix.specs.Underway.{AreFixable, AreUnderway, FixUnderway, IsMendCall, ShowsFacts, KeepsLevels, IsMendedLevel, HoldsWrong}
+
+-- ---- files
+
+-- what is written, and told: where files stand, what was done to them, the folders, the lines, and those who are told
+pub record FilesOutside (W R : Type 0) : Type 0 where
+  pub starts : StartsValue
+  pub states : List (List FileState)
+  pub folders : List FolderView
+  pub lines : Lines W
+  pub reports : List R
+
+abbrev pub outside : {W R : Type 0} → StartsValue → List (List FileState) → List FolderView → Lines W → List R → FilesOutside W R
+outside starts states folders lines reports =
+    record { starts = starts; states = states; folders = folders; lines = lines; reports = reports }
+
+-- the files of a stripe can be written: its facts are shown, and the fix is underway
+pub record CanMend (plan : FixPlan) (stripe i : ℕ) (window : WindowValue) (marks : List CellMark) (known : Bool)
+    (starts : StartsValue) (states : List (List FileState)) (folders : List FolderView) : Type 0 where
+  pub folders_are : length folders ≡ length plan.table.columns
+  pub starts_fit : StartsFit plan.table starts
+  pub states_fit : StatesFit plan.table states
+  pub marks_are : length marks ≡ length plan.table.columns
+  pub facts : StripeFacts
+  pub stripe_is : facts.stripe ≡ stripe
+  pub shows : ShowsFacts plan facts i marks known window
+  pub underway : FixUnderway plan folders starts states
+
+-- All known blocks of the stripe were written: whichever its facts, and whatever the fix did before, it goes on with this stripe.
+pub record MendsFiles {W R : Type 0} (view : W → SinkView) (standing : R → ReportView) (stands : R → List Event → Type 0)
+    (plan : FixPlan) (stripe i : ℕ) (window : WindowValue) (marks : List CellMark) (known : Bool)
+    (old new : FilesOutside W R) (repaired : Repaired) : Type 0 where
+  pub answers : List Bool
+  pub as_many : length answers ≡ length plan.table.columns
+  pub starts_fit : StartsFit plan.table new.starts
+  pub states_fit : StatesFit plan.table new.states
+  pub folders : length new.folders ≡ length old.folders
+  pub told : (facts : StripeFacts) → facts.stripe ≡ stripe → ShowsFacts plan facts i marks known window
+      → Told view standing stands plan.table.columns (all_cell_news plan (record { facts = facts; answers = answers })) old.lines new.lines old.reports new.reports
+  pub counts : (facts : StripeFacts) → facts.stripe ≡ stripe → ShowsFacts plan facts i marks known window
+      → AreCounts (all_cell_news plan (record { facts = facts; answers = answers })) repaired.counts
+  pub blocks : (facts : StripeFacts) → facts.stripe ≡ stripe → ShowsFacts plan facts i marks known window
+      → repaired.blocks ≡ written_in plan (record { facts = facts; answers = answers })
+  pub makes : (facts : StripeFacts) → facts.stripe ≡ stripe → ShowsFacts plan facts i marks known window → (d : ℕ) → d < length plan.table.columns
+      → FolderMakes (IsMendCall plan d (record { facts = facts; answers = [] } ∷ [])) (folder_at old.folders d) (folder_at new.folders d)
+  pub underway : (facts : StripeFacts) → facts.stripe ≡ stripe → ShowsFacts plan facts i marks known window
+      → (stripes : List Mended) (firsts : List FolderView) → AreFixable plan firsts → AreUnderway plan stripes firsts old.folders old.starts old.states
+      → AreUnderway plan (stripes ++ record { facts = facts; answers = answers } ∷ []) firsts new.folders new.starts new.states
+
+-- The folder of a column failed: its count rose, and a call of it failed that neither looks nor reads. Some events were told.
+pub record MendsNotFiles {W R : Type 0} (view : W → SinkView) (standing : R → ReportView) (stands : R → List Event → Type 0)
+    (plan : FixPlan) (stripe i : ℕ) (window : WindowValue) (marks : List CellMark) (known : Bool)
+    (old new : FilesOutside W R) (disk : ℕ) : Type 0 where
+  pub within : disk < length plan.table.columns
+  pub rose : Rose (folder_at old.folders disk).faults (folder_at new.folders disk).faults
+  pub call : IsTrue (folder_at new.folders disk).tells_calls → Gained broke_folder (folder_at old.folders disk).calls (folder_at new.folders disk).calls
+  pub folders : length new.folders ≡ length old.folders
+  pub events : (facts : StripeFacts) → facts.stripe ≡ stripe → ShowsFacts plan facts i marks known window
+      → (answers : List Bool) × (first : List Event) × (rest : List Event) × (all_cell_news plan (record { facts = facts; answers = answers }) ≡ first ++ rest)
+      × Told view standing stands plan.table.columns first old.lines new.lines old.reports new.reports
+  pub makes : (facts : StripeFacts) → facts.stripe ≡ stripe → ShowsFacts plan facts i marks known window → (d : ℕ) → d < length plan.table.columns
+      → FolderMakes (IsMendCall plan d (record { facts = facts; answers = [] } ∷ [])) (folder_at old.folders d) (folder_at new.folders d)
+
+-- ---- levels
+
+pub record LevelsOutside (W R : Type 0) : Type 1 where
+  pub vault : VaultView
+  pub lines : Lines W
+  pub reports : List R
+
+abbrev pub levels_outside : {W R : Type 0} → VaultView → Lines W → List R → LevelsOutside W R
+levels_outside vault lines reports = record { vault = vault; lines = lines; reports = reports }
+
+-- the levels were read of this vault, and there is a block for a sum
+pub record CanMendLevels (plan : FixPlan) (levels : LevelsValue) (block : List ℕ) (vault : VaultView) : Type 0 where
+  pub count : levels.count ≡ plan.table.shape.levels
+  pub room : levels.count ≤ length levels.levels
+  pub size : levels.block_size ≡ plan.table.shape.block_size
+  pub block_is : length block ≡ plan.table.shape.block_size
+  pub levels_are : vault.levels ≡ plan.table.shape.levels
+
+-- these are the levels and the row of a stripe's facts
+pub record ShowsLevels (facts : StripeFacts) (stripe i : ℕ) (window : WindowValue) (levels : LevelsValue) (known : Bool) : Type 0 where
+  pub stripe_is : facts.stripe ≡ stripe
+  pub levels_are : facts.levels ≡ take levels.count levels.levels
+  pub row : facts.row ≡ row_if known window i
+
+-- of each level whether it was written: besides those that were before, the wrong ones were
+abbrev pub FlagsWritten : FixPlan → StripeFacts → List Bool → List Bool → Type 0
+FlagsWritten plan facts before after = (length after ≡ length before)
+    × ((r : ℕ) → r < length before → get_or after r false ≡ (get_or before r false || is_wrong_level plan facts r))
+
+-- The wrong levels of the stripe were written, and nothing else of the vault changed.
+pub record MendsLevels {W R : Type 0} (view : W → SinkView) (standing : R → ReportView) (stands : R → List Event → Type 0)
+    (plan : FixPlan) (stripe i : ℕ) (window : WindowValue) (levels : LevelsValue) (known : Bool)
+    (old new : LevelsOutside W R) (count : ℕ) : Type 0 where
+  pub calls : SomeCalls old.vault new.vault
+  pub drafts : DraftsStay old.vault new.vault
+  pub told : (facts : StripeFacts) → ShowsLevels facts stripe i window levels known
+      → Told view standing stands plan.table.columns (all_level_news plan facts) old.lines new.lines old.reports new.reports
+  pub count_is : (facts : StripeFacts) → ShowsLevels facts stripe i window levels known → count ≡ wrong_in plan (record { facts = facts; answers = [] })
+  pub changes : (facts : StripeFacts) → ShowsLevels facts stripe i window levels known
+      → ChangesBy (KeepsLevels plan.table.shape.block_size (IsMendedLevel plan (facts ∷ []))) old.vault new.vault
+  pub holds : (facts : StripeFacts) → ShowsLevels facts stripe i window levels known → Reads (HoldsWrong plan facts) new.vault
+
+-- A call of the vault failed that reads no parity, and its count rose. Some events were told.
+pub record MendsNotLevels {W R : Type 0} (view : W → SinkView) (standing : R → ReportView) (stands : R → List Event → Type 0)
+    (plan : FixPlan) (stripe i : ℕ) (window : WindowValue) (levels : LevelsValue) (known : Bool)
+    (old new : LevelsOutside W R) : Type 0 where
+  pub rose : Rose old.vault.faults new.vault.faults
+  pub call : IsTrue new.vault.tells_calls → Gained broke_vault old.vault.calls new.vault.calls
+  pub calls : SomeCalls old.vault new.vault
+  pub drafts : DraftsStay old.vault new.vault
+  pub events : (facts : StripeFacts) → ShowsLevels facts stripe i window levels known
+      → (first : List Event) × (rest : List Event) × (all_level_news plan facts ≡ first ++ rest)
+      × Told view standing stands plan.table.columns first old.lines new.lines old.reports new.reports
+  pub changes : (facts : StripeFacts) → ShowsLevels facts stripe i window levels known
+      → ChangesBy (KeepsLevels plan.table.shape.block_size (IsMendedLevel plan (facts ∷ []))) old.vault new.vault

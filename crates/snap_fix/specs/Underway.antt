@@ -1,0 +1,149 @@
+-- How far a fix is with the files of its columns.
+use Rattle.std.specs.Prelude.{◌≡◌, ℕ, ◌*◌, ◌<◌, List, [], length, get_or, is_some, Bool, true, false, Some, IsTrue, Contains}
+use Rattle.disk_model.specs.Files.{Files, parity_of}
+use Rattle.disk_model.specs.Folder.{FolderView, FolderCall, ListFiles, Look, ReadAt, Make, WriteAt, SetSize, SetStamp, Rename}
+use Rattle.disk_model.specs.Tree.{IsTree}
+use Rattle.disk_model.specs.Vault.{VaultCall, ParityWrite}
+use Rattle.cauchy.specs.Matrix.{parity_of as level_of}
+use Rattle.file_table.specs.Table.{record_at}
+use Rattle.file_table.specs.declared.block.Cell.{Cell}
+use Rattle.parity_writer.specs.Keeps.{HasByte, IsOutside}
+use Rattle.parity_writer.specs.Parity.{Row, HasLevel}
+use Rattle.parity_writer.specs.WindowRow.{bytes_of}
+use Rattle.stripe_reader.specs.Columns.{folder_at}
+use Rattle.stripe_reader.specs.Reading.{block_length}
+use Rattle.stripe_reader.specs.Starts.{StartsValue, starts_at}
+use Rattle.stripe_reader.specs.WindowValue.{WindowValue, slot_at}
+use Rattle.snap_fix.specs.declared.marking.CellMark.{CellMark}
+use Rattle.snap_fix.specs.declared.marking.CellMark.TheVariants.{Right, Given, Missing}
+use Rattle.snap_fix.specs.declared.state.FileState.{FileState}
+use Rattle.snap_fix.specs.Facts.{StripeFacts, gift_of, damaged_at}
+use Rattle.snap_fix.specs.Marks.{mark_in, row_if}
+use Rattle.snap_fix.specs.Mended.{Mended, is_repaired, is_wrong_level, known_block, block_or_none, has_lost, column_writes}
+use Rattle.snap_fix.specs.Mending.{IsFree, block_start}
+use Rattle.snap_fix.specs.Plan.{FixPlan, cell_at, entry_at, records_in}
+use Rattle.snap_fix.specs.State.{HoldsTold, FolderMakes, record_path, state_in}
+
+-- ---- what a fix stands on
+
+-- A folder as it was listed: it is open and, where it tells its files, they are a tree in which the file of each record that isn't
+-- blocked may stand.
+pub record IsFixable (plan : FixPlan) (d : ℕ) (first : FolderView) : Type 0 where
+  pub is_open : first.closed ≡ false
+  pub is_tree : IsTrue first.tells → IsTree first.tree
+  pub free : IsTrue first.tells → (i : ℕ) → i < length (records_in plan.table d) → (entry_at plan d i).blocked ≡ false
+      → IsFree first.tree (record_path (records_in plan.table d) i)
+
+abbrev pub AreFixable : FixPlan → List FolderView → Type 0
+AreFixable plan firsts = (d : ℕ) → d < length plan.table.columns → IsFixable plan d (folder_at firsts d)
+
+-- ---- by which calls
+
+-- a record is selected, and isn't blocked
+pub record IsForRecord (plan : FixPlan) (d i : ℕ) (path : List ℕ) : Type 0 where
+  pub within : i < length (records_in plan.table d)
+  pub path_is : path ≡ record_path (records_in plan.table d) i
+  pub selected : (entry_at plan d i).selected ≡ true
+  pub free : (entry_at plan d i).blocked ≡ false
+
+abbrev pub IsForSome : FixPlan → ℕ → List ℕ → Type 0
+IsForSome plan d path = (i : ℕ) × IsForRecord plan d i path
+
+-- the write of a damaged cell's block, which is known, to the file of its record
+pub record WritesCell (plan : FixPlan) (d : ℕ) (facts : StripeFacts) (path : List ℕ) (at : ℕ) (bytes : List ℕ) : Type 0 where
+  pub repaired : is_repaired plan facts d ≡ true
+  pub cell : Cell
+  pub cell_is : cell_at plan facts.stripe d ≡ Some cell
+  pub path_is : path ≡ record_path (records_in plan.table d) cell.rec
+  pub at_is : at ≡ block_start plan.table cell
+  pub bytes_are : bytes ≡ block_or_none (known_block facts d)
+
+-- in one of the stripes
+pub record WritesOneOf (plan : FixPlan) (d : ℕ) (stripes : List Mended) (path : List ℕ) (at : ℕ) (bytes : List ℕ) : Type 0 where
+  pub mended : Mended
+  pub is_one : Contains stripes mended
+  pub writes : WritesCell plan d mended.facts path at bytes
+
+-- The calls while blocks are written: a folder is read; the file of a selected record that isn't blocked is made or renamed back; and
+-- blocks that are damaged and known are written.
+abbrev pub IsMendCall : FixPlan → ℕ → List Mended → FolderCall → Type 0
+IsMendCall plan d stripes ListFiles = Unit {0}
+IsMendCall plan d stripes (Look path lost) = Unit {0}
+IsMendCall plan d stripes (ReadAt path lost at n) = Unit {0}
+IsMendCall plan d stripes (Make path) = IsForSome plan d path
+IsMendCall plan d stripes (WriteAt path at bytes) = WritesOneOf plan d stripes path at bytes
+IsMendCall plan d stripes (SetSize path size) = ⊥
+IsMendCall plan d stripes (SetStamp path stamp) = ⊥
+IsMendCall plan d stripes (Rename path true) = ⊥
+IsMendCall plan d stripes (Rename path false) = IsForSome plan d path
+
+-- ---- how far it is
+
+-- A column, since its folder was listed: only such calls were made, the files hold what was written to them, and the states say which
+-- have a lost block.
+pub record IsColumnUnderway (plan : FixPlan) (d : ℕ) (stripes : List Mended) (first now : FolderView) (starts : StartsValue)
+    (states : List (List FileState)) : Type 0 where
+  pub makes : FolderMakes (IsMendCall plan d stripes) first now
+  pub holds : HoldsTold (records_in plan.table d) (starts_at starts.columns d) (get_or states d [])
+      (column_writes plan stripes d (length (records_in plan.table d))) first now
+  pub lost : (i : ℕ) → i < length (records_in plan.table d) → (state_in states d i).lost ≡ has_lost plan stripes d i
+
+pub record AreUnderway (plan : FixPlan) (stripes : List Mended) (firsts nows : List FolderView) (starts : StartsValue)
+    (states : List (List FileState)) : Type 0 where
+  pub folders : length nows ≡ length firsts
+  pub each : (d : ℕ) → d < length plan.table.columns → IsColumnUnderway plan d stripes (folder_at firsts d) (folder_at nows d) starts states
+
+-- what was known at the start of a fix that is underway
+pub record FixUnderway (plan : FixPlan) (nows : List FolderView) (starts : StartsValue) (states : List (List FileState)) : Type 0 where
+  pub stripes : List Mended
+  pub firsts : List FolderView
+  pub fixable : AreFixable plan firsts
+  pub underway : AreUnderway plan stripes firsts nows starts states
+
+-- ---- a stripe in the window, and its facts
+
+abbrev pub is_damaged_mark : CellMark → Bool
+is_damaged_mark Right = false
+is_damaged_mark Given = true
+is_damaged_mark Missing = true
+
+abbrev pub is_given_mark : CellMark → Bool
+is_given_mark Right = false
+is_given_mark Given = true
+is_given_mark Missing = false
+
+-- The marks and the window show the facts of a stripe: which of its cells are damaged and given, and of a damaged cell whose block is
+-- known that block, at its real length.
+pub record ShowsFacts (plan : FixPlan) (facts : StripeFacts) (i : ℕ) (marks : List CellMark) (known : Bool) (window : WindowValue) : Type 0 where
+  pub row : facts.row ≡ row_if known window i
+  pub damaged : (d : ℕ) → d < length plan.table.columns → damaged_at plan facts d ≡ is_damaged_mark (mark_in marks d)
+  pub given : (d : ℕ) → d < length plan.table.columns → is_some (gift_of facts d) ≡ is_given_mark (mark_in marks d)
+  pub block : (d : ℕ) → d < length plan.table.columns → damaged_at plan facts d ≡ true → is_some (known_block facts d) ≡ true
+      → bytes_of (slot_at window i d) ≡ block_or_none (known_block facts d)
+  pub long : (d : ℕ) (cell : Cell) → d < length plan.table.columns → cell_at plan facts.stripe d ≡ Some cell
+      → damaged_at plan facts d ≡ true → is_some (known_block facts d) ≡ true
+      → length (block_or_none (known_block facts d))
+      ≡ block_length plan.table.shape.block_size (record_at plan.table.columns d cell.rec).meta.size cell.index
+
+-- ---- levels
+
+-- the writes of the wrong levels of a stripe, in order
+abbrev pub level_write : FixPlan → StripeFacts → Row → ℕ → VaultCall
+level_write plan facts row r =
+    ParityWrite r (facts.stripe * plan.table.shape.block_size) (level_of r plan.table.shape.block_size row)
+
+-- such a block of a level is written anew
+abbrev pub IsMendedLevel : FixPlan → List StripeFacts → ℕ → ℕ → Type 0
+IsMendedLevel plan stripes r stripe =
+    (facts : StripeFacts) × Contains stripes facts × (facts.stripe ≡ stripe) × (is_wrong_level plan facts r ≡ true)
+
+-- The copies stay, and so does each byte of a level outside of the blocks of it that are written anew.
+pub record KeepsLevels (block_size : ℕ) (IsOne : ℕ → ℕ → Type 0) (old new : Files) : Type 0 where
+  pub contents : new.contents ≡ old.contents
+  pub bytes : (level at x : ℕ) → ((stripe : ℕ) → IsOne level stripe → IsOutside block_size stripe at)
+      → HasByte (parity_of old level) at x → HasByte (parity_of new level) at x
+
+-- the wrong levels of a stripe hold the sums of its row
+abbrev pub HoldsWrong : FixPlan → StripeFacts → Files → Type 0
+HoldsWrong plan facts files = (r : ℕ) (row : Row) → is_wrong_level plan facts r ≡ true → facts.row ≡ Some row
+    → HasLevel plan.table.shape.block_size r facts.stripe row (parity_of files r)

@@ -1,0 +1,69 @@
+// A check.
+ghost use Rattle.std.specs.Prelude.{◌≡◌, IfOk, IfErr, length, map};
+ghost use Rattle.snap_config.specs.Setup.{setup_value};
+ghost use Rattle.snap_fix.specs.Beginning.{BeginsNot};
+ghost use Rattle.snap_fix.specs.Course.{Checks, IsArray, outside};
+ghost use Rattle.snap_fix.specs.Plan.{names_of};
+
+use crate::beginning::begin;
+use crate::checking::check_stripes;
+use crate::scope::Mode;
+use crate::spare::Spare;
+use crate::telling::tell_opening;
+use disk_model::{Folder, Sink, Vault};
+use file_table::Table;
+use snap_config::{Selection, Setup};
+use snap_report::{Lines, Report, RunFault};
+use std::alloc::Global;
+use std::thread::Threads;
+
+/// How a check or a fix ended. Each number stays at the greatest u64.
+#[derive(Clone, Copy, Debug, PartialEq, Eq)]
+pub struct FixEnd {
+    /// How many blocks of files were written anew.
+    pub blocks: u64,
+    /// How many blocks of levels were.
+    pub parities: u64,
+    /// How many findings were told.
+    pub findings: u64,
+    /// How many of them are left by a fix: blocks that are lost or not synced, and files that are blocked.
+    pub left: u64,
+}
+
+/// Tells what is damaged, and writes nothing. It fails only by a folder that can't be listed, and for want of memory, before
+/// parity is read.
+pub fn check<R: Threads + Sync, F: Folder, V: Vault, P: Spare, W: Sink>(
+    rt: &R,
+    alloc: Global,
+    mode: Mode,
+    selection: &Selection,
+    setup: &Setup,
+    folders: &mut [F],
+    vault: &mut V,
+    spare: &mut P,
+    readers: u32,
+    table: &Table,
+    reports: &mut Vec<Box<dyn Report>>,
+    lines: &mut Lines<'_, W>,
+) -> Result<FixEnd, RunFault>
+    requires { IsArray table.now (length setup.now.disks) (map F.view folders.old) (V.view vault.old) }
+    ensures checks { IfOk result (Checks W.view standing stands mode selection.now (names_of (setup_value setup.now)) table.now
+        (outside (map F.view folders.old) (V.view vault.old) lines.old reports.old.items)
+        (outside (map F.view folders.new) (V.view vault.new) lines.new reports.new.items)) }
+    ensures failed { IfErr result (λ fault. BeginsNot (map F.view folders.old) (map F.view folders.new) fault ×
+        (vault.new ≡ vault.old) × (lines.new ≡ lines.old) × (reports.new ≡ reports.old)) }
+{
+    let mut work = begin(alloc, mode, selection, setup, folders, table)?;
+    let opening = tell_opening(work.scope, table, &work.entries, lines, reports);
+    let stripes = check_stripes(
+        rt, table, &mut work, readers, folders, vault, spare, lines, reports,
+    );
+    let counts = opening.and(stripes);
+    lines.end_check(counts.found);
+    Ok(FixEnd {
+        blocks: 0,
+        parities: 0,
+        findings: counts.found,
+        left: counts.left,
+    })
+}

@@ -1,0 +1,193 @@
+// The end of a fix: the levels that were written are synced, and the files of the selected records are finished.
+ghost use Rattle.std.specs.Prelude.{◌≡◌, ◌<◌, ◌&&◌, not, true, length, map, IfOk, IfErr};
+ghost use Rattle.std.specs.Option.{option_to_list};
+ghost use Rattle.file_table.specs.Table.{column_at};
+ghost use Rattle.snap_report.specs.Told.{Told};
+ghost use Rattle.snap_fix.specs.Counts.{AreCounts};
+ghost use Rattle.snap_fix.specs.Ending.{CanFinishAll, FinishesAll, FinishesNotAll, SyncsWritten, SyncsNot, Syncs, IsSettled};
+ghost use Rattle.snap_fix.specs.Ending.{finish_news, sync_if};
+ghost use Rattle.snap_fix.specs.EndingSteps.{CanEndRecord, EndsRecord, EndsNotRecord, CanEndColumn, EndsColumn, EndsNotColumn};
+ghost use Rattle.snap_fix.specs.EndingSteps.{column_outside, done_news, unstamped_news};
+ghost use Rattle.snap_fix.specs.Plan.{EntriesFit, plan_of};
+ghost use Rattle.snap_fix.specs.Repairing.{outside};
+
+use crate::counts::Counts;
+use crate::entry::{Entries, Entry};
+use crate::finishing::{Finish, finish_record};
+use crate::scope::Scope;
+use crate::state::States;
+use crate::telling::tell_found;
+use disk_model::{Failed, Folder, Sink, Vault};
+use file_table::Table;
+use snap_report::events::Event;
+use snap_report::{Lines, Report};
+use stripe_reader::Starts;
+
+// Syncs a level, if it was written.
+fn sync_level<V: Vault>(written: bool, level: u32, vault: &mut V) -> Result<(), Failed>
+    requires { level < (V.view vault.old).levels }
+    ensures synced { IfOk result (λ _. Syncs (sync_if written level) (V.view vault.old) (V.view vault.new)) }
+    ensures settled { IfOk result (λ _. written ≡ true → IsSettled level (V.view vault.old) (V.view vault.new)) }
+    ensures failed { IfErr result (λ _. SyncsNot (V.view vault.old) (V.view vault.new)) }
+{
+    if written {
+        vault.parity_sync(level)
+    } else {
+        Ok(())
+    }
+}
+
+/// Syncs each level that was written, in order.
+pub(crate) fn sync_levels<V: Vault>(written: &[bool], vault: &mut V) -> Result<(), Failed>
+    requires { length written.now ≡ (V.view vault.old).levels }
+    ensures synced { IfOk result (λ _. SyncsWritten written.now (V.view vault.old) (V.view vault.new)) }
+    ensures failed { IfErr result (λ _. SyncsNot (V.view vault.old) (V.view vault.new)) }
+{
+    for level in 0..vault.levels() {
+        sync_level(written[level as usize], level, vault)?;
+    }
+    Ok(())
+}
+
+// What is told first of a file that was finished.
+fn done_event(d: u32, i: u32, finish: Finish) -> Option<Event>
+    ensures { option_to_list result ≡ done_news d i finish }
+{
+    match finish {
+        Finish::Kept => None,
+        Finish::Restored { .. } => Some(Event::Restored { disk: d, rec: i }),
+        Finish::Unstamped => Some(Event::NoStamp { disk: d, rec: i }),
+        Finish::Renamed => Some(Event::Renamed { disk: d, rec: i }),
+        Finish::Gone => Some(Event::Blocked { disk: d, rec: i }),
+    }
+}
+
+// That it is as it was recorded, but for its stamp.
+fn unstamped_event(d: u32, i: u32, finish: Finish) -> Option<Event>
+    ensures { option_to_list result ≡ unstamped_news d i finish }
+{
+    match finish {
+        Finish::Restored { stamped: false } => Some(Event::NoStamp { disk: d, rec: i }),
+        _ => None,
+    }
+}
+
+// Tells what was done to the file of a record.
+fn tell_finish<W: Sink>(
+    table: &Table,
+    d: u32,
+    i: u32,
+    finish: Finish,
+    lines: &mut Lines<'_, W>,
+    reports: &mut Vec<Box<dyn Report>>,
+) -> Counts
+    requires column { d < length table.now.columns }
+    requires rec { i < length (column_at table.now.columns d).records }
+    ensures told { Told W.view standing stands table.now.columns (finish_news d i finish)
+        lines.old lines.new reports.old.items reports.new.items }
+    ensures counts { AreCounts (finish_news d i finish) result }
+{
+    let first = tell_found(table, done_event(d, i, finish), lines, reports);
+    let second = tell_found(table, unstamped_event(d, i, finish), lines, reports);
+    first.and(second)
+}
+
+// Whether the file of a record is finished: it is selected, and isn't blocked.
+fn is_finished(entry: Entry) -> bool
+    ensures { result ≡ (entry.selected && not entry.blocked) }
+{
+    entry.selected && !entry.blocked
+}
+
+// Finishes the file of a record, if it is selected and isn't blocked, and tells what was done.
+fn end_record<F: Folder, W: Sink>(
+    scope: Scope,
+    table: &Table,
+    entries: &Entries,
+    d: u32,
+    i: u32,
+    starts: &mut Starts,
+    states: &mut States,
+    folder: &mut F,
+    lines: &mut Lines<'_, W>,
+    reports: &mut Vec<Box<dyn Report>>,
+) -> Result<Counts, Failed>
+    requires entries { EntriesFit table.now entries.now }
+    requires can { CanEndRecord (plan_of scope table.now entries.now) d i starts.old states.old (F.view folder.old) }
+    ensures ended { IfOk result (EndsRecord W.view standing stands (plan_of scope table.now entries.now) d i
+        (column_outside starts.old states.old (F.view folder.old) lines.old reports.old.items)
+        (column_outside starts.new states.new (F.view folder.new) lines.new reports.new.items)) }
+    ensures failed { IfErr result (λ _. EndsNotRecord W.view standing stands (plan_of scope table.now entries.now) d i
+        (column_outside starts.old states.old (F.view folder.old) lines.old reports.old.items)
+        (column_outside starts.new states.new (F.view folder.new) lines.new reports.new.items)) }
+{
+    let entry = entries.at(d, i);
+    if !is_finished(entry) {
+        return Ok(Counts::NONE);
+    }
+    let finish = finish_record(table, d, i, entry.listed, starts, states, folder)?;
+    Ok(tell_finish(table, d, i, finish, lines, reports))
+}
+
+// Finishes the files of the selected records of a column that aren't blocked, in order, and tells what was done.
+fn end_column<F: Folder, W: Sink>(
+    scope: Scope,
+    table: &Table,
+    entries: &Entries,
+    d: u32,
+    starts: &mut Starts,
+    states: &mut States,
+    folder: &mut F,
+    lines: &mut Lines<'_, W>,
+    reports: &mut Vec<Box<dyn Report>>,
+) -> Result<Counts, Failed>
+    requires { CanEndColumn (plan_of scope table.now entries.now) d starts.old states.old (F.view folder.old) }
+    ensures ended { IfOk result (EndsColumn W.view standing stands (plan_of scope table.now entries.now) d
+        (column_outside starts.old states.old (F.view folder.old) lines.old reports.old.items)
+        (column_outside starts.new states.new (F.view folder.new) lines.new reports.new.items)) }
+    ensures failed { IfErr result (λ _. EndsNotColumn W.view standing stands (plan_of scope table.now entries.now) d
+        (column_outside starts.old states.old (F.view folder.old) lines.old reports.old.items)
+        (column_outside starts.new states.new (F.view folder.new) lines.new reports.new.items)) }
+{
+    let mut counts = Counts::NONE;
+    for i in 0..table.records(d) {
+        let more = end_record(
+            scope, table, entries, d, i, starts, states, folder, lines, reports,
+        )?;
+        counts = counts.and(more);
+    }
+    Ok(counts)
+}
+
+/// Finishes the file of each selected record that isn't blocked, in order of column and record, and tells what was done. It fails
+/// by the folder of a column, which is answered.
+pub(crate) fn finish_all<F: Folder, W: Sink>(
+    scope: Scope,
+    table: &Table,
+    entries: &Entries,
+    starts: &mut Starts,
+    states: &mut States,
+    folders: &mut [F],
+    lines: &mut Lines<'_, W>,
+    reports: &mut Vec<Box<dyn Report>>,
+) -> Result<Counts, u32>
+    requires { CanFinishAll (plan_of scope table.now entries.now) starts.old states.old (map F.view folders.old) }
+    ensures finished { IfOk result (FinishesAll W.view standing stands (plan_of scope table.now entries.now)
+        (outside starts.old states.old (map F.view folders.old) lines.old reports.old.items)
+        (outside starts.new states.new (map F.view folders.new) lines.new reports.new.items)) }
+    ensures failed { IfErr result (FinishesNotAll W.view standing stands (plan_of scope table.now entries.now)
+        (outside starts.old states.old (map F.view folders.old) lines.old reports.old.items)
+        (outside starts.new states.new (map F.view folders.new) lines.new reports.new.items)) }
+{
+    let mut counts = Counts::NONE;
+    for d in 0..table.disks() {
+        let folder = &mut folders[d as usize];
+        let Ok(more) = end_column(
+            scope, table, entries, d, starts, states, folder, lines, reports,
+        ) else {
+            return Err(d);
+        };
+        counts = counts.and(more);
+    }
+    Ok(counts)
+}

@@ -1,0 +1,283 @@
+// The row of a stripe, as far as it can be known: by its cells, by the spare, and by its levels.
+ghost use Rattle.std.specs.Prelude.{◌≡◌, ℕ, ◌*◌, ◌<◌, ◌≤◌, All, MatchOption, is_some, length};
+ghost use Rattle.std.specs.Prelude.{slice_index, slice_set, take, true, false};
+ghost use Rattle.gf256.specs.Field.{field_sum};
+ghost use Rattle.file_table.specs.Cells.{cell_view};
+ghost use Rattle.file_table.specs.Table.{column_at, info_at};
+ghost use Rattle.file_table.specs.declared.info.Mark.TheVariants.{Synced};
+ghost use Rattle.file_table.specs.Valid.{IsValid};
+ghost use Rattle.parity_writer.specs.WindowRow.{row_at};
+ghost use Rattle.stripe_reader.specs.WindowValue.{slot_at};
+ghost use Rattle.snap_fix.specs.Facts.{wanted_by};
+ghost use Rattle.snap_fix.specs.Known.{AreRemainders, IsKnown};
+ghost use Rattle.snap_fix.specs.Restorable.{filled};
+ghost use Rattle.snap_fix.specs.Known.{is_whole as is_whole_by, whole_levels as whole_levels_of};
+ghost use Rattle.snap_fix.specs.Knowing.{HaveCells, IsRemainder, KeepsOtherColumns};
+ghost use Rattle.snap_fix.specs.MarkedCell.{ChangesSlot};
+ghost use Rattle.snap_fix.specs.Marks.{CanExamine, ChangesStripe};
+ghost use Rattle.snap_fix.specs.Marks.{wanted_marked, row_if, mark_in, is_marked_missing};
+ghost use Rattle.snap_fix.specs.Plan.{plan_of, is_synced};
+
+use crate::entry::Entries;
+use crate::marking::{CellMark, cell_hash, cell_length};
+use crate::scope::Scope;
+use crate::search::{Wanted, search};
+use arrayvec::ArrayVec;
+use block_hash::Digest16;
+use file_table::Table;
+use parity_writer::laws::a_put_block_stands_in_its_row;
+use parity_writer::{LevelRead, Levels, sum_row};
+use stripe_reader::Window;
+
+impl Default for Wanted {
+    // What stands in the free places of a list of them.
+    fn default() -> Wanted {
+        Wanted {
+            column: 0,
+            length: 0,
+            hash: Digest16([0; 16]),
+        }
+    }
+}
+
+// Whether a cell is missing.
+fn is_missing(mark: CellMark) -> bool
+    ensures { result ≡ is_marked_missing mark }
+{
+    mark == CellMark::Missing
+}
+
+// Whether a level was read whole.
+fn is_whole(state: LevelRead) -> bool
+    ensures { result ≡ is_whole_by state }
+{
+    state == LevelRead::Bytes
+}
+
+// The block of the cell of a column, as it is searched for. In a synced stripe each block has its
+// hash.
+fn wanted_cell(table: &Table, stripe: u32, d: u32) -> Wanted
+    requires valid { IsValid table.now }
+    requires within { stripe < length table.now.infos }
+    requires column { d < length table.now.columns }
+    requires synced { (info_at table.now.infos stripe).mark ≡ Synced }
+    requires cell { is_some (cell_view (column_at table.now.columns d) stripe) ≡ true }
+    ensures value { result
+        ≡ wanted_by table.now.shape d (cell_view (column_at table.now.columns d) stripe) }
+    ensures most { result.length ≤ table.now.shape.block_size }
+{
+    let Some(cell) = table.cell(stripe, d) else {
+        unreachable!()
+    };
+    let Some(hash) = cell_hash(table, d, cell) else {
+        unreachable!()
+    };
+    Wanted {
+        column: d,
+        length: cell_length(table, d, cell),
+        hash,
+    }
+}
+
+// The blocks that are searched for, where there are at most six.
+fn wanted_blocks(
+    scope: Scope,
+    table: &Table,
+    entries: &Entries,
+    stripe: u32,
+    marks: &[CellMark],
+) -> Option<ArrayVec<Wanted, 6>>
+    requires within { stripe < length table.now.infos }
+    requires marks { length marks.now ≡ length table.now.columns }
+    requires synced { is_synced (plan_of scope table.now entries.now) stripe ≡ true }
+    requires cells { HaveCells (plan_of scope table.now entries.now) stripe marks.now }
+    ensures value { MatchOption result
+        (6 < length (wanted_marked (plan_of scope table.now entries.now) stripe marks.now))
+        (λ wanted. wanted.items
+        ≡ wanted_marked (plan_of scope table.now entries.now) stripe marks.now) }
+{
+    let mut wanted = ArrayVec::new();
+    for d in 0..table.disks() {
+        if is_missing(marks[d as usize]) {
+            if wanted.is_full() {
+                return None;
+            }
+            wanted.push(wanted_cell(table, stripe, d));
+        }
+    }
+    Some(wanted)
+}
+
+// There is a place for each level that was read last, since its block is not empty.
+fn see_levels(levels: &Levels, count: u32)
+    requires count { count ≡ levels.now.count }
+    requires size { 0 < levels.now.block_size }
+    ensures { count ≤ length levels.now.levels }
+{
+    if count > 0 {
+        let _last = levels.block(count - 1);
+    }
+}
+
+// The levels that were read whole, of so many.
+fn whole_levels(levels: &Levels, count: u32) -> ArrayVec<u32, 6>
+    requires count { count ≡ levels.now.count }
+    requires room { count ≤ length levels.now.levels }
+    requires most { count ≤ 6 }
+    ensures { result.items ≡ whole_levels_of (take levels.now.count levels.now.levels) }
+{
+    let mut whole = ArrayVec::new();
+    for r in 0..count {
+        if is_whole(levels.state(r)) {
+            whole.push(r);
+        }
+    }
+    whole
+}
+
+// Adds a block to another one, byte by byte.
+fn add_block(block: &[u8], out: &mut [u8])
+    requires { length block.now ≡ length out.old }
+    ensures size { length out.new ≡ length out.old }
+    ensures bytes { (p : ℕ) → p < length block.now →
+        slice_index out.new p ≡ field_sum (slice_index block.now p) (slice_index out.old p) }
+{
+    for p in 0..block.len() {
+        out[p] = block[p] ^ out[p];
+    }
+}
+
+// What is left of a level, less the sum of the row of a stripe of the window.
+fn fill_remainder(window: &Window, i: u32, r: u32, level: &[u8], out: &mut [u8])
+    requires stripe { i < window.now.count }
+    requires columns { length window.now.lanes ≤ 251 }
+    requires level { r < 6 }
+    requires block { length level.now ≡ window.now.block_size }
+    requires size { length out.old ≡ window.now.block_size }
+    ensures size { length out.new ≡ length out.old }
+    ensures value { IsRemainder r (row_at window.now i) level.now out.new }
+{
+    sum_row(window, i, r, out);
+    add_block(level, out);
+}
+
+// What is left of the levels that were read whole, of so many.
+fn fill_remainders(
+    window: &Window,
+    i: u32,
+    levels: &Levels,
+    count: u32,
+    size: usize,
+    remainders: &mut [u8],
+)
+    requires stripe { i < window.now.count }
+    requires columns { length window.now.lanes ≤ 251 }
+    requires count { count ≡ levels.now.count }
+    requires room { count ≤ length levels.now.levels }
+    requires most { count ≤ 6 }
+    requires window { size ≡ window.now.block_size }
+    requires levels { size ≡ levels.now.block_size }
+    requires most_size { size ≤ 4194304 }
+    requires remainders { length remainders.old ≡ 6 * size }
+    ensures { AreRemainders size (row_at window.now i) (take levels.now.count levels.now.levels)
+        remainders.new }
+{
+    for r in 0..count {
+        if is_whole(levels.state(r)) {
+            let start = r as usize * size;
+            fill_remainder(
+                window,
+                i,
+                r,
+                levels.block(r),
+                &mut remainders[start..start + size],
+            );
+        }
+    }
+}
+
+// Puts the bytes of a block into a column of a stripe of the window.
+fn put_block(window: &mut Window, i: u32, d: u32, bytes: &[u8])
+    requires stripe { i < window.old.count }
+    requires column { d < length window.old.lanes }
+    requires size { length bytes.now ≤ window.old.block_size }
+    ensures row { row_at window.new i ≡ slice_set (row_at window.old i) d bytes.now }
+    ensures changes { ChangesSlot i d window.old window.new }
+{
+    a_put_block_stands_in_its_row();
+    window.put(i, d, bytes);
+}
+
+// Puts the blocks that were found into a stripe of the window, each at its real length.
+fn put_found(window: &mut Window, i: u32, size: usize, wanted: &[Wanted], blocks: &[u8])
+    requires stripe { i < window.old.count }
+    requires size { size ≡ window.old.block_size }
+    requires columns { All (λ one. one.column < length window.old.lanes) wanted.now }
+    requires lengths { All (λ one. one.length ≤ size) wanted.now }
+    requires blocks { length blocks.now ≡ length wanted.now * size }
+    ensures row { row_at window.new i ≡ filled size blocks.now wanted.now (row_at window.old i) }
+    ensures changes { ChangesStripe i window.old window.new }
+    ensures others { KeepsOtherColumns i wanted.now window.old window.new }
+{
+    for j in 0..wanted.len() {
+        let one = wanted[j];
+        let start = j * size;
+        put_block(
+            window,
+            i,
+            one.column,
+            &blocks[start..start + one.length as usize],
+        );
+    }
+}
+
+/// Puts the missing blocks of a synced stripe into the window where they are found by the levels that
+/// were read whole, and answers whether the row is known then. The slots of missing cells are empty at
+/// entry.
+pub(crate) fn know_row(
+    scope: Scope,
+    table: &Table,
+    entries: &Entries,
+    stripe: u32,
+    i: u32,
+    marks: &[CellMark],
+    levels: &Levels,
+    window: &mut Window,
+    remainders: &mut [u8],
+    blocks: &mut [u8],
+) -> bool
+    requires can { CanExamine (plan_of scope table.now entries.now) stripe i window.old }
+    requires synced { is_synced (plan_of scope table.now entries.now) stripe ≡ true }
+    requires marks { length marks.now ≡ length table.now.columns }
+    requires cells { HaveCells (plan_of scope table.now entries.now) stripe marks.now }
+    requires count { levels.now.count ≡ table.now.shape.levels }
+    requires size { levels.now.block_size ≡ table.now.shape.block_size }
+    requires remainders { length remainders.old ≡ 6 * table.now.shape.block_size }
+    requires blocks { length blocks.old ≡ 6 * table.now.shape.block_size }
+    ensures remainders { length remainders.new ≡ length remainders.old }
+    ensures blocks { length blocks.new ≡ length blocks.old }
+    ensures known { IsKnown table.now.shape
+        (wanted_marked (plan_of scope table.now entries.now) stripe marks.now)
+        (row_at window.old i) (take levels.now.count levels.now.levels)
+        (row_if result window.new i) }
+    ensures changes { ChangesStripe i window.old window.new }
+    ensures others { (d : ℕ) → is_marked_missing (mark_in marks.now d) ≡ false →
+        slot_at window.new i d ≡ slot_at window.old i d }
+{
+    let shape = table.shape();
+    see_levels(levels, shape.levels);
+    let Some(wanted) = wanted_blocks(scope, table, entries, stripe, marks) else {
+        return false;
+    };
+    if wanted.is_empty() {
+        return true;
+    }
+    let size = shape.block_size as usize;
+    let whole = whole_levels(levels, shape.levels);
+    fill_remainders(window, i, levels, shape.levels, size, remainders);
+    if !search(shape, &wanted, &whole, remainders, blocks) {
+        return false;
+    }
+    put_found(window, i, size, &wanted, &blocks[..wanted.len() * size]);
+    true
+}

@@ -1,0 +1,23 @@
+// A stripe of the window whose damaged blocks and wrong levels are written anew.
+mod cells;
+mod files;
+mod levels;
+
+use crate::counts::Counts;
+pub(crate) use files::mend_files;
+pub(crate) use levels::mend_levels;
+
+/// How many blocks of a stripe were written anew, and what is left.
+#[derive(Clone, Copy, Debug, PartialEq, Eq)]
+pub(crate) struct Repaired {
+    pub blocks: u32,
+    pub counts: Counts,
+}
+
+impl Repaired {
+    /// None.
+    pub const NONE: Repaired = Repaired {
+        blocks: 0,
+        counts: Counts::NONE,
+    };
+}
