@@ -16,8 +16,10 @@ pub enum CommandName {
 }
 
 /// The commands that are built. The word of any other is an unknown command.
-pub const BUILT_COMMANDS: [CommandName; 3] = [
+pub const BUILT_COMMANDS: [CommandName; 5] = [
     CommandName::Sync,
+    CommandName::Check,
+    CommandName::Fix,
     CommandName::Status,
     CommandName::List,
 ];

@@ -1,5 +1,5 @@
 -- When a run surely ends well, from its end.
-use Rattle.std.proofs.Common.{◌≡◌, ◌≢◌, ◌⊎◌, inl, inr, ⊎_elim, ℕ, ◌+◌, ◌≤◌, List, ◌∷◌, ◌++◌, take, count_by, Bool, true, false, IsTrue, Option, Some, None, Result, Ok, Err, refl, sym, ap, ◌∙◌, subst, arith, cond, ◌==◌, ◌||◌, slice_get, append_assoc}
+use Rattle.std.proofs.Common.{◌≡◌, ◌≢◌, ◌⊎◌, inl, inr, ⊎_elim, ℕ, ◌+◌, ◌≤◌, List, ◌∷◌, ◌++◌, take, count_by, Bool, true, false, IsTrue, Option, Some, None, Result, Ok, Err, refl, sym, ap, ◌∙◌, subst, arith, cond, ◌==◌, ◌||◌, slice_get, append_assoc, ap₂}
 use Rattle.std.specs.List.{list_any}
 use Rattle.disk_model.specs.Cause.{Rose, RoseBy}
 use Rattle.disk_model.specs.Folder.{FolderView}
@@ -24,6 +24,8 @@ use Rattle.snap_config.specs.Config.{read_setup}
 use Rattle.snap_config.specs.Setup.{SetupValue, setup_value}
 use Rattle.snap_config.specs.declared.options.Command.{Command}
 use Rattle.snap_config.specs.declared.options.Command.TheVariants as commands
+use Rattle.snap_fix.specs.declared.scope.Mode.TheVariants as modes
+use Rattle.snap_top.specs.Checking.{ChecksBy}
 use Rattle.snap_config.specs.declared.options.Options.{Options}
 use Rattle.snap_config.specs.declared.options.WordsFault.{WordsFault}
 use Rattle.snap_config.specs.declared.why.ConfigFault.{ConfigFault}
@@ -40,10 +42,11 @@ use Rattle.snap_config.specs.declared.options.SyncWay.{SyncWay}
 use Rattle.snap_top.specs.Syncing.{SyncsBy, SyncBreaks, SyncRefuses, answer_of}
 use Rattle.snap_top.specs.Task.{Task, Did, Left}
 use Rattle.snap_top.specs.End.{status_of, ending_status, refusal_status, words_status, config_status, open_status}
-use Rattle.snap_top.specs.Opening.{SaysNot, asked_by, IsConfigured, IsWordsFault, is_failure}
+use Rattle.snap_top.specs.Known.{unknown_in}
+use Rattle.snap_top.specs.Opening.{SaysNot, asked_by, IsConfigured, IsWordsFault, is_failure, IsUnknown}
 use Rattle.snap_top.specs.Run.{Entry, Exit, Goes, IsRun, IsRefused, Ran, IsAnswered, ReadsCopies, LoadsFrom, BeginsWith}
 use Rattle.snap_top.specs.Views.{World, world_of, view_of, folder_at}
-use Rattle.snap_top.proofs.RefusalLemmas.{done_is_no_refusal}
+use Rattle.snap_top.proofs.RefusalLemmas.{done_is_no_refusal, check_not_refused}
 use Rattle.snap_top.proofs.RunLemmas.{any_later}
 use Rattle.snap_top.specs.declared.end.Difference.{Difference}
 use Rattle.snap_top.specs.declared.end.Difference.TheVariants.{BlockSize, Levels, DiskName}
@@ -80,12 +83,6 @@ smooth_config before exit asked (config.BadLine line why) smooth read not =
     absurd (ok_or_err (read_setup (take 1048577 before.opener.config) asked.log) smooth.setup _ accepted said)
 smooth_config before exit asked config.Memory smooth read not = inr refl
 
-smooth_refusal : (before : Entry) (exit : Exit) (why : Refusal) (told : List Event) → IsSmooth before exit → IsRefused before exit why told → IsDoneOrMemory (refusal_status why)
-smooth_refusal before exit (refusals.Words fault) told smooth ran = smooth_words before exit fault smooth ran.refuses.0
-smooth_refusal before exit (refusals.Unread fault) told smooth ran = smooth_open fault (λ failed. smooth.opener (ran.refuses.why_not.0 failed))
-smooth_refusal before exit (refusals.Config file fault) told smooth ran = smooth_config before exit ran.refuses.asked fault smooth ran.refuses.read ran.refuses.why_not.1
-smooth_refusal before exit (refusals.Unopened fault) told smooth ran = smooth_open fault (λ failed. smooth.opener (ran.refuses.rose failed))
-
 -- the configuration of a run is the one that is accepted
 same_setup : (before : Entry) (exit : Exit) (command : Command) (readers : ℕ) (setup : SetupValue) → (smooth : IsSmooth before exit) → IsConfigured before.texts before.opener command readers setup → setup ≡ smooth.setup
 same_setup before exit command readers setup smooth is =
@@ -93,6 +90,21 @@ same_setup before exit command readers setup smooth is =
     let said = ap (λ bs. read_setup bs is.asked.log) (sym (is.says.held smooth.tells)) ∙ is.says.says in
     let accepted = ap (λ (a : Options). read_setup (take 1048577 before.opener.config) a.log) same ∙ smooth.configuration in
     same_ok (read_setup (take 1048577 before.opener.config) is.asked.log) setup smooth.setup said accepted
+
+-- the names that it selects are known
+smooth_known : (before : Entry) (exit : Exit) (name : List ℕ) → IsSmooth before exit → IsUnknown before.texts before.opener exit.opener name → ⊥
+smooth_known before exit name smooth is =
+    let setup = same_setup before exit is.command is.readers is.setup smooth is.configured in
+    let asked : is.configured.asked ≡ smooth.asked = same_ok (asked_by before.texts) is.configured.asked smooth.asked is.configured.read smooth.words in
+    let same : unknown_in is.setup is.command ≡ None = ap₂ unknown_in setup (is.configured.command_is ∙ ap (λ (a : Options). a.command) asked) ∙ smooth.known in
+    let clash : Some name ≡ None = sym is.unknown ∙ same in cc
+
+smooth_refusal : (before : Entry) (exit : Exit) (why : Refusal) (told : List Event) → IsSmooth before exit → IsRefused before exit why told → IsDoneOrMemory (refusal_status why)
+smooth_refusal before exit (refusals.Words fault) told smooth ran = smooth_words before exit fault smooth ran.refuses.0
+smooth_refusal before exit (refusals.Unread fault) told smooth ran = smooth_open fault (λ failed. smooth.opener (ran.refuses.why_not.0 failed))
+smooth_refusal before exit (refusals.Config file fault) told smooth ran = smooth_config before exit ran.refuses.asked fault smooth ran.refuses.read ran.refuses.why_not.1
+smooth_refusal before exit (refusals.NoDisk name) told smooth ran = absurd (smooth_known before exit name smooth ran.refuses)
+smooth_refusal before exit (refusals.Unopened fault) told smooth ran = smooth_open fault (λ failed. smooth.opener (ran.refuses.rose failed))
 
 -- a reading of a copy that failed is a call that reads no parity
 reading_broke : (copy : ℕ) (call : VaultCall) → IsReadOf copy call → broke_vault (record { call = call; failed = true }) ≡ true
@@ -166,8 +178,8 @@ refused_is_sync (commands.Sync way) task table start after left did does two = (
     by (Broken Vault) is does' = absurd (omega (arith, is))
     by (Broken Memory) is does' = absurd (omega (arith, is))
 refused_is_sync (commands.Scrub way) task table start after left did does two = absurd does
-refused_is_sync (commands.Check selection) task table start after left did does two = absurd does
-refused_is_sync (commands.Audit selection) task table start after left did does two = absurd does
+refused_is_sync (commands.Check selection) task table start after left did does two = absurd (check_not_refused left.answer modes.Check selection task table start after left did does (inl two))
+refused_is_sync (commands.Audit selection) task table start after left did does two = absurd (check_not_refused left.answer modes.Audit selection task table start after left did does (inl two))
 refused_is_sync (commands.Fix selection) task table start after left did does two = absurd does
 
 -- a fault that is answered with status 2 is one of the layout, which is not for memory
@@ -198,8 +210,8 @@ vault_broke (commands.Sync way) task table start after left did does broken =
     let breaks : SyncBreaks task way table start after left did = subst (λ a. SyncsBy a task way table start after left did) broken does in
     (breaks.course.vault.broke refl, breaks.course.vault.calls)
 vault_broke (commands.Scrub way) task table start after left did does broken = absurd does
-vault_broke (commands.Check selection) task table start after left did does broken = absurd does
-vault_broke (commands.Audit selection) task table start after left did does broken = absurd does
+vault_broke (commands.Check selection) task table start after left did does broken = absurd (subst (λ a. ChecksBy a modes.Check selection task table start after left did) broken does)
+vault_broke (commands.Audit selection) task table start after left did does broken = absurd (subst (λ a. ChecksBy a modes.Audit selection task table start after left did) broken does)
 vault_broke (commands.Fix selection) task table start after left did does broken = absurd does
 
 -- a failure since loading is one since the opening

@@ -24,14 +24,14 @@ same_reads_only old new same = subst (λ v. ReadsOnly old v) (sym same) (read_no
 pub all_listed : (olds news : List FolderView) (lists : List (List ListedFile)) → length news ≡ length olds → ListsAll olds news lists → AllReadOnly olds news
 all_listed olds news lists many listed = record { count = many; each = λ d below. listing_reads_only false _ _ (listed.each d below).call }
 
-first_listed : (count : ℕ) (olds news : List FolderView) → ListsFirst count olds news → AllReadOnly olds news
+pub first_listed : (count : ℕ) (olds news : List FolderView) → ListsFirst count olds news → AllReadOnly olds news
 first_listed count olds news first = record { count = first.as_many; each = λ d below. by d (cases_lt d count) }
   where
     by : (d : ℕ) → (d < count) ⊎ (count ≤ d) → ReadsOnly (folder_at olds d) (folder_at news d)
     by d (inl under) = listing_reads_only false _ _ (first.calls d under)
     by d (inr over) = same_reads_only _ _ (first.others d over)
 
-failed_at : (disk : ℕ) (olds news : List FolderView) → length news ≡ length olds → FailsAt disk olds news → AllReadOnly olds news
+pub failed_at : (disk : ℕ) (olds news : List FolderView) → length news ≡ length olds → FailsAt disk olds news → AllReadOnly olds news
 failed_at disk olds news many fails = record { count = many; each = λ d below. by d (cases_lt d disk) }
   where
     behind : (d : ℕ) → (disk < d) ⊎ (d ≤ disk) → disk ≤ d → ReadsOnly (folder_at olds d) (folder_at news d)

@@ -1,7 +1,9 @@
+pub mod CheckedLemmas
 pub mod CompleteLemmas
 pub mod DoneLemmas
 pub mod EmptyLemmas
 pub mod FolderLemmas
+pub mod KnownLemmas
 pub mod LoadLemmas
 pub mod MatchingLemmas
 pub mod MomentLemmas

@@ -17,6 +17,10 @@ use Rattle.parity_writer.specs.Sound.{IsSynced}
 use Rattle.snap_config.specs.Setup.{SetupValue}
 use Rattle.snap_config.specs.declared.options.Command.{Command}
 use Rattle.snap_config.specs.declared.options.Command.TheVariants as commands
+use Rattle.snap_config.specs.declared.options.Selection.{Selection}
+use Rattle.snap_fix.specs.declared.scope.Mode.{Mode}
+use Rattle.snap_fix.specs.declared.scope.Mode.TheVariants as modes
+use Rattle.snap_top.specs.Checking.{ChecksBy}
 use Rattle.snap_config.specs.declared.options.SyncWay.{SyncWay}
 use Rattle.snap_report.specs.declared.answer.Answer.{Answer}
 use Rattle.snap_report.specs.declared.answer.Answer.TheVariants as answers
@@ -61,6 +65,18 @@ by_answer (answers.Broken (runs.Folder disk)) task way table before after left d
 by_answer (answers.Broken runs.Vault) task way table before after left did does = inr (true, does.course)
 by_answer (answers.Broken runs.Memory) task way table before after left did does = inl does.did_is
 
+-- a check only reads
+check_did : (answer : Answer) (mode : Mode) (selection : Selection) (task : Task) (table : TableValue) (before after : World) (left : Left) (did : Did) → ChecksBy answer mode selection task table before after left did → did ≡ reads_only
+check_did answers.Clean mode selection task table before after left did does = does.did_is
+check_did answers.Found mode selection task table before after left did does = does.did_is
+check_did answers.OutputFailed mode selection task table before after left did does = does.did_is
+check_did (answers.Zeroed disk rec) mode selection task table before after left did does = absurd does
+check_did (answers.Emptied disk) mode selection task table before after left did does = absurd does
+check_did (answers.Full blocks files) mode selection task table before after left did does = absurd does
+check_did (answers.Broken (runs.Folder disk)) mode selection task table before after left did does = does.did_is
+check_did (answers.Broken runs.Vault) mode selection task table before after left did does = absurd does
+check_did (answers.Broken runs.Memory) mode selection task table before after left did does = does.did_is
+
 command_did : (command : Command) (task : Task) (table : TableValue) (before after : World) (left : Left) (did : Did) → DoesCommand command task table before after left did
     → (did ≡ reads_only) ⊎ HasCourse command task table before after left did
 command_did commands.List task table before after left did does = inl does.did_is
@@ -70,8 +86,8 @@ command_did (commands.Sync way) task table before after left did does = ⊎_elim
     (λ course. inr (record { way = way; command_is = refl; failed = course.0; course = course.1 }))
     (by_answer left.answer task way table before after left did does)
 command_did (commands.Scrub way) task table before after left did does = absurd does
-command_did (commands.Check selection) task table before after left did does = absurd does
-command_did (commands.Audit selection) task table before after left did does = absurd does
+command_did (commands.Check selection) task table before after left did does = inl (check_did left.answer modes.Check selection task table before after left did does)
+command_did (commands.Audit selection) task table before after left did does = inl (check_did left.answer modes.Audit selection task table before after left did does)
 command_did (commands.Fix selection) task table before after left did does = absurd does
 
 -- ---- the table that was loaded

@@ -1,5 +1,5 @@
 -- The calls of an opener, one after another, and what it gave.
-use Rattle.std.proofs.Common.{◌≡◌, ℕ, ◌<◌, ◌≤◌, List, [], ◌∷◌, ◌++◌, length, map, get_or, Bool, true, false, IsTrue, Ok, Err, arith, refl, sym, ◌∙◌, ap, subst, append_assoc}
+use Rattle.std.proofs.Common.{◌≡◌, ℕ, ◌<◌, ◌≤◌, List, [], ◌∷◌, ◌++◌, length, map, get_or, Bool, true, false, IsTrue, None, Ok, Err, arith, refl, sym, ◌∙◌, ap, subst, append_assoc}
 use Rattle.std.proofs.lemmas.List.{append-nil, length-map}
 use Rattle.disk_model.specs.Cause.{Rose}
 use Rattle.disk_model.specs.Folder.{FolderView, quiet_folder}
@@ -10,6 +10,7 @@ use Rattle.disk_model.specs.declared.fault.OpenFault.TheVariants as opens
 use Rattle.disk_model.proofs.GivenLemmas.{same_state, same_images}
 use Rattle.snap_config.specs.Setup.{SetupValue}
 use Rattle.snap_config.specs.declared.options.Command.{Command}
+use Rattle.snap_top.specs.Known.{unknown_in}
 use Rattle.snap_top.specs.Opening.{IsConfigured, IsGiven, IsUnopened, StateIsGiven, reads_config, opens_places, is_failure}
 
 -- no call
@@ -118,16 +119,17 @@ as_many_levels parities contents p c told held given ps cs is =
     subst (λ n. VaultIsGiven told p n held given) cs (subst (λ n. VaultIsGiven told n contents held given) ps is)
 
 pub opened_given : {T F : Type 0} (view : F → FolderView) (fs : List F) (vault : VaultView) (x : T) (texts : List (List ℕ)) (command : Command) (readers : ℕ) (setup : SetupValue) (old mid new : OpenerView)
-    → (configured : IsConfigured texts old command readers setup) → OpenerGoesOn old mid (reads_config configured.asked.conf false ∷ []) → HoldsSame old mid
+    → (configured : IsConfigured texts old command readers setup) → unknown_in setup command ≡ None → OpenerGoesOn old mid (reads_config configured.asked.conf false ∷ []) → HoldsSame old mid
     → IsOpenerCall (Open setup.dirs setup.parities setup.contents) (Ok x) mid new → length fs ≡ length setup.dirs → (IsTrue mid.tells → length fs ≡ length mid.folders)
     → ((column : ℕ) → column < length fs → FolderIsGiven mid.tells (folder_held mid column) (get_or (map view fs) column (quiet_folder 0 false)))
     → VaultIsGiven mid.tells (length setup.parities) (length setup.contents) mid.vault vault
     → IsGiven texts old new command readers setup (map view fs) (state_of vault)
-opened_given view fs vault x texts command readers setup old mid new configured first same second columns just each is =
+opened_given view fs vault x texts command readers setup old mid new configured known first same second columns just each is =
     let tells = first.tells in
     let many : length (map view fs) ≡ length fs = length-map fs view in
     record {
       configured = configured;
+      known = known;
       calls = goes_on_then old mid new (reads_config configured.asked.conf false ∷ []) (opens_places setup false ∷ []) first second.goes_on;
       columns = many ∙ columns;
       just = λ told. many ∙ just (tells ∙ told) ∙ ap length (same.folders told);
@@ -136,15 +138,16 @@ opened_given view fs vault x texts command readers setup old mid new configured 
     }
 
 pub unopened : {T : Type 0} (texts : List (List ℕ)) (command : Command) (readers : ℕ) (setup : SetupValue) (old mid new : OpenerView) (fault : OpenFault)
-    → (configured : IsConfigured texts old command readers setup) → OpenerGoesOn old mid (reads_config configured.asked.conf false ∷ [])
+    → (configured : IsConfigured texts old command readers setup) → unknown_in setup command ≡ None → OpenerGoesOn old mid (reads_config configured.asked.conf false ∷ [])
     → IsOpenerCall {T = T} (Open setup.dirs setup.parities setup.contents) (Err fault) mid new → IsUnopened texts old new fault
-unopened texts command readers setup old mid new fault configured first second =
+unopened texts command readers setup old mid new fault configured known first second =
     let last = failure_is (Open setup.dirs setup.parities setup.contents) fault mid new second in
     record {
       command = command;
       readers = readers;
       setup = setup;
       configured = configured;
+      known = known;
       rose = λ failed. rose_after old.faults mid.faults new.faults first.later (last.0 failed);
       calls = goes_on_then old mid new (reads_config configured.asked.conf false ∷ []) (opens_places setup (is_failure fault) ∷ []) first last.1;
     }

@@ -4,11 +4,15 @@ use Rattle.disk_model.specs.Vault.{ChangesBy}
 use Rattle.file_table.specs.Table.{TableValue}
 use Rattle.snap_config.specs.declared.options.Command.{Command}
 use Rattle.snap_config.specs.declared.options.Command.TheVariants as commands
+use Rattle.snap_config.specs.declared.options.Selection.{Selection}
+use Rattle.snap_fix.specs.declared.scope.Mode.{Mode}
+use Rattle.snap_fix.specs.declared.scope.Mode.TheVariants as modes
 use Rattle.snap_report.specs.Answer.{done_answer, status_of as answer_status}
 use Rattle.snap_report.specs.declared.answer.Answer.{Answer}
 use Rattle.snap_report.specs.declared.answer.Answer.TheVariants.{Clean, Found, OutputFailed, Zeroed, Emptied, Full, Broken}
 use Rattle.snap_report.specs.declared.answer.RunFault.TheVariants.{Folder, Vault, Memory}
 use Rattle.snap_report.specs.declared.events.Event.{Event}
+use Rattle.snap_top.specs.Checking.{ChecksBy}
 use Rattle.snap_top.specs.Complete.{RefusalsTouchNothing}
 use Rattle.snap_top.specs.Does.{DoesCommand}
 use Rattle.snap_config.specs.declared.options.SyncWay.{SyncWay}
@@ -58,6 +62,19 @@ sync_untouched (Broken (Folder disk)) task way table start after left did does r
 sync_untouched (Broken Vault) task way table start after left did does refused = absurd (no_refusal 3 (omega arith) (omega arith) refused)
 sync_untouched (Broken Memory) task way table start after left did does refused = refused_sync task way table start after left did does
 
+-- a check is not refused
+pub check_not_refused : (answer : Answer) (mode : Mode) (selection : Selection) (task : Task) (table : TableValue) (start after : World) (left : Left) (did : Did) → ChecksBy answer mode selection task table start after left did
+    → (answer_status answer ≡ 2) ⊎ (answer_status answer ≡ 5) → ⊥
+check_not_refused Clean mode selection task table start after left did does refused = no_refusal 0 (omega arith) (omega arith) refused
+check_not_refused Found mode selection task table start after left did does refused = no_refusal 1 (omega arith) (omega arith) refused
+check_not_refused OutputFailed mode selection task table start after left did does refused = no_refusal 3 (omega arith) (omega arith) refused
+check_not_refused (Zeroed disk rec) mode selection task table start after left did does refused = does
+check_not_refused (Emptied disk) mode selection task table start after left did does refused = does
+check_not_refused (Full blocks files) mode selection task table start after left did does refused = does
+check_not_refused (Broken (Folder disk)) mode selection task table start after left did does refused = no_refusal 3 (omega arith) (omega arith) refused
+check_not_refused (Broken Vault) mode selection task table start after left did does refused = does
+check_not_refused (Broken Memory) mode selection task table start after left did does refused = no_refusal 4 (omega arith) (omega arith) refused
+
 command_untouched : (command : Command) (task : Task) (table : TableValue) (start after : World) (left : Left) (did : Did) → DoesCommand command task table start after left did
     → (answer_status left.answer ≡ 2) ⊎ (answer_status left.answer ≡ 5) → Untouched start after did
 command_untouched commands.List task table start after left did does refused =
@@ -66,8 +83,8 @@ command_untouched commands.Status task table start after left did does refused =
     absurd (done_is_no_refusal _ does.prints.failed (subst (λ a. (answer_status a ≡ 2) ⊎ (answer_status a ≡ 5)) does.prints.answer_is refused))
 command_untouched (commands.Sync way) task table start after left did does refused = sync_untouched left.answer task way table start after left did does refused
 command_untouched (commands.Scrub way) task table start after left did does refused = absurd does
-command_untouched (commands.Check selection) task table start after left did does refused = absurd does
-command_untouched (commands.Audit selection) task table start after left did does refused = absurd does
+command_untouched (commands.Check selection) task table start after left did does refused = absurd (check_not_refused left.answer modes.Check selection task table start after left did does refused)
+command_untouched (commands.Audit selection) task table start after left did does refused = absurd (check_not_refused left.answer modes.Audit selection task table start after left did does refused)
 command_untouched (commands.Fix selection) task table start after left did does refused = absurd does
 
 ending_untouched : (ending : Ending) (task : Task) (given after : World) (told : List Event) (did : Did) → Goes task given after ending told did

@@ -63,6 +63,7 @@ pub refusal_high : (why : Refusal) → 2 ≤ refusal_status why
 refusal_high (refusals.Words fault) = words_high fault
 refusal_high (refusals.Unread fault) = open_high fault
 refusal_high (refusals.Config file fault) = config_high fault
+refusal_high (refusals.NoDisk name) = omega arith
 refusal_high (refusals.Unopened fault) = open_high fault
 
 silent_ending : (setup : SetupValue) (ending : Ending) → ending_status ending ≤ 1 → ending_line setup ending ≡ []

@@ -186,7 +186,7 @@ refuses_by (Run runs.Memory) task way table before after left did why refuses = 
 refuses_by (Run runs.Vault) task way table before after left did why refuses = absurd why
 
 -- a folder that could not be listed failed so that the run ends
-listing_failed : (disk : ℕ) (old new : FolderView) → IsFolderReading ListFiles true old new → FolderFailed disk [] old new
+pub listing_failed : (disk : ℕ) (old new : FolderView) → IsFolderReading ListFiles true old new → FolderFailed disk [] old new
 listing_failed disk old new is = record {
   rose = is.called.cause refl;
   call = λ told. record { gained = record { call = ListFiles; failed = true } ∷ []; now_is = is.called.goes_on.calls.more told; one = refl };

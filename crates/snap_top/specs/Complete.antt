@@ -21,6 +21,7 @@ use Rattle.snap_report.specs.Answer.{Gained, broke_folder, broke_vault}
 use Rattle.snap_sync.specs.Beginning.{RefusesLayout}
 use Rattle.snap_sync.specs.Work.{broke_sync}
 use Rattle.snap_top.specs.Array.{Matches, empty_table}
+use Rattle.snap_top.specs.Known.{unknown_in}
 use Rattle.snap_top.specs.Opening.{asked_by}
 use Rattle.snap_top.specs.Run.{Entry, Exit}
 use Rattle.snap_top.specs.Views.{view_of, folder_at}
@@ -87,7 +88,7 @@ abbrev pub IsUnrefused : Entry → Exit → Command → SetupValue → Type 0
 IsUnrefused before exit command setup = (way : SyncWay) (table : TableValue) (folders : List FolderView) (fault : ScanFault) → command ≡ commands.Sync way → MayBegin before setup table → AreHeld before folders
     → RefusesLayout setup way table folders exit.after.folders fault → fault ≡ scans.Memory
 
--- Words and configuration are accepted, nothing failed so that a run ends, what is first read of the content is of the configuration's array, and
+-- Words and configuration are accepted, all names that are selected are known, nothing failed so that a run ends, what is first read of the content is of the configuration's array, and
 -- no layout is refused.
 -- All that is said here of what the opener holds, it tells.
 pub record IsSmooth (before : Entry) (exit : Exit) : Type 0 where
@@ -97,6 +98,7 @@ pub record IsSmooth (before : Entry) (exit : Exit) : Type 0 where
   pub tells : IsTrue before.opener.tells
   pub tells_vault : IsTrue before.opener.vault.tells
   pub configuration : read_setup (take 1048577 before.opener.config) asked.log ≡ Ok setup
+  pub known : unknown_in setup asked.command ≡ None
   pub opener : ¬ (Rose before.opener.faults exit.opener.faults)
   pub out : ¬ (Rose before.out.faults exit.after.out.faults)
   pub folders : (d : ℕ) → ¬ (BreaksFolder (folder_held before.opener d) (folder_at exit.after.folders d))

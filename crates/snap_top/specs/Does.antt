@@ -10,6 +10,8 @@ use Rattle.snap_report.specs.Report.{ReportView, AllGiven}
 use Rattle.snap_report.specs.StatusText.{status_text, bad_in}
 use Rattle.snap_report.specs.declared.answer.Answer.{Answer}
 use Rattle.snap_report.specs.declared.events.Event.{Event}
+use Rattle.snap_fix.specs.declared.scope.Mode.TheVariants as modes
+use Rattle.snap_top.specs.Checking.{ChecksBy}
 use Rattle.snap_top.specs.Syncing.{SyncsBy}
 use Rattle.snap_top.specs.Task.{Task, Did, reads_only, may_stand, stands_after, Left, Prints}
 use Rattle.snap_top.specs.Views.{World, WorldView, world_of, outside_of, Keeps}
@@ -26,6 +28,8 @@ abbrev pub DoesCommand : Command → Task → TableValue → World → World →
 DoesCommand commands.List task table before after left did = PrintsAlone (list_text table.columns) 0 before after left did
 DoesCommand commands.Status task table before after left did = PrintsAlone (status_text table) (bad_in table.infos) before after left did
 DoesCommand (commands.Sync way) task table before after left did = SyncsBy left.answer task way table before after left did
+DoesCommand (commands.Check selection) task table before after left did = ChecksBy left.answer modes.Check selection task table before after left did
+DoesCommand (commands.Audit selection) task table before after left did = ChecksBy left.answer modes.Audit selection task table before after left did
 -- the others are not built
 DoesCommand _ task table before after left did = ⊥
 

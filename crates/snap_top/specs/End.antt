@@ -30,7 +30,7 @@ use Rattle.snap_top.specs.declared.end.End.TheVariants.{Refused, Worked}
 use Rattle.snap_top.specs.declared.end.Ending.{Ending}
 use Rattle.snap_top.specs.declared.end.Ending.TheVariants.{NotLoaded, NoTable, OtherArray, Answered}
 use Rattle.snap_top.specs.declared.end.Refusal.{Refusal}
-use Rattle.snap_top.specs.declared.end.Refusal.TheVariants.{Words, Unread, Config, Unopened}
+use Rattle.snap_top.specs.declared.end.Refusal.TheVariants.{Words, Unread, Config, NoDisk, Unopened}
 
 -- ---- the status
 
@@ -55,6 +55,7 @@ abbrev pub refusal_status : Refusal → ℕ
 refusal_status (Words fault) = words_status fault
 refusal_status (Unread fault) = open_status fault
 refusal_status (Config file fault) = config_status fault
+refusal_status (NoDisk name) = 2
 refusal_status (Unopened fault) = open_status fault
 
 abbrev pub ending_status : Ending → ℕ
@@ -98,10 +99,14 @@ abbrev pub open_line : OpenFault → List ℕ
 open_line opens.Failed = codes "snapraid: configuration or opening failed\n"
 open_line opens.Memory = memory_line
 
+abbrev pub no_disk_line : List ℕ → List ℕ
+no_disk_line name = joined (codes "snapraid: no disk '" ∷ printed name ∷ codes "'\n" ∷ [])
+
 abbrev pub refusal_line : Refusal → List ℕ
 refusal_line (Words fault) = words_line fault
 refusal_line (Unread fault) = open_line fault
 refusal_line (Config file fault) = config_line file fault
+refusal_line (NoDisk name) = no_disk_line name
 refusal_line (Unopened fault) = open_line fault
 
 -- the line of a damaged copy: copies are numbered from 0, and printed from 1

@@ -1,7 +1,9 @@
 pub mod Array
+pub mod Checking
 pub mod Complete
 pub mod Does
 pub mod End
+pub mod Known
 pub mod Moment
 pub mod Opening
 pub mod Resumed

@@ -48,6 +48,8 @@ IsDidOf before exit (syncs failed run) = IsSyncOf before exit run
 abbrev pub ChangesNothing : Command → Type 0
 ChangesNothing commands.List = Unit {0}
 ChangesNothing commands.Status = Unit {0}
+ChangesNothing (commands.Check selection) = Unit {0}
+ChangesNothing (commands.Audit selection) = Unit {0}
 ChangesNothing _ = ⊥
 
 -- ---- each moment

@@ -1,5 +1,5 @@
 -- What a run asks its opener for, and what it is given.
-use Rattle.std.specs.Prelude.{◌≡◌, ◌⊎◌, ℕ, ◌<◌, List, [], ◌∷◌, length, take, replicate, Bool, true, false, IsTrue, Option, Result, Ok, Err}
+use Rattle.std.specs.Prelude.{◌≡◌, ◌⊎◌, ℕ, ◌<◌, List, [], ◌∷◌, length, take, replicate, Bool, true, false, IsTrue, Option, None, Some, Result, Ok, Err}
 use Rattle.disk_model.specs.Cause.{Rose}
 use Rattle.disk_model.specs.Folder.{FolderView}
 use Rattle.disk_model.specs.Opener.{OpenerView, OpenerDone, OpenerGoesOn, Config, Open, FolderIsGiven, folder_held}
@@ -15,10 +15,11 @@ use Rattle.snap_config.specs.declared.options.Options.{Options}
 use Rattle.snap_config.specs.declared.options.WordsFault.{WordsFault}
 use Rattle.snap_config.specs.declared.options.WordsFault.TheVariants as words
 use Rattle.snap_config.specs.declared.why.ConfigFault.{ConfigFault}
+use Rattle.snap_top.specs.Known.{unknown_in}
 use Rattle.snap_top.specs.Views.{folder_at}
 use Rattle.snap_top.specs.declared.commands.TheConstants.{COMMANDS}
 use Rattle.snap_top.specs.declared.end.Refusal.{Refusal}
-use Rattle.snap_top.specs.declared.end.Refusal.TheVariants.{Words, Unread, Config as BadConfig, Unopened}
+use Rattle.snap_top.specs.declared.end.Refusal.TheVariants.{Words, Unread, Config as BadConfig, NoDisk, Unopened}
 
 -- ---- the calls of the opener
 
@@ -70,6 +71,7 @@ abbrev pub ConfiguresNot : List ℕ → Option (List ℕ) → OpenerView → Ope
 ConfiguresNot file log old new (Words fault) = ⊥
 ConfiguresNot file log old new (Unread fault) = (IsTrue (is_failure fault) → Rose old.faults new.faults) × OpenerGoesOn old new (reads_config file (is_failure fault) ∷ [])
 ConfiguresNot file log old new (BadConfig named fault) = (named ≡ file) × SaysNot old log fault × OpenerGoesOn old new (reads_config file false ∷ [])
+ConfiguresNot file log old new (NoDisk name) = ⊥
 ConfiguresNot file log old new (Unopened fault) = ⊥
 
 -- the words were read, and the configuration file gave no setup
@@ -78,12 +80,22 @@ pub record IsUnconfigured (texts : List (List ℕ)) (old new : OpenerView) (why 
   pub read : asked_by texts ≡ Ok asked
   pub why_not : ConfiguresNot asked.conf asked.log old new why
 
+-- this is the first name that the command selects and neither a disk nor a level of the configuration has
+pub record IsUnknown (texts : List (List ℕ)) (old new : OpenerView) (name : List ℕ) : Type 0 where
+  pub command : Command
+  pub readers : ℕ
+  pub setup : SetupValue
+  pub configured : IsConfigured texts old command readers setup
+  pub unknown : unknown_in setup command ≡ Some name
+  pub calls : OpenerGoesOn old new (reads_config configured.asked.conf false ∷ [])
+
 -- what the configuration names was not opened
 pub record IsUnopened (texts : List (List ℕ)) (old new : OpenerView) (fault : OpenFault) : Type 0 where
   pub command : Command
   pub readers : ℕ
   pub setup : SetupValue
   pub configured : IsConfigured texts old command readers setup
+  pub known : unknown_in setup command ≡ None
   pub rose : IsTrue (is_failure fault) → Rose old.faults new.faults
   pub calls : OpenerGoesOn old new (reads_config configured.asked.conf false ∷ opens_places setup (is_failure fault) ∷ [])
 
@@ -92,6 +104,7 @@ abbrev pub Refuses : List (List ℕ) → OpenerView → OpenerView → Refusal �
 Refuses texts old new (Words fault) = IsWordsFault texts fault × OpenerGoesOn old new []
 Refuses texts old new (Unread fault) = IsUnconfigured texts old new (Unread fault)
 Refuses texts old new (BadConfig file fault) = IsUnconfigured texts old new (BadConfig file fault)
+Refuses texts old new (NoDisk name) = IsUnknown texts old new name
 Refuses texts old new (Unopened fault) = IsUnopened texts old new fault
 
 -- ---- what was opened
@@ -107,6 +120,7 @@ pub record StateIsGiven (is_told : Bool) (parities contents : ℕ) (held given :
 -- was asked for the configuration and for what that names, once each, and for nothing else.
 pub record IsGiven (texts : List (List ℕ)) (old new : OpenerView) (command : Command) (readers : ℕ) (setup : SetupValue) (folders : List FolderView) (vault : VaultState) : Type 0 where
   pub configured : IsConfigured texts old command readers setup
+  pub known : unknown_in setup command ≡ None
   pub calls : OpenerGoesOn old new (reads_config configured.asked.conf false ∷ opens_places setup false ∷ [])
   pub columns : length folders ≡ length setup.dirs
   pub just : IsTrue old.tells → length folders ≡ length old.folders

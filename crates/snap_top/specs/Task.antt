@@ -33,6 +33,8 @@ abbrev pub IsBuilt : Command → Type 0
 IsBuilt commands.List = Unit {0}
 IsBuilt commands.Status = Unit {0}
 IsBuilt (commands.Sync way) = Unit {0}
+IsBuilt (commands.Check selection) = Unit {0}
+IsBuilt (commands.Audit selection) = Unit {0}
 IsBuilt _ = ⊥
 
 -- what a run did to the files of the vault: it only read them, or it synced them, and a call failed in that or none did

@@ -10,17 +10,24 @@ ghost use Rattle.snap_top.specs.Task.{Prints, IsBuilt, task_of};
 ghost use Rattle.snap_top.specs.Syncing.{IsOpened};
 ghost use Rattle.snap_top.specs.Views.{world_view};
 
+use crate::checking::check_array;
 use crate::job::{Done, Job};
 use crate::syncing::sync_array;
 use disk_model::{Folder, Sink, Vault};
 use file_table::Table;
 use snap_config::{Command, CommandName};
+use snap_fix::Mode;
 use snap_report::{Answer, Lines, Report, list_text, status_text};
 use std::alloc::Global;
 use std::thread::Threads;
 
 /// The commands that are built.
-pub const COMMANDS: [CommandName; 3] = [CommandName::Sync, CommandName::Status, CommandName::List];
+pub const COMMANDS: [CommandName; 4] = [
+    CommandName::Sync,
+    CommandName::Check,
+    CommandName::Status,
+    CommandName::List,
+];
 
 // Prints the files of a table, and answers whether a write failed.
 fn print_list<W: Sink>(table: &Table, out: &mut W) -> bool
@@ -99,6 +106,30 @@ pub(crate) fn carry_out<R: Threads + Sync, F: Folder, V: Vault, W: Sink>(
         Command::Sync(way) => {
             sync_array(rt, alloc, job, way, table, folders, vault, reports, out)
         }
+        Command::Check(selection) => check_array(
+            rt,
+            alloc,
+            job,
+            Mode::Check,
+            selection,
+            &table,
+            folders,
+            vault,
+            reports,
+            out,
+        ),
+        Command::Audit(selection) => check_array(
+            rt,
+            alloc,
+            job,
+            Mode::Audit,
+            selection,
+            &table,
+            folders,
+            vault,
+            reports,
+            out,
+        ),
         _ => unreachable!(),
     }
 }

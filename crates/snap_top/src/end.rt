@@ -17,6 +17,8 @@ pub enum Refusal {
     Unread(OpenFault),
     /// The configuration in this file is refused.
     Config { file: Text, fault: ConfigFault },
+    /// Neither a disk nor a level of the configuration has this name, which the command selects.
+    NoDisk(Text),
     /// What the configuration names was not opened.
     Unopened(OpenFault),
 }
@@ -71,7 +73,7 @@ impl Refusal {
             | Refusal::Unread(OpenFault::Memory)
             | Refusal::Unopened(OpenFault::Memory) => 4,
             Refusal::Unread(OpenFault::Failed) | Refusal::Unopened(OpenFault::Failed) => 3,
-            Refusal::Words(_) | Refusal::Config { .. } => 2,
+            Refusal::Words(_) | Refusal::Config { .. } | Refusal::NoDisk(_) => 2,
         }
     }
 }

@@ -14,10 +14,12 @@
 //! Not here: real files. They are `disk_host`'s.
 #![tactic(auto)]
 
+mod checking;
 mod commands;
 mod empty;
 mod end;
 mod job;
+mod known;
 pub mod laws;
 mod matching;
 mod opening;

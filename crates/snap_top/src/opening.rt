@@ -9,6 +9,7 @@ ghost use Rattle.snap_top.specs.Opening.{Says, ConfiguresNot, Refuses, IsGiven, 
 
 use crate::Refusal;
 use crate::commands::COMMANDS;
+use crate::known::known_command;
 use disk_model::{Opener, Text};
 use snap_config::{Command, Options, Setup, read_config, read_words_among};
 use std::alloc::Global;
@@ -73,6 +74,10 @@ pub(crate) fn open_all<O: Opener>(
         command,
     } = asked;
     let setup = configure(alloc, conf, log, opener)?;
+    let command = match known_command(&setup, command) {
+        Ok(command) => command,
+        Err(name) => return Err(Refusal::NoDisk(name)),
+    };
     match opener.open(alloc, &setup.places) {
         Ok(opened) => Ok(Session {
             command,

@@ -5,7 +5,7 @@ ghost use Rattle.snap_config.specs.Setup.{setup_value};
 ghost use Rattle.snap_report.specs.State.{Puts, state_of};
 ghost use Rattle.snap_report.specs.Telling.{Tells, Settled, between};
 ghost use Rattle.snap_top.specs.Array.{column_names, disk_names};
-ghost use Rattle.snap_top.specs.End.{words_line, unfit_line, value_line, config_line, open_line, refusal_line, load_line, damage_line, size_line, levels_line, names_line, name_or_sign, difference_line, ending_line, line_of, option_word, disk_named, path_named, memory_line};
+ghost use Rattle.snap_top.specs.End.{words_line, unfit_line, value_line, config_line, no_disk_line, open_line, refusal_line, load_line, damage_line, size_line, levels_line, names_line, name_or_sign, difference_line, ending_line, line_of, option_word, disk_named, path_named, memory_line};
 ghost use Rattle.snap_top.specs.Run.{IsSaid};
 
 use crate::{Difference, End, Ending, Refusal};
@@ -94,6 +94,16 @@ fn put_config<W: Sink>(lines: &mut Lines<'_, W>, file: &str, fault: ConfigFault)
     }
 }
 
+fn put_no_disk<W: Sink>(lines: &mut Lines<'_, W>, name: &str)
+    ensures { Puts W.view (no_disk_line name.now) lines.old lines.new }
+{
+    lines.put_all(&[
+        Piece::Text("snapraid: no disk '"),
+        Piece::Printed(name),
+        Piece::Text("'\n"),
+    ]);
+}
+
 fn put_open<W: Sink>(lines: &mut Lines<'_, W>, fault: OpenFault)
     ensures { Puts W.view (open_line fault) lines.old lines.new }
 {
@@ -109,6 +119,7 @@ fn put_refusal<W: Sink>(lines: &mut Lines<'_, W>, refusal: &Refusal)
     match refusal {
         Refusal::Words(fault) => put_words(lines, fault),
         Refusal::Config { file, fault } => put_config(lines, file.as_str(), *fault),
+        Refusal::NoDisk(name) => put_no_disk(lines, name.as_str()),
         Refusal::Unread(fault) | Refusal::Unopened(fault) => put_open(lines, *fault),
     }
 }

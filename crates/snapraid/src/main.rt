@@ -9,9 +9,10 @@ mod tests;
 
 use disk_host::{DiskOpener, LogSink, StreamSink};
 use disk_model::{NoMemory, Sink, Text};
-use snap_config::log_name;
+use snap_config::{WordsFault, read_words_among};
 use snap_report::{LogReport, Report, TallyReport};
-use snap_top::run;
+use snap_top::{COMMANDS, run};
+use std::alloc::Global;
 use std::fs::OpenOptions;
 use std::io::ErrorKind;
 use std::process::ExitCode;
@@ -118,6 +119,15 @@ fn get_ready<R: Files + Env + RandomSource + AllocGlobal>(rt: &R) -> Result<Read
         words,
         log,
     })
+}
+
+// The log that the words name. There is none where `run` refuses them.
+fn log_name(alloc: Global, words: &[String]) -> Result<Option<Text>, Unready> {
+    match read_words_among(alloc, &COMMANDS, words) {
+        Ok(asked) => Ok(asked.log),
+        Err(WordsFault::Memory) => Err(Unready::Memory),
+        Err(_) => Ok(None),
+    }
 }
 
 // Ends before the run, with one line where that can be written.

@@ -204,17 +204,27 @@ pub fn run_words<R: Threads + Sync>(
     })
 }
 
-// The vault of that array.
-fn vault(alloc: Global, array: Array) -> Result<MemVault, Fail>
+// A vault with the content copies of that array.
+fn held(alloc: Global, array: Array) -> Result<MemVault, Fail>
     ensures settled { IfOk result (λ vault. IsSettled (vault_view vault)) }
     ensures drafts { IfOk result (λ vault. HasNoDraft (vault_view vault)) }
 {
     let copies = if array.second.is_some() { 2 } else { 1 };
     let mut vault = MemVault::new(alloc, array.levels, copies)?;
     vault.set_content(0, array.content)?;
-    if vault.copies() > 1 {
-        vault.set_content(1, array.second)?;
+    if vault.copies() < 2 {
+        return Ok(vault);
     }
+    vault.set_content(1, array.second)?;
+    Ok(vault)
+}
+
+// The vault of that array.
+fn vault(alloc: Global, array: Array) -> Result<MemVault, Fail>
+    ensures settled { IfOk result (λ vault. IsSettled (vault_view vault)) }
+    ensures drafts { IfOk result (λ vault. HasNoDraft (vault_view vault)) }
+{
+    let mut vault = held(alloc, array)?;
     vault.fail_at(array.failing.vault)?;
     Ok(vault)
 }

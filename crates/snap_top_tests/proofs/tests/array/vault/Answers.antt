@@ -1,4 +1,4 @@
 use Rattle.snap_top_tests.proofs.tests.array.vault.Goals as goal
 
 pub returns-clause-settled : goal.returns-clause-settled
-returns-clause-settled c = c.fail_at.ensures.settled c.in_ok-set_content.ensures.settled_now
+returns-clause-settled c = c.fail_at.ensures.settled c.in_ok-vault.ensures.settled

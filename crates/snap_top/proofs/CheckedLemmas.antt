@@ -1,0 +1,191 @@
+-- What a check leaves, as a command that was carried out.
+use Rattle.std.proofs.Common.{◌≡◌, ℕ, ◌+◌, ◌<◌, ◌==◌, List, [], ◌∷◌, ◌++◌, length, count_by, Bool, true, false, if◌then◌else◌, IsTrue, get_or, None, Some, refl, sym, ap, ◌∙◌, subst, arith}
+use Rattle.disk_model.specs.Files.{Files, Stays}
+use Rattle.disk_model.specs.Folder.{FolderView, IsFolderReading, ListFiles}
+use Rattle.disk_model.specs.Sink.{SinkView}
+use Rattle.disk_model.specs.Vault.{VaultView, state_of}
+use Rattle.disk_model.proofs.VaultLemmas.{no_calls, changes_start}
+use Rattle.array_scan.specs.Listings.{FailsAt}
+use Rattle.file_table.specs.Table.{TableValue}
+use Rattle.snap_config.specs.declared.options.Command.{Command}
+use Rattle.snap_config.specs.declared.options.Command.TheVariants as commands
+use Rattle.snap_config.specs.declared.options.Selection.{Selection}
+use Rattle.snap_fix.specs.Beginning.{BeginsNot}
+use Rattle.snap_fix.specs.Course.{Checks, check_events, outside}
+use Rattle.snap_fix.specs.Facts.{StripeFacts}
+use Rattle.parity_writer.specs.LevelReading.{LevelReading, IsReadingOf}
+use Rattle.snap_fix.specs.Looking.{AreAllLevelsOf, AreRead, LevelsAreRead}
+use Rattle.stripe_reader.specs.Starts.{StartsValue}
+use Rattle.snap_fix.specs.Plan.{FixPlan, names_of}
+use Rattle.snap_fix.specs.declared.checks.FixEnd.{FixEnd}
+use Rattle.snap_fix.specs.declared.scope.Mode.{Mode}
+use Rattle.snap_fix.specs.declared.scope.Mode.TheVariants as modes
+use Rattle.snap_report.specs.Answer.{Outside, IsCaused, FolderFailed, done_answer}
+use Rattle.snap_report.specs.EndLines.{check_text}
+use Rattle.snap_report.specs.EventLines.{lines_of}
+use Rattle.snap_report.specs.Report.{ReportView}
+use Rattle.snap_report.specs.State.{state_of as told_of}
+use Rattle.snap_report.specs.Telling.{Written, between}
+use Rattle.snap_report.specs.declared.answer.Answer.{Answer}
+use Rattle.snap_report.specs.declared.answer.Answer.TheVariants as answers
+use Rattle.snap_report.specs.declared.answer.RunFault.{RunFault}
+use Rattle.snap_report.specs.declared.answer.RunFault.TheVariants as runs
+use Rattle.snap_report.specs.declared.events.Event.{Event}
+use Rattle.snap_report.specs.declared.pages.Lines.{Lines}
+use Rattle.snap_report.proofs.ReportLemmas.{all_given_nothing}
+use Rattle.snap_top.specs.Checking.{CheckEnds, CheckRefuses, ChecksBy, checks_as}
+use Rattle.snap_top.specs.Does.{DoesCommand, IsDone}
+use Rattle.snap_top.specs.Task.{Task, Did, reads_only, Left}
+use Rattle.snap_top.specs.Views.{World, world_view, world_of, view_of, outside_of, folder_at, AllReadOnly}
+use Rattle.snap_top.proofs.DoneLemmas.{by_output, nothing_more}
+use Rattle.snap_top.proofs.FolderLemmas.{all_listed, first_listed, failed_at}
+use Rattle.snap_top.proofs.SyncLemmas.{changes_of, printed_lines, listing_failed}
+use Rattle.snap_top.proofs.ViewsLemmas.{some_calls_of, sink_stays, all_read_then}
+
+-- ---- by its states
+
+levels_of : (plan : FixPlan) (stripes : List StripeFacts) (old new : VaultView) → LevelsAreRead plan stripes old new → LevelsAreRead plan stripes (view_of (state_of old)) (view_of (state_of new))
+levels_of plan stripes old new read = record {
+  readings = read.readings;
+  are = same stripes read.readings read.are;
+  unread = read.unread;
+  goes_on = let g = read.goes_on in record { later = g.later; levels = g.levels; copies = g.copies; tells = g.tells; calls = g.calls };
+  changes = changes_of Stays old new read.changes;
+  drafts = record { state = read.drafts.state; bytes = read.drafts.bytes };
+}
+  where
+    same : (xs : List StripeFacts) (rs : List (List LevelReading)) → AreAllLevelsOf plan.table.shape.block_size old xs rs → AreAllLevelsOf plan.table.shape.block_size (view_of (state_of old)) xs rs
+    same [] [] are = tt
+    same [] (of ∷ rs) are = absurd are
+    same (facts ∷ xs) [] are = absurd are
+    same (facts ∷ xs) (of ∷ rs) (first, rest) = (
+      record { as_many = first.as_many; are_kept = first.are_kept; are_of = λ r below. one facts.stripe r (get_or of r None) (first.are_of r below) },
+      same xs rs rest,
+    )
+      where
+        one : (stripe r : ℕ) (reading : LevelReading) → IsReadingOf old plan.table.shape.block_size stripe r reading → IsReadingOf (view_of (state_of old)) plan.table.shape.block_size stripe r reading
+        one stripe r None is = tt
+        one stripe r (Some bytes) is = is
+
+folders_read : (plan : FixPlan) (starts : StartsValue) (stripes : List StripeFacts) (olds news : List FolderView) → AreRead plan starts stripes olds news → AllReadOnly olds news
+folders_read plan starts stripes olds news read = record {
+  count = read.folders;
+  each = λ d below. let folder = (read.each d below).folder in record { calls = record { done = folder.done; goes_on = folder.goes_on }; tree = folder.tree };
+}
+
+begun_not : (olds news : List FolderView) (fault : RunFault) → length news ≡ length olds → BeginsNot olds news fault → AllReadOnly olds news
+begun_not olds news (runs.Folder disk) many why = failed_at disk olds news many why
+begun_not olds news runs.Memory many why = first_listed why.0 olds news why.1
+begun_not olds news runs.Vault many why = absurd why
+
+-- ---- by its answer
+
+ends_by : (counted : ℕ) (failed : Bool) (mode : Mode) (selection : Selection) (task : Task) (table : TableValue) (before after : World) (left : Left) (did : Did) → CheckEnds mode selection task table before after left did
+    → ChecksBy (done_answer counted failed) mode selection task table before after left did
+ends_by counted true mode selection task table before after left did ends = ends
+ends_by counted false mode selection task table before after left did ends = by (counted == 0)
+  where
+    by : (none : Bool) → ChecksBy (if none then answers.Clean else answers.Found) mode selection task table before after left did
+    by true = ends
+    by false = ends
+
+refuses_by : (fault : RunFault) (mode : Mode) (selection : Selection) (task : Task) (table : TableValue) (before after : World) (left : Left) (did : Did) → BeginsNot before.folders after.folders fault
+    → CheckRefuses before after left did → ChecksBy (answers.Broken fault) mode selection task table before after left did
+refuses_by (runs.Folder disk) mode selection task table before after left did why refuses = refuses
+refuses_by runs.Memory mode selection task table before after left did why refuses = refuses
+refuses_by runs.Vault mode selection task table before after left did why refuses = absurd why
+
+caused_by : (fault : RunFault) (olds news : List FolderView) (old new : Outside) → old.folders ≡ olds → new.folders ≡ news → BeginsNot olds news fault → IsCaused (answers.Broken fault) 0 [] old new
+caused_by (runs.Folder disk) olds news old new os ns fails = (
+  rw (os) fails.within,
+  rw (os, ns) (listing_failed disk _ _ fails.failed),
+)
+caused_by runs.Memory olds news old new os ns why = tt
+caused_by runs.Vault olds news old new os ns why = absurd why
+
+-- by the command
+as_command : (mode : Mode) (selection : Selection) (task : Task) (table : TableValue) (before after : World) (left : Left) (did : Did) → checks_as mode selection task.command → ChecksBy left.answer mode selection task table before after left did
+    → DoesCommand task.command task table before after left did
+as_command modes.Check selection task table before after left did command does = subst (λ (c : Command). DoesCommand c task table before after left did) (sym command) does
+as_command modes.Audit selection task table before after left did command does = subst (λ (c : Command). DoesCommand c task table before after left did) (sym command) does
+as_command modes.Fix selection task table before after left did command does = absurd command
+
+-- ---- the whole
+
+module _ {W R : Type 0} (standing : R → ReportView) (stands : R → List Event → Type 0) (view : W → SinkView) (mode : Mode) (selection : Selection) (task : Task) (table : TableValue) (command : checks_as mode selection task.command)
+    (folders folders_new : List FolderView) (vault vault_new : VaultView) (out out_new : SinkView) (lines lines_new : Lines W) (olds news : List R)
+    (start_is : told_of view lines ≡ between false out) (last_is : (told_of view lines_new).sink ≡ out_new) where
+  abbrev before : World
+  before = world_of (world_view folders vault out)
+
+  abbrev after : World
+  after = world_of (world_view folders_new vault_new out_new)
+
+  pub check_done : (end : FixEnd) → Checks view standing stands mode selection (names_of task.setup) table (outside folders vault lines olds) (outside folders_new vault_new lines_new news) end
+      → IsDone standing stands task table (world_view folders vault out) (world_view folders_new vault_new out_new) olds news (done_answer end.findings lines_new.failed) None
+  check_done end checks =
+      let events = check_events checks.plan checks.stripes in
+      let told = printed_lines view (lines_of table.columns events ++ check_text end.findings) out out_new lines lines_new start_is last_is checks.puts (λ settled. checks.settled) in
+      let left : Left = record { answer = done_answer end.findings lines_new.failed; named = None; counted = end.findings; told = events } in
+      record {
+        left = left;
+        answer_is = refl;
+        named_is = refl;
+        did = reads_only;
+        does = as_command mode selection task table before after left reads_only command
+            (ends_by end.findings lines_new.failed mode selection task table before after left reads_only (record {
+              did_is = refl;
+              lists = checks.lists;
+              listed = checks.mids;
+              as_many = checks.as_many;
+              lists_are = checks.listed;
+              plan = checks.plan;
+              plan_is = checks.plan_is;
+              stripes = checks.stripes;
+              numbers = checks.numbers;
+              are = checks.are;
+              read = checks.read;
+              levels = levels_of checks.plan checks.stripes vault vault_new checks.levels;
+              told_is = refl;
+              named_is = refl;
+              counted_is = checks.findings;
+              prints = record { failed = lines_new.failed; told = told; answer_is = refl };
+            }));
+        changes = checks.levels.changes;
+        ends = λ tells. nothing_more vault.files vault_new;
+        caused = by_output end.findings lines_new.failed events (outside_of before) (outside_of after) (λ failed. told.cause refl failed);
+        keeps = record {
+          folders = all_read_then folders checks.mids folders_new (all_listed folders checks.mids checks.lists checks.as_many checks.listed) (folders_read checks.plan _ checks.stripes checks.mids folders_new checks.read);
+          vault = some_calls_of vault vault_new (record { done = _; goes_on = checks.levels.goes_on });
+          out = told.goes_on;
+        };
+        reports = checks.given;
+      }
+
+  refused_done : (fault : RunFault) → length folders_new ≡ length folders → BeginsNot folders folders_new fault
+      → IsDone standing stands task table (world_view folders vault out) (world_view folders_new vault out) olds olds (answers.Broken fault) None
+  refused_done fault many why =
+      let left : Left = record { answer = answers.Broken fault; named = None; counted = 0; told = [] } in
+      let here = world_of (world_view folders_new vault out) in
+      record {
+        left = left;
+        answer_is = refl;
+        named_is = refl;
+        did = reads_only;
+        does = as_command mode selection task table before here left reads_only command
+            (refuses_by fault mode selection task table before here left reads_only why (record { fault = fault; why = why; left_is = refl; did_is = refl; others = refl }));
+        changes = changes_start Stays vault (λ files. refl);
+        ends = λ tells. nothing_more vault.files vault;
+        caused = caused_by fault folders folders_new (outside_of before) (outside_of here) refl refl why;
+        keeps = record { folders = begun_not folders folders_new fault many why; vault = no_calls (view_of (state_of vault)); out = sink_stays out };
+        reports = all_given_nothing standing stands olds;
+      }
+
+  pub check_refused : (untouched : Type 0) (fault : RunFault) → length folders_new ≡ length folders → (untouched → (P : VaultView → Type 0) → P vault → P vault_new) → (untouched → told_of view lines_new ≡ told_of view lines)
+      → (untouched → news ≡ olds) → untouched → BeginsNot folders folders_new fault
+      → IsDone standing stands task table (world_view folders vault out) (world_view folders_new vault_new out_new) olds news (answers.Broken fault) None
+  check_refused untouched fault many same_vault same_lines same_reports still why =
+      let out_same : out_new ≡ out = sym last_is ∙ ap (λ (w : Written). w.sink) (same_lines still ∙ start_is) in
+      subst (λ rs. IsDone standing stands task table (world_view folders vault out) (world_view folders_new vault_new out_new) olds rs (answers.Broken fault) None) (sym (same_reports still))
+      (subst (λ o. IsDone standing stands task table (world_view folders vault out) (world_view folders_new vault_new o) olds olds (answers.Broken fault) None) (sym out_same)
+      (same_vault still (λ v. IsDone standing stands task table (world_view folders vault out) (world_view folders_new v out) olds olds (answers.Broken fault) None) (refused_done fault many why)))

@@ -1,0 +1,4 @@
+// Checks over objects in memory.
+mod array;
+mod damaged;
+mod selected;
