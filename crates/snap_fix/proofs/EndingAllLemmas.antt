@@ -1,5 +1,5 @@
 -- The files of all columns at the end of a fix, column by column.
-use Rattle.std.proofs.Common.{◌≡◌, ◌≢◌, inl, inr, ℕ, suc, ◌+◌, ◌-◌, ◌<◌, ◌≤◌, List, [], ◌∷◌, ◌++◌, length, map, set, get_or, IsTrue, false, refl, sym, ap, ◌∙◌, subst, arith, append_assoc}
+use Rattle.std.proofs.Common.{◌≡◌, ◌≢◌, inl, inr, ℕ, suc, ◌+◌, ◌-◌, ◌<◌, ◌≤◌, List, [], ◌∷◌, ◌++◌, length, map, set, get_or, IsTrue, true, false, refl, sym, ap, ◌∙◌, subst, arith, append_assoc}
 use Rattle.std.specs.List.{range_with_len, flat_map}
 use Rattle.std.proofs.lemmas.Bool.{cases_lt}
 use Rattle.std.proofs.lemmas.List.{get_or-map, get_or-set_other, get_or-set_same, length-append, length-map, length-set, map-set}
@@ -19,14 +19,15 @@ use Rattle.snap_fix.specs.declared.counts.Counts.{Counts}
 use Rattle.snap_fix.specs.declared.finishing.Finish.{Finish}
 use Rattle.snap_fix.specs.declared.state.FileState.{FileState}
 use Rattle.snap_fix.specs.Counts.{AreCounts}
-use Rattle.snap_fix.specs.Ending.{CanFinishAll, CanFinishColumn, FinishesAll, FinishesFiles, FinishesNotAll, FinishesFile, all_finish_news, column_news, column_news_at, finishes_at, states_at}
+use Rattle.snap_fix.specs.Ending.{AreDone, CanFinishAll, CanFinishColumn, FinishesAll, FinishesFiles, FinishesNotAll, FinishesFile, IsDone, all_finish_news, column_news, column_news_at, finish_at, finishes_at, is_finished, states_at}
 use Rattle.snap_fix.specs.EndingSteps.{CanEndColumn, EndsColumn, EndsNotColumn, column_outside}
 use Rattle.snap_fix.specs.Mending.{StatesFit}
-use Rattle.snap_fix.specs.Plan.{FixPlan}
+use Rattle.snap_fix.specs.Plan.{FixPlan, records_in}
 use Rattle.snap_fix.specs.Repairing.{outside}
-use Rattle.snap_fix.specs.State.{FolderMakes}
-use Rattle.snap_fix.proofs.EndingTellLemmas.{columns_before, events_split, finishes_before, finishes_last}
-use Rattle.snap_fix.proofs.FolderCallLemmas.{makes_none}
+use Rattle.snap_fix.specs.State.{AnyCall, FolderMakes}
+use Rattle.snap_fix.proofs.EndingTellLemmas.{columns_before, events_same, events_split, finishes_before, finishes_last}
+use Rattle.snap_fix.proofs.EndingWantedLemmas.{column_wanted, columns_wanted, first_columns, wanted_columns}
+use Rattle.snap_fix.proofs.FolderCallLemmas.{makes_any, makes_none}
 use Rattle.snap_fix.proofs.TellingLemmas.{Joins, Tells, events_to, tells_as, tells_more, tells_nothing, told_as}
 
 module _ (plan : FixPlan) (first : StartsValue) (firsts : List (List FileState)) (olds : List FolderView) where
@@ -107,13 +108,21 @@ module _ (plan : FixPlan) (first : StartsValue) (firsts : List (List FileState))
     }
 
     -- calls of its folder are calls of what it was
-    calls_here : FolderMakes (FinishesFile plan d (starts_at starts.columns d) (states_at states d)) (view_of (get_or folders d before)) (view_of after)
-        → FolderMakes (FinishesFile plan d (starts_at first.columns d) (states_at firsts d)) (folder_at olds d) (folder_at (map view_of (set folders d after)) d)
+    calls_here : FolderMakes (AnyCall (FinishesFile plan d (starts_at starts.columns d) (states_at states d))) (view_of (get_or folders d before)) (view_of after)
+        → FolderMakes (AnyCall (FinishesFile plan d (starts_at first.columns d) (states_at firsts d))) (folder_at olds d) (folder_at (map view_of (set folders d after)) d)
     calls_here makes =
-        subst (λ (v : FolderView). FolderMakes (FinishesFile plan d (starts_at first.columns d) (states_at firsts d)) (folder_at olds d) v) (sym now_here)
-        (subst (λ (v : FolderView). FolderMakes (FinishesFile plan d (starts_at first.columns d) (states_at firsts d)) v (view_of after)) lent
-        (subst (λ (s : List Start). FolderMakes (FinishesFile plan d s (states_at firsts d)) (view_of (get_or folders d before)) (view_of after)) same_starts
-        (subst (λ (s : List FileState). FolderMakes (FinishesFile plan d (starts_at starts.columns d) s) (view_of (get_or folders d before)) (view_of after)) same_states makes)))
+        subst (λ (v : FolderView). FolderMakes (AnyCall (FinishesFile plan d (starts_at first.columns d) (states_at firsts d))) (folder_at olds d) v) (sym now_here)
+        (subst (λ (v : FolderView). FolderMakes (AnyCall (FinishesFile plan d (starts_at first.columns d) (states_at firsts d))) v (view_of after)) lent
+        (subst (λ (s : List Start). FolderMakes (AnyCall (FinishesFile plan d s (states_at firsts d))) (view_of (get_or folders d before)) (view_of after)) same_starts
+        (subst (λ (s : List FileState). FolderMakes (AnyCall (FinishesFile plan d (starts_at starts.columns d) s)) (view_of (get_or folders d before)) (view_of after)) same_states makes)))
+
+    -- what would be done to a record of it is by what it was
+    done_here : (i : ℕ) (finish : Finish) → IsDone plan d (starts_at starts.columns d) (states_at states d) (view_of (get_or folders d before)) i finish
+        → IsDone plan d (starts_at first.columns d) (states_at firsts d) (folder_at olds d) i finish
+    done_here i finish is =
+        subst (λ (v : FolderView). IsDone plan d (starts_at first.columns d) (states_at firsts d) v i finish) lent
+        (subst (λ (s : List Start). IsDone plan d s (states_at firsts d) (view_of (get_or folders d before)) i finish) same_starts
+        (subst (λ (s : List FileState). IsDone plan d (starts_at starts.columns d) s (view_of (get_or folders d before)) i finish) same_states is))
 
     column_here : (done : List Finish) → FinishesFiles plan d (starts_at starts.columns d) (states_at states d) done (view_of (get_or folders d before)) (view_of after)
         → FinishesFiles plan d (starts_at first.columns d) (states_at firsts d) done (folder_at olds d) (folder_at (map view_of (set folders d after)) d)
@@ -187,23 +196,54 @@ module _ (plan : FixPlan) (first : StartsValue) (firsts : List (List FileState))
         folders = many_now;
         makes = makes;
         finishes = all_finishes;
+        are = are;
         first = front;
         rest = broke.rest ++ tail;
         events = events_split of d (length plan.table.columns) within
-            ∙ ap (λ (es : List Event). events_to of d ++ (es ++ tail)) (ap (column_news plan d) (finishes_last so_far.finishes broke.done d so_far.long) ∙ broke.events)
+            ∙ ap (λ (es : List Event). events_to of d ++ (es ++ tail)) (ap (column_news plan d) finishes_here ∙ broke.events)
             ∙ ap (λ (es : List Event). events_to of d ++ es) (append_assoc broke.first broke.rest tail)
             ∙ sym (append_assoc (events_to of d) broke.first (broke.rest ++ tail));
         told = told_then view standing stands plan.table.columns (events_to of d) broke.first lines_old lines lines_new reports_old reports reports_new
             (told_as view standing stands plan.table.columns (events_to of d) (events_to (column_news_at plan so_far.finishes) d) lines_old lines reports_old reports
-            (columns_before plan so_far.finishes broke.done d so_far.long) before_told.told)
+            (events_same of (column_news_at plan so_far.finishes) d (λ k below. ap (column_news plan k) (finishes_first k below))) before_told.told)
             broke.told;
       }
         where
+          -- what was done to the first columns, and would be to the others
+          given : List (List Finish)
+          given = so_far.finishes ++ broke.done ∷ []
+
+          given_long : length given ≡ d + 1
+          given_long = let sum = length-append so_far.finishes (broke.done ∷ []) in omega (arith, sum, so_far.long)
+
           all_finishes : List (List Finish)
-          all_finishes = so_far.finishes ++ broke.done ∷ []
+          all_finishes = given ++ wanted_columns plan first firsts olds (d + 1)
+
+          finishes_first : (k : ℕ) → k < d → finishes_at all_finishes k ≡ finishes_at so_far.finishes k
+          finishes_first k below = first_columns plan first firsts olds given (d + 1) k given_long (omega (arith, below)) ∙ finishes_before so_far.finishes broke.done k (omega (arith, below, so_far.long))
+
+          finishes_here : finishes_at all_finishes d ≡ broke.done
+          finishes_here = first_columns plan first firsts olds given (d + 1) d given_long (omega arith) ∙ finishes_last so_far.finishes broke.done d so_far.long
+
+          IsOf : ℕ → ℕ → List Finish → Type 0
+          IsOf k i done = IsDone plan k (starts_at first.columns k) (states_at firsts k) (folder_at olds k) i (finish_at done i)
+
+          are_here : (i : ℕ) → i < length (records_in plan.table d) → is_finished plan d i ≡ true → IsOf d i (finishes_at all_finishes d)
+          are_here i inside finished = subst (IsOf d i) (sym finishes_here) (done_here i (finish_at broke.done i) (broke.is i inside finished))
+
+          are : AreDone plan first firsts olds all_finishes
+          are k i below inside finished = elim (cases_lt k d) [
+            | inl near ↦ subst (IsOf k i) (sym (finishes_first k near)) ((so_far.columns k near).is i inside finished)
+            | inr from ↦ elim (cases_lt d k) [
+              | inl past ↦ subst (IsOf k i) (sym (columns_wanted plan first firsts olds given (d + 1) k given_long (omega (arith, past)) below)) (column_wanted plan first firsts olds k i inside)
+              | inr not_past ↦
+                  let here : d ≡ k = omega (arith, from, not_past) in
+                  subst (λ (j : ℕ). i < length (records_in plan.table j) → is_finished plan j i ≡ true → IsOf j i (finishes_at all_finishes j)) here (are_here i) inside finished
+            ]
+          ]
 
           of : ℕ → List Event
-          of = column_news_at plan (so_far.finishes ++ broke.done ∷ [])
+          of = column_news_at plan all_finishes
 
           tail : List Event
           tail = flat_map of (range_with_len (d + 1) (length plan.table.columns - suc d))
@@ -211,18 +251,19 @@ module _ (plan : FixPlan) (first : StartsValue) (firsts : List (List FileState))
           front : List Event
           front = events_to of d ++ broke.first
 
-          makes : (k : ℕ) → k < length plan.table.columns
-              → FolderMakes (FinishesFile plan k (starts_at first.columns k) (states_at firsts k)) (folder_at olds k) (folder_at (map view_of (set folders d after)) k)
+          Calls : ℕ → FolderView → FolderView → Type 0
+          Calls k = FolderMakes (AnyCall (FinishesFile plan k (starts_at first.columns k) (states_at firsts k)))
+
+          makes : (k : ℕ) → k < length plan.table.columns → Calls k (folder_at olds k) (folder_at (map view_of (set folders d after)) k)
           makes k below = elim (cases_lt k d) [
-            | inl near ↦ (column_before broke.done k near).makes
+            | inl near ↦ makes_any (FinishesFile plan k (starts_at first.columns k) (states_at firsts k)) (column_before broke.done k near).makes
             | inr from ↦ elim (cases_lt d k) [
               | inl past ↦
-                  subst (λ (v : FolderView). FolderMakes (FinishesFile plan k (starts_at first.columns k) (states_at firsts k)) (folder_at olds k) v)
-                  (sym (now_other k (λ same. omega (arith, same, past)) ∙ so_far.later k (omega (arith, past)))) (makes_none (FinishesFile plan k (starts_at first.columns k) (states_at firsts k)) (folder_at olds k))
+                  subst (λ (v : FolderView). Calls k (folder_at olds k) v) (sym (now_other k (λ same. omega (arith, same, past)) ∙ so_far.later k (omega (arith, past))))
+                  (makes_none (AnyCall (FinishesFile plan k (starts_at first.columns k) (states_at firsts k))) (folder_at olds k))
               | inr not_past ↦
                   let here : d ≡ k = omega (arith, from, not_past) in
-                  subst (λ (j : ℕ). FolderMakes (FinishesFile plan j (starts_at first.columns j) (states_at firsts j)) (folder_at olds j) (folder_at (map view_of (set folders d after)) j)) here
-                  (calls_here broke.makes)
+                  subst (λ (j : ℕ). Calls j (folder_at olds j) (folder_at (map view_of (set folders d after)) j)) here (calls_here broke.makes)
             ]
           ]
 

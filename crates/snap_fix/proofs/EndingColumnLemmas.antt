@@ -2,7 +2,7 @@
 use Rattle.std.proofs.Common.{◌≡◌, ◌≢◌, inl, inr, ℕ, ◌+◌, ◌<◌, ◌≤◌, List, [], ◌∷◌, ◌++◌, length, Bool, true, false, IsTrue, refl, sym, ap, ◌∙◌, subst, arith}
 use Rattle.std.proofs.lemmas.Bool.{cases_lt}
 use Rattle.std.proofs.lemmas.List.{append-nil, ext_get_or, length-append}
-use Rattle.disk_model.specs.Folder.{FolderView}
+use Rattle.disk_model.specs.Folder.{FolderView, FolderCall}
 use Rattle.disk_model.specs.Sink.{SinkView}
 use Rattle.disk_model.specs.Tree.{Tree, file_of, path_of}
 use Rattle.file_table.specs.Table.{record_at}
@@ -14,6 +14,7 @@ use Rattle.stripe_reader.specs.Starts.{StartsValue, StartsFit, no_start, start_i
 use Rattle.stripe_reader.specs.declared.starts.Start.{Start}
 use Rattle.snap_fix.specs.declared.counts.Counts.{Counts}
 use Rattle.snap_fix.specs.declared.finishing.Finish.{Finish}
+use Rattle.snap_fix.specs.declared.finishing.Finish.TheVariants.{Kept}
 use Rattle.snap_fix.specs.declared.state.FileState.{FileState}
 use Rattle.snap_fix.specs.Counts.{AreCounts}
 use Rattle.snap_fix.specs.Ending.{CanFinishFile, FinishesFile, HoldsEnd, IsDone, StandsEnd, column_news, finish_at, is_finished, news_of, record_news, state_at, states_at}
@@ -21,10 +22,11 @@ use Rattle.snap_fix.specs.EndingSteps.{CanEndColumn, CanEndRecord, EndsColumn, E
 use Rattle.snap_fix.specs.Finishing.{FitsTree, HoldsFinished, IsFinishCall, SameNames, StandsWhole, bytes_now, finish_of}
 use Rattle.snap_fix.specs.Mending.{StatesFit}
 use Rattle.snap_fix.specs.Plan.{FixPlan, entry_at, records_in}
-use Rattle.snap_fix.specs.State.{FolderMakes, OthersStay, no_state, record_path, state_in}
+use Rattle.snap_fix.specs.State.{AnyCall, WellCall, FolderMakes, OthersStay, no_state, record_path, state_in}
 use Rattle.snap_fix.proofs.EndingFilesLemmas.{fits_stays, free_stays, holds_on, holds_since, names_stay, whole_on, whole_since}
 use Rattle.snap_fix.proofs.EndingTellLemmas.{events_after, events_split, finish_before, finish_last, records_before}
-use Rattle.snap_fix.proofs.FolderCallLemmas.{makes_none, makes_then, makes_wider}
+use Rattle.snap_fix.proofs.EndingWantedLemmas.{all_wanted, first_news, wanted_from}
+use Rattle.snap_fix.proofs.FolderCallLemmas.{makes_any_wider, makes_none, makes_then, makes_well_wider}
 use Rattle.snap_fix.proofs.GoesOnLemmas.{breaks_then}
 use Rattle.snap_fix.proofs.RecordPathsLemmas.{ArePaths, names_distinct}
 use Rattle.snap_fix.proofs.TellingLemmas.{Joins, Tells, events_to, tells_as, tells_more, tells_nothing, told_as}
@@ -49,7 +51,7 @@ module _ (plan : FixPlan) (d : ℕ) (first : StartsValue) (firsts : List (List F
     pub other_states : (k : ℕ) → k < length plan.table.columns → k ≢ d → states_at states k ≡ states_at firsts k
     pub later_starts : (i : ℕ) → n ≤ i → start_in (starts_at starts.columns d) i ≡ start_in starts_of i
     pub later_states : (i : ℕ) → n ≤ i → state_in states d i ≡ state_at states_of i
-    pub makes : FolderMakes (FinishesFile plan d starts_of states_of) folder now
+    pub makes : FolderMakes (WellCall (FinishesFile plan d starts_of states_of)) folder now
     pub is : (i : ℕ) → i < n → is_finished plan d i ≡ true → IsDone plan d starts_of states_of folder i (finish_at done i)
     pub holds : IsTrue folder.tells → (i : ℕ) → i < n → is_finished plan d i ≡ true
         → HoldsEnd plan d starts_of states_of folder.keeps_stamps i (finish_at done i) folder.tree now.tree
@@ -76,7 +78,7 @@ module _ (plan : FixPlan) (d : ℕ) (first : StartsValue) (firsts : List (List F
     other_states = λ k below other. refl;
     later_starts = λ i from. refl;
     later_states = λ i from. refl;
-    makes = makes_none (FinishesFile plan d starts_of states_of) folder;
+    makes = makes_none (WellCall (FinishesFile plan d starts_of states_of)) folder;
     is = λ i below finished. absurd (omega (arith, below));
     holds = λ told i below finished. absurd (omega (arith, below));
     whole = λ told i below finished lost. absurd (omega (arith, below));
@@ -105,7 +107,7 @@ module _ (plan : FixPlan) (d : ℕ) (first : StartsValue) (firsts : List (List F
       rec = within;
       starts_fit = so_far.starts_fit;
       states_fit = so_far.states_fit;
-      is_open = so_far.makes.goes_on.closed ∙ can.can.is_open;
+      is_open = so_far.makes.goes_on.closed ∙ can.can.is_open (omega (arith, within));
       can = λ told finished.
           let it = so_far.can (sym so_far.makes.goes_on.tells ∙ told) n (omega arith) within finished in
           record {
@@ -116,23 +118,41 @@ module _ (plan : FixPlan) (d : ℕ) (first : StartsValue) (firsts : List (List F
     }
 
     -- its calls are such calls
-    calls_next : {new : FolderView} → FolderMakes (FinishesThis plan d n (starts_at starts.columns d) (states_at states d)) mid new → FolderMakes (FinishesFile plan d starts_of states_of) mid new
-    calls_next makes = makes_wider (FinishesThis plan d n (starts_at starts.columns d) (states_at states d)) (FinishesFile plan d starts_of states_of)
-        (λ call is. record {
-          i = n;
-          within = within;
-          finished = is.0;
-          is = subst (λ (s : Start). IsFinishCall (state_at states_of n).lost s.place (path_at n) (record_at plan.table.columns d n).meta call) same_start
-              (subst (λ (s : FileState). IsFinishCall s.lost (start_in (starts_at starts.columns d) n).place (path_at n) (record_at plan.table.columns d n).meta call) same_state is.1);
-        }) makes
+    abbrev This : FolderCall → Type 0
+    This = FinishesThis plan d n (starts_at starts.columns d) (states_at states d)
+
+    abbrev Some : FolderCall → Type 0
+    Some = FinishesFile plan d starts_of states_of
+
+    call_next : (call : FolderCall) → This call → Some call
+    call_next call is = record {
+      i = n;
+      within = within;
+      finished = is.0;
+      is = subst (λ (s : Start). IsFinishCall (state_at states_of n).lost (entry_at plan d n).listed s (state_at states_of n) (path_at n) (record_at plan.table.columns d n).meta call) same_start
+          (subst (λ (s : FileState). IsFinishCall s.lost (entry_at plan d n).listed (start_in (starts_at starts.columns d) n) s (path_at n) (record_at plan.table.columns d n).meta call) same_state is.1);
+    }
+
+    calls_next : {new : FolderView} → FolderMakes (WellCall This) mid new → FolderMakes (WellCall Some) mid new
+    calls_next makes = makes_well_wider This Some call_next makes
+
+    any_next : {new : FolderView} → FolderMakes (AnyCall This) mid new → FolderMakes (AnyCall Some) mid new
+    any_next makes = makes_any_wider This Some call_next makes
 
     -- what was done to it is by its first start and state, in the folder as it was
-    done_next : (finish : Finish) → IsDone plan d (starts_at starts.columns d) (states_at states d) mid n finish → IsDone plan d starts_of states_of folder n finish
-    done_next finish (inl is) = inl (is
-        ∙ ap (λ (s : Start). finish_of (record_at plan.table.columns d n).meta (entry_at plan d n).listed s (state_in states d n) mid.keeps_stamps) same_start
+    abbrev finish_next : List Start → List FileState → Bool → Finish
+    finish_next of in_state keeps = finish_of (record_at plan.table.columns d n).meta (entry_at plan d n).listed (start_in of n) (state_at in_state n) keeps
+
+    same_next : finish_next (starts_at starts.columns d) (states_at states d) mid.keeps_stamps ≡ finish_next starts_of states_of folder.keeps_stamps
+    same_next =
+        ap (λ (s : Start). finish_of (record_at plan.table.columns d n).meta (entry_at plan d n).listed s (state_in states d n) mid.keeps_stamps) same_start
         ∙ ap (λ (s : FileState). finish_of (record_at plan.table.columns d n).meta (entry_at plan d n).listed (start_in starts_of n) s mid.keeps_stamps) same_state
-        ∙ ap (λ (keeps : Bool). finish_of (record_at plan.table.columns d n).meta (entry_at plan d n).listed (start_in starts_of n) (state_at states_of n) keeps) so_far.makes.goes_on.keeps_stamps)
-    done_next finish (inr (gone, untold)) = inr (gone, sym so_far.makes.goes_on.tells ∙ untold)
+        ∙ ap (finish_next starts_of states_of) so_far.makes.goes_on.keeps_stamps
+
+    done_next : (finish : Finish) → IsDone plan d (starts_at starts.columns d) (states_at states d) mid n finish → IsDone plan d starts_of states_of folder n finish
+    done_next finish (inl is) = inl (is ∙ same_next)
+    done_next finish (inr (gone, untold, some)) =
+        inr (gone, sym so_far.makes.goes_on.tells ∙ untold, λ (kept : finish_next starts_of states_of folder.keeps_stamps ≡ Kept). some (same_next ∙ kept))
 
     module _ (are : ArePaths (records_in plan.table d)) (told : IsTrue folder.tells) where
       -- its names were not touched before
@@ -234,7 +254,7 @@ module _ (plan : FixPlan) (d : ℕ) (first : StartsValue) (firsts : List (List F
             (λ j near. one.other_states k j (inl other)) ∙ so_far.other_states k below other;
         later_starts = λ i from. one.other_starts d i (inr (λ same. omega (arith, same, from))) ∙ so_far.later_starts i (omega (arith, from));
         later_states = λ i from. one.other_states d i (inr (λ same. omega (arith, same, from))) ∙ so_far.later_states i (omega (arith, from));
-        makes = makes_then (FinishesFile plan d starts_of states_of) so_far.makes (calls_next one.makes);
+        makes = makes_then (WellCall (FinishesFile plan d starts_of states_of)) so_far.makes (calls_next one.makes);
         is = is_all;
         holds = holds_all;
         whole = whole_all;
@@ -272,18 +292,22 @@ module _ (plan : FixPlan) (d : ℕ) (first : StartsValue) (firsts : List (List F
         → EndsNotColumn view standing stands plan d (column_outside first firsts folder lines_old reports_old) (column_outside starts_new states_new new lines_new reports_new)
     ended_not view standing stands starts_new states_new new lines_old lines lines_new reports_old reports reports_new so_counts before broke =
         let P = FinishesFile plan d starts_of states_of in
-        let all = breaks_then P folder mid new so_far.makes (record { rose = broke.rose; call = broke.call; makes = calls_next broke.makes }) in
-        let news = events_to (record_news plan d so_far.done) n in
+        let all = breaks_then P folder mid new so_far.makes (record { rose = broke.rose; call = broke.call; makes = any_next broke.makes }) in
+        let done = so_far.done ++ wanted_from plan d starts_of states_of folder n in
+        let news = events_to (record_news plan d done) n in
+        let before_too = tells_as view standing stands plan.table.columns news (events_to (record_news plan d so_far.done) n) so_counts lines_old lines reports_old reports
+        (first_news plan d starts_of states_of folder so_far.done n so_far.long) before in
         record {
           rose = all.rose;
           call = all.call;
           makes = all.makes;
-          done = so_far.done;
+          done = done;
+          is = all_wanted plan d starts_of states_of folder so_far.done n so_far.long so_far.is;
           first = news;
-          rest = events_after (record_news plan d so_far.done) n (length (records_in plan.table d));
-          events = events_split (record_news plan d so_far.done) n (length (records_in plan.table d)) within;
+          rest = events_after (record_news plan d done) n (length (records_in plan.table d));
+          events = events_split (record_news plan d done) n (length (records_in plan.table d)) within;
           told = told_as view standing stands plan.table.columns news (news ++ []) lines_old lines_new reports_old reports_new (sym (append-nil news))
-              (told_then view standing stands plan.table.columns news [] lines_old lines lines_new reports_old reports reports_new before.told broke.told);
+              (told_then view standing stands plan.table.columns news [] lines_old lines lines_new reports_old reports reports_new before_too.told broke.told);
         }
 
   -- all were

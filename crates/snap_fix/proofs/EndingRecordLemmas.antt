@@ -1,6 +1,6 @@
 -- The file of one record at the end of a fix: it can be finished, and what was done to it, and told.
-use Rattle.std.proofs.Common.{◌≡◌, ◌⊎◌, ℕ, List, [], Bool, true, false, Option, IsTrue, if◌then◌else◌, refl, sym, ap, ◌∙◌, subst}
-use Rattle.disk_model.specs.Folder.{FolderView}
+use Rattle.std.proofs.Common.{◌≡◌, ◌≢◌, ◌⊎◌, ℕ, List, [], Bool, true, false, Option, IsTrue, if◌then◌else◌, refl, sym, ap, ◌∙◌, subst}
+use Rattle.disk_model.specs.Folder.{FolderView, FolderCall}
 use Rattle.disk_model.specs.Sink.{SinkView}
 use Rattle.disk_model.specs.Tree.{IsTree}
 use Rattle.disk_model.specs.declared.meta.Meta.{Meta}
@@ -16,15 +16,24 @@ use Rattle.snap_fix.specs.declared.finishing.Finish.{Finish}
 use Rattle.snap_fix.specs.declared.finishing.Finish.TheVariants.{Kept, Gone}
 use Rattle.snap_fix.specs.declared.state.FileState.{FileState}
 use Rattle.snap_fix.specs.Counts.{AreCounts}
-use Rattle.snap_fix.specs.Ending.{IsCallOf, finish_news, is_finished, news_of, states_at}
+use Rattle.snap_fix.specs.Ending.{finish_news, is_finished, news_of, states_at}
 use Rattle.snap_fix.specs.EndingSteps.{CanEndRecord, EndsNotRecord, EndsRecord, FinishesThis, column_outside}
-use Rattle.snap_fix.specs.Finishing.{CanFinish, FinishesNot, FinishesRecord, FitsTree, finish_of}
+use Rattle.snap_fix.specs.Finishing.{CanFinish, FinishesNot, FinishesRecord, FitsTree, IsFinishCall, finish_of}
 use Rattle.snap_fix.specs.Plan.{FixPlan, entry_at, records_in}
-use Rattle.snap_fix.specs.State.{record_path, state_in}
-use Rattle.snap_fix.proofs.FolderCallLemmas.{makes_none, makes_wider}
+use Rattle.snap_fix.specs.State.{WellCall, record_path, state_in}
+use Rattle.snap_fix.proofs.FolderCallLemmas.{makes_any_wider, makes_none, makes_well_wider}
 use Rattle.snap_fix.proofs.TellingLemmas.{told_as}
 
 module _ (plan : FixPlan) (d i : ℕ) (starts : StartsValue) (states : List (List FileState)) (folder : FolderView) where
+  abbrev pub CallBy : Option Meta → FolderCall → Type 0
+  CallBy listed call = IsFinishCall (state_in states d i).lost listed (start_in (starts_at starts.columns d) i) (state_in states d i)
+      (record_path (records_in plan.table d) i) (record_at plan.table.columns d i).meta call
+
+  -- its calls are those of a record that is finished
+  call_of : (listed : Option Meta) → is_finished plan d i ≡ true → listed ≡ (entry_at plan d i).listed → (call : FolderCall) → CallBy listed call
+      → FinishesThis plan d i (starts_at starts.columns d) (states_at states d) call
+  call_of listed finished same call is = (finished, subst (λ (l : Option Meta). CallBy l call) same is)
+
   -- it can be finished, where it is to be
   pub can_finish : (listed : Option Meta) → is_finished plan d i ≡ true → listed ≡ (entry_at plan d i).listed → (IsTrue folder.tells → IsTree folder.tree)
       → CanEndRecord plan d i starts states folder → CanFinish plan.table d i listed starts states folder
@@ -55,12 +64,12 @@ module _ (plan : FixPlan) (d i : ℕ) (starts : StartsValue) (states : List (Lis
       states_fit = does.states_fit;
       other_starts = does.other_starts;
       other_states = does.other_states;
-      makes = makes_wider (IsCallOf plan d (starts_at starts.columns d) (states_at states d) i) (FinishesThis plan d i (starts_at starts.columns d) (states_at states d))
-          (λ call is. (finished, is)) does.makes;
+      makes = makes_well_wider (CallBy listed) (FinishesThis plan d i (starts_at starts.columns d) (states_at states d)) (call_of listed finished same) does.makes;
       is = λ is.
           subst (λ (l : Option Meta).
           (finish ≡ finish_of (record_at plan.table.columns d i).meta l (start_in (starts_at starts.columns d) i) (state_in states d i) folder.keeps_stamps)
-          ⊎ ((finish ≡ Gone) × (folder.tells ≡ false))) same does.is;
+          ⊎ ((finish ≡ Gone) × (folder.tells ≡ false)
+          × (finish_of (record_at plan.table.columns d i).meta l (start_in (starts_at starts.columns d) i) (state_in states d i) folder.keeps_stamps ≢ Kept))) same does.is;
       holds = λ tells is. does.holds tells;
       whole = λ tells is. does.whole tells;
       others = λ tells name apart. does.others tells name (apart finished);
@@ -80,7 +89,7 @@ module _ (plan : FixPlan) (d i : ℕ) (starts : StartsValue) (states : List (Lis
       states_fit = can.states_fit;
       other_starts = λ k j other. refl;
       other_states = λ k j other. refl;
-      makes = makes_none (FinishesThis plan d i (starts_at starts.columns d) (states_at states d)) folder;
+      makes = makes_none (WellCall (FinishesThis plan d i (starts_at starts.columns d) (states_at states d))) folder;
       is = λ is. absurd (clash is);
       holds = λ tells is. absurd (clash is);
       whole = λ tells is. absurd (clash is);
@@ -96,13 +105,12 @@ module _ (plan : FixPlan) (d i : ℕ) (starts : StartsValue) (states : List (Lis
         news = ap (λ (b : Bool). if b then finish_news d i Kept else []) kept
 
     -- one of its calls failed
-    pub ends_not : (folder_new : FolderView) (starts_new : StartsValue) (states_new : List (List FileState)) → is_finished plan d i ≡ true
-        → FinishesNot plan.table d i starts states folder folder_new
+    pub ends_not : (listed : Option Meta) (folder_new : FolderView) (starts_new : StartsValue) (states_new : List (List FileState)) → is_finished plan d i ≡ true
+        → listed ≡ (entry_at plan d i).listed → FinishesNot plan.table d i listed starts states folder folder_new
         → EndsNotRecord view standing stands plan d i (column_outside starts states folder lines reports) (column_outside starts_new states_new folder_new lines reports)
-    ends_not folder_new starts_new states_new finished broke = record {
+    ends_not listed folder_new starts_new states_new finished same broke = record {
       rose = broke.rose;
       call = broke.call;
-      makes = makes_wider (IsCallOf plan d (starts_at starts.columns d) (states_at states d) i) (FinishesThis plan d i (starts_at starts.columns d) (states_at states d))
-          (λ call is. (finished, is)) broke.makes;
+      makes = makes_any_wider (CallBy listed) (FinishesThis plan d i (starts_at starts.columns d) (states_at states d)) (call_of listed finished same) broke.makes;
       told = told_nothing view standing stands plan.table.columns lines reports;
     }

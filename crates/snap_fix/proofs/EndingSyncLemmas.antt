@@ -8,7 +8,7 @@ use Rattle.disk_model.specs.Ran.{vault_done, log_of}
 use Rattle.disk_model.specs.Vault.{VaultView, VaultCall, VaultDone, ChangesBy, DraftsStay, IsWellFormed, state_of}
 use Rattle.disk_model.proofs.RanLemmas.{ran_none, ran_all_then}
 use Rattle.disk_model.proofs.VaultLemmas.{no_calls, calls_then, changes_start, stays_then}
-use Rattle.snap_report.specs.Answer.{broke_vault}
+use Rattle.snap_fix.specs.Breaking.{broke_parity}
 use Rattle.snap_fix.specs.Ending.{IsSettled, Syncs, SyncsNot, SyncsWritten, sync_call, sync_if}
 
 -- what holds whichever fault it was
@@ -90,9 +90,9 @@ synced_all written level old new all so_far = record {
 
 -- ---- a call that failed
 
-any_later : (front back : List VaultDone) → IsTrue (list_any broke_vault back) → IsTrue (list_any broke_vault (front ++ back))
+any_later : (front back : List VaultDone) → IsTrue (list_any broke_parity back) → IsTrue (list_any broke_parity (front ++ back))
 any_later [] back one = one
-any_later (done ∷ front) back one = or_right (broke_vault done) (list_any broke_vault (front ++ back)) (any_later front back one)
+any_later (done ∷ front) back one = or_right (broke_parity done) (list_any broke_parity (front ++ back)) (any_later front back one)
   where
     or_right : (a b : Bool) → IsTrue b → IsTrue (a || b)
     or_right true b is = cc

@@ -1,5 +1,5 @@
 -- The facts of a stripe that was examined, and its events.
-use Rattle.std.proofs.Common.{◌≡◌, Vec, Global, ℕ, ◌<◌, ◌≤◌, List, ◌++◌, length, take, Bool, true, false, Option, None, Some, refl, sym, ap, ◌∙◌, subst, append_assoc}
+use Rattle.std.proofs.Common.{◌≡◌, Vec, Global, ℕ, ◌<◌, ◌≤◌, List, [], ◌∷◌, ◌++◌, length, take, Bool, true, false, Option, None, Some, refl, sym, ap, ◌∙◌, subst, append_assoc}
 use Rattle.std.specs.Prelude.{is_some, slice_index_or}
 use Rattle.std.specs.Vec.{with_items}
 use Rattle.std.proofs.lemmas.List.{length-map, with_items_is}
@@ -15,6 +15,8 @@ use Rattle.snap_fix.specs.declared.marking.CellMark.TheVariants.{Right, Given, M
 use Rattle.file_table.specs.Cells.{CellView}
 use Rattle.file_table.specs.declared.shape.Shape.{Shape}
 use Rattle.snap_fix.specs.declared.room.Room.{Room}
+use Rattle.snap_fix.specs.AskedCell.{AsksMarked}
+use Rattle.snap_fix.specs.Asking.{AsksSpare}
 use Rattle.snap_fix.specs.Examining.{Examines, facts_examined}
 use Rattle.snap_fix.specs.Facts.{StripeFacts, is_missing, row_before, wanted_in}
 use Rattle.snap_fix.specs.Findings.{unsynced_events, all_cell_events, all_level_io_events, all_level_events, all_lost_events, lost_events, stripe_events}
@@ -23,8 +25,10 @@ use Rattle.snap_fix.specs.Known.{IsKnown, IsTried, AreFacts}
 use Rattle.snap_fix.specs.Marks.{ChangesStripe, MarksCells, CanExamine, wanted_marked, mark_in, is_marked_missing, slots_at, levels_read, row_if, IsMarked}
 use Rattle.snap_fix.specs.Plan.{FixPlan, is_searched, seen_at}
 use Rattle.snap_fix.specs.Room.{IsRoomFor}
+use Rattle.snap_fix.specs.Spare.{SpareView}
 use Rattle.snap_fix.specs.Trying.{Tries, EndsTried, tried_events}
 use Rattle.snap_fix.specs.Underway.{ShowsFacts}
+use Rattle.snap_fix.proofs.AskingLemmas.{asks_as_marked}
 use Rattle.snap_fix.proofs.ShownLemmas.{shows_as_marked}
 use Rattle.snap_fix.proofs.CellFactsLemmas.{missing_as_marked, given_as_marked, wanted_as_marked, row_as_marked, no_gifts, flat_map_below}
 
@@ -142,6 +146,12 @@ module _ (plan : FixPlan) (stripe i : ℕ) (before mid after : Room) (known : Bo
     room = tries.room;
     count = tries.count;
   }
+
+  -- the spare was asked for its damaged cells
+  pub asks : (old new : SpareView) → AsksMarked plan stripe i before.window marks old new → AsksSpare plan (facts ∷ []) old new
+  asks old new asked =
+      asks_as_marked plan stripe i before.window mid.window after.window after.marks.items (levels_read (is_searched plan stripe) after.levels) known marked_cells stays old new
+      (subst (λ (all : List CellMark). AsksMarked plan stripe i before.window all old new) (sym marks_are) asked)
 
   -- ---- its events
   lost_as_marked : all_lost_events plan stripe (is_missing plan facts) (is_some facts.row)

@@ -1,38 +1,45 @@
 -- How the calls of a finish break off.
 use Rattle.std.proofs.Common.{◌≡◌, ◌≢◌, List, ℕ, Bool, true, false, None, IsTrue, Result, Ok, Err, IfOk, IfErr, cond, refl, sym, ◌∙◌, ap}
-use Rattle.disk_model.specs.Folder.{FolderView, FolderCall, MissingExactly, file_failed}
+use Rattle.disk_model.specs.Folder.{FolderView, FolderCall, IsFolder, MissingExactly, file_failed}
 use Rattle.disk_model.specs.Tree.{file_of}
 use Rattle.disk_model.specs.Writing.{IsFolderWrite}
 use Rattle.disk_model.specs.declared.fault.FileFault.{FileFault}
 use Rattle.disk_model.specs.declared.fault.FileFault.TheVariants.{Missing, Failed}
 use Rattle.snap_report.specs.Answer.{is_reading}
 use Rattle.snap_fix.specs.FinishSteps.{BreaksBy}
-use Rattle.snap_fix.specs.State.{FolderMakes}
-use Rattle.snap_fix.proofs.FolderCallLemmas.{makes_one, makes_then, makes_wider}
+use Rattle.snap_fix.specs.State.{WellCall, FolderMakes}
+use Rattle.snap_fix.proofs.FolderCallLemmas.{makes_any_wider, makes_then, makes_well_wider, makes_well_write}
 use Rattle.snap_fix.proofs.GoesOnLemmas.{breaks_off, breaks_then as fails_then}
 
 -- after calls that went well
-pub breaks_then : (fault : FileFault) (P : FolderCall → Type 0) (old mid new : FolderView) → FolderMakes P old mid → BreaksBy fault P mid new → BreaksBy fault P old new
+pub breaks_then : (fault : FileFault) (P : FolderCall → Type 0) (old mid new : FolderView) → FolderMakes (WellCall P) old mid → BreaksBy fault P mid new → BreaksBy fault P old new
 breaks_then Failed P old mid new one two = fails_then P old mid new one two
-breaks_then Missing P old mid new one two = record { untold = sym one.goes_on.tells ∙ two.untold; makes = makes_then P one two.makes }
+breaks_then Missing P old mid new one two = record { untold = sym one.goes_on.tells ∙ two.untold; makes = makes_then (WellCall P) one two.makes; last = two.last }
 
 -- the same calls are of a wider kind
 pub breaks_wider : (fault : FileFault) (P Q : FolderCall → Type 0) (old new : FolderView) → ((call : FolderCall) → P call → Q call) → BreaksBy fault P old new → BreaksBy fault Q old new
-breaks_wider Failed P Q old new wider breaks = record { rose = breaks.rose; call = breaks.call; makes = makes_wider P Q wider breaks.makes }
-breaks_wider Missing P Q old new wider breaks = record { untold = breaks.untold; makes = makes_wider P Q wider breaks.makes }
+breaks_wider Failed P Q old new wider breaks = record { rose = breaks.rose; call = breaks.call; makes = makes_any_wider P Q wider breaks.makes }
+breaks_wider Missing P Q old new wider breaks = record {
+  untold = breaks.untold;
+  makes = makes_well_wider P Q wider breaks.makes;
+  last = (breaks.last.0, wider breaks.last.0 breaks.last.1);
+}
 
 not_told : (tells : Bool) → ¬ (IsTrue tells) → tells ≡ false
 not_told true none = absurd (none refl)
 not_told false none = refl
 
 -- one call on a file that stands failed, or did not find it
-pub breaks_one : {T : Type 0} (result : Result T FileFault) (P : FolderCall → Type 0) (call : FolderCall) (path : List ℕ) (old new : FolderView)
+pub breaks_one : {T : Type 0} (result : Result T FileFault) (P : FolderCall → Type 0) (call : FolderCall) (path : List ℕ) (old new : FolderView) → IsFolder new
     → IsFolderWrite call (file_failed result) old new → MissingExactly result old path → (IsTrue old.tells → file_of old.tree path ≢ None)
     → is_reading call ≡ false → P call → IfErr result (λ fault. BreaksBy fault P old new)
-breaks_one (Ok _) P call path old new wrote missing there writes is = tt
-breaks_one (Err Failed) P call path old new wrote missing there writes is = breaks_off P call old new is (ap (λ (reads : Bool). cond reads false true) writes) wrote.called
-breaks_one (Err Missing) P call path old new wrote missing there writes is =
-    record { untold = not_told old.tells (λ told. there told (missing told)); makes = makes_one P wrote.called is }
+breaks_one (Ok _) P call path old new formed wrote missing there writes is = tt
+breaks_one (Err Failed) P call path old new formed wrote missing there writes is = breaks_off P call old new is (ap (λ (reads : Bool). cond reads false true) writes) formed wrote
+breaks_one (Err Missing) P call path old new formed wrote missing there writes is = record {
+  untold = not_told old.tells (λ told. there told (missing told));
+  makes = makes_well_write P formed wrote is;
+  last = (call, is);
+}
 
 -- a call that did not fail does its work
 pub when_ok : {T : Type 0} (result : Result T FileFault) (P : Type 0) → (file_failed result ≡ false → P) → IfOk result (λ _. P)

@@ -1,20 +1,60 @@
 -- The file of a record of a table: it can be finished, and what was done to it.
-use Rattle.std.proofs.Common.{◌≡◌, inl, inr, ℕ, List, true, false, Option, IsTrue, refl, sym, ◌∙◌, subst}
-use Rattle.disk_model.specs.Folder.{FolderView}
+use Rattle.std.proofs.Common.{◌≡◌, ◌≢◌, ◌⊎◌, inl, inr, ℕ, ◌==◌, List, Bool, true, false, not, ◌||◌, cond, Option, IsTrue, refl, sym, ◌∙◌, ap, subst}
+use Rattle.disk_model.specs.Folder.{FolderView, FolderCall}
 use Rattle.disk_model.specs.declared.fault.FileFault.{FileFault}
 use Rattle.disk_model.specs.declared.fault.FileFault.TheVariants.{Missing, Failed}
 use Rattle.disk_model.specs.declared.meta.Meta.{Meta}
 use Rattle.file_table.specs.Table.{TableValue, record_at, no_column, no_record}
 use Rattle.file_table.specs.Valid.{IsRecord, IsValid}
 use Rattle.stripe_reader.specs.Starts.{StartsValue, starts_at, start_in}
+use Rattle.stripe_reader.specs.declared.starts.Place.{Place}
 use Rattle.stripe_reader.specs.declared.starts.Start.{Start}
 use Rattle.snap_fix.specs.declared.finishing.Finish.{Finish}
-use Rattle.snap_fix.specs.declared.finishing.Finish.TheVariants.{Gone}
+use Rattle.snap_fix.specs.declared.finishing.Finish.TheVariants.{Kept, Renamed, Gone}
 use Rattle.snap_fix.specs.declared.state.FileState.{FileState}
-use Rattle.snap_fix.specs.Finishing.{CanFinish, FinishesNot, FinishesRecord, IsFinishCall, finish_of}
+use Rattle.snap_fix.specs.Finishing.{CanFinish, FinishesNot, FinishesRecord, IsFinishCall, IsWholeCall, finish_of, is_changed, is_stamped, lost_finish, same_stamp, stamped_finish, whole_finish}
 use Rattle.snap_fix.specs.FinishSteps.{BreaksBy, FinishesBy, IsReady}
-use Rattle.snap_fix.specs.State.{FolderMakes, state_in}
+use Rattle.snap_fix.specs.State.{WellCall, AnyCall, FolderMakes, stands, state_in}
 use Rattle.snap_fix.proofs.FinishWholeLemmas.{stands_whole}
+
+-- ---- where a call is due, the file is not kept as it is
+
+stamped_some : (changed keeps : Bool) → stamped_finish changed keeps ≢ Kept
+stamped_some true keeps is = cc
+stamped_some false true is = cc
+stamped_some false false is = cc
+
+changed_by : (touched standing same : Bool) → (standing ≡ false) ⊎ (same ≡ false) → (touched || not standing || not same) ≡ true
+changed_by true standing same by = refl
+changed_by false false same by = refl
+changed_by false true false by = refl
+changed_by false true true (inl is) = absurd cc
+changed_by false true true (inr is) = absurd cc
+
+or_true : (a b : Bool) → a ≡ true → (a || b) ≡ true
+or_true true b is = refl
+or_true false b is = absurd cc
+
+module _ (path : List ℕ) (listed : Option Meta) (meta : Meta) (start : Start) (state : FileState) where
+  due_by : (stands start.place state.touched ≡ false) ⊎ ((state.size == meta.size) ≡ false) → is_stamped meta listed start state ≡ true
+  due_by by = or_true (is_changed meta start state) (not (same_stamp meta.stamp listed)) (changed_by state.touched (stands start.place state.touched) (state.size == meta.size) by)
+
+  whole_due : (call : FolderCall) → IsWholeCall listed start state path meta call → is_stamped meta listed start state ≡ true
+  whole_due call (inl back) = due_by (inl (ap (λ (place : Place). stands place state.touched) back.0))
+  whole_due call (inr (inl made)) = due_by (inl made.0)
+  whole_due call (inr (inr (inl sized))) = due_by (inr sized.0)
+  whole_due call (inr (inr (inr stamped))) = stamped.0
+
+  some_done : (keeps lost : Bool) (call : FolderCall) → IsFinishCall lost listed start state path meta call
+      → cond lost (lost_finish start state) (whole_finish meta listed start state keeps) ≢ Kept
+  some_done keeps true call due kept = let clash : Renamed ≡ Kept = sym (ap (λ (b : Bool). cond b Renamed Kept) due.0) ∙ kept in cc
+  some_done keeps false call due kept = stamped_some (is_changed meta start state) keeps
+      (sym (ap (λ (b : Bool). cond b (stamped_finish (is_changed meta start state) keeps) Kept) (whole_due call due)) ∙ kept)
+
+  not_kept : (keeps : Bool) (call : FolderCall) → IsFinishCall state.lost listed start state path meta call → finish_of meta listed start state keeps ≢ Kept
+  not_kept keeps call due = some_done keeps state.lost call due
+
+-- ---- of a table
 
 -- this is the path of a record, its meta, its start and its state
 pub record AreOf (table : TableValue) (d i : ℕ) (starts : StartsValue) (states : List (List FileState))
@@ -69,16 +109,16 @@ module _ (table : TableValue) (d i : ℕ) (listed : Option Meta) (starts : Start
     pub is_ready : IsValid table → IsReady path listed meta start state folder
     is_ready valid = here (λ p m s t. IsReady p listed m s t folder) (ready_there valid)
 
-    makes_there : (new : FolderView) → FolderMakes (IsFinishCall state.lost start.place path meta) folder new
-        → FolderMakes (IsFinishCall state_there.lost start_there.place path_there meta_there) folder new
-    makes_there new makes = there (λ p m s t. FolderMakes (IsFinishCall t.lost s.place p m) folder new) makes
+    makes_there : (new : FolderView) → FolderMakes (WellCall (IsFinishCall state.lost listed start state path meta)) folder new
+        → FolderMakes (WellCall (IsFinishCall state_there.lost listed start_there state_there path_there meta_there)) folder new
+    makes_there new makes = there (λ p m s t. FolderMakes (WellCall (IsFinishCall t.lost listed s t p m)) folder new) makes
 
     -- it was finished
     pub is_finished : (finish : Finish) (new : FolderView)
-        → FinishesBy (finish_of meta listed start state folder.keeps_stamps) finish (IsFinishCall state.lost start.place path meta) meta start state path folder new
+        → FinishesBy (finish_of meta listed start state folder.keeps_stamps) finish (IsFinishCall state.lost listed start state path meta) meta start state path folder new
         → FinishesRecord table d i listed finish starts states folder starts states new
     is_finished finish new by =
-        let it = there (λ p m s t. FinishesBy (finish_of m listed s t folder.keeps_stamps) finish (IsFinishCall t.lost s.place p m) m s t p folder new) by in
+        let it = there (λ p m s t. FinishesBy (finish_of m listed s t folder.keeps_stamps) finish (IsFinishCall t.lost listed s t p m) m s t p folder new) by in
         record {
           is = inl it.is;
           starts_fit = can.starts_fit;
@@ -92,13 +132,13 @@ module _ (table : TableValue) (d i : ℕ) (listed : Option Meta) (starts : Start
         }
 
     -- it was gone
-    pub is_gone : (fault : FileFault) (new : FolderView) → fault ≡ Missing → BreaksBy fault (IsFinishCall state.lost start.place path meta) folder new
+    pub is_gone : (fault : FileFault) (new : FolderView) → fault ≡ Missing → BreaksBy fault (IsFinishCall state.lost listed start state path meta) folder new
         → FinishesRecord table d i listed Gone starts states folder starts states new
     is_gone fault new missing broke =
-        let finds = subst (λ (f : FileFault). BreaksBy f (IsFinishCall state.lost start.place path meta) folder new) missing broke in
+        let finds = subst (λ (f : FileFault). BreaksBy f (IsFinishCall state.lost listed start state path meta) folder new) missing broke in
         let not_told : IsTrue folder.tells → ⊥ = λ told. let clash : true ≡ false = sym told ∙ finds.untold in cc in
         record {
-          is = inr (refl, finds.untold);
+          is = inr (refl, finds.untold, there (λ p m s t. finish_of m listed s t folder.keeps_stamps ≢ Kept) (not_kept path listed meta start state folder.keeps_stamps finds.last.0 finds.last.1));
           starts_fit = can.starts_fit;
           states_fit = can.states_fit;
           other_starts = λ k j other. refl;
@@ -110,8 +150,8 @@ module _ (table : TableValue) (d i : ℕ) (listed : Option Meta) (starts : Start
         }
 
     -- a call of it failed
-    pub is_failed : (fault : FileFault) (new : FolderView) → fault ≡ Failed → BreaksBy fault (IsFinishCall state.lost start.place path meta) folder new
-        → FinishesNot table d i starts states folder new
+    pub is_failed : (fault : FileFault) (new : FolderView) → fault ≡ Failed → BreaksBy fault (IsFinishCall state.lost listed start state path meta) folder new
+        → FinishesNot table d i listed starts states folder new
     is_failed fault new failed broke =
-        let fails = subst (λ (f : FileFault). BreaksBy f (IsFinishCall state.lost start.place path meta) folder new) failed broke in
-        record { rose = fails.rose; call = fails.call; makes = makes_there new fails.makes }
+        let fails = subst (λ (f : FileFault). BreaksBy f (IsFinishCall state.lost listed start state path meta) folder new) failed broke in
+        record { rose = fails.rose; call = fails.call; makes = there (λ p m s t. FolderMakes (AnyCall (IsFinishCall t.lost listed s t p m)) folder new) fails.makes }

@@ -1,7 +1,7 @@
 -- What each step of a finish does to its folder: by its calls, and by what they make of the files.
 use Rattle.std.proofs.Common.{◌≡◌, ◌≢◌, ◌⊎◌, inl, inr, ℕ, ◌==◌, List, Bool, true, false, not, ◌||◌, cond, Option, None, Result, IfOk, IfErr, Err, IsTrue, refl, sym, ◌∙◌, ap, ap₂, subst}
 use Rattle.disk_model.specs.Bytes.{resized}
-use Rattle.disk_model.specs.Folder.{FolderView, FolderCall, Make, Rename, SetSize, SetStamp, MissingExactly, file_failed}
+use Rattle.disk_model.specs.Folder.{FolderView, FolderCall, IsFolder, Make, Rename, SetSize, SetStamp, MissingExactly, file_failed}
 use Rattle.disk_model.specs.Tree.{Tree, file_of, path_of}
 use Rattle.disk_model.specs.Writing.{IsFolderWrite, Does}
 use Rattle.disk_model.specs.declared.fault.FileFault.{FileFault}
@@ -14,31 +14,35 @@ use Rattle.stripe_reader.specs.declared.starts.Place.TheVariants.{Plain, Lost, N
 use Rattle.snap_fix.specs.declared.finishing.Finish.{Finish}
 use Rattle.snap_fix.specs.declared.finishing.Finish.TheVariants.{Kept, Renamed}
 use Rattle.snap_fix.specs.declared.state.FileState.{FileState}
-use Rattle.snap_fix.specs.Finishing.{HoldsFinished, IsFinishCall, IsWholeCall, bytes_now, finish_of, is_changed, lost_after, lost_finish, same_stamp, stamped_finish, whole_finish}
-use Rattle.snap_fix.specs.FinishSteps.{BreaksBy, FinishesBy, FitsSize, IsPlaced, IsReady, SetsUp, SizesBy, Stands}
-use Rattle.snap_fix.specs.Mending.{IsSetUpCall}
-use Rattle.snap_fix.specs.State.{FolderMakes, stands}
+use Rattle.snap_fix.specs.Finishing.{HoldsFinished, IsFinishCall, IsWholeCall, bytes_now, finish_of, is_changed, is_stamped, lost_after, lost_finish, same_stamp, stamped_finish, whole_finish}
+use Rattle.snap_fix.specs.FinishSteps.{BreaksBy, FinishesBy, FitsSize, IsLostCall, IsPlaced, IsPutCall, IsReady, IsSizeCall, SetsUp, SizesBy, Stands}
+use Rattle.snap_fix.specs.Mending.{BreaksOff}
+use Rattle.snap_fix.specs.State.{WellCall, FolderMakes, stands}
 use Rattle.snap_fix.proofs.FinishCallsLemmas.{breaks_one, breaks_then, breaks_wider, when_ok}
-use Rattle.snap_fix.proofs.FolderCallLemmas.{makes_one, makes_then, makes_wider, others_same}
+use Rattle.snap_fix.proofs.FolderCallLemmas.{makes_then, makes_well_wider, makes_well_write, others_same}
+use Rattle.snap_fix.proofs.GoesOnLemmas.{breaks_off}
 use Rattle.snap_fix.proofs.FinishTreeLemmas.{holds_stamped, same_names, some_is_some, stands_lost, stands_made, stands_moved, stands_sized, stands_stamped}
 
 -- ---- a file is put under its path
 
 -- it is renamed back
-pub sets_up_back : {T : Type 0} (path : List ℕ) (place : Place) (touched : Bool) (result : Result T FileFault) (old new : FolderView) → IsPlaced path place touched old → place ≡ Lost
-    → IsFolderWrite (Rename path false) (file_failed result) old new → IfOk result (λ _. SetsUp path place touched old new)
-sets_up_back path place touched result old new placed lost wrote = when_ok result (SetsUp path place touched old new) (λ well.
+pub sets_up_back : {T : Type 0} (path : List ℕ) (place : Place) (touched : Bool) (result : Result T FileFault) (old new : FolderView) → IsFolder new → IsPlaced path place touched old
+    → place ≡ Lost → IsFolderWrite (Rename path false) (file_failed result) old new → IfOk result (λ _. SetsUp path place touched old new)
+sets_up_back path place touched result old new formed placed lost wrote = when_ok result (SetsUp path place touched old new) (λ well.
     let placed_lost : IsPlaced path Lost touched old = subst (λ (p : Place). IsPlaced path p touched old) lost placed in
+    let made : IsFolderWrite (Rename path false) false old new = subst (λ (failed : Bool). IsFolderWrite (Rename path false) failed old new) well wrote in
     let sets : SetsUp path Lost touched old new = record {
-      makes = makes_one (IsSetUpCall Lost path) wrote.called (inl (refl, refl));
+      makes = makes_well_write (IsPutCall Lost touched path) formed made (refl, inl (refl, refl));
       stays = λ standing. absurd (let clash : false ≡ true = standing in cc);
-      stand = λ told. stands_moved path touched old.tree new.tree (placed_lost.tree told) (wrote.does well told);
+      stand = λ told. stands_moved path touched old.tree new.tree (placed_lost.tree told) (made.does refl told);
     } in subst (λ (p : Place). SetsUp path p touched old new) (sym lost) sets)
 
-pub breaks_back : {T : Type 0} (path : List ℕ) (place : Place) (touched : Bool) (result : Result T FileFault) (old new : FolderView) → IsPlaced path place touched old → place ≡ Lost
-    → IsFolderWrite (Rename path false) (file_failed result) old new → MissingExactly result old (path_of path true) → IfErr result (λ fault. BreaksBy fault (IsSetUpCall place path) old new)
-breaks_back path place touched result old new placed lost wrote missing =
-    breaks_one result (IsSetUpCall place path) (Rename path false) (path_of path true) old new wrote missing (λ told. (placed.tree told).lost lost) refl (inl (lost, refl))
+pub breaks_back : {T : Type 0} (path : List ℕ) (place : Place) (touched : Bool) (result : Result T FileFault) (old new : FolderView) → IsFolder new → IsPlaced path place touched old
+    → place ≡ Lost → IsFolderWrite (Rename path false) (file_failed result) old new → MissingExactly result old (path_of path true)
+    → IfErr result (λ fault. BreaksBy fault (IsPutCall place touched path) old new)
+breaks_back path place touched result old new formed placed lost wrote missing =
+    breaks_one result (IsPutCall place touched path) (Rename path false) (path_of path true) old new formed wrote missing (λ told. (placed.tree told).lost lost) refl
+    (ap (λ (p : Place). stands p touched) lost, inl (lost, refl))
 
 -- it is made
 nowhere : (place : Place) (touched : Bool) → stands place touched ≡ false → (place ≡ Plain) ⊎ (place ≡ Nowhere) → (place ≡ Nowhere) × (touched ≡ false)
@@ -47,43 +51,66 @@ nowhere Nowhere touched absent either = (refl, absent)
 nowhere Lost touched absent (inl is) = absurd (cc)
 nowhere Lost touched absent (inr is) = absurd (cc)
 
-pub sets_up_new : (path : List ℕ) (place : Place) (touched : Bool) (old new : FolderView) → IsPlaced path place touched old → stands place touched ≡ false → (place ≡ Plain) ⊎ (place ≡ Nowhere)
-    → IsFolderWrite (Make path) false old new → SetsUp path place touched old new
-sets_up_new path place touched old new placed absent either wrote =
+pub sets_up_new : (path : List ℕ) (place : Place) (touched : Bool) (old new : FolderView) → IsFolder new → IsPlaced path place touched old → stands place touched ≡ false
+    → (place ≡ Plain) ⊎ (place ≡ Nowhere) → IsFolderWrite (Make path) false old new → SetsUp path place touched old new
+sets_up_new path place touched old new formed placed absent either wrote =
     let is = nowhere place touched absent either in
     let placed_nowhere : IsPlaced path Nowhere touched old = subst (λ (p : Place). IsPlaced path p touched old) is.0 placed in
     let sets : SetsUp path Nowhere touched old new = record {
-      makes = makes_one (IsSetUpCall Nowhere path) wrote.called (inr (refl, refl));
+      makes = makes_well_write (IsPutCall Nowhere touched path) formed wrote (is.1, inr (refl, refl));
       stays = λ standing. absurd (let clash : true ≡ false = sym standing ∙ is.1 in cc);
       stand = λ told. let made = wrote.does refl told in stands_made path touched made.0 old.tree new.tree (placed_nowhere.tree told) is.1 made.1;
     } in subst (λ (p : Place). SetsUp path p touched old new) (sym is.0) sets
 
+pub breaks_new : (path : List ℕ) (place : Place) (touched : Bool) (old new : FolderView) → IsFolder new → stands place touched ≡ false → (place ≡ Plain) ⊎ (place ≡ Nowhere)
+    → IsFolderWrite (Make path) true old new → BreaksOff (IsPutCall place touched path) old new
+breaks_new path place touched old new formed absent either wrote =
+    breaks_off (IsPutCall place touched path) (Make path) old new (absent, inr ((nowhere place touched absent either).0, refl)) refl formed wrote
+
+-- ---- its size is set
+
+pub size_set : {T : Type 0} (path : List ℕ) (before size : ℕ) (result : Result T FileFault) (old new : FolderView) → IsFolder new → (before == size) ≡ false
+    → IsFolderWrite (SetSize path size) (file_failed result) old new → IfOk result (λ _. FitsSize path before size old new)
+size_set path before size result old new formed other wrote = when_ok result (FitsSize path before size old new) (λ well.
+    let made : IsFolderWrite (SetSize path size) false old new = subst (λ (failed : Bool). IsFolderWrite (SetSize path size) failed old new) well wrote in
+    record {
+      makes = makes_well_write (IsSizeCall path before size) formed made (other, refl);
+      tree = λ told. subst (λ (b : Bool). SizesBy b path size old.tree new.tree) (sym other) (made.does refl told);
+    })
+
 -- ---- the calls of a whole file
 
-of_set_up : (place : Place) (path : List ℕ) (meta : Meta) (call : FolderCall) → IsSetUpCall place path call → IsWholeCall place path meta call
-of_set_up place path meta call (inl back) = inl back
-of_set_up place path meta call (inr made) = inr (inl made)
+module _ (path : List ℕ) (listed : Option Meta) (meta : Meta) (start : Start) (state : FileState) where
+  abbrev pub Whole : FolderCall → Type 0
+  Whole = IsWholeCall listed start state path meta
 
-of_size : (place : Place) (path : List ℕ) (meta : Meta) (call : FolderCall) → call ≡ SetSize path meta.size → IsWholeCall place path meta call
-of_size place path meta call is = inr (inr (inl is))
+  abbrev pub Put : FolderCall → Type 0
+  Put = IsPutCall start.place state.touched path
 
--- a file is not put under its path
-pub whole_not_set_up : (fault : FileFault) (path : List ℕ) (meta : Meta) (place : Place) (old new : FolderView) → BreaksBy fault (IsSetUpCall place path) old new
-    → BreaksBy fault (IsWholeCall place path meta) old new
-whole_not_set_up fault path meta place old new broke = breaks_wider fault (IsSetUpCall place path) (IsWholeCall place path meta) old new (of_set_up place path meta) broke
+  abbrev pub Size : FolderCall → Type 0
+  Size = IsSizeCall path state.size meta.size
 
--- its size is not set
-pub whole_not_sized : (fault : FileFault) (path : List ℕ) (meta : Meta) (place : Place) (touched : Bool) (old mid new : FolderView) → SetsUp path place touched old mid
-    → BreaksBy fault (λ call. call ≡ SetSize path meta.size) mid new → BreaksBy fault (IsWholeCall place path meta) old new
-whole_not_sized fault path meta place touched old mid new sets broke =
-    breaks_then fault (IsWholeCall place path meta) old mid new (makes_wider (IsSetUpCall place path) (IsWholeCall place path meta) (of_set_up place path meta) sets.makes)
-    (breaks_wider fault (λ call. call ≡ SetSize path meta.size) (IsWholeCall place path meta) mid new (of_size place path meta) broke)
+  of_put : (call : FolderCall) → Put call → Whole call
+  of_put call (absent, inl back) = inl back
+  of_put call (absent, inr (none, made)) = inr (inl (absent, none, made))
+
+  of_size : (call : FolderCall) → Size call → Whole call
+  of_size call is = inr (inr (inl is))
+
+  -- a file is not put under its path
+  pub whole_not_set_up : (fault : FileFault) (old new : FolderView) → BreaksBy fault Put old new → BreaksBy fault Whole old new
+  whole_not_set_up fault old new broke = breaks_wider fault Put Whole old new of_put broke
+
+  -- its size is not set
+  pub whole_not_sized : (fault : FileFault) (old mid new : FolderView) → SetsUp path start.place state.touched old mid → BreaksBy fault Size mid new → BreaksBy fault Whole old new
+  whole_not_sized fault old mid new sets broke =
+      breaks_then fault Whole old mid new (makes_well_wider Put Whole of_put sets.makes) (breaks_wider fault Size Whole mid new of_size broke)
 
 -- ---- the file stands whole, but for its stamp
 
 -- These calls were made, it stands under its path with its size, and nothing changed where nothing was to be done.
-pub record IsFit (path : List ℕ) (meta : Meta) (start : Start) (state : FileState) (old new : FolderView) : Type 0 where
-  pub makes : FolderMakes (IsWholeCall start.place path meta) old new
+pub record IsFit (path : List ℕ) (listed : Option Meta) (meta : Meta) (start : Start) (state : FileState) (old new : FolderView) : Type 0 where
+  pub makes : FolderMakes (WellCall (IsWholeCall listed start state path meta)) old new
   pub stand : IsTrue old.tells
       → Stands path (resized (bytes_now old.tree path) meta.size) (lost_after start.place (file_of old.tree (path_of path true))) old.tree new.tree
   pub stays : is_changed meta start state ≡ false → IsTrue old.tells → new.tree ≡ old.tree
@@ -99,11 +126,11 @@ size_stays true path size old new is stays = stays
 size_stays false path size old new is changes = absurd (cc)
 
 pub is_fit : (path : List ℕ) (listed : Option Meta) (meta : Meta) (start : Start) (state : FileState) (old mid new : FolderView) → IsReady path listed meta start state old
-    → SetsUp path start.place state.touched old mid → FitsSize path state.size meta.size mid new → IsFit path meta start state old new
+    → SetsUp path start.place state.touched old mid → FitsSize path state.size meta.size mid new → IsFit path listed meta start state old new
 is_fit path listed meta start state old mid new ready sets fits = record {
-  makes = makes_then (IsWholeCall start.place path meta)
-      (makes_wider (IsSetUpCall start.place path) (IsWholeCall start.place path meta) (of_set_up start.place path meta) sets.makes)
-      (makes_wider (λ call. call ≡ SetSize path meta.size) (IsWholeCall start.place path meta) (of_size start.place path meta) fits.makes);
+  makes = makes_then (WellCall (IsWholeCall listed start state path meta))
+      (makes_well_wider (IsPutCall start.place state.touched path) (IsWholeCall listed start state path meta) (of_put path listed meta start state) sets.makes)
+      (makes_well_wider (IsSizeCall path state.size meta.size) (IsWholeCall listed start state path meta) (of_size path listed meta start state) fits.makes);
   stand = λ told.
       stands_sized path (bytes_now old.tree path) (lost_after start.place (file_of old.tree (path_of path true))) meta.size state.size old.tree mid.tree new.tree
       (sets.stand told) (ready.fits told).size (fits.tree (sets.makes.goes_on.tells ∙ told));
@@ -113,16 +140,29 @@ is_fit path listed meta start state old mid new ready sets fits = record {
 }
 
 -- a file stands there whose stamp can be set
-fit_there : (path : List ℕ) (meta : Meta) (start : Start) (state : FileState) (old new : FolderView) → IsFit path meta start state old new → IsTrue new.tells → file_of new.tree path ≢ None
-fit_there path meta start state old new fit told = some_is_some (ap (file_of new.tree) (sym (own_name path)) ∙ (fit.stand (sym fit.makes.goes_on.tells ∙ told)).there)
+fit_there : (path : List ℕ) (listed : Option Meta) (meta : Meta) (start : Start) (state : FileState) (old new : FolderView) → IsFit path listed meta start state old new → IsTrue new.tells
+    → file_of new.tree path ≢ None
+fit_there path listed meta start state old new fit told = some_is_some (ap (file_of new.tree) (sym (own_name path)) ∙ (fit.stand (sym fit.makes.goes_on.tells ∙ told)).there)
+
+-- its stamp is due
+stamp_due : (listed : Option Meta) (meta : Meta) (start : Start) (state : FileState) (changed : Bool) → changed ≡ is_changed meta start state
+    → (changed || not (same_stamp meta.stamp listed)) ≡ true → is_stamped meta listed start state ≡ true
+stamp_due listed meta start state changed changed_is needed = ap (λ (b : Bool). b || not (same_stamp meta.stamp listed)) (sym changed_is) ∙ needed
+
+of_stamp : (path : List ℕ) (listed : Option Meta) (meta : Meta) (start : Start) (state : FileState) → is_stamped meta listed start state ≡ true
+    → IsWholeCall listed start state path meta (SetStamp path meta.stamp)
+of_stamp path listed meta start state due = inr (inr (inr (due, refl)))
 
 -- its stamp is not set
-pub whole_not_stamped : (fault : FileFault) (path : List ℕ) (meta : Meta) (start : Start) (state : FileState) (old mid new : FolderView) → IsFit path meta start state old mid
+pub whole_not_stamped : (fault : FileFault) (path : List ℕ) (listed : Option Meta) (meta : Meta) (start : Start) (state : FileState) (changed : Bool) (old mid new : FolderView) → IsFolder new
+    → IsFit path listed meta start state old mid → changed ≡ is_changed meta start state → (changed || not (same_stamp meta.stamp listed)) ≡ true
     → IsFolderWrite (SetStamp path meta.stamp) (file_failed {T = Bool} (Err fault)) mid new → MissingExactly {T = Bool} (Err fault) mid path
-    → BreaksBy fault (IsWholeCall start.place path meta) old new
-whole_not_stamped fault path meta start state old mid new fit wrote missing =
-    breaks_then fault (IsWholeCall start.place path meta) old mid new fit.makes
-    (breaks_one {T = Bool} (Err fault) (IsWholeCall start.place path meta) (SetStamp path meta.stamp) path mid new wrote missing (fit_there path meta start state old mid fit) refl (inr (inr (inr refl))))
+    → BreaksBy fault (IsWholeCall listed start state path meta) old new
+whole_not_stamped fault path listed meta start state changed old mid new formed fit changed_is needed wrote missing =
+    let Whole = IsWholeCall listed start state path meta in
+    breaks_then fault Whole old mid new fit.makes
+    (breaks_one {T = Bool} (Err fault) Whole (SetStamp path meta.stamp) path mid new formed wrote missing (fit_there path listed meta start state old mid fit) refl
+    (of_stamp path listed meta start state (stamp_due listed meta start state changed changed_is needed)))
 
 -- ---- it is finished
 
@@ -131,9 +171,9 @@ or_left true b none = none
 or_left false b none = refl
 
 -- nothing is left to be done
-pub whole_kept : (path : List ℕ) (listed : Option Meta) (meta : Meta) (start : Start) (state : FileState) (changed : Bool) (old new : FolderView) → IsFit path meta start state old new
+pub whole_kept : (path : List ℕ) (listed : Option Meta) (meta : Meta) (start : Start) (state : FileState) (changed : Bool) (old new : FolderView) → IsFit path listed meta start state old new
     → changed ≡ is_changed meta start state → (changed || not (same_stamp meta.stamp listed)) ≡ false
-    → FinishesBy (whole_finish meta listed start state old.keeps_stamps) Kept (IsWholeCall start.place path meta) meta start state path old new
+    → FinishesBy (whole_finish meta listed start state old.keeps_stamps) Kept (IsWholeCall listed start state path meta) meta start state path old new
 whole_kept path listed meta start state changed old new fit changed_is none =
     let same = not (same_stamp meta.stamp listed) in
     let needless : (is_changed meta start state || same) ≡ false = ap (λ (b : Bool). b || same) (sym changed_is) ∙ none in
@@ -146,16 +186,17 @@ whole_kept path listed meta start state changed old new fit changed_is none =
     }
 
 -- its stamp is set, where stamps are kept
-pub whole_stamped : (path : List ℕ) (listed : Option Meta) (meta : Meta) (start : Start) (state : FileState) (changed stamped : Bool) (finish : Finish) (old mid new : FolderView)
-    → IsFit path meta start state old mid → changed ≡ is_changed meta start state → (changed || not (same_stamp meta.stamp listed)) ≡ true
+pub whole_stamped : (path : List ℕ) (listed : Option Meta) (meta : Meta) (start : Start) (state : FileState) (changed stamped : Bool) (finish : Finish) (old mid new : FolderView) → IsFolder new
+    → IsFit path listed meta start state old mid → changed ≡ is_changed meta start state → (changed || not (same_stamp meta.stamp listed)) ≡ true
     → IsFolderWrite (SetStamp path meta.stamp) false mid new → stamped ≡ mid.keeps_stamps → finish ≡ stamped_finish changed stamped
-    → FinishesBy (whole_finish meta listed start state old.keeps_stamps) finish (IsWholeCall start.place path meta) meta start state path old new
-whole_stamped path listed meta start state changed stamped finish old mid new fit changed_is needed wrote stamped_is finish_is =
+    → FinishesBy (whole_finish meta listed start state old.keeps_stamps) finish (IsWholeCall listed start state path meta) meta start state path old new
+whole_stamped path listed meta start state changed stamped finish old mid new formed fit changed_is needed wrote stamped_is finish_is =
     let change = is_changed meta start state in
     let keeps = old.keeps_stamps in
     let same = not (same_stamp meta.stamp listed) in
     let kept : mid.keeps_stamps ≡ keeps = fit.makes.goes_on.keeps_stamps in
-    let is_stamped : (change || same) ≡ true = ap (λ (b : Bool). b || same) (sym changed_is) ∙ needed in
+    let due : is_stamped meta listed start state ≡ true = stamp_due listed meta start state changed changed_is needed in
+    let Whole = IsWholeCall listed start state path meta in
     let is : finish ≡ stamped_finish change keeps = finish_is ∙ ap₂ stamped_finish changed_is (stamped_is ∙ kept) in
     let does = λ (told : IsTrue old.tells).
     subst (λ (b : Bool). Does b (SetStamp path meta.stamp) mid.tree new.tree) kept (wrote.does refl (fit.makes.goes_on.tells ∙ told)) in
@@ -164,8 +205,8 @@ whole_stamped path listed meta start state changed stamped finish old mid new fi
     same_names path old.tree new.tree
     (no_stamp_set path meta.stamp mid.tree new.tree (subst (λ (b : Bool). Does b (SetStamp path meta.stamp) mid.tree new.tree) no (does told)) ∙ fit.stays none told) in
     record {
-      is = is ∙ sym (ap (λ (b : Bool). cond b (stamped_finish change keeps) Kept) is_stamped);
-      makes = makes_then (IsWholeCall start.place path meta) fit.makes (makes_one (IsWholeCall start.place path meta) wrote.called (inr (inr (inr refl))));
+      is = is ∙ sym (ap (λ (b : Bool). cond b (stamped_finish change keeps) Kept) due);
+      makes = makes_then (WellCall Whole) fit.makes (makes_well_write Whole formed wrote (of_stamp path listed meta start state due));
       holds = λ told.
           subst (λ (f : Finish). HoldsFinished f keeps meta start state (bytes_now old.tree path) path old.tree new.tree) (sym is)
           (holds_stamped change keeps meta start state (bytes_now old.tree path) path old.tree new.tree (both told).0 (unkept told));
@@ -174,30 +215,30 @@ whole_stamped path listed meta start state changed stamped finish old mid new fi
 
 -- ---- a file with a lost block
 
-pub lost_renamed : (path : List ℕ) (meta : Meta) (start : Start) (state : FileState) (old new : FolderView) → IsPlaced path start.place state.touched old
+pub lost_renamed : (path : List ℕ) (meta : Meta) (start : Start) (state : FileState) (old new : FolderView) → IsFolder new → IsPlaced path start.place state.touched old
     → stands start.place state.touched ≡ true → IsFolderWrite (Rename path true) false old new
-    → FinishesBy (lost_finish start state) Renamed (λ call. call ≡ Rename path true) meta start state path old new
-lost_renamed path meta start state old new placed standing wrote =
+    → FinishesBy (lost_finish start state) Renamed (IsLostCall start state path) meta start state path old new
+lost_renamed path meta start state old new formed placed standing wrote =
     let both = λ (told : IsTrue old.tells). stands_lost path old.tree new.tree ((placed.tree told).plain standing) (wrote.does refl told) in
     record {
       is = sym (ap (λ (b : Bool). cond b Renamed Kept) standing);
-      makes = makes_one (λ (call : FolderCall). call ≡ Rename path true) wrote.called refl;
+      makes = makes_well_write (IsLostCall start state path) formed wrote (standing, refl);
       holds = λ told. (both told).0;
       others = λ told. (both told).1;
     }
 
-pub lost_not_renamed : (fault : FileFault) (path : List ℕ) (start : Start) (state : FileState) (old new : FolderView) → IsPlaced path start.place state.touched old
+pub lost_not_renamed : (fault : FileFault) (path : List ℕ) (start : Start) (state : FileState) (old new : FolderView) → IsFolder new → IsPlaced path start.place state.touched old
     → stands start.place state.touched ≡ true → IsFolderWrite (Rename path true) (file_failed {T = Unit {0}} (Err fault)) old new → MissingExactly {T = Unit {0}} (Err fault) old (path_of path false)
-    → BreaksBy fault (λ call. call ≡ Rename path true) old new
-lost_not_renamed fault path start state old new placed standing wrote missing =
-    breaks_one {T = Unit {0}} (Err fault) (λ (call : FolderCall). call ≡ Rename path true) (Rename path true) (path_of path false) old new wrote missing
-    (λ told. (placed.tree told).plain standing) refl refl
+    → BreaksBy fault (IsLostCall start state path) old new
+lost_not_renamed fault path start state old new formed placed standing wrote missing =
+    breaks_one {T = Unit {0}} (Err fault) (IsLostCall start state path) (Rename path true) (path_of path false) old new formed wrote missing
+    (λ told. (placed.tree told).plain standing) refl (standing, refl)
 
 -- ---- a file with or without one
 
 pub file_finished : (result : Result Finish FileFault) (lost : Bool) (path : List ℕ) (listed : Option Meta) (meta : Meta) (start : Start) (state : FileState) (old new : FolderView) → state.lost ≡ lost
-    → IfOk result (λ finish. FinishesBy (cond lost (lost_finish start state) (whole_finish meta listed start state old.keeps_stamps)) finish (IsFinishCall lost start.place path meta) meta start state path old new)
-    → IfOk result (λ finish. FinishesBy (finish_of meta listed start state old.keeps_stamps) finish (IsFinishCall state.lost start.place path meta) meta start state path old new)
+    → IfOk result (λ finish. FinishesBy (cond lost (lost_finish start state) (whole_finish meta listed start state old.keeps_stamps)) finish (IsFinishCall lost listed start state path meta) meta start state path old new)
+    → IfOk result (λ finish. FinishesBy (finish_of meta listed start state old.keeps_stamps) finish (IsFinishCall state.lost listed start state path meta) meta start state path old new)
 file_finished result lost path listed meta start state old new is done =
-    subst (λ (l : Bool). IfOk result (λ (finish : Finish). FinishesBy (cond l (lost_finish start state) (whole_finish meta listed start state old.keeps_stamps)) finish (IsFinishCall l start.place path meta)
-    meta start state path old new)) (sym is) done
+    subst (λ (l : Bool). IfOk result (λ (finish : Finish). FinishesBy (cond l (lost_finish start state) (whole_finish meta listed start state old.keeps_stamps)) finish
+    (IsFinishCall l listed start state path meta) meta start state path old new)) (sym is) done

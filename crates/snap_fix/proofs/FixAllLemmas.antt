@@ -1,19 +1,18 @@
 -- Stripes that were looked at and written anew, and then others.
-use Rattle.std.proofs.Common.{◌≡◌, ◌≢◌, ◌⊎◌, inl, inr, ℕ, ◌+◌, ◌*◌, ◌<◌, ◌||◌, List, [], ◌∷◌, ◌++◌, length, get_or, All, Bool, true, false, IsTrue, refl, sym, ap, ◌∙◌, subst, arith, append_assoc}
+use Rattle.std.proofs.Common.{◌≡◌, ◌⊎◌, inl, inr, ℕ, ◌+◌, ◌<◌, ◌||◌, List, [], ◌∷◌, ◌++◌, length, get_or, All, Bool, true, false, refl, sym, ap, ◌∙◌, subst, arith, append_assoc}
 use Rattle.std.specs.List.{count_by, Contains}
 use Rattle.std.proofs.Math.ListN.{get_or-map}
 use Rattle.std.proofs.lemmas.Grind.{flat_map-append}
 use Rattle.std.proofs.lemmas.List.{map-append, append-nil, length-map}
-use Rattle.std.proofs.lemmas.List.Elements.{All-nil, All-cons, All-append, Contains-append_left, Contains-append_right, Contains-get_or}
+use Rattle.std.proofs.lemmas.List.Elements.{All-nil, All-cons, All-append}
 use Rattle.std.proofs.lemmas.List.Folds.{list_any-append}
+use Rattle.std.proofs.lemmas.List.Sums.{sum_by-append}
 use Rattle.array_scan.proofs.ApartLemmas.{AllPairs-across}
 use Rattle.disk_model.specs.Cause.{RoseBy}
-use Rattle.disk_model.specs.Files.{Files}
-use Rattle.disk_model.specs.Folder.{FolderView, FolderCall, ListFiles, Look, ReadAt, Make, WriteAt, SetSize, SetStamp, Rename}
+use Rattle.disk_model.specs.Folder.{FolderView}
 use Rattle.disk_model.specs.Sink.{SinkView}
-use Rattle.disk_model.specs.Vault.{VaultView}
-use Rattle.disk_model.proofs.VaultLemmas.{no_calls, calls_then, changes_start, changes_then}
-use Rattle.parity_writer.proofs.WriteLemmas.{apart}
+use Rattle.disk_model.specs.Vault.{VaultView, GoesOn}
+use Rattle.parity_writer.specs.LevelReading.{LevelReading, has_failed}
 use Rattle.snap_report.specs.Answer.{is_parity_io}
 use Rattle.snap_report.specs.Report.{ReportView}
 use Rattle.snap_report.specs.declared.events.Event.{Event}
@@ -21,18 +20,23 @@ use Rattle.snap_report.proofs.ToldLemmas.{told_then, told_nothing}
 use Rattle.stripe_reader.specs.Columns.{folder_at}
 use Rattle.snap_fix.specs.declared.fixing.Totals.{Totals}
 use Rattle.snap_fix.specs.declared.room.Room.{Room}
+use Rattle.snap_fix.specs.Asking.{AsksSpare}
 use Rattle.snap_fix.specs.Facts.{StripeFacts}
-use Rattle.snap_fix.specs.FixRun.{AreDistinct, FixesAll, HoldAllWrong}
+use Rattle.snap_fix.specs.FixRun.{AreAscending, FixesAll, HoldAllWrong}
 use Rattle.snap_fix.specs.Fixing.{AreTotals, FixScene, FixesStripe, MendsVault, SceneFits, Writes, facts_of, was_written}
 use Rattle.snap_fix.specs.Known.{AreFacts}
-use Rattle.snap_fix.specs.Looking.{numbers_of}
-use Rattle.snap_fix.specs.Mended.{Mended, all_mended_events, is_wrong_level, mended_events}
+use Rattle.snap_fix.specs.Looking.{AreAllLevelsOf, numbers_of, unread_in}
+use Rattle.snap_fix.specs.Mended.{AnswersFit, Mended, all_mended_events, is_wrong_level, mended_events}
 use Rattle.snap_fix.specs.Plan.{FixPlan}
-use Rattle.snap_fix.specs.State.{FolderMakes}
-use Rattle.snap_fix.specs.Underway.{AreUnderway, HoldsWrong, IsMendCall, IsMendedLevel, KeepsLevels}
+use Rattle.snap_fix.specs.Spare.{SpareView}
+use Rattle.snap_fix.specs.State.{WellCall}
+use Rattle.snap_fix.specs.Underway.{AddsZeros, AreUnderway, HoldsWrong, IsMendCall, IsMendedLevel, mend_calls, stripe_calls}
+use Rattle.snap_fix.proofs.AskedLemmas.{asks_none, asks_then}
 use Rattle.snap_fix.proofs.FixCountLemmas.{count_append, parity_io_in_stripe}
-use Rattle.snap_fix.proofs.FolderCallLemmas.{makes_none, makes_then, makes_wider}
-use Rattle.snap_fix.proofs.LookingLemmas.{rose_then}
+use Rattle.snap_fix.proofs.FolderCallLemmas.{makes_none}
+use Rattle.snap_fix.proofs.KeptStartsLemmas.{stood_none, stood_then, well_then}
+use Rattle.snap_fix.proofs.LookingLemmas.{vault_goes_on}
+use Rattle.snap_fix.proofs.MendedVaultLemmas.{Precede, all_levels_append, goes_on_none, holds_append, levels_before, mend_calls_append, mends_append, mends_none, zeros_append}
 
 -- ---- the facts and events of stripes, and then of others
 
@@ -45,104 +49,45 @@ events_append plan xs ys = flat_map-append (mended_events plan) xs ys
 pub facts_then : (plan : FixPlan) (xs ys : List Mended) → All (AreFacts plan) (facts_of xs) → All (AreFacts plan) (facts_of ys) → All (AreFacts plan) (facts_of (xs ++ ys))
 facts_then plan xs ys one two = subst (All (AreFacts plan)) (sym (facts_append xs ys)) (All-append (AreFacts plan) (facts_of xs) (facts_of ys) one two)
 
--- none of these stripes is one of those
-abbrev pub Differ : List Mended → List Mended → Type 0
-Differ xs ys = (one other : StripeFacts) → Contains (facts_of xs) one → Contains (facts_of ys) other → one.stripe ≢ other.stripe
-
 number_in : (stripes : List StripeFacts) (facts : StripeFacts) → Contains stripes facts → Contains (numbers_of stripes) facts.stripe
 number_in stripes facts (k, below, is) =
     let number = λ (it : StripeFacts). it.stripe in
     (k, omega (arith, below, length-map stripes number), get_or-map number stripes k facts ∙ ap number is)
 
-pub differ : (xs ys : List Mended) → AreDistinct (numbers_of (facts_of xs) ++ numbers_of (facts_of ys)) → Differ xs ys
-differ xs ys distinct one other first second =
-    AllPairs-across (λ (a b : ℕ). a ≢ b) (numbers_of (facts_of xs)) (numbers_of (facts_of ys)) distinct one.stripe other.stripe
+-- of ascending stripes the first ones come before the others
+pub precede : (xs ys : List Mended) → AreAscending (numbers_of (facts_of xs) ++ numbers_of (facts_of ys)) → Precede (facts_of xs) (facts_of ys)
+precede xs ys ascending one other first second =
+    AllPairs-across (λ (a b : ℕ). a < b) (numbers_of (facts_of xs)) (numbers_of (facts_of ys)) ascending one.stripe other.stripe
     (number_in (facts_of xs) one first) (number_in (facts_of ys) other second)
 
--- ---- the vault
+-- ---- the vault, the spare and the answers of stripes, and then of others
 
-mended_left : (plan : FixPlan) (xs ys : List StripeFacts) (r stripe : ℕ) → IsMendedLevel plan xs r stripe → IsMendedLevel plan (xs ++ ys) r stripe
-mended_left plan xs ys r stripe (facts, is_one, number, wrong) = (facts, Contains-append_left xs ys facts is_one, number, wrong)
+pub mends_then : (plan : FixPlan) (xs ys : List Mended) (old mid new : VaultView) → MendsVault plan (facts_of xs) old mid → MendsVault plan (facts_of ys) mid new → MendsVault plan (facts_of (xs ++ ys)) old new
+mends_then plan xs ys old mid new one two =
+    subst (λ (stripes : List StripeFacts). MendsVault plan stripes old new) (sym (facts_append xs ys)) (mends_append plan (facts_of xs) (facts_of ys) old mid new one two)
 
-mended_right : (plan : FixPlan) (xs ys : List StripeFacts) (r stripe : ℕ) → IsMendedLevel plan ys r stripe → IsMendedLevel plan (xs ++ ys) r stripe
-mended_right plan xs ys r stripe (facts, is_one, number, wrong) = (facts, Contains-append_right xs ys facts is_one, number, wrong)
+pub asked_then : (plan : FixPlan) (xs ys : List Mended) (old mid new : SpareView) → AsksSpare plan (facts_of xs) old mid → AsksSpare plan (facts_of ys) mid new → AsksSpare plan (facts_of (xs ++ ys)) old new
+asked_then plan xs ys old mid new one two =
+    subst (λ (stripes : List StripeFacts). AsksSpare plan stripes old new) (sym (facts_append xs ys)) (asks_then plan (facts_of xs) (facts_of ys) old mid new one two)
 
-module _ (plan : FixPlan) where
-  abbrev Step : List StripeFacts → Files → Files → Type 0
-  Step stripes = KeepsLevels plan.table.shape.block_size (IsMendedLevel plan stripes)
+-- levels that were read later were read of the vault as it was before
+pub levels_then : (plan : FixPlan) (xs ys : List Mended) (old mid : VaultView) (rs ss : List (List LevelReading)) → MendsVault plan (facts_of xs) old mid → Precede (facts_of xs) (facts_of ys)
+    → AreAllLevelsOf plan.table.shape.block_size old (facts_of xs) rs → AreAllLevelsOf plan.table.shape.block_size mid (facts_of ys) ss → AreAllLevelsOf plan.table.shape.block_size old (facts_of (xs ++ ys)) (rs ++ ss)
+levels_then plan xs ys old mid rs ss mends before one two =
+    let size = plan.table.shape.block_size in
+    subst (λ (stripes : List StripeFacts). AreAllLevelsOf size old stripes (rs ++ ss)) (sym (facts_append xs ys))
+    (all_levels_append size old (facts_of xs) (facts_of ys) rs ss one (levels_before plan (facts_of xs) (facts_of ys) old mid mends before ss two))
 
-  pub mends_none : (v : VaultView) → MendsVault plan [] v v
-  mends_none v = record {
-    calls = no_calls v;
-    drafts = record { state = refl; bytes = λ told. refl };
-    changes = changes_start (Step []) v (λ files. record { contents = refl; bytes = λ level at x outside has. has });
-  }
+pub unread_then : (rs ss : List (List LevelReading)) (before mid after : ℕ) → RoseBy (unread_in rs) before mid → RoseBy (unread_in ss) mid after → RoseBy (unread_in (rs ++ ss)) before after
+unread_then rs ss before mid after one two =
+    let counted : unread_in (rs ++ ss) ≡ unread_in rs + unread_in ss = sum_by-append (count_by has_failed) rs ss in
+    omega (arith, counted, one, two)
 
-  mends_append : (xs ys : List StripeFacts) (old mid new : VaultView) → MendsVault plan xs old mid → MendsVault plan ys mid new → MendsVault plan (xs ++ ys) old new
-  mends_append xs ys old mid new one two =
-      let tells : mid.tells ≡ old.tells = one.calls.goes_on.tells in
-      record {
-        calls = calls_then old mid new one.calls two.calls;
-        drafts = record { state = two.drafts.state ∙ one.drafts.state; bytes = λ told. two.drafts.bytes (tells ∙ told) ∙ one.drafts.bytes told };
-        changes = changes_then (Step xs) (Step ys) (Step (xs ++ ys)) old mid new alone both tells one.changes two.changes;
-      }
-    where
-      alone : (a b : Files) → Step xs a b → Step (xs ++ ys) a b
-      alone a b keeps = record {
-        contents = keeps.contents;
-        bytes = λ level at x outside has. keeps.bytes level at x (λ stripe is. outside stripe (mended_left plan xs ys level stripe is)) has;
-      }
-
-      both : (a b c : Files) → Step xs a b → Step ys b c → Step (xs ++ ys) a c
-      both a b c keeps more = record {
-        contents = more.contents ∙ keeps.contents;
-        bytes = λ level at x outside has. more.bytes level at x (λ stripe is. outside stripe (mended_right plan xs ys level stripe is))
-            (keeps.bytes level at x (λ stripe is. outside stripe (mended_left plan xs ys level stripe is)) has);
-      }
-
-  pub mends_then : (xs ys : List Mended) (old mid new : VaultView) → MendsVault plan (facts_of xs) old mid → MendsVault plan (facts_of ys) mid new → MendsVault plan (facts_of (xs ++ ys)) old new
-  mends_then xs ys old mid new one two =
-      subst (λ (stripes : List StripeFacts). MendsVault plan stripes old new) (sym (facts_append xs ys)) (mends_append (facts_of xs) (facts_of ys) old mid new one two)
-
-  -- what the wrong levels of a stripe hold stays where other stripes are written
-  wrong_stays : (facts : StripeFacts) (others : List StripeFacts) (old new : Files) → ((other : StripeFacts) → Contains others other → facts.stripe ≢ other.stripe)
-      → Step others old new → HoldsWrong plan facts old → HoldsWrong plan facts new
-  wrong_stays facts others old new differs keeps holds r row wrong known i below =
-      let size = plan.table.shape.block_size in
-      keeps.bytes r (facts.stripe * size + i) _
-      (λ stripe (other, is_one, number, is_wrong). apart size size facts.stripe stripe i refl (λ same. differs other is_one (same ∙ sym number)) below)
-      (holds r row wrong known i below)
-
-  pub holds_then : (xs ys : List Mended) (mid new : VaultView) → Differ xs ys → MendsVault plan (facts_of ys) mid new → HoldAllWrong plan (facts_of xs) mid → HoldAllWrong plan (facts_of ys) new
-      → HoldAllWrong plan (facts_of (xs ++ ys)) new
-  holds_then xs ys mid new differs mends one two told =
-      let before : IsTrue mid.tells = subst IsTrue mends.calls.goes_on.tells told in
-      subst (All (λ (facts : StripeFacts). HoldsWrong plan facts new.files)) (sym (facts_append xs ys))
-      (All-append (λ (facts : StripeFacts). HoldsWrong plan facts new.files) (facts_of xs) (facts_of ys)
-      (λ k d below. wrong_stays (get_or (facts_of xs) k d) (facts_of ys) mid.files new.files
-      (λ other is_one. differs (get_or (facts_of xs) k d) other (Contains-get_or (facts_of xs) k d below) is_one)
-      (mends.changes.reads before) (one before k d below))
-      (two told))
-
--- ---- which calls
-
-pub wider : (plan : FixPlan) (d : ℕ) (xs ys : List Mended) → ((mended : Mended) → Contains xs mended → Contains ys mended) → (call : FolderCall) → IsMendCall plan d xs call → IsMendCall plan d ys call
-wider plan d xs ys more ListFiles is = tt
-wider plan d xs ys more (Look path lost) is = tt
-wider plan d xs ys more (ReadAt path lost at n) is = tt
-wider plan d xs ys more (Make path) is = is
-wider plan d xs ys more (WriteAt path at bytes) is = record { mended = is.mended; is_one = more is.mended is.is_one; writes = is.writes }
-wider plan d xs ys more (SetSize path size) is = absurd is
-wider plan d xs ys more (SetStamp path stamp) is = absurd is
-wider plan d xs ys more (Rename path true) is = absurd is
-wider plan d xs ys more (Rename path false) is = is
-
-pub mend_calls_then : (plan : FixPlan) (d : ℕ) (xs ys : List Mended) (old mid new : FolderView) → FolderMakes (IsMendCall plan d xs) old mid → FolderMakes (IsMendCall plan d ys) mid new
-    → FolderMakes (IsMendCall plan d (xs ++ ys)) old new
-mend_calls_then plan d xs ys old mid new one two =
-    let All = IsMendCall plan d (xs ++ ys) in
-    makes_then All (makes_wider (IsMendCall plan d xs) All (wider plan d xs (xs ++ ys) (Contains-append_left xs ys)) one)
-    (makes_wider (IsMendCall plan d ys) All (wider plan d ys (xs ++ ys) (Contains-append_right xs ys)) two)
+-- as far as a folder told its files before, it tells them later
+pub answered_then : (plan : FixPlan) (xs ys : List Mended) (olds mids : List FolderView) → ((d : ℕ) → d < length plan.table.columns → (folder_at mids d).tells ≡ (folder_at olds d).tells)
+    → All (AnswersFit plan olds) xs → All (AnswersFit plan mids) ys → All (AnswersFit plan olds) (xs ++ ys)
+answered_then plan xs ys olds mids same one two =
+    All-append (AnswersFit plan olds) xs ys one (λ k none within d below told. two k none within d below (same d below ∙ told))
 
 -- ---- which levels were written
 
@@ -205,10 +150,18 @@ module _ {W R : Type 0} (view : W → SinkView) (standing : R → ReportView) (s
     told = told_nothing view standing stands plan.table.columns s.lines s.reports;
     totals_are = none;
     written = writes_none plan s.written;
+    answered = All-nil (AnswersFit plan s.folders);
+    stood = stood_none s.starts;
+    readings = [];
+    read = tt;
+    unread = omega arith;
+    ran = goes_on_none s.vault;
     vault = mends_none plan s.vault;
+    zeros = λ told level at x outside short has. absurd (omega (arith, short, has.within));
     holds = λ told. All-nil (λ (facts : StripeFacts). HoldsWrong plan facts s.vault.files);
     parity_io = omega arith;
-    makes = λ d below. makes_none (IsMendCall plan d []) (folder_at s.folders d);
+    spare = asks_none plan s.spare;
+    makes = λ d below. makes_none (WellCall (IsMendCall plan s.starts d [])) (folder_at s.folders d);
     underway = λ before firsts fixable is. subst (λ (stripes : List Mended). AreUnderway plan stripes firsts s.folders s.starts s.states) (sym (append-nil before)) is;
   }
 
@@ -224,31 +177,53 @@ module _ {W R : Type 0} (view : W → SinkView) (standing : R → ReportView) (s
         told = rw (only) it.told;
         totals_are = it.totals_are;
         written = it.written;
+        answered = All-cons (AnswersFit plan old.folders) it.mended [] it.answered (All-nil (AnswersFit plan old.folders));
+        stood = it.stood;
+        readings = it.read.readings ∷ [];
+        read = (it.read.are, tt);
+        unread = omega (arith, it.read.unread);
+        ran = subst (GoesOn old.vault new.vault) (sym (append-nil (stripe_calls plan it.mended.facts it.read.readings))) it.ran;
         vault = it.vault;
+        zeros = it.zeros;
         holds = λ told. All-cons (λ (facts : StripeFacts). HoldsWrong plan facts new.vault.files) it.mended.facts [] (it.holds told) (All-nil (λ (facts : StripeFacts). HoldsWrong plan facts new.vault.files));
         parity_io = rw (only) rose;
+        spare = it.spare;
         makes = it.makes;
         underway = it.underway;
       }
 
-  pub fixes_then : (xs ys : List Mended) (one two both : Totals) (old mid new : FixScene W R) → Differ xs ys
+  pub fixes_then : (xs ys : List Mended) (one two both : Totals) (old mid new : FixScene W R) → Precede (facts_of xs) (facts_of ys)
       → ((stripes others : List Mended) → AreTotals plan stripes one → AreTotals plan others two → AreTotals plan (stripes ++ others) both)
       → FixesAll view standing stands plan xs old mid one → FixesAll view standing stands plan ys mid new two → FixesAll view standing stands plan (xs ++ ys) old new both
-  fixes_then xs ys one two both old mid new differs and first back =
+  fixes_then xs ys one two both old mid new before and first back =
+      let size = plan.table.shape.block_size in
       let events = events_append plan xs ys in
+      let facts = facts_append xs ys in
+      let tells : mid.vault.tells ≡ old.vault.tells = first.ran.tells in
       let counted : count_by is_parity_io (all_mended_events plan (xs ++ ys)) ≡ count_by is_parity_io (all_mended_events plan xs) + count_by is_parity_io (all_mended_events plan ys) =
       ap (λ (es : List Event). count_by is_parity_io es) events ∙ count_append is_parity_io (all_mended_events plan xs) (all_mended_events plan ys) in
+      let calls = vault_goes_on old.vault mid.vault new.vault (mend_calls plan (facts_of xs) first.readings) (mend_calls plan (facts_of ys) back.readings) first.ran back.ran in
       record {
         are = facts_then plan xs ys first.are back.are;
         fits = back.fits;
         told = rw (events) (told_then view standing stands plan.table.columns (all_mended_events plan xs) (all_mended_events plan ys) old.lines mid.lines new.lines old.reports mid.reports new.reports first.told back.told);
         totals_are = and xs ys first.totals_are back.totals_are;
         written = writes_then plan xs ys old.written mid.written new.written first.written back.written;
+        answered = answered_then plan xs ys old.folders mid.folders (λ d below. (first.makes d below).goes_on.tells) first.answered back.answered;
+        stood = stood_then old.starts mid.starts new.starts first.stood back.stood;
+        readings = first.readings ++ back.readings;
+        read = levels_then plan xs ys old.vault mid.vault first.readings back.readings first.vault before first.read back.read;
+        unread = unread_then first.readings back.readings old.vault.faults mid.vault.faults new.vault.faults first.unread back.unread;
+        ran = subst (λ (stripes : List StripeFacts). GoesOn old.vault new.vault (mend_calls plan stripes (first.readings ++ back.readings))) (sym facts)
+            (subst (GoesOn old.vault new.vault) (sym (mend_calls_append plan size old.vault (facts_of xs) (facts_of ys) first.readings back.readings first.read)) calls);
         vault = mends_then plan xs ys old.vault mid.vault new.vault first.vault back.vault;
-        holds = holds_then plan xs ys mid.vault new.vault differs back.vault first.holds back.holds;
-        parity_io = subst (λ (n : ℕ). RoseBy n old.vault.faults new.vault.faults) (sym counted)
-            (rose_then (count_by is_parity_io (all_mended_events plan xs)) (count_by is_parity_io (all_mended_events plan ys)) old.vault.faults mid.vault.faults new.vault.faults first.parity_io back.parity_io);
-        makes = λ d below. mend_calls_then plan d xs ys (folder_at old.folders d) (folder_at mid.folders d) (folder_at new.folders d) (first.makes d below) (back.makes d below);
-        underway = λ before firsts fixable is. subst (λ (stripes : List Mended). AreUnderway plan stripes firsts new.folders new.starts new.states) (append_assoc before xs ys)
-            (back.underway (before ++ xs) firsts fixable (first.underway before firsts fixable is));
+        zeros = λ told. subst (λ (stripes : List StripeFacts). AddsZeros size (IsMendedLevel plan stripes) old.vault.files new.vault.files) (sym facts)
+            (zeros_append plan (facts_of xs) (facts_of ys) old.vault.files mid.vault.files new.vault.files (back.vault.changes.reads (tells ∙ told)) (first.zeros told) (back.zeros (tells ∙ told)));
+        holds = subst (λ (stripes : List StripeFacts). HoldAllWrong plan stripes new.vault) (sym facts)
+            (holds_append plan (facts_of xs) (facts_of ys) mid.vault new.vault before back.vault first.holds back.holds);
+        parity_io = omega (arith, counted, first.parity_io, back.parity_io);
+        spare = asked_then plan xs ys old.spare mid.spare new.spare first.spare back.spare;
+        makes = λ d below. well_then plan old.starts mid.starts first.stood d xs ys (first.makes d below) (back.makes d below);
+        underway = λ earlier firsts fixable is. subst (λ (stripes : List Mended). AreUnderway plan stripes firsts new.folders new.starts new.states) (append_assoc earlier xs ys)
+            (back.underway (earlier ++ xs) firsts fixable (first.underway earlier firsts fixable is));
       }

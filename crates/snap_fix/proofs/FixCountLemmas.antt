@@ -20,7 +20,7 @@ use Rattle.snap_fix.specs.declared.entry.Entry.{Entry}
 use Rattle.snap_fix.specs.Facts.{StripeFacts, slot_of, is_missing}
 use Rattle.snap_fix.specs.Findings.{unsynced_events, silent_event, is_unread, read_event, read_events, cell_events, is_unread_level, level_io_events, level_events, lost_event, lost_events, all_cell_events, all_level_io_events, all_level_events, all_lost_events, stripe_events}
 use Rattle.snap_fix.specs.Fixing.{facts_of}
-use Rattle.snap_fix.specs.Looking.{slots_of}
+use Rattle.snap_fix.specs.Looking.{slots_of, unread_cells}
 use Rattle.snap_fix.specs.Mended.{Mended, answer_of, is_repaired, is_wrong_level, fixed_event, mended_event, cell_news, level_news, all_cell_news, all_level_news, mended_events, all_mended_events}
 use Rattle.snap_fix.specs.Selected.{is_as_recorded}
 use Rattle.snap_fix.specs.Plan.{FixPlan, cell_at, entry_at, selects_cell, selects_level}
@@ -234,6 +234,18 @@ io_in_stripes plan of (mended ∷ stripes) =
     let a = count_append (is_io_of of) (mended_events plan mended) (all_mended_events plan stripes) in
     let b = count_cons slot_unread (slot_of mended.facts of) (slots_of of (facts_of stripes)) in
     omega (arith, a, b, io_in_stripe plan mended of, io_in_stripes plan of stripes)
+
+-- the cells of a column that were not read are those whose slots say so
+pub unread_slots : (of : ℕ) (stripes : List StripeFacts) → unread_cells of stripes ≡ count_by slot_unread (slots_of of stripes)
+unread_slots of [] = refl
+unread_slots of (facts ∷ stripes) =
+    let a = count_cons (λ (it : StripeFacts). is_unread (slot_of it of).cell.found) facts stripes in
+    let b = count_cons slot_unread (slot_of facts of) (slots_of of stripes) in
+    let one : count_by (λ (it : StripeFacts). is_unread (slot_of it of).cell.found) (facts ∷ []) ≡ count_by slot_unread (slot_of facts of ∷ []) = refl in
+    omega (arith, a, b, one, unread_slots of stripes)
+
+pub io_in_cells : (plan : FixPlan) (of : ℕ) (stripes : List Mended) → count_by (is_io_of of) (all_mended_events plan stripes) ≤ unread_cells of (facts_of stripes)
+io_in_cells plan of stripes = omega (arith, io_in_stripes plan of stripes, unread_slots of (facts_of stripes))
 
 -- ---- levels
 

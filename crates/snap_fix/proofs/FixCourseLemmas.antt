@@ -1,11 +1,15 @@
 -- A fix as a whole, by what its stripes, the sync of its levels and the finish of its files left.
-use Rattle.std.proofs.Common.{◌≡◌, inl, inr, ℕ, ◌<◌, List, [], ◌++◌, length, All, get_or, Bool, true, false, IsTrue, refl, sym, ap, ◌∙◌, subst, arith, append_assoc}
-use Rattle.disk_model.specs.Files.{Files, Stays, parity_of}
+use Rattle.std.proofs.Common.{◌≡◌, inl, inr, ℕ, ◌<◌, ◌≤◌, List, [], ◌++◌, length, All, get_or, Bool, false, refl, sym, ap, ◌∙◌, subst, arith, append_assoc}
+use Rattle.std.specs.List.{count_by}
+use Rattle.std.proofs.lemmas.List.{append-nil}
+use Rattle.disk_model.specs.Cause.{RoseBy}
 use Rattle.disk_model.specs.Folder.{FolderView}
 use Rattle.disk_model.specs.Sink.{SinkView}
-use Rattle.disk_model.specs.Vault.{VaultView, SomeCalls, ChangesBy, DraftsStay, IsWellFormed}
-use Rattle.disk_model.proofs.VaultLemmas.{calls_then, then_stays}
+use Rattle.disk_model.specs.Vault.{VaultView, IsWellFormed}
 use Rattle.file_table.specs.Table.{TableValue}
+use Rattle.file_table.specs.Valid.{IsValid}
+use Rattle.file_table.proofs.PrefixLemmas.{AllPairs-left}
+use Rattle.parity_writer.specs.LevelReading.{LevelReading}
 use Rattle.snap_config.specs.declared.options.Selection.{Selection}
 use Rattle.snap_report.specs.Answer.{is_io_of, is_parity_io}
 use Rattle.snap_report.specs.EndLines.{fix_text}
@@ -31,56 +35,33 @@ use Rattle.snap_fix.specs.Beginning.{Begins}
 use Rattle.snap_fix.specs.Checking.{plan_for}
 use Rattle.snap_fix.specs.Counts.{AreCounts}
 use Rattle.snap_fix.specs.Course.{IsPlan, Outside, outside}
-use Rattle.snap_fix.specs.Ending.{FinishesAll, FinishesNotAll, FinishesOne, IsSettled, SyncsNot, SyncsWritten, all_finish_news}
-use Rattle.snap_fix.specs.Facts.{StripeFacts}
+use Rattle.snap_fix.specs.Ending.{FinishesAll, FinishesNotAll, FinishesOne, SyncsNot, SyncsWritten, all_finish_news}
 use Rattle.snap_fix.specs.Findings.{opening_events}
-use Rattle.snap_fix.specs.FixCourse.{FixBreaks, Fixes, IsFixCall, fix_events}
-use Rattle.snap_fix.specs.FixRun.{BreaksStripes, FixesStripes, HasBroken, HoldAllWrong}
-use Rattle.snap_fix.specs.Fixing.{MendsVault, facts_of, fix_scene}
-use Rattle.snap_fix.specs.Mended.{Mended, all_mended_events}
-use Rattle.snap_fix.specs.Plan.{FixPlan}
+use Rattle.snap_fix.specs.FixCourse.{FixBreaks, FixFinds, Fixes, WritesFiles, Written, fix_events}
+use Rattle.snap_fix.specs.FixRun.{AreAscending, BreaksStripes, FixesStripes, HasBroken}
+use Rattle.snap_fix.specs.Fixing.{AreReadThen, FixScene, facts_of, fix_scene, was_written}
+use Rattle.snap_fix.specs.Known.{AreFacts}
+use Rattle.snap_fix.specs.Looking.{AreAllLevelsOf, numbers_of, unread_in}
+use Rattle.snap_fix.specs.Mended.{AnswersFit, Mended, all_mended_events}
+use Rattle.snap_fix.specs.Plan.{FixPlan, starts_of, stripes_of}
 use Rattle.snap_fix.specs.Repairing.{outside as files_outside}
-use Rattle.snap_fix.specs.State.{FolderMakes}
-use Rattle.snap_fix.specs.Underway.{AreFixable, AreUnderway, HoldsWrong, IsMendCall, IsMendedLevel, KeepsLevels}
+use Rattle.snap_fix.specs.Spare.{SpareView}
+use Rattle.snap_fix.specs.State.{AnyCall, WellCall, first_states}
+use Rattle.snap_fix.specs.Underway.{AreFixable, AreUnderway, IsMendCall}
+use Rattle.snap_fix.proofs.FixCallLemmas.{fix_calls_of, fix_calls_of_writing}
 use Rattle.snap_fix.proofs.FixCountLemmas.{count_append}
+use Rattle.snap_fix.proofs.FixEventLemmas.{io_no_file, none_finishing, none_finishing_first, none_opening, parity_io_no_file}
+use Rattle.snap_fix.proofs.FixFilesLemmas.{fixes_files, planned, planned_done}
 use Rattle.snap_fix.proofs.FixIntoLemmas.{folder_gained, vault_gained}
-use Rattle.snap_fix.proofs.FixEventLemmas.{io_no_file, none_finishing_first, none_opening, parity_io_no_file}
-use Rattle.snap_fix.proofs.FolderCallLemmas.{makes_then, makes_wider}
-
--- ---- the levels are synced
-
--- a sync of levels leaves what was done to the vault
-mends_synced : (plan : FixPlan) (stripes : List StripeFacts) (old mid new : VaultView) → MendsVault plan stripes old mid
-    → SomeCalls mid new → DraftsStay mid new → ChangesBy Stays mid new → MendsVault plan stripes old new
-mends_synced plan stripes old mid new mends calls drafts stays =
-    let tells : mid.tells ≡ old.tells = mends.calls.goes_on.tells in
-    record {
-      calls = calls_then old mid new mends.calls calls;
-      drafts = record { state = drafts.state ∙ mends.drafts.state; bytes = λ told. drafts.bytes (tells ∙ told) ∙ mends.drafts.bytes told };
-      changes = then_stays (KeepsLevels plan.table.shape.block_size (IsMendedLevel plan stripes)) old mid new tells mends.changes stays;
-    }
-
-holds_synced : (plan : FixPlan) (stripes : List StripeFacts) (mid new : VaultView) → SomeCalls mid new → ChangesBy Stays mid new → HoldAllWrong plan stripes mid → HoldAllWrong plan stripes new
-holds_synced plan stripes mid new calls stays holds told =
-    let before : IsTrue mid.tells = subst IsTrue calls.goes_on.tells told in
-    subst (λ (files : Files). All (λ (facts : StripeFacts). HoldsWrong plan facts files) stripes) (sym (stays.reads before)) (holds before)
-
--- a stop leaves of a level what a read gives
-settled_now : (level : ℕ) (mid new : VaultView) → IsWellFormed new → SomeCalls mid new → ChangesBy Stays mid new → IsSettled level mid new → IsSettled level new new
-settled_now level mid new formed calls stays settled = record {
-  reads = λ told. refl;
-  leaves = λ images files may.
-      let told : IsTrue mid.tells = subst IsTrue calls.goes_on.tells (formed.tells images) in
-      settled.leaves images files may ∙ ap (λ (fs : Files). parity_of fs level) (sym (stays.reads told));
-}
+use Rattle.snap_fix.proofs.FixStartLemmas.{begun_underway, stripes_ascending, underway_begun}
+use Rattle.snap_fix.proofs.FixVaultLemmas.{fixes_vault, flag_is, mends_synced, rose_on}
+use Rattle.snap_fix.proofs.FolderCallLemmas.{makes_any, makes_none}
+use Rattle.snap_fix.proofs.PresentLemmas.{StartsFitFolders, present_at_first, starts_fit_first}
 
 -- ---- which events were told
 
-in_stripes : (os ms first rest ns : List Event) → ms ≡ first ++ rest → os ++ (ms ++ ns) ≡ (os ++ first) ++ (rest ++ ns)
-in_stripes os ms first rest ns is =
-    ap (λ (es : List Event). os ++ (es ++ ns)) is
-    ∙ ap (λ (es : List Event). os ++ es) (append_assoc first rest ns)
-    ∙ sym (append_assoc os first (rest ++ ns))
+in_stripes : (os ms first rest : List Event) → ms ≡ first ++ rest → os ++ ms ≡ (os ++ first) ++ rest
+in_stripes os ms first rest is = ap (λ (es : List Event). os ++ es) is ∙ sym (append_assoc os first rest)
 
 in_finish : (os ms ns first rest : List Event) → ns ≡ first ++ rest → os ++ (ms ++ ns) ≡ (os ++ (ms ++ first)) ++ rest
 in_finish os ms ns first rest is =
@@ -106,74 +87,124 @@ broke_opened plan Memory first olds news old new broke = broke
 -- ---- the run
 
 module _ {W R : Type 0} (view : W → SinkView) (standing : R → ReportView) (stands : R → List Event → Type 0) (mode : Mode) (selection : Selection) (names : List (List ℕ))
-    (table : TableValue) (work : Work) (old : Outside W R) (mids : List FolderView) (begun : Begins mode selection names table work old.folders mids)
-    (opened_lines : Lines W) (opened_reports : List R) where
+    (table : TableValue) (valid : IsValid table) (work : Work) (old : Outside W R) (mids : List FolderView) (begun : Begins mode selection names table work old.folders mids)
+    (folders_are : length old.folders ≡ length table.columns) (fixable : AreFixable (plan_for table work) mids)
+    (states : List (List FileState)) (states_are : states ≡ first_states work.starts) (opened_lines : Lines W) (opened_reports : List R) where
   abbrev plan : FixPlan
   plan = plan_for table work
 
   abbrev opening : List Event
   opening = opening_events plan
 
+  abbrev starts : StartsValue
+  starts = starts_of table begun.lists
+
   plan_is : IsPlan mode selection names table begun.lists plan
   plan_is = record { scope = begun.scope; table_is = refl; entries = begun.entries }
 
-  module _ (opened : Told view standing stands table.columns opening old.lines opened_lines old.reports opened_reports)
-      (starts : StartsValue) (states : List (List FileState)) (written : List Bool)
-      (starts_mid : StartsValue) (states_mid : List (List FileState)) (written_mid : List Bool) (folders_mid : List FolderView) (vault_mid : VaultView)
-      (lines_mid : Lines W) (reports_mid : List R) where
-    -- the stripes broke off
-    pub stripes_broke : (fault : RunFault)
-        → BreaksStripes view standing stands plan (fix_scene starts states written mids old.vault opened_lines opened_reports)
-        (fix_scene starts_mid states_mid written_mid folders_mid vault_mid lines_mid reports_mid) fault
-        → FixBreaks view standing stands mode selection names table old (outside folders_mid vault_mid lines_mid reports_mid) fault
-    stripes_broke fault broke = record {
-      lists = begun.lists;
-      mids = mids;
-      as_many = begun.as_many;
-      listed = begun.listed;
-      plan = plan;
-      plan_is = plan_is;
-      stripes = broke.stripes;
-      are = broke.are;
-      finishes = [];
-      first = opening ++ broke.first;
-      rest = broke.rest ++ all_finish_news plan [];
-      events = in_stripes opening (all_mended_events plan broke.stripes) broke.first broke.rest (all_finish_news plan []) broke.events;
-      told = told_then view standing stands table.columns opening broke.first old.lines opened_lines lines_mid old.reports opened_reports reports_mid opened broke.told;
-      folders = broke.folders ∙ begun.as_many;
-      starts = starts;
-      states = states;
-      makes = λ d within. makes_wider (IsMendCall plan d broke.stripes) (IsFixCall plan d broke.stripes starts states) (λ call is. inl is) (broke.makes d within);
-      vault = broke.vault;
-      broke = broke_opened plan fault broke.first mids folders_mid old.vault vault_mid broke.broke;
-    }
+  underway_start : AreUnderway plan [] mids mids starts states
+  underway_start = underway_begun selection names table begun.lists work.scope work.entries old.folders mids folders_are begun.listed starts states refl (states_are ∙ ap first_states begun.starts)
 
-    module _ (totals : Totals) (fixable : AreFixable plan mids) (first : AreUnderway plan [] mids mids starts states)
-        (fixed : FixesStripes view standing stands plan work.stripes.items (fix_scene starts states written mids old.vault opened_lines opened_reports)
-        (fix_scene starts_mid states_mid written_mid folders_mid vault_mid lines_mid reports_mid) totals) (vault_new : VaultView) where
+  start_fit : StartsFitFolders plan starts mids
+  start_fit = starts_fit_first plan starts mids (begun_underway mode selection names table work old.folders mids begun folders_are)
+
+  -- a count of faults since before the listing
+  rose_listed : (d n now : ℕ) → d < length table.columns → RoseBy n (folder_at mids d).faults now → RoseBy n (folder_at old.folders d).faults now
+  rose_listed d n now within rose =
+      let later = (begun.listed.each d (omega (arith, within, folders_are))).call.called.goes_on.later in
+      omega (arith, later, rose)
+
+  -- what is known of the first stripes
+  finds_first : (stripes : List Mended) (behind : List ℕ) (readings : List (List LevelReading)) → stripes_of plan ≡ numbers_of (facts_of stripes) ++ behind
+      → All (AreFacts plan) (facts_of stripes) → AreReadThen plan starts mids stripes → AreAllLevelsOf table.shape.block_size old.vault (facts_of stripes) readings
+      → All (AnswersFit plan mids) stripes → FixFinds plan starts mids old.vault stripes readings
+  finds_first stripes behind readings numbers are read levels answered =
+      let ascending = AllPairs-left (λ (a b : ℕ). a < b) (numbers_of (facts_of stripes)) behind (subst AreAscending numbers (stripes_ascending plan)) in
+      record { are = are; cells = present_at_first plan starts mids stripes valid ascending are start_fit read; levels = levels; answered = answered }
+
+  module _ (opened : Told view standing stands table.columns opening old.lines opened_lines old.reports opened_reports) (written : List Bool)
+      (starts_mid : StartsValue) (states_mid : List (List FileState)) (written_mid : List Bool) (folders_mid : List FolderView) (vault_mid : VaultView) (spare_mid : SpareView)
+      (lines_mid : Lines W) (reports_mid : List R) where
+    abbrev scene_from : StartsValue → FixScene W R
+    scene_from from = fix_scene from states written mids old.vault old.spare opened_lines opened_reports
+
+    abbrev scene_mid : FixScene W R
+    scene_mid = fix_scene starts_mid states_mid written_mid folders_mid vault_mid spare_mid lines_mid reports_mid
+
+    -- the stripes broke off
+    pub stripes_broke : (fault : RunFault) → BreaksStripes view standing stands plan work.stripes.items (scene_from work.starts) scene_mid fault
+        → FixBreaks view standing stands mode selection names table old (outside folders_mid vault_mid spare_mid lines_mid reports_mid) fault
+    stripes_broke fault broke_then =
+        let broke = subst (λ (from : StartsValue). BreaksStripes view standing stands plan work.stripes.items (scene_from from) scene_mid fault) begun.starts broke_then in
+        let numbers : stripes_of plan ≡ numbers_of (facts_of broke.stripes) ++ broke.behind = sym begun.stripes ∙ broke.numbers_are in
+        record {
+          lists = begun.lists;
+          mids = mids;
+          as_many = begun.as_many;
+          listed = begun.listed;
+          plan = plan;
+          plan_is = plan_is;
+          stripes = broke.stripes;
+          behind = broke.behind;
+          numbers = numbers;
+          readings = broke.readings;
+          finds = finds_first broke.stripes broke.behind broke.readings numbers broke.are (broke.cells mids fixable underway_start) broke.read broke.answered;
+          unread = broke.unread;
+          unread_cells_of = λ d within. rose_listed d _ _ within (broke.unread_cells_of d within);
+          spare = broke.spare;
+          vault = broke.vault;
+          first = opening ++ broke.first;
+          files = inl (record { rest = broke.rest; events = in_stripes opening (all_mended_events plan broke.stripes) broke.first broke.rest broke.events; makes = broke.makes });
+          told = told_then view standing stands table.columns opening broke.first old.lines opened_lines lines_mid old.reports opened_reports reports_mid opened broke.told;
+          folders = broke.folders ∙ begun.as_many;
+          calls = fix_calls_of_writing plan starts broke.stripes mids folders_mid broke.makes;
+          broke = broke_opened plan fault broke.first mids folders_mid old.vault vault_mid broke.broke;
+        }
+
+    module _ (totals : Totals) (fixed_then : FixesStripes view standing stands plan work.stripes.items (scene_from work.starts) scene_mid totals) (vault_new : VaultView) where
+      fixed : FixesStripes view standing stands plan work.stripes.items (scene_from starts) scene_mid totals
+      fixed = subst (λ (from : StartsValue). FixesStripes view standing stands plan work.stripes.items (scene_from from) scene_mid totals) begun.starts fixed_then
+
       abbrev stripes : List Mended
       stripes = fixed.stripes
 
       abbrev mended : List Event
       mended = all_mended_events plan stripes
 
-      pub underway_stripes : AreUnderway plan stripes mids folders_mid starts_mid states_mid
-      underway_stripes = fixed.fixes.underway [] mids fixable first
+      abbrev readings : List (List LevelReading)
+      readings = fixed.fixes.readings
+
+      abbrev all_written : Written
+      all_written = record { starts = starts_mid; states = states_mid; folders = folders_mid }
+
+      writes : WritesFiles plan starts stripes mids all_written
+      writes = record { stood = fixed.fixes.stood; underway = fixed.fixes.underway [] mids fixable underway_start; makes = fixed.fixes.makes }
+
+      numbers_are : numbers_of (facts_of stripes) ≡ stripes_of plan
+      numbers_are = fixed.numbers_are ∙ begun.stripes
+
+      numbers_all : stripes_of plan ≡ numbers_of (facts_of stripes) ++ []
+      numbers_all = sym (append-nil (numbers_of (facts_of stripes)) ∙ numbers_are)
+
+      finds : FixFinds plan starts mids old.vault stripes readings
+      finds = finds_first stripes [] readings numbers_all fixed.fixes.are (fixed.read mids fixable underway_start) fixed.fixes.read fixed.fixes.answered
 
       told_stripes : Told view standing stands table.columns (opening ++ mended) old.lines lines_mid old.reports reports_mid
       told_stripes = told_then view standing stands table.columns opening mended old.lines opened_lines lines_mid old.reports opened_reports reports_mid opened fixed.fixes.told
 
-      makes_stripes : (d : ℕ) → d < length table.columns → FolderMakes (IsFixCall plan d stripes starts_mid states_mid) (folder_at mids d) (folder_at folders_mid d)
-      makes_stripes d within =
-          makes_wider (IsMendCall plan d stripes) (IsFixCall plan d stripes starts_mid states_mid) (λ call is. inl is) (underway_stripes.each d within).makes
+      -- a count of faults of a folder, after its files were finished
+      rose_through : (d n now : ℕ) → d < length table.columns → RoseBy n (folder_at mids d).faults (folder_at folders_mid d).faults → (folder_at folders_mid d).faults ≤ now
+          → RoseBy n (folder_at old.folders d).faults now
+      rose_through d n now within rose later = rose_listed d n now within (rose_on n (folder_at mids d).faults (folder_at folders_mid d).faults now rose later)
 
       -- a sync of a level failed
-      pub sync_broke : SyncsNot vault_mid vault_new → FixBreaks view standing stands mode selection names table old (outside folders_mid vault_new lines_mid reports_mid) Vault
+      pub sync_broke : SyncsNot vault_mid vault_new → FixBreaks view standing stands mode selection names table old (outside folders_mid vault_new spare_mid lines_mid reports_mid) Vault
       sync_broke not_synced =
           let sum = count_append is_parity_io opening mended in
           let none = none_opening is_parity_io parity_io_no_file plan in
           let before = fixed.fixes.parity_io in
           let rose = not_synced.rose in
+          let finishes = planned plan starts_mid states_mid folders_mid in
           record {
             lists = begun.lists;
             mids = mids;
@@ -182,17 +213,30 @@ module _ {W R : Type 0} (view : W → SinkView) (standing : R → ReportView) (s
             plan = plan;
             plan_is = plan_is;
             stripes = stripes;
-            are = fixed.fixes.are;
-            finishes = [];
-            first = opening ++ mended;
-            rest = all_finish_news plan [];
-            events = sym (append_assoc opening mended (all_finish_news plan []));
-            told = told_stripes;
-            folders = underway_stripes.folders ∙ begun.as_many;
-            starts = starts_mid;
-            states = states_mid;
-            makes = makes_stripes;
+            behind = [];
+            numbers = numbers_all;
+            readings = readings;
+            finds = finds;
+            unread = rose_on (unread_in readings) old.vault.faults vault_mid.faults vault_new.faults fixed.fixes.unread not_synced.calls.goes_on.later;
+            unread_cells_of = λ d within. rose_listed d _ _ within (fixed.unread d within);
+            spare = fixed.fixes.spare;
             vault = mends_synced plan (facts_of stripes) old.vault vault_mid vault_new fixed.fixes.vault not_synced.calls not_synced.drafts not_synced.changes;
+            first = opening ++ mended;
+            files = inr (
+              refl,
+              record {
+                written = all_written;
+                writes = writes;
+                finishes = finishes;
+                are = planned_done plan starts_mid states_mid folders_mid;
+                rest = all_finish_news plan finishes;
+                events = sym (append_assoc opening mended (all_finish_news plan finishes));
+                makes = λ d within. makes_none (AnyCall (FinishesOne plan d starts_mid states_mid)) (folder_at folders_mid d);
+              },
+            );
+            told = told_stripes;
+            folders = writes.underway.folders ∙ begun.as_many;
+            calls = fix_calls_of_writing plan starts stripes mids folders_mid (λ d within. makes_any (IsMendCall plan starts d stripes) (writes.makes d within));
             broke = record {
               rose = omega (arith, sum, none, before, rose);
               call = vault_gained old.vault vault_mid vault_new fixed.fixes.vault.calls not_synced.calls not_synced.call;
@@ -201,9 +245,6 @@ module _ {W R : Type 0} (view : W → SinkView) (standing : R → ReportView) (s
 
       module _ (levels : List Bool) (synced : SyncsWritten levels vault_mid vault_new)
           (starts_new : StartsValue) (states_new : List (List FileState)) (folders_new : List FolderView) (lines_end : Lines W) (reports_new : List R) where
-        vault_synced : MendsVault plan (facts_of stripes) old.vault vault_new
-        vault_synced = mends_synced plan (facts_of stripes) old.vault vault_mid vault_new fixed.fixes.vault synced.syncs.some synced.syncs.drafts synced.syncs.changes
-
         told_with : (news : List Event) → Told view standing stands table.columns news lines_mid lines_end reports_mid reports_new
             → Told view standing stands table.columns (opening ++ (mended ++ news)) old.lines lines_end old.reports reports_new
         told_with news told =
@@ -214,7 +255,7 @@ module _ {W R : Type 0} (view : W → SinkView) (standing : R → ReportView) (s
         pub finish_broke : (disk : ℕ) (plan_then : FixPlan) → plan_then ≡ plan
             → FinishesNotAll view standing stands plan_then (files_outside starts_mid states_mid folders_mid lines_mid reports_mid)
             (files_outside starts_new states_new folders_new lines_end reports_new) disk
-            → FixBreaks view standing stands mode selection names table old (outside folders_new vault_new lines_end reports_new) (Folder disk)
+            → FixBreaks view standing stands mode selection names table old (outside folders_new vault_new spare_mid lines_end reports_new) (Folder disk)
         finish_broke disk plan_then same broke_then =
             let broke = subst (λ (p : FixPlan). FinishesNotAll view standing stands p (files_outside starts_mid states_mid folders_mid lines_mid reports_mid)
             (files_outside starts_new states_new folders_new lines_end reports_new) disk) same broke_then in
@@ -232,31 +273,42 @@ module _ {W R : Type 0} (view : W → SinkView) (standing : R → ReportView) (s
               plan = plan;
               plan_is = plan_is;
               stripes = stripes;
-              are = fixed.fixes.are;
-              finishes = broke.finishes;
+              behind = [];
+              numbers = numbers_all;
+              readings = readings;
+              finds = finds;
+              unread = rose_on (unread_in readings) old.vault.faults vault_mid.faults vault_new.faults fixed.fixes.unread synced.syncs.some.goes_on.later;
+              unread_cells_of = λ d within. rose_through d _ _ within (fixed.unread d within) (broke.makes d within).goes_on.later;
+              spare = fixed.fixes.spare;
+              vault = mends_synced plan (facts_of stripes) old.vault vault_mid vault_new fixed.fixes.vault synced.syncs.some synced.syncs.drafts synced.syncs.changes;
               first = opening ++ (mended ++ broke.first);
-              rest = broke.rest;
-              events = in_finish opening mended (all_finish_news plan broke.finishes) broke.first broke.rest broke.events;
+              files = inr (
+                refl,
+                record {
+                  written = all_written;
+                  writes = writes;
+                  finishes = broke.finishes;
+                  are = broke.are;
+                  rest = broke.rest;
+                  events = in_finish opening mended (all_finish_news plan broke.finishes) broke.first broke.rest broke.events;
+                  makes = broke.makes;
+                },
+              );
               told = told_with broke.first broke.told;
-              folders = broke.folders ∙ underway_stripes.folders ∙ begun.as_many;
-              starts = starts_mid;
-              states = states_mid;
-              makes = λ d within.
-                  makes_then (IsFixCall plan d stripes starts_mid states_mid) (makes_stripes d within)
-                  (makes_wider (FinishesOne plan d starts_mid states_mid) (IsFixCall plan d stripes starts_mid states_mid) (λ call is. inr is) (broke.makes d within));
-              vault = vault_synced;
+              folders = broke.folders ∙ writes.underway.folders ∙ begun.as_many;
+              calls = fix_calls_of plan starts stripes mids folders_new all_written writes broke.makes;
               broke = (
                 broke.within,
                 record {
                   rose = omega (arith, sum, more, none, no_more, before, rose);
-                  call = folder_gained (IsMendCall plan disk stripes) (FinishesOne plan disk starts_mid states_mid)
-                      (folder_at mids disk) (folder_at folders_mid disk) (folder_at folders_new disk) (underway_stripes.each disk broke.within).makes (broke.makes disk broke.within) broke.call;
+                  call = folder_gained (WellCall (IsMendCall plan starts disk stripes)) (AnyCall (FinishesOne plan disk starts_mid states_mid))
+                      (folder_at mids disk) (folder_at folders_mid disk) (folder_at folders_new disk) (writes.makes disk broke.within) (broke.makes disk broke.within) broke.call;
                 },
               );
             }
 
         -- all was done
-        pub fixes : IsWellFormed vault_new → levels ≡ written_mid → length written ≡ table.shape.levels
+        pub fixes : IsWellFormed vault_new → levels ≡ written_mid → length written ≡ table.shape.levels → ((r : ℕ) → r < length written → get_or written r false ≡ false)
             → (opening_counts news both counts : Counts) (lines_new : Lines W) (plan_then : FixPlan) → plan_then ≡ plan
             → FinishesAll view standing stands plan_then (files_outside starts_mid states_mid folders_mid lines_mid reports_mid)
             (files_outside starts_new states_new folders_new lines_end reports_new) news
@@ -264,14 +316,19 @@ module _ {W R : Type 0} (view : W → SinkView) (standing : R → ReportView) (s
             → ((events others : List Event) → AreCounts events totals.counts → AreCounts others news → AreCounts (events ++ others) both)
             → ((events others : List Event) → AreCounts events opening_counts → AreCounts others both → AreCounts (events ++ others) counts)
             → Puts view (fix_text totals.blocks totals.parities counts.left) lines_end lines_new → Settled (state_of view lines_new)
-            → Fixes view standing stands mode selection names table old (outside folders_new vault_new lines_new reports_new)
+            → Fixes view standing stands mode selection names table old (outside folders_new vault_new spare_mid lines_new reports_new)
             (record { blocks = totals.blocks; parities = totals.parities; findings = counts.found; left = counts.left })
-        fixes formed levels_are written_are opening_counts news both counts lines_new plan_then same finished_then opening_counted and_news and_all puts settled =
+        fixes formed levels_are written_are none_written opening_counts news both counts lines_new plan_then same finished_then opening_counted and_news and_all puts settled =
             let finished = subst (λ (p : FixPlan). FinishesAll view standing stands p (files_outside starts_mid states_mid folders_mid lines_mid reports_mid)
             (files_outside starts_new states_new folders_new lines_end reports_new) news) same finished_then in
-            let told = told_with (all_finish_news plan finished.finishes) finished.told in
-            let counted = and_all opening (mended ++ all_finish_news plan finished.finishes) opening_counted
-            (and_news mended (all_finish_news plan finished.finishes) fixed.fixes.totals_are.counts finished.counts_are) in
+            let finish_news = all_finish_news plan finished.finishes in
+            let told = told_with finish_news finished.told in
+            let counted = and_all opening (mended ++ finish_news) opening_counted (and_news mended finish_news fixed.fixes.totals_are.counts finished.counts_are) in
+            let long : length levels ≡ table.shape.levels = ap length levels_are ∙ fixed.fixes.written.0 ∙ written_are in
+            let flags : (r : ℕ) → r < table.shape.levels → get_or levels r false ≡ was_written plan stripes r =
+            λ r below.
+            let within : r < length written = omega (arith, below, written_are) in
+            ap (λ (all : List Bool). get_or all r false) levels_are ∙ flag_is plan stripes written written_mid fixed.fixes.written r within (none_written r within) in
             record {
               lists = begun.lists;
               mids = mids;
@@ -280,21 +337,21 @@ module _ {W R : Type 0} (view : W → SinkView) (standing : R → ReportView) (s
               plan = plan;
               plan_is = plan_is;
               stripes = stripes;
-              numbers = fixed.numbers_are ∙ begun.stripes;
-              are = fixed.fixes.are;
-              read = fixed.read mids fixable first;
-              written = record { starts = starts_mid; states = states_mid; folders = folders_mid };
-              underway = underway_stripes;
+              numbers = numbers_are;
+              readings = readings;
+              finds = finds;
+              spare = fixed.fixes.spare;
+              vault = fixes_vault plan stripes readings old.vault vault_mid vault_new levels long flags synced formed fixed.fixes.ran fixed.fixes.unread fixed.fixes.vault fixed.fixes.zeros fixed.fixes.holds;
               finishes = finished.finishes;
-              folders = finished.folders ∙ underway_stripes.folders ∙ begun.as_many;
-              finished = finished.columns;
-              vault = vault_synced;
-              holds = holds_synced plan (facts_of stripes) vault_mid vault_new synced.syncs.some synced.syncs.changes fixed.fixes.holds;
-              synced = λ level below was.
-                  let before : level < length written = omega (arith, below, written_are) in
-                  let inside : level < length levels = omega (arith, before, fixed.fixes.written.0, ap length levels_are) in
-                  let marked : get_or levels level false ≡ true = ap (λ (all : List Bool). get_or all level false) levels_are ∙ (fixed.fixes.written.1 level before).1 (inr was) in
-                  settled_now level vault_mid vault_new formed synced.syncs.some synced.syncs.changes (synced.settled level inside marked);
+              files = fixes_files plan starts stripes mids folders_new all_written finished.finishes writes (finished.folders ∙ writes.underway.folders) finished.columns;
+              unread = λ d within. rose_through d _ _ within (fixed.unread d within) (finished.columns d within).makes.goes_on.later;
+              io = λ d within.
+                  let sum = count_append (is_io_of d) opening (mended ++ finish_news) in
+                  let more = count_append (is_io_of d) mended finish_news in
+                  let none = none_opening (is_io_of d) (io_no_file d) plan in
+                  let no_more = none_finishing (is_io_of d) (io_no_file d) plan finished.finishes in
+                  let before = rose_through d (count_by (is_io_of d) mended) (folder_at folders_new d).faults within (fixed.io d within) (finished.columns d within).makes.goes_on.later in
+                  omega (arith, sum, more, none, no_more, before);
               given = told.given;
               puts = puts_then view (lines_of table.columns (fix_events plan stripes finished.finishes)) (fix_text totals.blocks totals.parities counts.left) old.lines lines_end lines_new told.puts puts;
               settled = settled;

@@ -179,7 +179,7 @@ module _ (plan : FixPlan) (valid : IsValid plan.table) (stripes : List Mended) (
       → CanFinishFile plan d (starts_at starts.columns d) (states_at states d) i (folder_at nows d).tree
   can_finish_file d within told i below finished =
       let column = underway.each d within in
-      let told_first : IsTrue (folder_at firsts d).tells = subst IsTrue column.makes.goes_on.tells told in
+      let told_first : IsTrue (folder_at firsts d).tells = subst IsTrue column.calls.goes_on.tells told in
       let records = records_in plan.table d in
       let writes = column_writes plan stripes d (length records) in
       let held = column.holds told_first in
@@ -196,7 +196,7 @@ module _ (plan : FixPlan) (valid : IsValid plan.table) (stripes : List Mended) (
     starts_fit = starts_fit;
     states_fit = states_fit;
     each = λ d within. record {
-      is_open = (underway.each d within).makes.goes_on.closed ∙ (fixable d within).is_open;
+      is_open = λ some. (underway.each d within).calls.goes_on.closed ∙ (fixable d within).is_open some;
       each = λ told i below finished. can_finish_file d within told i below finished;
     };
   }

@@ -1,15 +1,16 @@
 -- The stripes of a window, looked at and written anew one after another, and how that breaks off.
-use Rattle.std.proofs.Common.{◌≡◌, ◌≢◌, ◌⊎◌, inl, inr, ℕ, ◌+◌, ◌<◌, ◌≤◌, ◌||◌, List, [], ◌∷◌, ◌++◌, length, take, get_or, Bool, true, false, IsTrue, refl, sym, ap, ap₂, ◌∙◌, subst, arith, append_assoc}
+use Rattle.std.proofs.Common.{◌≡◌, ◌⊎◌, inl, inr, ℕ, ◌+◌, ◌<◌, ◌≤◌, ◌||◌, List, [], ◌∷◌, ◌++◌, length, take, drop, get_or, Bool, true, false, IsTrue, refl, sym, ap, ap₂, ◌∙◌, subst, arith, append_assoc}
 use Rattle.std.specs.List.{count_by, list_any}
 use Rattle.std.proofs.lemmas.Bool.{cases_lt}
-use Rattle.std.proofs.lemmas.List.{map-append, append-nil, length-map, length-append, get_or_append_left, get_or_push, take_more, length-take-le}
+use Rattle.std.proofs.lemmas.List.{map-append, append-nil, length-map, length-append, get_or_append_left, get_or_push, take_more, length-take-le, take-append-drop}
 use Rattle.std.proofs.lemmas.List.Elements.{All-nil, All-cons}
 use Rattle.file_table.proofs.ListFacts.{AllPairs-take}
-use Rattle.disk_model.specs.Folder.{FolderView, FolderCall}
+use Rattle.disk_model.specs.Folder.{FolderView, FolderDone}
 use Rattle.disk_model.specs.Sink.{SinkView}
 use Rattle.disk_model.specs.Vault.{VaultView, SomeCalls}
 use Rattle.parity_writer.specs.LevelReading.{has_failed}
-use Rattle.snap_report.specs.Answer.{Gained, broke_folder, broke_vault, is_parity_io}
+use Rattle.snap_report.specs.Answer.{Gained, broke_folder, is_parity_io}
+use Rattle.snap_fix.specs.Breaking.{broke_parity}
 use Rattle.snap_report.specs.Report.{ReportView}
 use Rattle.snap_report.specs.declared.answer.RunFault.{RunFault}
 use Rattle.snap_report.specs.declared.answer.RunFault.TheVariants.{Folder, Vault, Memory}
@@ -20,17 +21,19 @@ use Rattle.stripe_reader.specs.WindowValue.{WindowValue, slot_at}
 use Rattle.snap_fix.specs.declared.fixing.Totals.{Totals}
 use Rattle.snap_fix.specs.declared.room.Room.{Room}
 use Rattle.snap_fix.specs.Facts.{StripeFacts}
-use Rattle.snap_fix.specs.FixRun.{AreDistinct, BreaksInto, FixesAll, FixesInto, HasBrokenInto}
+use Rattle.snap_fix.specs.FixRun.{AreAscending, BreaksInto, FixesAll, FixesInto, HasBrokenInto}
 use Rattle.snap_fix.specs.Fixing.{AreTotals, BreaksStripe, FixScene, IsBrokenBy, SceneFits, facts_of}
 use Rattle.snap_fix.specs.Known.{AreFacts}
 use Rattle.snap_fix.specs.Looking.{facts_at, no_facts, numbers_of}
 use Rattle.snap_fix.specs.Marks.{slots_at}
-use Rattle.snap_fix.specs.Mended.{Mended, all_mended_events, mended_events}
+use Rattle.snap_fix.specs.Mended.{AnswersFit, Mended, all_mended_events, mended_events}
 use Rattle.snap_fix.specs.Plan.{FixPlan}
-use Rattle.snap_fix.specs.State.{FolderMakes}
+use Rattle.snap_fix.specs.State.{AnyCall, FolderMakes}
 use Rattle.snap_fix.specs.Underway.{FixUnderway, IsMendCall}
-use Rattle.snap_fix.proofs.FixAllLemmas.{differ, events_append, facts_append, facts_then, fixes_none, fixes_then, mend_calls_then, mends_then}
+use Rattle.snap_fix.proofs.FixAllLemmas.{answered_then, asked_then, events_append, facts_append, facts_then, fixes_none, fixes_then, levels_then, mends_then, precede, unread_then}
 use Rattle.snap_fix.proofs.FixCountLemmas.{count_append, parity_io_in_stripe}
+use Rattle.snap_fix.proofs.KeptStartsLemmas.{any_then}
+use Rattle.snap_fix.proofs.MendedVaultLemmas.{Precede}
 use Rattle.snap_fix.proofs.WindowLemmas.{slots_same}
 
 -- ---- calls that were gained, after others
@@ -50,15 +53,15 @@ gained_after {A = A} p old mid now front grown gained = record {
   one = any_later p front gained.gained gained.one;
 }
 
-pub folder_gained : (P Q : FolderCall → Type 0) (old mid new : FolderView) → FolderMakes P old mid → FolderMakes Q mid new
+pub folder_gained : (P Q : FolderDone → Type 0) (old mid new : FolderView) → FolderMakes P old mid → FolderMakes Q mid new
     → (IsTrue new.tells_calls → Gained broke_folder mid.calls new.calls) → IsTrue new.tells_calls → Gained broke_folder old.calls new.calls
 folder_gained P Q old mid new one two call tells =
     gained_after broke_folder old.calls mid.calls new.calls one.done (one.goes_on.calls.more (two.goes_on.calls.told tells)) (call tells)
 
 pub vault_gained : (old mid new : VaultView) → SomeCalls old mid → SomeCalls mid new
-    → (IsTrue new.tells_calls → Gained broke_vault mid.calls new.calls) → IsTrue new.tells_calls → Gained broke_vault old.calls new.calls
+    → (IsTrue new.tells_calls → Gained broke_parity mid.calls new.calls) → IsTrue new.tells_calls → Gained broke_parity old.calls new.calls
 vault_gained old mid new one two call tells =
-    gained_after broke_vault old.calls mid.calls new.calls one.done (one.goes_on.calls.more (two.goes_on.calls.told tells)) (call tells)
+    gained_after broke_parity old.calls mid.calls new.calls one.done (one.goes_on.calls.more (two.goes_on.calls.told tells)) (call tells)
 
 -- a prefix has no more of them
 pub count_first : (p : Event → Bool) (events first rest : List Event) → events ≡ first ++ rest → count_by p first ≤ count_by p events
@@ -84,7 +87,7 @@ module _ {W R : Type 0} (view : W → SinkView) (standing : R → ReportView) (s
     fixes = fixes_none view standing stands plan totals s fits counted;
   }
 
-  module _ (all : List ℕ) (distinct : AreDistinct all) (i : ℕ) (within : i < length all) (first : WindowValue) (one : Totals) (old mid : FixScene W R)
+  module _ (all : List ℕ) (ascending : AreAscending all) (i : ℕ) (within : i < length all) (first : WindowValue) (one : Totals) (old mid : FixScene W R)
       (so_far : FixesInto view standing stands plan (take i all) first old mid one) (mended : Mended) where
     many : length so_far.stripes ≡ i
     many =
@@ -96,6 +99,15 @@ module _ {W R : Type 0} (view : W → SinkView) (standing : R → ReportView) (s
 
     numbers_more : mended.facts.stripe ≡ get_or all i 0 → numbers_of (facts_of so_far.stripes) ++ mended.facts.stripe ∷ [] ≡ take (i + 1) all
     numbers_more number = ap₂ (λ (xs : List ℕ) (x : ℕ). xs ++ x ∷ []) so_far.numbers_are number ∙ sym (take_more all i 0 within)
+
+    -- the numbers with this one
+    numbers_so : mended.facts.stripe ≡ get_or all i 0 → numbers_of (facts_of (so_far.stripes ++ mended ∷ [])) ≡ take (i + 1) all
+    numbers_so number =
+        ap numbers_of (facts_append so_far.stripes (mended ∷ [])) ∙ map-append (λ (it : StripeFacts). it.stripe) (facts_of so_far.stripes) (mended.facts ∷ []) ∙ numbers_more number
+
+    -- it comes after those before it
+    before_it : mended.facts.stripe ≡ get_or all i 0 → Precede (facts_of so_far.stripes) (mended.facts ∷ [])
+    before_it number = precede so_far.stripes (mended ∷ []) (subst AreAscending (sym (numbers_more number)) (AllPairs-take (λ (a b : ℕ). a < b) (i + 1) all ascending))
 
     slots_more : (window : WindowValue) → mended.facts.slots ≡ slots_at window i → length window.lanes ≡ length first.lanes → ((d : ℕ) → slot_at window i d ≡ slot_at first i d)
         → (k : ℕ) → k < length (so_far.stripes ++ mended ∷ []) → (facts_at (facts_of (so_far.stripes ++ mended ∷ [])) k).slots ≡ slots_at first k
@@ -116,20 +128,18 @@ module _ {W R : Type 0} (view : W → SinkView) (standing : R → ReportView) (s
         → ((stripes others : List Mended) → AreTotals plan stripes one → AreTotals plan others two → AreTotals plan (stripes ++ others) both)
         → FixesAll view standing stands plan (mended ∷ []) mid new two
         → FixesInto view standing stands plan (take (i + 1) all) first old new both
-    into_more window two both new number slots lanes same and more =
-        let apart = differ so_far.stripes (mended ∷ []) (subst AreDistinct (sym (numbers_more number)) (AllPairs-take (λ (a b : ℕ). a ≢ b) (i + 1) all distinct)) in
-        record {
-          stripes = so_far.stripes ++ mended ∷ [];
-          numbers_are = ap numbers_of (facts_append so_far.stripes (mended ∷ [])) ∙ map-append (λ (it : StripeFacts). it.stripe) (facts_of so_far.stripes) (mended.facts ∷ []) ∙ numbers_more number;
-          slots = slots_more window slots lanes same;
-          fixes = fixes_then view standing stands plan so_far.stripes (mended ∷ []) one two both old mid new apart and so_far.fixes more;
-        }
+    into_more window two both new number slots lanes same and more = record {
+      stripes = so_far.stripes ++ mended ∷ [];
+      numbers_are = numbers_so number;
+      slots = slots_more window slots lanes same;
+      fixes = fixes_then view standing stands plan so_far.stripes (mended ∷ []) one two both old mid new (before_it number) and so_far.fixes more;
+    }
 
   -- one stripe broke off, after those before it
   broke_more : (fault : RunFault) (xs : List Mended) (front first : List Event) (unread : ℕ) (one : Totals) (old mid new : FixScene W R)
       → front ≡ all_mended_events plan xs → count_by is_parity_io first ≤ unread
       → FixesAll view standing stands plan xs old mid one
-      → ((d : ℕ) → d < length plan.table.columns → (Q : FolderCall → Type 0) × FolderMakes Q (folder_at mid.folders d) (folder_at new.folders d)) → SomeCalls mid.vault new.vault
+      → ((d : ℕ) → d < length plan.table.columns → (Q : FolderDone → Type 0) × FolderMakes Q (folder_at mid.folders d) (folder_at new.folders d)) → SomeCalls mid.vault new.vault
       → IsBrokenBy plan fault unread mid.folders new.folders mid.vault new.vault
       → HasBrokenInto plan fault (front ++ first) old.folders new.folders old.vault new.vault
   broke_more (Folder disk) xs front first unread one old mid new front_is few fixes makes calls (within, broke) = (
@@ -151,11 +161,11 @@ module _ {W R : Type 0} (view : W → SinkView) (standing : R → ReportView) (s
   broke_more Memory xs front first unread one old mid new front_is few fixes makes calls broke = broke
 
   module _ (all : List ℕ) (i : ℕ) (within : i < length all) (first : WindowValue) (one : Totals) (old mid : FixScene W R)
-      (distinct : AreDistinct all) (so_far : FixesInto view standing stands plan (take i all) first old mid one) where
-    pub into_breaks : (stripe : ℕ) (before : Room) (new : FixScene W R) (fault : RunFault) → first.count ≡ length all → SceneFits plan old
+      (ascending : AreAscending all) (so_far : FixesInto view standing stands plan (take i all) first old mid one) where
+    pub into_breaks : (before : Room) (new : FixScene W R) (fault : RunFault) → SceneFits plan old
         → length before.window.lanes ≡ length first.lanes → ((d : ℕ) → slot_at before.window i d ≡ slot_at first i d)
-        → BreaksStripe view standing stands plan stripe i before mid new fault → BreaksInto view standing stands plan first old new fault
-    into_breaks stripe before new fault count fits lanes same broke =
+        → BreaksStripe view standing stands plan (get_or all i 0) i before mid new fault → BreaksInto view standing stands plan all first old new fault
+    into_breaks before new fault fits lanes same broke =
         let xs = so_far.stripes in
         let mended = broke.mended in
         let ys : List Mended = mended ∷ [] in
@@ -165,16 +175,24 @@ module _ {W R : Type 0} (view : W → SinkView) (standing : R → ReportView) (s
         let fewer = count_first is_parity_io (mended_events plan mended) broke.first broke.rest broke.events in
         record {
           stripes = xs ++ ys;
-          few = omega (arith, length-append xs ys, many all distinct i within first one old mid so_far mended, within, count);
-          slots = slots_more all distinct i within first one old mid so_far mended before.window broke.slots lanes same;
+          behind = drop (i + 1) all;
+          numbers_are = sym (take-append-drop (i + 1) all) ∙ ap (λ (its : List ℕ). its ++ drop (i + 1) all) (sym (numbers_so all ascending i within first one old mid so_far mended broke.number));
+          slots = slots_more all ascending i within first one old mid so_far mended before.window broke.slots lanes same;
           are = facts_then plan xs ys so_far.fixes.are (All-cons (AreFacts plan) mended.facts [] broke.are (All-nil (AreFacts plan)));
           first = front ++ broke.first;
           rest = broke.rest;
           events = events_append plan xs ys ∙ ap (λ (es : List Event). front ++ es) (append-nil (mended_events plan mended) ∙ broke.events) ∙ sym (append_assoc front broke.first broke.rest);
           told = told_then view standing stands plan.table.columns front broke.first old.lines mid.lines new.lines old.reports mid.reports new.reports so_far.fixes.told broke.told;
           folders = broke.folders ∙ so_far.fixes.fits.folders ∙ sym fits.folders;
+          answered = answered_then plan xs ys old.folders mid.folders (λ d below. (so_far.fixes.makes d below).goes_on.tells) so_far.fixes.answered
+              (All-cons (AnswersFit plan mid.folders) mended [] broke.answered (All-nil (AnswersFit plan mid.folders)));
+          readings = so_far.fixes.readings ++ readings ∷ [];
+          read = levels_then plan xs ys old.vault mid.vault so_far.fixes.readings (readings ∷ []) so_far.fixes.vault
+              (before_it all ascending i within first one old mid so_far mended broke.number) so_far.fixes.read (broke.read.are, tt);
+          unread = unread_then so_far.fixes.readings (readings ∷ []) old.vault.faults mid.vault.faults new.vault.faults so_far.fixes.unread (omega (arith, broke.read.unread));
+          spare = asked_then plan xs ys old.spare mid.spare new.spare so_far.fixes.spare broke.spare;
           vault = mends_then plan xs ys old.vault mid.vault new.vault so_far.fixes.vault broke.vault;
-          makes = λ d below. mend_calls_then plan d xs ys (folder_at old.folders d) (folder_at mid.folders d) (folder_at new.folders d) (so_far.fixes.makes d below) (broke.makes d below);
+          makes = λ d below. any_then plan old.starts mid.starts so_far.fixes.stood d xs ys (so_far.fixes.makes d below) (broke.makes d below);
           broke = broke_more fault xs front broke.first (count_by has_failed readings) one old mid new refl (omega (arith, few, fewer)) so_far.fixes
-              (λ d below. (IsMendCall plan d ys, broke.makes d below)) broke.vault.calls broke.broke;
+              (λ d below. (AnyCall (IsMendCall plan mid.starts d ys), broke.makes d below)) broke.vault.calls broke.broke;
         }

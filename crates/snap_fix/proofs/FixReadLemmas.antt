@@ -1,19 +1,16 @@
 -- The stripes of a window, read of the folders of a fix.
-use Rattle.std.proofs.Common.{◌≡◌, ℕ, ◌+◌, ◌<◌, ◌≤◌, List, [], ◌∷◌, length, map, take, get_or, All, Bool, true, false, None, Some, IsTrue, refl, sym, ap, ◌∙◌, subst, arith, cond}
+use Rattle.std.proofs.Common.{◌≡◌, ℕ, ◌+◌, ◌<◌, ◌≤◌, List, [], ◌∷◌, length, map, take, get_or, Bool, IsTrue, refl, sym, ap, ◌∙◌, subst, arith, cond}
 use Rattle.std.specs.List.{count_by}
 use Rattle.std.proofs.Math.ListN.{get_or-map as get_or-map-at}
 use Rattle.std.proofs.lemmas.List.{length-map, get_or-map, ext_get_or, get_or-take, length-take-le}
-use Rattle.std.proofs.lemmas.List.Elements.{All-nil, All-cons, All-append}
 use Rattle.std.proofs.lemmas.List.Sums.{sum_by-take-le}
 use Rattle.disk_model.specs.Cause.{RoseBy}
-use Rattle.disk_model.specs.Folder.{FolderView, FolderCall, FolderDone, Look, ReadAt}
+use Rattle.disk_model.specs.Folder.{FolderView}
 use Rattle.disk_model.specs.Tree.{Tree}
 use Rattle.file_table.specs.declared.shape.Shape.{Shape}
-use Rattle.snap_report.specs.Answer.{is_io_of}
 use Rattle.stripe_reader.specs.Column.{IsReadingOf, ReadsColumn, no_task}
 use Rattle.stripe_reader.specs.Columns.{ReadsWindow, folder_at}
-use Rattle.stripe_reader.specs.FolderCalls.{AreCellCalls, AreColumnCalls, AreFetchCalls, succeeds}
-use Rattle.stripe_reader.specs.Reading.{CellReading, NoBlock, Nowhere, Beyond, Unread, Gone, Part, Whole, Task, Known, Fetch, task_at, is_unread}
+use Rattle.stripe_reader.specs.Reading.{CellReading, NoBlock, Nowhere, Beyond, Unread, Gone, Part, Whole, Task, task_at, is_unread}
 use Rattle.stripe_reader.specs.Slot.{kept}
 use Rattle.stripe_reader.specs.SlotValue.{SlotValue}
 use Rattle.stripe_reader.specs.Starts.{StartsValue}
@@ -22,55 +19,22 @@ use Rattle.stripe_reader.proofs.ColumnLemmas.{slot_is}
 use Rattle.snap_fix.specs.declared.state.FileState.{FileState}
 use Rattle.snap_fix.specs.Facts.{StripeFacts, slot_of}
 use Rattle.snap_fix.specs.Fixing.{IsCellRead, facts_of}
-use Rattle.snap_fix.specs.Looking.{facts_at, no_facts, slots_of}
+use Rattle.snap_fix.specs.Looking.{facts_at, no_facts, slots_of, unread_cells}
 use Rattle.snap_fix.specs.Marks.{slots_at}
-use Rattle.snap_fix.specs.Mended.{Mended, all_mended_events, column_writes}
+use Rattle.snap_fix.specs.Mended.{Mended, column_writes}
 use Rattle.snap_fix.specs.Plan.{FixPlan, records_in}
-use Rattle.snap_fix.specs.State.{FolderMakes, HoldsColumn}
+use Rattle.snap_fix.specs.State.{WellCall, FolderMakes, HoldsColumn}
 use Rattle.snap_fix.specs.Underway.{AreUnderway, FixUnderway, IsMendCall}
 use Rattle.stripe_reader.specs.Starts.{starts_at}
-use Rattle.snap_fix.proofs.FixCountLemmas.{count_cons, failed_in, io_in_stripes, slot_unread}
-use Rattle.snap_fix.proofs.FolderCallLemmas.{OfCall, makes_then}
+use Rattle.snap_fix.proofs.FixCountLemmas.{count_cons, failed_in, slot_unread, unread_slots}
+use Rattle.snap_fix.proofs.FolderCallLemmas.{calls_then, makes_column_reading, makes_some}
 
--- ---- only looks and readings
+-- ---- the calls of a reading
 
-module _ (P : FolderCall → Type 0) (looks : (path : List ℕ) (lost : Bool) → P (Look path lost)) (reads : (path : List ℕ) (lost : Bool) (at n : ℕ) → P (ReadAt path lost at n)) where
-  look_alone : (path : List ℕ) (lost failed : Bool) → All (OfCall P) (record { call = Look path lost; failed = failed } ∷ [])
-  look_alone path lost failed = All-cons (OfCall P) (record { call = Look path lost; failed = failed }) [] (looks path lost) (All-nil (OfCall P))
-
-  look_then_read : (path : List ℕ) (lost : Bool) (at n : ℕ) (failed : Bool) → All (OfCall P) (succeeds (Look path lost) ∷ record { call = ReadAt path lost at n; failed = failed } ∷ [])
-  look_then_read path lost at n failed =
-      All-cons (OfCall P) (succeeds (Look path lost)) (record { call = ReadAt path lost at n; failed = failed } ∷ []) (looks path lost)
-      (All-cons (OfCall P) (record { call = ReadAt path lost at n; failed = failed }) [] (reads path lost at n) (All-nil (OfCall P)))
-
-  of_fetch : (path : List ℕ) (lost : Bool) (at n : ℕ) (reading : CellReading) (done : List FolderDone) → AreFetchCalls path lost at n reading done → All (OfCall P) done
-  of_fetch path lost at n NoBlock done are = absurd are
-  of_fetch path lost at n Nowhere done are = absurd are
-  of_fetch path lost at n Beyond done are = absurd are
-  of_fetch path lost at n (Unread None) done are = subst (All (OfCall P)) (sym are) (look_alone path lost true)
-  of_fetch path lost at n (Unread (Some seen)) done are = subst (All (OfCall P)) (sym are) (look_then_read path lost at n true)
-  of_fetch path lost at n (Gone None) done are = subst (All (OfCall P)) (sym are) (look_alone path lost false)
-  of_fetch path lost at n (Gone (Some seen)) done are = subst (All (OfCall P)) (sym are) (look_then_read path lost at n false)
-  of_fetch path lost at n (Part seen got) done are = subst (All (OfCall P)) (sym are) (look_then_read path lost at n false)
-  of_fetch path lost at n (Whole seen bytes) done are = subst (All (OfCall P)) (sym are) (look_then_read path lost at n false)
-
-  of_cell : (task : Task) (reading : CellReading) (done : List FolderDone) → AreCellCalls task reading done → All (OfCall P) done
-  of_cell (Known known) reading done are = subst (All (OfCall P)) (sym are) (All-nil (OfCall P))
-  of_cell (Fetch path lost at n) reading done are = of_fetch path lost at n reading done are
-
-  of_column : (tasks : List Task) (readings : List CellReading) (done : List FolderDone) → AreColumnCalls tasks readings done → All (OfCall P) done
-  of_column [] readings done are = subst (All (OfCall P)) (sym are) (All-nil (OfCall P))
-  of_column (task ∷ tasks) [] done are = absurd are
-  of_column (task ∷ tasks) (reading ∷ readings) done (first, rest, is, cell, column) =
-      subst (All (OfCall P)) (sym is) (All-append (OfCall P) first rest (of_cell task reading first cell) (of_column tasks readings rest column))
-
-pub reading_makes : (plan : FixPlan) (d : ℕ) (stripes : List Mended) (shape : Shape) (tasks : List Task) (slots : List SlotValue) (old new : FolderView) → ReadsColumn shape tasks slots old new
-    → FolderMakes (IsMendCall plan d stripes) old new
-reading_makes plan d stripes shape tasks slots old new read = record {
-  done = read.folder.done;
-  each = of_column (IsMendCall plan d stripes) (λ path lost. tt) (λ path lost at n. tt) tasks read.readings read.folder.done read.folder.are;
-  goes_on = read.folder.goes_on;
-}
+pub reading_makes : (plan : FixPlan) (starts : StartsValue) (d : ℕ) (stripes : List Mended) (shape : Shape) (tasks : List Task) (slots : List SlotValue) (old new : FolderView) → ReadsColumn shape tasks slots old new
+    → FolderMakes (WellCall (IsMendCall plan starts d stripes)) old new
+reading_makes plan starts d stripes shape tasks slots old new read =
+    makes_column_reading (IsMendCall plan starts d stripes) (λ path lost. tt) (λ path lost at n. tt) tasks read.readings read.folder
 
 -- ---- a fix goes on over a reading
 
@@ -79,8 +43,8 @@ module _ (plan : FixPlan) (starts : StartsValue) (numbers : List ℕ) (before wi
   abbrev near : (d : ℕ) → d < length plan.table.columns → d < length olds
   near d below = omega (arith, below, columns)
 
-  pub window_makes : (stripes : List Mended) (d : ℕ) → d < length plan.table.columns → FolderMakes (IsMendCall plan d stripes) (folder_at olds d) (folder_at mids d)
-  window_makes stripes d below = reading_makes plan d stripes plan.table.shape _ _ (folder_at olds d) (folder_at mids d) (read.each d (near d below))
+  pub window_makes : (stripes : List Mended) (d : ℕ) → d < length plan.table.columns → FolderMakes (WellCall (IsMendCall plan starts d stripes)) (folder_at olds d) (folder_at mids d)
+  window_makes stripes d below = reading_makes plan starts d stripes plan.table.shape _ _ (folder_at olds d) (folder_at mids d) (read.each d (near d below))
 
   pub underway_read : (stripes : List Mended) (firsts : List FolderView) (places : StartsValue) (states : List (List FileState)) → AreUnderway plan stripes firsts olds places states → AreUnderway plan stripes firsts mids places states
   underway_read stripes firsts places states is = record {
@@ -90,12 +54,15 @@ module _ (plan : FixPlan) (starts : StartsValue) (numbers : List ℕ) (before wi
         let first = folder_at firsts d in
         let records = records_in plan.table d in
         record {
-          makes = makes_then (IsMendCall plan d stripes) its.makes (window_makes stripes d below);
+          calls = calls_then its.calls (makes_some (WellCall (IsMendCall plan starts d stripes)) (window_makes stripes d below));
           holds = λ told.
-              let was : IsTrue (folder_at olds d).tells = subst IsTrue (sym its.makes.goes_on.tells) told in
+              let was : IsTrue (folder_at olds d).tells = subst IsTrue (sym its.calls.goes_on.tells) told in
               let same = (read.each d (near d below)).folder.tree was in
               subst (λ (tree : Tree). HoldsColumn records (starts_at places.columns d) (get_or states d []) (column_writes plan stripes d (length records)) first.tree tree) (sym same) (its.holds told);
           lost = its.lost;
+          sizes = its.sizes;
+          wrote = its.wrote;
+          touched = its.touched;
         };
   }
 
@@ -146,9 +113,9 @@ module _ (plan : FixPlan) (starts : StartsValue) (numbers : List ℕ) (before wi
         let c : count_by slot_unread (kept shape reading ∷ []) ≡ count_by is_unread (reading ∷ []) = ap (λ (unread : Bool). 0 + cond unread 1 0) (kept_unread shape reading) in
         omega (arith, a, b, c, count_kept shape readings)
 
-    -- no more failed readings of a column are told of them than its folder failed
-    pub io_read : (d : ℕ) → d < length plan.table.columns → RoseBy (count_by (is_io_of d) (all_mended_events plan stripes)) (folder_at olds d).faults (folder_at mids d).faults
-    io_read d below =
+    -- of no more cells of a column the reading failed than its folder did
+    pub cells_unread : (d : ℕ) → d < length plan.table.columns → RoseBy (unread_cells d (facts_of stripes)) (folder_at olds d).faults (folder_at mids d).faults
+    cells_unread d below =
         let its = read.each d (near d below) in
         let lane = take (length numbers) (lane_at window d) in
         let shape = plan.table.shape in
@@ -163,7 +130,7 @@ module _ (plan : FixPlan) (starts : StartsValue) (numbers : List ℕ) (before wi
         ∙ slot_here k d here
         ∙ sym (get_or-take (length numbers) (lane_at window d) k no_slot (omega (arith, here, few)))
         ∙ sym (get_or-take (length stripes) lane k no_slot here)) in
-        let told = io_in_stripes plan d stripes in
+        let told = unread_slots d (facts_of stripes) in
         let slots_are = ap (λ (ss : List SlotValue). count_by slot_unread ss) same in
         let cut = sum_by-take-le failed_in lane (length stripes) in
         let whole = ap (λ (ss : List SlotValue). count_by slot_unread ss) its.are_kept in

@@ -1,5 +1,5 @@
 -- A fix begins: no file was written, and the files of the records that aren't blocked may be.
-use Rattle.std.proofs.Common.{◌≡◌, ◌≢◌, ℕ, zero, suc, ◌<◌, List, [], ◌∷◌, length, map, get_or, AllPairs, IsTrue, false, refl, sym, ap, ◌∙◌, subst, arith}
+use Rattle.std.proofs.Common.{◌≡◌, ℕ, zero, suc, ◌<◌, List, [], ◌∷◌, length, map, get_or, IsTrue, true, false, refl, sym, ap, ◌∙◌, subst, arith}
 use Rattle.std.specs.List.{range_with_len}
 use Rattle.std.specs.Option.{option_map}
 use Rattle.std.proofs.lemmas.List.{get_or-map, length-map}
@@ -22,30 +22,30 @@ use Rattle.snap_fix.specs.declared.state.FileState.{FileState}
 use Rattle.snap_fix.specs.Beginning.{Begins}
 use Rattle.snap_fix.specs.Checking.{plan_for}
 use Rattle.snap_fix.specs.FixCourse.{AreOpen}
-use Rattle.snap_fix.specs.FixRun.{AreDistinct}
+use Rattle.snap_fix.specs.FixRun.{AreAscending}
 use Rattle.snap_fix.specs.Mended.{column_writes, writes_of}
 use Rattle.snap_fix.specs.Mending.{StatesFit}
 use Rattle.snap_fix.specs.Place.{found_in, is_blocked, start_of}
 use Rattle.snap_fix.specs.Plan.{FixPlan, column_entries, column_starts, entries_of, entry_at, entry_in, entry_of, is_looked_at, no_entry, plan_of, records_in, starts_of, stripes_of}
 use Rattle.snap_fix.specs.State.{HoldsColumn, first_state, first_states, no_state, record_path}
-use Rattle.snap_fix.specs.Underway.{AreFixable, AreUnderway, IsMendCall}
+use Rattle.snap_fix.specs.Underway.{AreFixable, AreUnderway}
 use Rattle.snap_fix.proofs.CourseLemmas.{starts_fit}
 use Rattle.snap_fix.proofs.FixTreeLemmas.{found_tree, free_of, untouched}
-use Rattle.snap_fix.proofs.FolderCallLemmas.{makes_none}
+use Rattle.snap_fix.proofs.FolderCallLemmas.{some_none}
 
 -- ---- the stripes
 
-range_distinct : (n : ℕ) → AllPairs (λ (a b : ℕ). a ≢ b) (range_with_len 0 n)
-range_distinct n i j d less below same =
+range_ascending : (n : ℕ) → AreAscending (range_with_len 0 n)
+range_ascending n i j d less below =
     let near : j < n = omega (arith, below, length-range_with_len 0 n) in
     let earlier : i < n = omega (arith, less, near) in
     let first = get_or-range_with_len 0 n i d earlier in
     let second = get_or-range_with_len 0 n j d near in
-    omega (arith, same, first, second, less)
+    omega (arith, first, second, less)
 
--- no stripe is looked at twice
-pub stripes_distinct : (plan : FixPlan) → AreDistinct (stripes_of plan)
-stripes_distinct plan = AllPairs-filter (λ (a b : ℕ). a ≢ b) (is_looked_at plan) (range_with_len 0 (length plan.table.infos)) (range_distinct (length plan.table.infos))
+-- the stripes are looked at in ascending order
+pub stripes_ascending : (plan : FixPlan) → AreAscending (stripes_of plan)
+stripes_ascending plan = AllPairs-filter (λ (a b : ℕ). a < b) (is_looked_at plan) (range_with_len 0 (length plan.table.infos)) (range_ascending (length plan.table.infos))
 
 -- ---- the folders
 
@@ -137,9 +137,9 @@ module _ (selection : Selection) (names : List (List ℕ)) (table : TableValue) 
   told_listing d within told = listed_now (folder_at olds d) (folder_at mids d) (get_or lists d []) (one_listed d within) told
 
   -- the files that aren't blocked may be written
-  pub fixable : entries ≡ entries_of selection names table lists → AreOpen olds → ((d : ℕ) → IsFolder (folder_at mids d)) → AreFixable (plan_of scope table entries) mids
+  pub fixable : entries ≡ entries_of selection names table lists → AreOpen table olds → ((d : ℕ) → IsFolder (folder_at mids d)) → AreFixable (plan_of scope table entries) mids
   fixable entries_are are_open formed d within = record {
-    is_open = (one_listed d within).call.called.goes_on.closed ∙ are_open d (omega (arith, within, folders_are));
+    is_open = λ some. (one_listed d within).call.called.goes_on.closed ∙ are_open d (omega (arith, within, folders_are)) some;
     is_tree = (formed d).tree;
     free = λ told i below unblocked.
         let path = record_path (records_in table d) i in
@@ -164,9 +164,13 @@ module _ (selection : Selection) (names : List (List ℕ)) (table : TableValue) 
   underway_first = record {
     folders = refl;
     each = λ d within. record {
-      makes = makes_none (IsMendCall (plan_of scope table entries) d []) (folder_at mids d);
+      calls = some_none (folder_at mids d);
       holds = λ told. column_begun table lists d within (plan_of scope table entries) (folder_at mids d).tree (told_listing d within told);
       lost = λ i below. ap (λ (state : FileState). state.lost) (state_begun table lists d within i below);
+      sizes = λ i below.
+          ap (λ (state : FileState). state.size) (state_begun table lists d within i below) ∙ sym (ap (λ (start : Start). start.size) (start_begun table lists d within i below));
+      wrote = λ i below some. let clash : false ≡ true = some in absurd cc;
+      touched = λ told i below. ap (λ (state : FileState). state.touched) (state_begun table lists d within i below);
     };
   }
 
@@ -181,10 +185,10 @@ module _ (selection : Selection) (names : List (List ℕ)) (table : TableValue) 
 
 module _ (mode : Mode) (selection : Selection) (names : List (List ℕ)) (table : TableValue) (work : Work) (olds mids : List FolderView)
     (begun : Begins mode selection names table work olds mids) (folders_are : length olds ≡ length table.columns) where
-  pub work_distinct : AreDistinct work.stripes.items
-  work_distinct = subst AreDistinct (sym begun.stripes) (stripes_distinct (plan_for table work))
+  pub work_ascending : AreAscending work.stripes.items
+  work_ascending = subst AreAscending (sym begun.stripes) (stripes_ascending (plan_for table work))
 
-  pub work_fixable : AreOpen olds → ((d : ℕ) → IsFolder (folder_at mids d)) → AreFixable (plan_for table work) mids
+  pub work_fixable : AreOpen table olds → ((d : ℕ) → IsFolder (folder_at mids d)) → AreFixable (plan_for table work) mids
   work_fixable are_open formed = fixable selection names table begun.lists work.scope work.entries olds mids folders_are begun.listed begun.entries are_open formed
 
   pub work_listed : (d : ℕ) → d < length table.columns → IsTrue (folder_at mids d).tells → (i : ℕ) → i < length (records_in table d)
@@ -193,3 +197,6 @@ module _ (mode : Mode) (selection : Selection) (names : List (List ℕ)) (table 
 
   pub work_underway : (states : List (List FileState)) → states ≡ first_states work.starts → AreUnderway (plan_for table work) [] mids mids work.starts states
   work_underway states states_are = underway_begun selection names table begun.lists work.scope work.entries olds mids folders_are begun.listed work.starts states begun.starts states_are
+
+  pub begun_underway : AreUnderway (plan_for table work) [] mids mids (starts_of table begun.lists) (first_states (starts_of table begun.lists))
+  begun_underway = underway_first selection names table begun.lists work.scope work.entries olds mids folders_are begun.listed

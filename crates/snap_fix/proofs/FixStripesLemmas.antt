@@ -1,17 +1,14 @@
 -- All stripes of a fix, window after window, and how that breaks off.
-use Rattle.std.proofs.Common.{◌≡◌, ◌≢◌, ◌⊎◌, inl, inr, ℕ, ◌+◌, ◌-◌, ◌<◌, ◌≤◌, List, [], ◌++◌, length, take, drop, get_or, All, Result, Ok, Err, refl, sym, ap, ap₂, ◌∙◌, subst, arith, append_assoc}
+use Rattle.std.proofs.Common.{◌≡◌, ◌⊎◌, inl, inr, ℕ, ◌+◌, ◌-◌, ◌<◌, ◌≤◌, List, [], ◌++◌, length, take, drop, get_or, All, Result, Ok, Err, refl, sym, ap, ap₂, ◌∙◌, subst, arith, append_assoc}
 use Rattle.std.specs.Prelude.{IfOk, IfErr}
-use Rattle.std.specs.List.{count_by}
 use Rattle.std.proofs.Math.ListN.{get_or-map as get_or-map-at}
 use Rattle.std.proofs.Math.Seq.{take-add, take-append_seam}
 use Rattle.std.proofs.lemmas.Bool.{cases_lt}
-use Rattle.std.proofs.lemmas.List.{map-append, length-map, length-append, get_or_append_left, get_or-append_right, take-append-le, take-append-drop}
-use Rattle.array_scan.proofs.ApartLemmas.{AllPairs-right}
+use Rattle.std.proofs.lemmas.List.{map-append, append-nil, length-map, length-append, get_or_append_left, get_or-append_right, take-append-le, take-append-drop}
 use Rattle.file_table.proofs.ListFacts.{AllPairs-take}
 use Rattle.disk_model.specs.Cause.{RoseBy}
 use Rattle.disk_model.specs.Folder.{FolderView}
 use Rattle.disk_model.specs.Sink.{SinkView}
-use Rattle.disk_model.specs.Vault.{SomeCalls}
 use Rattle.file_table.specs.Table.{TableValue}
 use Rattle.snap_report.specs.Answer.{is_io_of, is_parity_io}
 use Rattle.snap_report.specs.Report.{ReportView}
@@ -27,19 +24,20 @@ use Rattle.snap_fix.specs.declared.fixing.Totals.{Totals}
 use Rattle.snap_fix.specs.declared.state.FileState.{FileState}
 use Rattle.snap_fix.specs.Checking.{IsWorkFor, plan_for}
 use Rattle.snap_fix.specs.Facts.{StripeFacts}
-use Rattle.snap_fix.specs.FixRun.{AreDistinct, BreaksInto, BreaksStripes, FixesAll, FixesInto, FixesStripes, FixesWindow, HasBroken, HasBrokenInto, KeepsFixWork, with_folders}
+use Rattle.snap_fix.specs.FixRun.{AreAscending, BreaksInto, BreaksStripes, BreaksWindow, FixesAll, FixesInto, FixesStripes, FixesWindow, HasBroken, HasBrokenInto, KeepsFixWork, with_folders}
 use Rattle.snap_fix.specs.Fixing.{AreReadThen, AreTotals, FixScene, IsReadThen, SceneFits, facts_of, mended_at, no_mended}
-use Rattle.snap_fix.specs.Looking.{facts_at, no_facts, numbers_of}
+use Rattle.snap_fix.specs.Looking.{facts_at, no_facts, numbers_of, unread_cells}
 use Rattle.snap_fix.specs.Marks.{slots_at}
 use Rattle.snap_fix.specs.Mended.{Mended, all_mended_events}
 use Rattle.snap_fix.specs.Plan.{EntriesFit, FixPlan}
-use Rattle.snap_fix.specs.State.{FolderMakes}
+use Rattle.snap_fix.specs.State.{AnyCall, WellCall, FolderMakes}
 use Rattle.snap_fix.specs.Underway.{AreFixable, AreUnderway, FixUnderway, IsMendCall}
-use Rattle.snap_fix.proofs.FixAllLemmas.{differ, events_append, facts_append, facts_then, fixes_none, fixes_then, mend_calls_then, mends_then}
-use Rattle.snap_fix.proofs.FixCountLemmas.{count_append}
+use Rattle.snap_fix.proofs.FixAllLemmas.{answered_then, asked_then, events_append, facts_append, facts_then, fixes_none, fixes_then, levels_then, mends_then, precede, unread_then}
+use Rattle.snap_fix.proofs.FixCountLemmas.{count_append, io_in_cells}
 use Rattle.snap_fix.proofs.FixIntoLemmas.{count_first, folder_gained, vault_gained}
-use Rattle.snap_fix.proofs.FixReadLemmas.{cell_read, io_read, underway_read, window_makes}
-use Rattle.snap_fix.proofs.FolderCallLemmas.{makes_then}
+use Rattle.snap_fix.proofs.FixReadLemmas.{cell_read, cells_unread, underway_read, window_makes}
+use Rattle.snap_fix.proofs.FolderCallLemmas.{makes_any, makes_then}
+use Rattle.snap_fix.proofs.KeptStartsLemmas.{any_then}
 
 -- what follows of an answer, whichever it is
 pub if_ok : {T E : Type 0} (result : Result T E) (P Q : T → Type 0) → ((x : T) → P x → Q x) → IfOk result P → IfOk result Q
@@ -50,15 +48,9 @@ pub if_err : {T E : Type 0} (result : Result T E) (P Q : E → Type 0) → ((e :
 if_err (Ok x) P Q more p = tt
 if_err (Err e) P Q more p = more e p
 
--- the numbers of a window are distinct as all are
-pub next_distinct : (items : List ℕ) (done count : ℕ) → AreDistinct items → AreDistinct (take count (drop done items))
-next_distinct items done count distinct =
-    AllPairs-take (λ (a b : ℕ). a ≢ b) count (drop done items)
-    (AllPairs-right (λ (a b : ℕ). a ≢ b) (take done items) (drop done items) (subst AreDistinct (sym (take-append-drop done items)) distinct))
-
-many_numbers : (stripes : List Mended) (numbers : List ℕ) → numbers_of (facts_of stripes) ≡ numbers → length stripes ≡ length numbers
-many_numbers stripes numbers is =
-    sym (length-map stripes (λ (it : Mended). it.facts)) ∙ sym (length-map (facts_of stripes) (λ (it : StripeFacts). it.stripe)) ∙ ap (λ (ns : List ℕ). length ns) is
+-- the first numbers ascend as all do
+front_ascending : (front back : List ℕ) → AreAscending (front ++ back) → AreAscending front
+front_ascending front back ascending = subst AreAscending (take-append_seam front back) (AllPairs-take (λ (a b : ℕ). a < b) (length front) (front ++ back) ascending)
 
 module _ {W R : Type 0} (view : W → SinkView) (standing : R → ReportView) (stands : R → List Event → Type 0) (plan : FixPlan) where
   pub stripes_none : (totals : Totals) (s : FixScene W R) → SceneFits plan s → AreTotals plan [] totals → FixesStripes view standing stands plan [] s s totals
@@ -67,11 +59,19 @@ module _ {W R : Type 0} (view : W → SinkView) (standing : R → ReportView) (s
     numbers_are = refl;
     fixes = fixes_none view standing stands plan totals s fits none;
     read = λ firsts fixable is k below. absurd (omega (arith, below));
+    unread = λ d below. omega arith;
     io = λ d below. omega arith;
   }
 
   module _ (numbers : List ℕ) (before window : WindowValue) (mid : FixScene W R) (mids : List FolderView) (read : ReadsWindow plan.table mid.starts numbers before window mid.folders mids)
       (fits : SceneFits plan mid) where
+    -- the calls of the reading
+    reads : (stripes : List Mended) (d : ℕ) → d < length plan.table.columns → FolderMakes (WellCall (IsMendCall plan mid.starts d stripes)) (folder_at mid.folders d) (folder_at mids d)
+    reads stripes d below = window_makes plan mid.starts numbers before window mid.folders mids read fits.folders stripes d below
+
+    told_as : (d : ℕ) → d < length plan.table.columns → (folder_at mids d).tells ≡ (folder_at mid.folders d).tells
+    told_as d below = (reads [] d below).goes_on.tells
+
     -- what was done after the window was read was done since before it
     since_read : (stripes : List Mended) (totals : Totals) (new : FixScene W R) → FixesAll view standing stands plan stripes (with_folders mid mids) new totals → FixesAll view standing stands plan stripes mid new totals
     since_read stripes totals new fixes = record {
@@ -80,36 +80,49 @@ module _ {W R : Type 0} (view : W → SinkView) (standing : R → ReportView) (s
       told = fixes.told;
       totals_are = fixes.totals_are;
       written = fixes.written;
+      answered = λ k none within d below told. fixes.answered k none within d below (told_as d below ∙ told);
+      stood = fixes.stood;
+      readings = fixes.readings;
+      read = fixes.read;
+      unread = fixes.unread;
+      ran = fixes.ran;
       vault = fixes.vault;
+      zeros = fixes.zeros;
       holds = fixes.holds;
       parity_io = fixes.parity_io;
-      makes = λ d below. makes_then (IsMendCall plan d stripes) (window_makes plan mid.starts numbers before window mid.folders mids read fits.folders stripes d below) (fixes.makes d below);
+      spare = fixes.spare;
+      makes = λ d below. makes_then (WellCall (IsMendCall plan mid.starts d stripes)) (reads stripes d below) (fixes.makes d below);
       underway = λ earlier firsts fixable is. fixes.underway earlier firsts fixable
           (underway_read plan mid.starts numbers before window mid.folders mids read fits.folders earlier firsts mid.starts mid.states is);
     }
 
-    module _ (items : List ℕ) (done count : ℕ) (distinct : AreDistinct items) (numbers_are : numbers ≡ take count (drop done items)) (one two both : Totals) (old new : FixScene W R)
-        (so_far : FixesStripes view standing stands plan (take done items) old mid one) (into : FixesInto view standing stands plan numbers window (with_folders mid mids) new two) where
+    -- These stripes of the window were looked at, after those before it.
+    module _ (first : List ℕ) (one : Totals) (old : FixScene W R) (so_far : FixesStripes view standing stands plan first old mid one) (ys : List Mended) (behind : List ℕ)
+        (numbers_are : numbers ≡ numbers_of (facts_of ys) ++ behind) (slots : (k : ℕ) → k < length ys → (facts_at (facts_of ys) k).slots ≡ slots_at window k) where
       abbrev xs : List Mended
       xs = so_far.stripes
 
-      abbrev ys : List Mended
-      ys = into.stripes
-
-      numbers_more : numbers_of (facts_of xs) ++ numbers_of (facts_of ys) ≡ take (done + count) items
-      numbers_more = ap₂ (λ (front back : List ℕ). front ++ back) so_far.numbers_are (into.numbers_are ∙ numbers_are) ∙ sym (take-add done count items)
+      as_many : length (numbers_of (facts_of ys)) ≡ length ys
+      as_many = length-map (facts_of ys) (λ (it : StripeFacts). it.stripe) ∙ length-map ys (λ (it : Mended). it.facts)
 
       few : length ys ≤ length numbers
-      few = omega (arith, many_numbers ys numbers into.numbers_are)
+      few = omega (arith, ap (λ (ns : List ℕ). length ns) numbers_are, length-append (numbers_of (facts_of ys)) behind, as_many)
+
+      number_here : (j : ℕ) → j < length ys → (facts_at (facts_of ys) j).stripe ≡ get_or numbers j 0
+      number_here j below =
+          sym (get_or-map-at (λ (it : StripeFacts). it.stripe) (facts_of ys) j no_facts)
+          ∙ sym (get_or_append_left (numbers_of (facts_of ys)) behind 0 j (omega (arith, below, as_many)))
+          ∙ ap (λ (ns : List ℕ). get_or ns j 0) (sym numbers_are)
 
       -- a stripe before the window was read when it was
-      read_before : (firsts : List FolderView) (k : ℕ) → k < length xs → IsReadThen plan firsts xs k (mended_at xs k).facts → IsReadThen plan firsts (xs ++ ys) k (mended_at (xs ++ ys) k).facts
+      read_before : (firsts : List FolderView) (k : ℕ) → k < length xs → IsReadThen plan old.starts firsts xs k (mended_at xs k).facts → IsReadThen plan old.starts firsts (xs ++ ys) k (mended_at (xs ++ ys) k).facts
       read_before firsts k below was =
-          subst (λ (mended : Mended). IsReadThen plan firsts (xs ++ ys) k mended.facts) (sym (get_or_append_left xs ys no_mended k below))
+          subst (λ (mended : Mended). IsReadThen plan old.starts firsts (xs ++ ys) k mended.facts) (sym (get_or_append_left xs ys no_mended k below))
           (record {
             count = was.count;
             earlier = was.earlier;
             starts = was.starts;
+            stood = was.stood;
             states = was.states;
             folders = was.folders;
             underway = subst (λ (stripes : List Mended). AreUnderway plan stripes firsts was.folders was.starts was.states) (sym (take-append-le was.count xs ys (omega (arith, was.earlier, below)))) was.underway;
@@ -117,137 +130,152 @@ module _ {W R : Type 0} (view : W → SinkView) (standing : R → ReportView) (s
           })
 
       -- and one of the window when the stripes before it had been written
-      read_now : (firsts : List FolderView) (j : ℕ) → j < length ys → AreUnderway plan xs firsts mid.folders mid.starts mid.states → (k : ℕ) → length xs ≤ k → IsReadThen plan firsts (xs ++ ys) k (facts_at (facts_of ys) j)
+      read_now : (firsts : List FolderView) (j : ℕ) → j < length ys → AreUnderway plan xs firsts mid.folders mid.starts mid.states → (k : ℕ) → length xs ≤ k → IsReadThen plan old.starts firsts (xs ++ ys) k (facts_at (facts_of ys) j)
       read_now firsts j below is k far = record {
         count = length xs;
         earlier = far;
         starts = mid.starts;
+        stood = so_far.fixes.stood;
         states = mid.states;
         folders = mid.folders;
         underway = subst (λ (stripes : List Mended). AreUnderway plan stripes firsts mid.folders mid.starts mid.states) (sym (take-append_seam xs ys)) is;
-        cells = λ d column. cell_read plan mid.starts numbers before window mid.folders mids read fits.folders ys few into.slots j d below column
-            (sym (get_or-map-at (λ (it : StripeFacts). it.stripe) (facts_of ys) j no_facts) ∙ ap (λ (ns : List ℕ). get_or ns j 0) into.numbers_are);
+        cells = λ d column. cell_read plan mid.starts numbers before window mid.folders mids read fits.folders ys few slots j d below column (number_here j below);
       }
 
       facts_here : (k : ℕ) → length xs ≤ k → facts_at (facts_of ys) (k - length xs) ≡ (mended_at (xs ++ ys) k).facts
       facts_here k far =
           get_or-map-at (λ (it : Mended). it.facts) ys (k - length xs) no_mended ∙ ap (λ (it : Mended). it.facts) (sym (get_or-append_right xs ys (length xs) k no_mended refl far))
 
-      read_more : (firsts : List FolderView) → AreFixable plan firsts → AreUnderway plan [] firsts old.folders old.starts old.states → AreReadThen plan firsts (xs ++ ys)
+      read_more : (firsts : List FolderView) → AreFixable plan firsts → AreUnderway plan [] firsts old.folders old.starts old.states → AreReadThen plan old.starts firsts (xs ++ ys)
       read_more firsts fixable start k below = at (cases_lt k (length xs))
         where
-          at : (k < length xs) ⊎ (length xs ≤ k) → IsReadThen plan firsts (xs ++ ys) k (mended_at (xs ++ ys) k).facts
+          at : (k < length xs) ⊎ (length xs ≤ k) → IsReadThen plan old.starts firsts (xs ++ ys) k (mended_at (xs ++ ys) k).facts
           at (inl near) = read_before firsts k near (so_far.read firsts fixable start k near)
           at (inr far) =
-              subst (λ (facts : StripeFacts). IsReadThen plan firsts (xs ++ ys) k facts) (facts_here k far)
+              subst (λ (facts : StripeFacts). IsReadThen plan old.starts firsts (xs ++ ys) k facts) (facts_here k far)
               (read_now firsts (k - length xs) (omega (arith, below, far, length-append xs ys)) (so_far.fixes.underway [] firsts fixable start) k far)
 
-      io_more : (d : ℕ) → d < length plan.table.columns → RoseBy (count_by (is_io_of d) (all_mended_events plan (xs ++ ys))) (folder_at old.folders d).faults (folder_at new.folders d).faults
-      io_more d below =
-          let all = ap (λ (es : List Event). count_by (is_io_of d) es) (events_append plan xs ys) in
-          let counted = count_append (is_io_of d) (all_mended_events plan xs) (all_mended_events plan ys) in
-          let here = io_read plan mid.starts numbers before window mid.folders mids read fits.folders ys few into.slots d below in
-          let later = (into.fixes.makes d below).goes_on.later in
-          let first = so_far.io d below in
-          omega (arith, all, counted, here, later, first)
+      -- cells that were not read: those before the window, and those of it
+      unread_both : (d : ℕ) → unread_cells d (facts_of (xs ++ ys)) ≡ unread_cells d (facts_of xs) + unread_cells d (facts_of ys)
+      unread_both d = ap (unread_cells d) (facts_append xs ys) ∙ count_append _ (facts_of xs) (facts_of ys)
 
-      -- one window more
-      pub stripes_more : ((stripes others : List Mended) → AreTotals plan stripes one → AreTotals plan others two → AreTotals plan (stripes ++ others) both)
-          → FixesStripes view standing stands plan (take (done + count) items) old new both
-      stripes_more and =
-          let apart = differ xs ys (subst AreDistinct (sym numbers_more) (AllPairs-take (λ (a b : ℕ). a ≢ b) (done + count) items distinct)) in
-          record {
-            stripes = xs ++ ys;
-            numbers_are = ap numbers_of (facts_append xs ys) ∙ map-append (λ (it : StripeFacts). it.stripe) (facts_of xs) (facts_of ys) ∙ numbers_more;
-            fixes = fixes_then view standing stands plan xs ys one two both old mid new apart and so_far.fixes (since_read ys two new into.fixes);
-            read = read_more;
-            io = io_more;
-          }
+      unread_since : (d n : ℕ) → d < length plan.table.columns → (folder_at mids d).faults ≤ n → RoseBy (unread_cells d (facts_of (xs ++ ys))) (folder_at old.folders d).faults n
+      unread_since d n below later =
+          let all = unread_both d in
+          let here = cells_unread plan mid.starts numbers before window mid.folders mids read fits.folders ys few slots d below in
+          let first = so_far.unread d below in
+          omega (arith, all, here, first, later)
+
+      -- the numbers of all of them
+      numbers_both : (items : List ℕ) (done count : ℕ) → first ≡ take done items → numbers ≡ take count (drop done items)
+          → (numbers_of (facts_of xs) ++ numbers_of (facts_of ys)) ++ behind ≡ take (done + count) items
+      numbers_both items done count first_is numbers_is =
+          append_assoc (numbers_of (facts_of xs)) (numbers_of (facts_of ys)) behind
+          ∙ ap₂ (λ (front back : List ℕ). front ++ back) (so_far.numbers_are ∙ first_is) (sym numbers_are ∙ numbers_is)
+          ∙ sym (take-add done count items)
+
+      numbers_append : numbers_of (facts_of (xs ++ ys)) ≡ numbers_of (facts_of xs) ++ numbers_of (facts_of ys)
+      numbers_append = ap numbers_of (facts_append xs ys) ∙ map-append (λ (it : StripeFacts). it.stripe) (facts_of xs) (facts_of ys)
+
+      -- so they ascend
+      ascend : (items : List ℕ) (done count : ℕ) → AreAscending items → first ≡ take done items → numbers ≡ take count (drop done items) → AreAscending (numbers_of (facts_of xs) ++ numbers_of (facts_of ys))
+      ascend items done count ascending first_is numbers_is =
+          front_ascending (numbers_of (facts_of xs) ++ numbers_of (facts_of ys)) behind
+          (subst AreAscending (sym (numbers_both items done count first_is numbers_is)) (AllPairs-take (λ (a b : ℕ). a < b) (done + count) items ascending))
+
+    -- one window more
+    pub stripes_more : (items : List ℕ) (done count : ℕ) → AreAscending items → numbers ≡ take count (drop done items) → (one two both : Totals) (old new : FixScene W R)
+        → FixesStripes view standing stands plan (take done items) old mid one → FixesInto view standing stands plan numbers window (with_folders mid mids) new two
+        → ((stripes others : List Mended) → AreTotals plan stripes one → AreTotals plan others two → AreTotals plan (stripes ++ others) both)
+        → FixesStripes view standing stands plan (take (done + count) items) old new both
+    stripes_more items done count ascending numbers_is one two both old new so_far into and =
+        let first = take done items in
+        let xs = so_far.stripes in
+        let ys = into.stripes in
+        let all_here : numbers ≡ numbers_of (facts_of ys) ++ [] = sym into.numbers_are ∙ sym (append-nil (numbers_of (facts_of ys))) in
+        let unread = λ (d : ℕ) (below : d < length plan.table.columns). unread_since first one old so_far ys [] all_here into.slots d (folder_at new.folders d).faults below (into.fixes.makes d below).goes_on.later in
+        record {
+          stripes = xs ++ ys;
+          numbers_are = numbers_append first one old so_far ys [] all_here into.slots
+              ∙ sym (append-nil (numbers_of (facts_of xs) ++ numbers_of (facts_of ys))) ∙ numbers_both first one old so_far ys [] all_here into.slots items done count refl numbers_is;
+          fixes = fixes_then view standing stands plan xs ys one two both old mid new
+              (precede xs ys (ascend first one old so_far ys [] all_here into.slots items done count ascending refl numbers_is)) and so_far.fixes (since_read ys two new into.fixes);
+          read = read_more first one old so_far ys [] all_here into.slots;
+          unread = unread;
+          io = λ d below. let few = io_in_cells plan d (xs ++ ys) in let rose = unread d below in omega (arith, few, rose);
+        }
 
     -- ---- how it breaks off
 
-    -- the failed readings of the window count too
-    broke_read : (fault : RunFault) (stripes : List Mended) (first rest : List Event) (new : FixScene W R) → length stripes ≤ length numbers
-        → ((k : ℕ) → k < length stripes → (facts_at (facts_of stripes) k).slots ≡ slots_at window k) → all_mended_events plan stripes ≡ first ++ rest
-        → ((d : ℕ) → d < length plan.table.columns → FolderMakes (IsMendCall plan d stripes) (folder_at mids d) (folder_at new.folders d))
-        → HasBrokenInto plan fault first mids new.folders mid.vault new.vault → HasBroken plan fault first mid.folders new.folders mid.vault new.vault
-    broke_read (Folder disk) stripes first rest new few slots events makes (within, broke) = (
-      within,
-      record {
-        rose =
-            let told = count_first (is_io_of disk) (all_mended_events plan stripes) first rest events in
-            let here = io_read plan mid.starts numbers before window mid.folders mids read fits.folders stripes few slots disk within in
-            let rose = broke.rose in
-            omega (arith, told, here, rose);
-        call = folder_gained (IsMendCall plan disk stripes) (IsMendCall plan disk stripes) (folder_at mid.folders disk) (folder_at mids disk) (folder_at new.folders disk)
-            (window_makes plan mid.starts numbers before window mid.folders mids read fits.folders stripes disk within) (makes disk within) broke.call;
-      },
-    )
-    broke_read Vault stripes first rest new few slots events makes broke = broke
-    broke_read Memory stripes first rest new few slots events makes broke = broke
+    module _ (first : List ℕ) (one : Totals) (old : FixScene W R) (so_far : FixesStripes view standing stands plan first old mid one) (new : FixScene W R) (fault : RunFault)
+        (into : BreaksInto view standing stands plan numbers window (with_folders mid mids) new fault) where
+      since : (d : ℕ) → d < length plan.table.columns → FolderMakes (AnyCall (IsMendCall plan mid.starts d into.stripes)) (folder_at mid.folders d) (folder_at new.folders d)
+      since d below = makes_then (AnyCall (IsMendCall plan mid.starts d into.stripes)) (makes_any (IsMendCall plan mid.starts d into.stripes) (reads into.stripes d below)) (into.makes d below)
 
-    pub window_breaks : (new : FixScene W R) (fault : RunFault) → BreaksInto view standing stands plan window (with_folders mid mids) new fault → BreaksStripes view standing stands plan mid new fault
-    window_breaks new fault broke =
-        let few : length broke.stripes ≤ length numbers = omega (arith, broke.few, read.count) in
+      -- the failed readings of the window count too, and those before it
+      broke_then : (by : RunFault) → HasBrokenInto plan by into.first mids new.folders mid.vault new.vault
+          → HasBroken plan by (all_mended_events plan so_far.stripes ++ into.first) old.folders new.folders old.vault new.vault
+      broke_then (Folder disk) (within, broke) = (
+        within,
         record {
-          stripes = broke.stripes;
-          are = broke.are;
-          first = broke.first;
-          rest = broke.rest;
-          events = broke.events;
-          told = broke.told;
-          folders = broke.folders ∙ read.folders;
-          vault = broke.vault;
-          makes = λ d below. makes_then (IsMendCall plan d broke.stripes) (window_makes plan mid.starts numbers before window mid.folders mids read fits.folders broke.stripes d below) (broke.makes d below);
-          broke = broke_read fault broke.stripes broke.first broke.rest new few broke.slots broke.events broke.makes broke.broke;
-        }
-
-  -- after stripes that were written anew
-  broke_then : (fault : RunFault) (numbers : List ℕ) (one : Totals) (first : List Event) (stripes : List Mended) (old mid new : FixScene W R) (so_far : FixesStripes view standing stands plan numbers old mid one)
-      → ((d : ℕ) → d < length plan.table.columns → FolderMakes (IsMendCall plan d stripes) (folder_at mid.folders d) (folder_at new.folders d))
-      → SomeCalls mid.vault new.vault
-      → HasBroken plan fault first mid.folders new.folders mid.vault new.vault
-      → HasBroken plan fault (all_mended_events plan so_far.stripes ++ first) old.folders new.folders old.vault new.vault
-  broke_then (Folder disk) numbers one first stripes old mid new so_far makes calls (within, broke) = (
-    within,
-    record {
-      rose =
-          let counted = count_append (is_io_of disk) (all_mended_events plan so_far.stripes) first in
-          let before = so_far.io disk within in
-          let rose = broke.rose in
-          omega (arith, counted, before, rose);
-      call = folder_gained (IsMendCall plan disk so_far.stripes) (IsMendCall plan disk stripes) (folder_at old.folders disk) (folder_at mid.folders disk) (folder_at new.folders disk)
-          (so_far.fixes.makes disk within) (makes disk within) broke.call;
-    },
-  )
-  broke_then Vault numbers one first stripes old mid new so_far makes calls broke = record {
-    rose =
-        let counted = count_append is_parity_io (all_mended_events plan so_far.stripes) first in
-        let before = so_far.fixes.parity_io in
-        let rose = broke.rose in
-        omega (arith, counted, before, rose);
-    call = vault_gained old.vault mid.vault new.vault so_far.fixes.vault.calls calls broke.call;
-  }
-  broke_then Memory numbers one first stripes old mid new so_far makes calls broke = broke
-
-  pub stripes_break : (numbers : List ℕ) (one : Totals) (old mid new : FixScene W R) (fault : RunFault) → SceneFits plan old → FixesStripes view standing stands plan numbers old mid one
-      → BreaksStripes view standing stands plan mid new fault → BreaksStripes view standing stands plan old new fault
-  stripes_break numbers one old mid new fault fits so_far broke =
-      let xs = so_far.stripes in
-      let ys = broke.stripes in
-      let front = all_mended_events plan xs in
-      record {
-        stripes = xs ++ ys;
-        are = facts_then plan xs ys so_far.fixes.are broke.are;
-        first = front ++ broke.first;
-        rest = broke.rest;
-        events = events_append plan xs ys ∙ ap (λ (es : List Event). front ++ es) broke.events ∙ sym (append_assoc front broke.first broke.rest);
-        told = told_then view standing stands plan.table.columns front broke.first old.lines mid.lines new.lines old.reports mid.reports new.reports so_far.fixes.told broke.told;
-        folders = broke.folders ∙ so_far.fixes.fits.folders ∙ sym fits.folders;
-        vault = mends_then plan xs ys old.vault mid.vault new.vault so_far.fixes.vault broke.vault;
-        makes = λ d below. mend_calls_then plan d xs ys (folder_at old.folders d) (folder_at mid.folders d) (folder_at new.folders d) (so_far.fixes.makes d below) (broke.makes d below);
-        broke = broke_then fault numbers one broke.first ys old mid new so_far broke.makes broke.vault.calls broke.broke;
+          rose =
+              let counted = count_append (is_io_of disk) (all_mended_events plan so_far.stripes) into.first in
+              let told = count_first (is_io_of disk) (all_mended_events plan into.stripes) into.first into.rest into.events in
+              let xs_few = io_in_cells plan disk so_far.stripes in
+              let ys_few = io_in_cells plan disk into.stripes in
+              let both = unread_both first one old so_far into.stripes into.behind into.numbers_are into.slots disk in
+              let before = unread_since first one old so_far into.stripes into.behind into.numbers_are into.slots disk (folder_at mids disk).faults within (omega arith) in
+              let rose = broke.rose in
+              omega (arith, counted, told, xs_few, ys_few, both, before, rose);
+          call = folder_gained (WellCall (IsMendCall plan old.starts disk so_far.stripes)) (AnyCall (IsMendCall plan mid.starts disk into.stripes))
+              (folder_at old.folders disk) (folder_at mid.folders disk) (folder_at new.folders disk) (so_far.fixes.makes disk within) (since disk within)
+              (folder_gained (WellCall (IsMendCall plan mid.starts disk into.stripes)) (AnyCall (IsMendCall plan mid.starts disk into.stripes))
+              (folder_at mid.folders disk) (folder_at mids disk) (folder_at new.folders disk) (reads into.stripes disk within) (into.makes disk within) broke.call);
+        },
+      )
+      broke_then Vault broke = record {
+        rose =
+            let counted = count_append is_parity_io (all_mended_events plan so_far.stripes) into.first in
+            let before = so_far.fixes.parity_io in
+            let rose = broke.rose in
+            omega (arith, counted, before, rose);
+        call = vault_gained old.vault mid.vault new.vault so_far.fixes.vault.calls into.vault.calls broke.call;
       }
+      broke_then Memory broke = broke
+
+      pub stripes_break : (items : List ℕ) (done count : ℕ) → AreAscending items → first ≡ take done items → numbers ≡ take count (drop done items) → SceneFits plan old
+          → BreaksStripes view standing stands plan items old new fault
+      stripes_break items done count ascending first_is numbers_is fits_old =
+          let xs = so_far.stripes in
+          let ys = into.stripes in
+          let front = all_mended_events plan xs in
+          let left = drop (done + count) items in
+          let both = numbers_both first one old so_far ys into.behind into.numbers_are into.slots items done count first_is numbers_is in
+          let before = precede xs ys (ascend first one old so_far ys into.behind into.numbers_are into.slots items done count ascending first_is numbers_is) in
+          record {
+            stripes = xs ++ ys;
+            behind = into.behind ++ left;
+            numbers_are = sym (take-append-drop (done + count) items) ∙ ap (λ (its : List ℕ). its ++ left) (sym both)
+                ∙ append_assoc (numbers_of (facts_of xs) ++ numbers_of (facts_of ys)) into.behind left
+                ∙ ap (λ (its : List ℕ). its ++ (into.behind ++ left)) (sym (numbers_append first one old so_far ys into.behind into.numbers_are into.slots));
+            are = facts_then plan xs ys so_far.fixes.are into.are;
+            first = front ++ into.first;
+            rest = into.rest;
+            events = events_append plan xs ys ∙ ap (λ (es : List Event). front ++ es) into.events ∙ sym (append_assoc front into.first into.rest);
+            told = told_then view standing stands plan.table.columns front into.first old.lines mid.lines new.lines old.reports mid.reports new.reports so_far.fixes.told into.told;
+            folders = into.folders ∙ read.folders ∙ so_far.fixes.fits.folders ∙ sym fits_old.folders;
+            answered = answered_then plan xs ys old.folders mids (λ d below. told_as d below ∙ (so_far.fixes.makes d below).goes_on.tells) so_far.fixes.answered into.answered;
+            cells = read_more first one old so_far ys into.behind into.numbers_are into.slots;
+            readings = so_far.fixes.readings ++ into.readings;
+            read = levels_then plan xs ys old.vault mid.vault so_far.fixes.readings into.readings so_far.fixes.vault before so_far.fixes.read into.read;
+            unread = unread_then so_far.fixes.readings into.readings old.vault.faults mid.vault.faults new.vault.faults so_far.fixes.unread into.unread;
+            unread_cells_of = λ d below.
+                unread_since first one old so_far ys into.behind into.numbers_are into.slots d (folder_at new.folders d).faults below (into.makes d below).goes_on.later;
+            spare = asked_then plan xs ys old.spare mid.spare new.spare so_far.fixes.spare into.spare;
+            vault = mends_then plan xs ys old.vault mid.vault new.vault so_far.fixes.vault into.vault;
+            makes = λ d below. any_then plan old.starts mid.starts so_far.fixes.stood d xs ys (so_far.fixes.makes d below) (since d below);
+            broke = broke_then fault into.broke;
+          }
 
 -- ---- the work of a window is that of the run, but for its room and the places of the files
 
@@ -275,8 +303,9 @@ module _ (table : TableValue) (first work : Work) (kept : KeepsFixWork table fir
         → FixesInto view standing stands (plan_for table first) numbers window old new totals
     into_for numbers window old new totals into = subst (λ (plan : FixPlan). FixesInto view standing stands plan numbers window old new totals) plan_same into
 
-    pub breaks_for : (old new : FixScene W R) (fault : RunFault) → BreaksStripes view standing stands (plan_for table work) old new fault → BreaksStripes view standing stands (plan_for table first) old new fault
-    breaks_for old new fault broke = subst (λ (plan : FixPlan). BreaksStripes view standing stands plan old new fault) plan_same broke
+    pub breaks_for : (numbers : List ℕ) (window : WindowValue) (old new : FixScene W R) (fault : RunFault) → BreaksInto view standing stands (plan_for table work) numbers window old new fault
+        → BreaksInto view standing stands (plan_for table first) numbers window old new fault
+    breaks_for numbers window old new fault broke = subst (λ (plan : FixPlan). BreaksInto view standing stands plan numbers window old new fault) plan_same broke
 
 pub keeps_fix_then : (table : TableValue) (one two three : Work) → KeepsFixWork table one two → KeepsFixWork table two three → KeepsFixWork table one three
 keeps_fix_then table one two three first next = record {
@@ -290,3 +319,10 @@ pub window_fixes : {W R : Type 0} (view : W → SinkView) (standing : R → Repo
     → FixesInto view standing stands (plan_for table work) asked window (with_folders old mids) new totals → FixesWindow view standing stands table work numbers old new totals
 window_fixes view standing stands table work asked numbers same window mids old new totals read into =
     subst (λ (its : List ℕ). FixesWindow view standing stands table work its old new totals) same (record { window = window; mids = mids; read = read; fixes = into })
+
+-- and one that broke off
+pub window_breaks : {W R : Type 0} (view : W → SinkView) (standing : R → ReportView) (stands : R → List Event → Type 0) (table : TableValue) (work : Work) (asked numbers : List ℕ) → asked ≡ numbers
+    → (window : WindowValue) (mids : List FolderView) (old new : FixScene W R) (fault : RunFault) → ReadsWindow table work.starts asked work.room.window window old.folders mids
+    → BreaksInto view standing stands (plan_for table work) asked window (with_folders old mids) new fault → BreaksWindow view standing stands table work numbers old new fault
+window_breaks view standing stands table work asked numbers same window mids old new fault read into =
+    subst (λ (its : List ℕ). BreaksWindow view standing stands table work its old new fault) same (record { window = window; mids = mids; read = read; breaks = into })

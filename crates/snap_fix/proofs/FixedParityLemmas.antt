@@ -1,9 +1,8 @@
 -- The levels of a stripe that is written anew: none is wrong where no recovery is tried.
-use Rattle.std.proofs.Common.{◌≡◌, ℕ, ◌&&◌, ◌||◌, List, [], ◌∷◌, length, get_or, Bool, true, false, None, Some, Result, Ok, Err, IfOk, IfErr, refl, sym, ap, ◌∙◌}
+use Rattle.std.proofs.Common.{◌≡◌, ℕ, ◌&&◌, ◌||◌, List, [], ◌∷◌, length, get_or, Bool, true, false, None, Some, Result, Ok, Err, IfOk, IfErr, refl, sym, ap, ◌∙◌, subst}
 use Rattle.std.specs.List.{count_by, flat_map, range_with_len}
-use Rattle.disk_model.specs.Files.{Files}
 use Rattle.disk_model.specs.Sink.{SinkView}
-use Rattle.disk_model.specs.Vault.{VaultView, DraftsStay}
+use Rattle.disk_model.specs.Vault.{VaultView, VaultCall, GoesOn, DraftsStay}
 use Rattle.disk_model.proofs.VaultLemmas.{changes_start, no_calls}
 use Rattle.parity_writer.specs.LevelsValue.{LevelValue, LevelsValue, no_level}
 use Rattle.parity_writer.specs.declared.levels.LevelRead.{LevelRead}
@@ -21,13 +20,11 @@ use Rattle.snap_fix.specs.Marks.{levels_read}
 use Rattle.snap_fix.specs.Mended.{all_level_news, is_wrong_level, level_news}
 use Rattle.snap_fix.specs.Plan.{FixPlan, is_searched, selects_level}
 use Rattle.snap_fix.specs.Repairing.{FlagsWritten, LevelsOutside, MendsLevels, MendsNotLevels, ShowsLevels, levels_outside}
-use Rattle.snap_fix.specs.Underway.{IsMendedLevel, KeepsLevels}
+use Rattle.snap_fix.specs.Underway.{IsMendedLevel, KeepsLevels, done_well, wrong_write, wrong_writes}
 use Rattle.snap_fix.proofs.TellingLemmas.{told_as}
+use Rattle.snap_fix.proofs.WrittenLevelLemmas.{keeps_nothing, ran_nothing, zeros_none}
 
 -- what is left where nothing is written
-pub keeps_all : (size : ℕ) (IsOne : ℕ → ℕ → Type 0) (files : Files) → KeepsLevels size IsOne files files
-keeps_all size IsOne files = record { contents = refl; bytes = λ level at x outside has. has }
-
 pub drafts_same : (v : VaultView) → DraftsStay v v
 drafts_same v = record { state = refl; bytes = λ tells. refl }
 
@@ -65,6 +62,9 @@ module _ {W R : Type 0} (view : W → SinkView) (standing : R → ReportView) (s
   not_searched : is_searched plan stripe ≡ false → (facts.levels ≡ []) × (facts.row ≡ None)
   not_searched sure = nothing_tried (is_searched plan facts.stripe) (ap (is_searched plan) shows.stripe_is ∙ sure) shows.are.tried
 
+  none_written : facts.levels ≡ [] → wrong_writes plan facts ≡ []
+  none_written none = ap (λ (all : List LevelValue). flat_map (wrong_write plan facts facts.row) (range_with_len 0 (length all))) none
+
   -- nothing is written
   pub untried : is_searched plan stripe ≡ false → (flags : List Bool) (vault : VaultView) (lines : Lines W) (reports : List R)
       → MendsParity view standing stands plan facts flags flags (levels_outside vault lines reports) (levels_outside vault lines reports) 0
@@ -72,13 +72,15 @@ module _ {W R : Type 0} (view : W → SinkView) (standing : R → ReportView) (s
       let none = not_searched sure in
       record {
         calls = no_calls vault;
+        ran = subst (λ (calls : List VaultCall). GoesOn vault vault (done_well calls)) (sym (none_written none.0)) (ran_nothing vault);
         drafts = drafts_same vault;
         told = told_as view standing stands plan.table.columns (all_level_news plan facts) [] lines lines reports reports
             (ap (λ (all : List LevelValue). flat_map (level_news plan facts) (range_with_len 0 (length all))) none.0)
             (told_nothing view standing stands plan.table.columns lines reports);
         count_is = sym (ap (λ (all : List LevelValue). count_by (is_wrong_level plan facts) (range_with_len 0 (length all))) none.0);
         changes = changes_start (KeepsLevels plan.table.shape.block_size (IsMendedLevel plan (facts ∷ []))) vault
-            (keeps_all plan.table.shape.block_size (IsMendedLevel plan (facts ∷ [])));
+            (keeps_nothing plan.table.shape.block_size (IsMendedLevel plan (facts ∷ [])));
+        zeros = λ tells. zeros_none plan.table.shape.block_size (IsMendedLevel plan (facts ∷ [])) vault.files;
         holds = λ tells r row wrong row_is. let clash : Some row ≡ None = sym row_is ∙ none.1 in absurd cc;
         flags = (
           refl,
@@ -103,10 +105,12 @@ module _ {W R : Type 0} (view : W → SinkView) (standing : R → ReportView) (s
       let shown = shown_levels sure in
       record {
         calls = mends.calls;
+        ran = mends.ran facts shown;
         drafts = mends.drafts;
         told = mends.told facts shown;
         count_is = mends.count_is facts shown;
         changes = mends.changes facts shown;
+        zeros = mends.zeros facts shown;
         holds = mends.holds facts shown;
         flags = flags facts shown;
       }

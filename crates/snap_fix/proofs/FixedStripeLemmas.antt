@@ -17,6 +17,7 @@ use Rattle.snap_fix.specs.declared.fixing.Totals.{Totals}
 use Rattle.snap_fix.specs.declared.marking.CellMark.{CellMark}
 use Rattle.snap_fix.specs.declared.repairing.Repaired.{Repaired}
 use Rattle.snap_fix.specs.declared.room.Room.{Room}
+use Rattle.snap_fix.specs.Asking.{AsksSpare}
 use Rattle.snap_fix.specs.Counts.{AreCounts}
 use Rattle.snap_fix.specs.Examining.{Examines, ReadsTried, facts_examined}
 use Rattle.snap_fix.specs.Facts.{StripeFacts}
@@ -29,11 +30,13 @@ use Rattle.snap_fix.specs.Mended.{Mended, all_cell_news, all_level_news}
 use Rattle.snap_fix.specs.Plan.{FixPlan, is_searched}
 use Rattle.snap_fix.specs.Repairing.{MendsFiles, MendsNotFiles, levels_outside, outside}
 use Rattle.snap_fix.specs.Room.{IsRoomFor}
+use Rattle.snap_fix.specs.Spare.{IsSpareFor}
 use Rattle.snap_fix.specs.Underway.{IsMendedLevel, KeepsLevels, ShowsFacts}
 use Rattle.snap_fix.proofs.FixedCountLemmas.{totals_of, writes_one}
-use Rattle.snap_fix.proofs.FixedParityLemmas.{drafts_same, keeps_all}
-use Rattle.snap_fix.proofs.FixedVaultLemmas.{makes_as, mends_vault, read_broke, reading_calls, vault_broke, were_read}
+use Rattle.snap_fix.proofs.FixedParityLemmas.{drafts_same}
+use Rattle.snap_fix.proofs.FixedVaultLemmas.{any_makes_as, mends_vault, mends_zeros, ran_stripe, read_broke, reading_calls, vault_broke, well_makes_any, well_makes_as, were_read}
 use Rattle.snap_fix.proofs.WindowLemmas.{length_tried, levels_one}
+use Rattle.snap_fix.proofs.WrittenLevelLemmas.{keeps_nothing}
 
 -- room with another sum in its block
 pub room_then : (plan : FixPlan) (room : Room) (items : List ℕ) → length items ≡ length room.block.items → IsRoomFor plan.table room
@@ -98,8 +101,10 @@ module _ {W R : Type 0} (view : W → SinkView) (standing : R → ReportView) (s
         → MendsParity view standing stands plan facts old.written new.written (levels_outside vault lines_then reports_then) (levels_outside new.vault new.lines new.reports) parities
         → (AreCounts cells repaired.counts → AreCounts (found ++ cells) totals.counts)
         → totals.blocks < 2 ^ 64 → totals.blocks ≡ repaired.blocks → totals.parities < 2 ^ 64 → totals.parities ≡ parities
+        → AsksSpare plan (facts ∷ []) old.spare new.spare
         → FixesStripe view standing stands plan stripe i before after old new totals
-    fixed after totals parities window room fits parity counts few_blocks blocks few_parities parities_are =
+    unfolding read_by
+    fixed after totals parities window room fits parity counts few_blocks blocks few_parities parities_are asks =
         let levels : List Event = all_level_news plan facts in
         let first = reading_calls (is_searched plan stripe) stripe mid.levels old.vault vault reads in
         record {
@@ -116,6 +121,7 @@ module _ {W R : Type 0} (view : W → SinkView) (standing : R → ReportView) (s
             states = files.states_fit;
             written = parity.flags.0 ∙ fits.written;
             levels = parity.calls.goes_on.levels ∙ first.goes_on.levels ∙ fits.levels;
+            spare = subst (IsSpareFor plan.table.shape) (sym asks.same) fits.spare;
           };
           told = subst (λ (events : List Event). Told view standing stands plan.table.columns events old.lines new.lines old.reports new.reports)
               (append_assoc found cells levels)
@@ -123,18 +129,24 @@ module _ {W R : Type 0} (view : W → SinkView) (standing : R → ReportView) (s
           totals_are = totals_of plan mended totals (counts (files.counts facts refl shown))
               few_blocks (blocks ∙ files.blocks facts refl shown) few_parities (parities_are ∙ parity.count_is);
           written = writes_one plan mended old.written new.written parity.flags;
+          answered = files.answered facts refl shown;
+          stood = files.stood;
           read = read_by new.vault parity.calls.goes_on.later;
+          ran = ran_stripe plan facts old.vault vault new.vault parity.calls.goes_on.later levels_read_of parity.ran;
           vault = mends_vault plan facts (is_searched plan stripe) stripe mid.levels old.vault vault new.vault reads parity.calls parity.drafts parity.changes;
+          zeros = mends_zeros plan facts (is_searched plan stripe) stripe mid.levels old.vault vault new.vault reads parity.zeros;
           holds = parity.holds;
-          makes = λ d within. makes_as plan d facts [] files.answers (folder_at old.folders d) (folder_at new.folders d) (files.makes facts refl shown d within);
+          spare = asks;
+          makes = λ d within. well_makes_as plan old.starts d facts [] files.answers (folder_at old.folders d) (folder_at new.folders d) (files.makes facts refl shown d within);
           underway = files.underway facts refl shown;
         }
 
     -- or the vault failed
     pub vault_failed : MendsNotParity view standing stands plan facts (levels_outside vault lines_then reports_then) (levels_outside new.vault new.lines new.reports)
+        → AsksSpare plan (facts ∷ []) old.spare new.spare
         → BreaksStripe view standing stands plan stripe i before old new fault.Vault
     unfolding read_by
-    vault_failed parity = record {
+    vault_failed parity asks = record {
       mended = mended;
       number = refl;
       slots = refl;
@@ -147,9 +159,11 @@ module _ {W R : Type 0} (view : W → SinkView) (standing : R → ReportView) (s
           ∙ sym (append_assoc (found ++ cells) parity.first parity.rest);
       told = told_then view standing stands plan.table.columns (found ++ cells) parity.first old.lines lines_then new.lines old.reports reports_then new.reports told_cells parity.told;
       folders = files.folders;
+      answered = files.answered facts refl shown;
       read = read_by new.vault parity.calls.goes_on.later;
+      spare = asks;
       vault = mends_vault plan facts (is_searched plan stripe) stripe mid.levels old.vault vault new.vault reads parity.calls parity.drafts parity.changes;
-      makes = λ d within. makes_as plan d facts [] files.answers (folder_at old.folders d) (folder_at new.folders d) (files.makes facts refl shown d within);
+      makes = λ d within. well_makes_any plan old.starts d facts [] files.answers (folder_at old.folders d) (folder_at new.folders d) (files.makes facts refl shown d within);
       broke = vault_broke plan facts (is_searched plan stripe) stripe mid.levels old.vault vault new.vault reads _ parity.calls
           (read_broke plan facts old.vault vault new.vault parity.calls.goes_on.later parity.rose levels_read_of) parity.call;
     }
@@ -159,8 +173,9 @@ module _ {W R : Type 0} (view : W → SinkView) (standing : R → ReportView) (s
   pub folder_failed : (new : FixScene W R) (disk : ℕ) → new.vault ≡ vault
       → MendsNotFiles view standing stands plan stripe i mid.window marks known
       (outside old.starts old.states old.folders lines reports) (outside new.starts new.states new.folders new.lines new.reports) disk
+      → AsksSpare plan (facts ∷ []) old.spare new.spare
       → BreaksStripe view standing stands plan stripe i before old new (fault.Folder disk)
-  folder_failed new disk same files =
+  folder_failed new disk same files asks =
       let part = files.events facts refl shown in
       let answers : List Bool = part.0 in
       let first : List Event = part.1 in
@@ -177,13 +192,15 @@ module _ {W R : Type 0} (view : W → SinkView) (standing : R → ReportView) (s
             ap (λ (cells : List Event). found ++ (cells ++ levels)) part.3
             ∙ ap (λ (events : List Event). found ++ events) (append_assoc first rest levels)
             ∙ sym (append_assoc found first (rest ++ levels));
-        told = told_then view standing stands plan.table.columns found first old.lines lines new.lines old.reports reports new.reports told part.4;
+        told = told_then view standing stands plan.table.columns found first old.lines lines new.lines old.reports reports new.reports told part.5;
         folders = files.folders;
+        answered = part.4;
+        spare = asks;
         read = subst (LevelsWereRead plan facts old.vault) (sym same) (read_by vault (omega arith));
         vault = subst (MendsVault plan (facts ∷ []) old.vault) (sym same)
             (mends_vault plan facts (is_searched plan stripe) stripe mid.levels old.vault vault vault reads (no_calls vault) (drafts_same vault)
             (changes_start (KeepsLevels plan.table.shape.block_size (IsMendedLevel plan (facts ∷ []))) vault
-            (keeps_all plan.table.shape.block_size (IsMendedLevel plan (facts ∷ [])))));
-        makes = λ d within. makes_as plan d facts [] answers (folder_at old.folders d) (folder_at new.folders d) (files.makes facts refl shown d within);
+            (keeps_nothing plan.table.shape.block_size (IsMendedLevel plan (facts ∷ [])))));
+        makes = λ d within. any_makes_as plan old.starts d facts [] answers (folder_at old.folders d) (folder_at new.folders d) (files.makes facts refl shown d within);
         broke = (files.within, record { rose = files.rose; call = files.call });
       }

@@ -2,24 +2,28 @@
 use Rattle.std.proofs.Common.{◌≡◌, ℕ, zero, suc, ◌+◌, ◌≤◌, ◌||◌, count_by, List, [], ◌∷◌, ◌++◌, Bool, true, false, IsTrue, refl, sym, ap, ◌∙◌, subst, append_assoc, arith}
 use Rattle.std.specs.Prelude.{Contains}
 use Rattle.std.specs.List.{list_any}
+use Rattle.std.proofs.lemmas.List.{append-nil}
 use Rattle.disk_model.specs.Cause.{Rose, RoseBy}
-use Rattle.disk_model.specs.Files.{Stays}
+use Rattle.disk_model.specs.Files.{Files, Stays}
 use Rattle.disk_model.specs.Folder.{FolderView, FolderCall, ListFiles, Look, ReadAt, Make, WriteAt, SetSize, SetStamp, Rename}
-use Rattle.disk_model.specs.Vault.{VaultView, VaultDone, SomeCalls, ChangesBy, DraftsStay}
+use Rattle.disk_model.specs.Vault.{VaultView, VaultDone, GoesOn, SomeCalls, ChangesBy, DraftsStay}
 use Rattle.disk_model.proofs.VaultLemmas.{calls_then, stays_then}
-use Rattle.parity_writer.specs.LevelReading.{LevelReading, has_failed}
+use Rattle.parity_writer.specs.LevelReading.{LevelReading, calls_of, has_failed}
 use Rattle.parity_writer.specs.LevelsValue.{LevelsValue}
-use Rattle.snap_report.specs.Answer.{Gained, broke_vault}
+use Rattle.snap_report.specs.Answer.{Gained}
+use Rattle.stripe_reader.specs.Starts.{StartsValue}
+use Rattle.snap_fix.specs.Breaking.{broke_parity}
 use Rattle.snap_fix.specs.Examining.{ReadsTried}
 use Rattle.snap_fix.specs.Facts.{StripeFacts}
 use Rattle.snap_fix.specs.Fixing.{LevelsWereRead, MendsVault, VaultBroke}
-use Rattle.snap_fix.specs.Looking.{AreAllLevelsOf, LevelsAreRead, unread_in}
+use Rattle.snap_fix.specs.Looking.{AreAllLevelsOf, LevelsAreRead, level_reads, unread_in}
 use Rattle.snap_fix.specs.Mended.{Mended}
 use Rattle.snap_fix.specs.Plan.{FixPlan}
-use Rattle.snap_fix.specs.State.{FolderMakes}
-use Rattle.snap_fix.specs.Underway.{IsMendCall, IsMendedLevel, KeepsLevels, WritesCell}
-use Rattle.snap_fix.proofs.FixedParityLemmas.{keeps_all}
-use Rattle.snap_fix.proofs.FolderCallLemmas.{makes_wider}
+use Rattle.snap_fix.specs.State.{AnyCall, WellCall, FolderMakes}
+use Rattle.snap_fix.specs.Underway.{AddsZeros, IsMendCall, IsMendedLevel, KeepsLevels, WritesCell, done_well, stripe_calls, wrong_writes}
+use Rattle.snap_fix.proofs.FolderCallLemmas.{makes_wider, well_wider}
+use Rattle.snap_fix.proofs.LookingLemmas.{vault_goes_on}
+use Rattle.snap_fix.proofs.WrittenLevelLemmas.{keeps_nothing}
 
 -- ---- the levels are read first
 
@@ -63,6 +67,24 @@ pub read_broke : (plan : FixPlan) (facts : StripeFacts) (old mid new : VaultView
 unfolding were_read
 read_broke plan facts old mid new later rose read = broke_by plan facts old mid new later rose read.readings read.are read.unread
 
+-- the calls for one stripe: its levels are read, and then the wrong ones written
+ran_by : (plan : FixPlan) (facts : StripeFacts) (old mid new : VaultView) (later : mid.faults ≤ new.faults)
+    → (readings : List (List LevelReading)) (are : AreAllLevelsOf plan.table.shape.block_size old (facts ∷ []) readings) (unread : RoseBy (unread_in readings) old.faults mid.faults)
+    → GoesOn old mid (level_reads plan.table.shape.block_size (facts ∷ []) readings) → GoesOn mid new (done_well (wrong_writes plan facts))
+    → GoesOn old new (stripe_calls plan facts (were_read_by plan facts old mid new later readings are unread).readings)
+unfolding were_read_by
+ran_by plan facts old mid new later [] are unread reads writes = absurd are
+ran_by plan facts old mid new later (one ∷ []) are unread reads writes =
+    let calls : List VaultDone = calls_of plan.table.shape.block_size facts.stripe one in
+    let read : GoesOn old mid calls = subst (GoesOn old mid) (append-nil calls) reads in
+    vault_goes_on old mid new calls (done_well (wrong_writes plan facts)) read writes
+ran_by plan facts old mid new later (one ∷ two ∷ more) are unread reads writes = absurd are.1
+
+pub ran_stripe : (plan : FixPlan) (facts : StripeFacts) (old mid new : VaultView) (later : mid.faults ≤ new.faults) (read : LevelsAreRead plan (facts ∷ []) old mid)
+    → GoesOn mid new (done_well (wrong_writes plan facts)) → GoesOn old new (stripe_calls plan facts (were_read plan facts old mid new later read).readings)
+unfolding were_read
+ran_stripe plan facts old mid new later read writes = ran_by plan facts old mid new later read.readings read.are read.unread read.goes_on writes
+
 -- ---- and then some are written
 
 module _ (plan : FixPlan) (facts : StripeFacts) (searched : Bool) (stripe : ℕ) (levels : LevelsValue) (old mid new : VaultView)
@@ -77,11 +99,18 @@ module _ (plan : FixPlan) (facts : StripeFacts) (searched : Bool) (stripe : ℕ)
         calls = calls_then old mid new first calls;
         drafts = record { state = drafts.state ∙ before.state; bytes = λ told. drafts.bytes (tells ∙ told) ∙ before.bytes told };
         changes = stays_then (KeepsLevels plan.table.shape.block_size (IsMendedLevel plan (facts ∷ []))) old mid new tells
-            (reading_stays searched stripe levels old mid reads) changes (keeps_all plan.table.shape.block_size (IsMendedLevel plan (facts ∷ [])));
+            (reading_stays searched stripe levels old mid reads) changes (keeps_nothing plan.table.shape.block_size (IsMendedLevel plan (facts ∷ [])));
       }
 
-  -- it fails in a call that reads no parity
-  pub vault_broke : (unread : ℕ) → SomeCalls mid new → RoseBy (unread + 1) old.faults new.faults → (IsTrue new.tells_calls → Gained broke_vault mid.calls new.calls)
+  pub mends_zeros : (IsTrue mid.tells → AddsZeros plan.table.shape.block_size (IsMendedLevel plan (facts ∷ [])) mid.files new.files)
+      → IsTrue old.tells → AddsZeros plan.table.shape.block_size (IsMendedLevel plan (facts ∷ [])) old.files new.files
+  mends_zeros zeros told =
+      let tells : mid.tells ≡ old.tells = (reading_calls searched stripe levels old mid reads).goes_on.tells in
+      subst (λ (files : Files). AddsZeros plan.table.shape.block_size (IsMendedLevel plan (facts ∷ [])) files new.files)
+      ((reading_stays searched stripe levels old mid reads).reads told) (zeros (tells ∙ told))
+
+  -- it fails in a call that writes parity
+  pub vault_broke : (unread : ℕ) → SomeCalls mid new → RoseBy (unread + 1) old.faults new.faults → (IsTrue new.tells_calls → Gained broke_parity mid.calls new.calls)
       → VaultBroke unread old new
   vault_broke unread calls rose call =
       let first : SomeCalls old mid = reading_calls searched stripe levels old mid reads in
@@ -101,35 +130,46 @@ module _ (plan : FixPlan) (facts : StripeFacts) (searched : Bool) (stripe : ℕ)
       or_right true other is = cc
       or_right false other is = is
 
-      any_later : (front back : List VaultDone) → IsTrue (list_any broke_vault back) → IsTrue (list_any broke_vault (front ++ back))
+      any_later : (front back : List VaultDone) → IsTrue (list_any broke_parity back) → IsTrue (list_any broke_parity (front ++ back))
       any_later [] back one = one
-      any_later (done ∷ front) back one = or_right (broke_vault done) (list_any broke_vault (front ++ back)) (any_later front back one)
+      any_later (done ∷ front) back one = or_right (broke_parity done) (list_any broke_parity (front ++ back)) (any_later front back one)
 
 -- ---- the calls of a folder, whatever is said of the files that were gone
 
-call_as : (plan : FixPlan) (d : ℕ) (facts : StripeFacts) (one other : List Bool) (call : FolderCall)
-    → IsMendCall plan d (record { facts = facts; answers = one } ∷ []) call → IsMendCall plan d (record { facts = facts; answers = other } ∷ []) call
-call_as plan d facts one other ListFiles is = tt
-call_as plan d facts one other (Look path lost) is = tt
-call_as plan d facts one other (ReadAt path lost at n) is = tt
-call_as plan d facts one other (Make path) is = is
-call_as plan d facts one other (WriteAt path at bytes) is = by is.is_one
+call_as : (plan : FixPlan) (starts : StartsValue) (d : ℕ) (facts : StripeFacts) (one other : List Bool) (call : FolderCall)
+    → IsMendCall plan starts d (record { facts = facts; answers = one } ∷ []) call → IsMendCall plan starts d (record { facts = facts; answers = other } ∷ []) call
+call_as plan starts d facts one other ListFiles is = is
+call_as plan starts d facts one other (Look path lost) is = tt
+call_as plan starts d facts one other (ReadAt path lost at n) is = tt
+call_as plan starts d facts one other (Make path) is = is
+call_as plan starts d facts one other (WriteAt path at bytes) is = by is.is_one
   where
-    by : Contains (record { facts = facts; answers = one } ∷ []) is.mended → IsMendCall plan d (record { facts = facts; answers = other } ∷ []) (WriteAt path at bytes)
+    by : Contains (record { facts = facts; answers = one } ∷ []) is.mended → IsMendCall plan starts d (record { facts = facts; answers = other } ∷ []) (WriteAt path at bytes)
     by (zero, within, same) = record {
       mended = record { facts = facts; answers = other };
       is_one = (0, omega arith, refl);
       writes = subst (λ (mended : Mended). WritesCell plan d mended.facts path at bytes) (sym same) is.writes;
     }
     by (suc k, within, same) = absurd (omega (arith, within))
-call_as plan d facts one other (SetSize path size) is = is
-call_as plan d facts one other (SetStamp path stamp) is = is
-call_as plan d facts one other (Rename path true) is = is
-call_as plan d facts one other (Rename path false) is = is
+call_as plan starts d facts one other (SetSize path size) is = is
+call_as plan starts d facts one other (SetStamp path stamp) is = is
+call_as plan starts d facts one other (Rename path true) is = is
+call_as plan starts d facts one other (Rename path false) is = is
 
-pub makes_as : (plan : FixPlan) (d : ℕ) (facts : StripeFacts) (one other : List Bool) (old new : FolderView)
-    → FolderMakes (IsMendCall plan d (record { facts = facts; answers = one } ∷ [])) old new
-    → FolderMakes (IsMendCall plan d (record { facts = facts; answers = other } ∷ [])) old new
-makes_as plan d facts one other old new makes =
-    makes_wider (IsMendCall plan d (record { facts = facts; answers = one } ∷ [])) (IsMendCall plan d (record { facts = facts; answers = other } ∷ []))
-    (call_as plan d facts one other) makes
+module _ (plan : FixPlan) (starts : StartsValue) (d : ℕ) (facts : StripeFacts) (one other : List Bool) where
+  -- the calls of the stripe, by these answers
+  abbrev CallBy : List Bool → FolderCall → Type 0
+  CallBy answers = IsMendCall plan starts d (record { facts = facts; answers = answers } ∷ [])
+
+  pub well_makes_as : (old new : FolderView) → FolderMakes (WellCall (CallBy one)) old new → FolderMakes (WellCall (CallBy other)) old new
+  well_makes_as old new makes =
+      makes_wider (WellCall (CallBy one)) (WellCall (CallBy other)) (well_wider (CallBy one) (CallBy other) (call_as plan starts d facts one other)) makes
+
+  pub any_makes_as : (old new : FolderView) → FolderMakes (AnyCall (CallBy one)) old new → FolderMakes (AnyCall (CallBy other)) old new
+  any_makes_as old new makes =
+      makes_wider (AnyCall (CallBy one)) (AnyCall (CallBy other)) (λ done is. call_as plan starts d facts one other done.call is) makes
+
+  -- where none failed, they are such calls all the same
+  pub well_makes_any : (old new : FolderView) → FolderMakes (WellCall (CallBy one)) old new → FolderMakes (AnyCall (CallBy other)) old new
+  well_makes_any old new makes =
+      makes_wider (WellCall (CallBy one)) (AnyCall (CallBy other)) (λ done is. call_as plan starts d facts one other done.call is.0) makes

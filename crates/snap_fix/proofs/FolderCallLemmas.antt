@@ -1,41 +1,146 @@
 -- Calls of a folder, one after another, and the two names of a record that they touch.
-use Rattle.std.proofs.Common.{◌≡◌, Bool, true, false, List, [], ◌++◌, refl, sym, ap, ◌∙◌, arith, Option, None, Some, ℕ}
+use Rattle.std.proofs.Common.{◌≡◌, Bool, true, false, List, [], ◌∷◌, ◌++◌, All, IsTrue, refl, sym, ap, ◌∙◌, subst, arith, Option, None, Some, ℕ, get_or, if◌then◌else◌}
 use Rattle.std.proofs.lemmas.List.{append-nil}
 use Rattle.std.proofs.lemmas.List.Elements.{All-append, All-cons, All-nil}
 use Rattle.std.specs.FinMap as map
-use Rattle.disk_model.specs.Folder.{FolderView, FolderCall, FolderDone, IsFolderCall}
-use Rattle.disk_model.specs.Tree.{Tree, File, file_of, path_of}
-use Rattle.disk_model.specs.Writing.{ChangesFile, made, or_added, moved, renamed}
+use Rattle.disk_model.specs.Folder.{FolderView, FolderCall, FolderDone, FolderGoesOn, Look, ReadAt, IsFolder, IsFolderReading, TreeStays, SomeFolderCalls}
+use Rattle.disk_model.specs.Stopped.{MayBeLeft}
+use Rattle.disk_model.specs.Tree.{Tree, File, IsTree, file_of, path_of}
+use Rattle.disk_model.specs.Writing.{ChangesFile, IsFolderWrite, made, or_added, moved, renamed}
 use Rattle.disk_model.specs.declared.meta.Stamp.{Stamp}
+use Rattle.disk_model.proofs.AnsweredLemmas.{write_is_left, reading_is_left, left_then, left_later, left_is_tree}
 use Rattle.disk_model.proofs.TreeLemmas.{set_other, gone_other, own_name}
+use Rattle.snap_report.specs.Answer.{broke_folder, is_reading}
+use Rattle.stripe_reader.specs.Column.{ReadsBy}
+use Rattle.stripe_reader.specs.FolderCalls.{AreCellCalls, AreColumnCalls, AreFetchCalls}
+use Rattle.stripe_reader.specs.Reading.{CellReading, NoBlock, Nowhere, Beyond, Unread, Gone, Part, Whole, Task, Known, Fetch}
 use Rattle.stripe_reader.proofs.FolderLemmas.{goes_on_then}
-use Rattle.snap_fix.specs.State.{FolderMakes, OthersStay}
+use Rattle.snap_fix.specs.State.{AnyCall, WellCall, FolderMakes, OthersStay}
 
 -- ---- which calls
 
--- P of one call that was made
-abbrev pub OfCall : (FolderCall → Type 0) → FolderDone → Type 0
-OfCall P done = P done.call
-
-pub makes_none : (P : FolderCall → Type 0) (v : FolderView) → FolderMakes P v v
+pub makes_none : (P : FolderDone → Type 0) (v : FolderView) → FolderMakes P v v
 makes_none P v = record {
   done = [];
-  each = All-nil (OfCall P);
+  each = All-nil P;
   goes_on = record { later = omega arith; keeps_stamps = refl; closed = refl; tells = refl; calls = record { told = λ t. t; more = λ t. sym (append-nil v.calls) } };
+  left = λ told is. refl;
 }
 
-pub makes_one : (P : FolderCall → Type 0) {call : FolderCall} {failed : Bool} {old new : FolderView} → IsFolderCall call failed old new → P call → FolderMakes P old new
-makes_one P called is = record { done = _; each = All-cons (OfCall P) _ [] is (All-nil (OfCall P)); goes_on = called.goes_on }
+-- one call that writes or reads, of which P holds with its answer
+pub makes_write : (P : FolderDone → Type 0) {call : FolderCall} {failed : Bool} {old new : FolderView} → IsFolder new → IsFolderWrite call failed old new → P (record { call = call; failed = failed }) → FolderMakes P old new
+makes_write P {call = call} {failed = failed} {old = old} {new = new} formed wrote is = record {
+  done = record { call = call; failed = failed } ∷ [];
+  each = All-cons P _ [] is (All-nil P);
+  goes_on = wrote.called.goes_on;
+  left = λ told tree. write_is_left call failed old new told formed wrote;
+}
 
-pub makes_then : (P : FolderCall → Type 0) {old mid new : FolderView} → FolderMakes P old mid → FolderMakes P mid new → FolderMakes P old new
+pub makes_read : (P : FolderDone → Type 0) {call : FolderCall} {failed : Bool} {old new : FolderView} → IsFolder new → IsFolderReading call failed old new → P (record { call = call; failed = failed }) → FolderMakes P old new
+makes_read P {call = call} {failed = failed} {old = old} {new = new} formed read is = record {
+  done = record { call = call; failed = failed } ∷ [];
+  each = All-cons P _ [] is (All-nil P);
+  goes_on = read.called.goes_on;
+  left = λ told tree. reading_is_left call failed old new told formed read;
+}
+
+pub makes_then : (P : FolderDone → Type 0) {old mid new : FolderView} → FolderMakes P old mid → FolderMakes P mid new → FolderMakes P old new
 makes_then P {old = old} {mid = mid} {new = new} one two = record {
   done = one.done ++ two.done;
-  each = All-append (OfCall P) one.done two.done one.each two.each;
+  each = All-append P one.done two.done one.each two.each;
   goes_on = goes_on_then old mid new one.done two.done one.goes_on two.goes_on;
+  left = λ told is.
+      let first : MayBeLeft old.keeps_stamps one.done old.tree mid.tree = one.left told is in
+      let more = two.left (one.goes_on.tells ∙ told) (left_is_tree old.keeps_stamps one.done old.tree mid.tree is first) in
+      left_then old.keeps_stamps one.done two.done old.tree mid.tree new.tree first (subst (λ (keeps : Bool). MayBeLeft keeps two.done mid.tree new.tree) one.goes_on.keeps_stamps more);
 }
 
-pub makes_wider : (P Q : FolderCall → Type 0) {old new : FolderView} → ((call : FolderCall) → P call → Q call) → FolderMakes P old new → FolderMakes Q old new
-makes_wider P Q wider one = record { done = one.done; each = λ k d within. wider (Rattle.std.proofs.Common.get_or one.done k d).call (one.each k d within); goes_on = one.goes_on }
+pub makes_wider : (P Q : FolderDone → Type 0) {old new : FolderView} → ((done : FolderDone) → P done → Q done) → FolderMakes P old new → FolderMakes Q old new
+makes_wider P Q wider one = record { done = one.done; each = λ k d within. wider (get_or one.done k d) (one.each k d within); goes_on = one.goes_on; left = one.left }
+
+-- a tree that is told stays one
+pub makes_tree : (P : FolderDone → Type 0) {old new : FolderView} → FolderMakes P old new → IsTrue old.tells → IsTree old.tree → IsTree new.tree
+makes_tree P {old = old} {new = new} one told is = left_is_tree old.keeps_stamps one.done old.tree new.tree is (one.left told is)
+
+pub makes_some : (P : FolderDone → Type 0) {old new : FolderView} → FolderMakes P old new → SomeFolderCalls old new
+makes_some P one = record { done = one.done; goes_on = one.goes_on }
+
+pub some_none : (v : FolderView) → SomeFolderCalls v v
+some_none v = makes_some (WellCall (λ (call : FolderCall). Unit {0})) (makes_none (WellCall (λ (call : FolderCall). Unit {0})) v)
+
+pub calls_then : {old mid new : FolderView} → SomeFolderCalls old mid → SomeFolderCalls mid new → SomeFolderCalls old new
+calls_then {old = old} {mid = mid} {new = new} one two = record { done = one.done ++ two.done; goes_on = goes_on_then old mid new one.done two.done one.goes_on two.goes_on }
+
+-- calls that only read leave what there was
+pub makes_reading : (P : FolderDone → Type 0) {old new : FolderView} (done : List FolderDone) → All P done → FolderGoesOn old new done → TreeStays old new → FolderMakes P old new
+makes_reading P {old = old} {new = new} done each goes_on stays = record {
+  done = done;
+  each = each;
+  goes_on = goes_on;
+  left = λ told is. subst (λ (tree : Tree). MayBeLeft old.keeps_stamps done old.tree tree) (sym (stays told)) (left_later old.keeps_stamps [] done old.tree old.tree is refl);
+}
+
+-- ---- calls of which none failed but readings, and such that may have failed
+
+pub well_answer : (call : FolderCall) → broke_folder (record { call = call; failed = false }) ≡ false
+well_answer call = by (is_reading call)
+  where
+    by : (reading : Bool) → (if reading then false else false) ≡ false
+    by true = refl
+    by false = refl
+
+pub well_wider : (P Q : FolderCall → Type 0) → ((call : FolderCall) → P call → Q call) → (done : FolderDone) → WellCall P done → WellCall Q done
+well_wider P Q wider done is = (wider done.call is.0, is.1)
+
+pub makes_well_wider : (P Q : FolderCall → Type 0) {old new : FolderView} → ((call : FolderCall) → P call → Q call) → FolderMakes (WellCall P) old new → FolderMakes (WellCall Q) old new
+makes_well_wider P Q wider one = makes_wider (WellCall P) (WellCall Q) (well_wider P Q wider) one
+
+pub makes_any_wider : (P Q : FolderCall → Type 0) {old new : FolderView} → ((call : FolderCall) → P call → Q call) → FolderMakes (AnyCall P) old new → FolderMakes (AnyCall Q) old new
+makes_any_wider P Q wider one = makes_wider (AnyCall P) (AnyCall Q) (λ done is. wider done.call is) one
+
+pub makes_any : (P : FolderCall → Type 0) {old new : FolderView} → FolderMakes (WellCall P) old new → FolderMakes (AnyCall P) old new
+makes_any P one = makes_wider (WellCall P) (AnyCall P) (λ done is. is.0) one
+
+-- one call that writes: it did not fail, or may have
+pub makes_well_write : (P : FolderCall → Type 0) {call : FolderCall} {old new : FolderView} → IsFolder new → IsFolderWrite call false old new → P call → FolderMakes (WellCall P) old new
+makes_well_write P {call = call} formed wrote is = makes_write (WellCall P) formed wrote (is, well_answer call)
+
+pub makes_any_write : (P : FolderCall → Type 0) {call : FolderCall} {failed : Bool} {old new : FolderView} → IsFolder new → IsFolderWrite call failed old new → P call → FolderMakes (AnyCall P) old new
+makes_any_write P formed wrote is = makes_write (AnyCall P) formed wrote is
+
+-- ---- the readings of cells
+
+module _ (P : FolderCall → Type 0) (looks : (path : List ℕ) (lost : Bool) → P (Look path lost)) (reads : (path : List ℕ) (lost : Bool) (at n : ℕ) → P (ReadAt path lost at n)) where
+  look_one : (path : List ℕ) (lost failed : Bool) → All (WellCall P) (record { call = Look path lost; failed = failed } ∷ [])
+  look_one path lost failed = All-cons (WellCall P) _ [] (looks path lost, refl) (All-nil (WellCall P))
+
+  look_two : (path : List ℕ) (lost : Bool) (at n : ℕ) (one two : Bool) → All (WellCall P) (record { call = Look path lost; failed = one } ∷ record { call = ReadAt path lost at n; failed = two } ∷ [])
+  look_two path lost at n one two = All-cons (WellCall P) _ (record { call = ReadAt path lost at n; failed = two } ∷ []) (looks path lost, refl) (All-cons (WellCall P) _ [] (reads path lost at n, refl) (All-nil (WellCall P)))
+
+  well_fetch : (path : List ℕ) (lost : Bool) (at n : ℕ) (reading : CellReading) (done : List FolderDone) → AreFetchCalls path lost at n reading done → All (WellCall P) done
+  well_fetch path lost at n NoBlock done are = absurd are
+  well_fetch path lost at n Nowhere done are = absurd are
+  well_fetch path lost at n Beyond done are = absurd are
+  well_fetch path lost at n (Unread None) done are = subst (All (WellCall P)) (sym are) (look_one path lost true)
+  well_fetch path lost at n (Unread (Some seen)) done are = subst (All (WellCall P)) (sym are) (look_two path lost at n false true)
+  well_fetch path lost at n (Gone None) done are = subst (All (WellCall P)) (sym are) (look_one path lost false)
+  well_fetch path lost at n (Gone (Some seen)) done are = subst (All (WellCall P)) (sym are) (look_two path lost at n false false)
+  well_fetch path lost at n (Part seen got) done are = subst (All (WellCall P)) (sym are) (look_two path lost at n false false)
+  well_fetch path lost at n (Whole seen bytes) done are = subst (All (WellCall P)) (sym are) (look_two path lost at n false false)
+
+  pub well_cell : (task : Task) (reading : CellReading) (done : List FolderDone) → AreCellCalls task reading done → All (WellCall P) done
+  well_cell (Known known) reading done are = subst (All (WellCall P)) (sym are) (All-nil (WellCall P))
+  well_cell (Fetch path lost at n) reading done are = well_fetch path lost at n reading done are
+
+  pub well_column : (tasks : List Task) (readings : List CellReading) (done : List FolderDone) → AreColumnCalls tasks readings done → All (WellCall P) done
+  well_column [] readings done are = subst (All (WellCall P)) (sym are) (All-nil (WellCall P))
+  well_column (task ∷ tasks) [] done are = absurd are
+  well_column (task ∷ tasks) (reading ∷ readings) done are =
+      subst (All (WellCall P)) (sym are.2) (All-append (WellCall P) are.0 are.1 (well_cell task reading are.0 are.3) (well_column tasks readings are.1 are.4))
+
+  -- cells of a column were read
+  pub makes_column_reading : (tasks : List Task) (readings : List CellReading) {old new : FolderView} → ReadsBy (AreColumnCalls tasks readings) old new → FolderMakes (WellCall P) old new
+  makes_column_reading tasks readings read = makes_reading (WellCall P) read.done (well_column tasks readings read.done read.are) read.goes_on read.tree
 
 -- ---- the names that are not touched
 

@@ -1,10 +1,10 @@
 -- What each call of a mended record makes of its folder, and what comes of several.
-use Rattle.std.proofs.Common.{append_assoc, ◌||◌, ◌≡◌, inl, inr, ℕ, ◌+◌, List, [], ◌∷◌, ◌++◌, length, Bool, true, false, IsTrue, Result, Ok, Err, refl, sym, ◌∙◌, ap, subst, arith}
+use Rattle.std.proofs.Common.{append_assoc, ◌||◌, ◌≡◌, inl, inr, ℕ, ◌+◌, max, List, [], ◌∷◌, ◌++◌, length, Bool, true, false, IsTrue, Result, Ok, Err, refl, sym, ◌∙◌, ap, subst, arith}
 use Rattle.std.proofs.lemmas.List.{append-nil}
 use Rattle.std.specs.Prelude.{IfErr}
 use Rattle.std.specs.Result.{IsErrAnd}
 use Rattle.std.specs.List.{list_any}
-use Rattle.disk_model.specs.Folder.{FolderView, FolderCall, FolderDone, Make, WriteAt, Rename, IsFolderCall, MissingExactly, file_failed}
+use Rattle.disk_model.specs.Folder.{FolderView, FolderCall, FolderDone, Make, WriteAt, Rename, IsFolder, MissingExactly, file_failed}
 use Rattle.disk_model.specs.Tree.{Tree, file_of, path_of}
 use Rattle.disk_model.specs.Writing.{IsFolderWrite}
 use Rattle.disk_model.specs.declared.fault.FileFault.{FileFault}
@@ -16,8 +16,8 @@ use Rattle.stripe_reader.specs.declared.starts.Place.{Place}
 use Rattle.stripe_reader.specs.declared.starts.Place.TheVariants.{Lost, Nowhere}
 use Rattle.snap_fix.specs.declared.state.FileState.{FileState}
 use Rattle.snap_fix.specs.Mending.{IsSetUpCall, IsBlockCall, CanSetUp, GoesOnBy, SetsUp, WritesBytes, BreaksOff, EndsBy}
-use Rattle.snap_fix.specs.State.{Write, FolderMakes, HoldsRecord, stands}
-use Rattle.snap_fix.proofs.FolderCallLemmas.{makes_none, makes_one, makes_then, makes_wider, others_same, others_then, others_changed, others_made, others_renamed}
+use Rattle.snap_fix.specs.State.{AnyCall, WellCall, Write, FolderMakes, HoldsRecord, StaysPlace, stands}
+use Rattle.snap_fix.proofs.FolderCallLemmas.{makes_none, makes_then, makes_well_write, makes_any_write, makes_any, makes_well_wider, makes_any_wider, others_same, others_then, others_changed, others_made, others_renamed}
 use Rattle.snap_fix.proofs.MendedRecordLemmas.{plain_start, touched_state, written_state, lost_there, plain_there, renamed_back, made_anew, written_more}
 
 -- the fault of a call that is handed on
@@ -33,8 +33,10 @@ module _ (path : List ℕ) (start : Start) (state : FileState) (old : FolderView
   -- nothing was done
   pub goes_nowhere : (P : FolderCall → Type 0) → GoesOnBy P [] path start state old start state old
   goes_nowhere P = record {
-    makes = makes_none P old;
+    makes = makes_none (WellCall P) old;
     same_size = refl;
+    stood = inl refl;
+    size = refl;
     same_lost = refl;
     stays_touched = λ touched. touched;
     holds = λ told first writes held. subst (λ (ws : List Write). HoldsRecord start state ws path first old.tree) (sym (append-nil writes)) held;
@@ -45,12 +47,14 @@ module _ (path : List ℕ) (start : Start) (state : FileState) (old : FolderView
   sets_up_nothing stand = record { goes_on = goes_nowhere (IsSetUpCall start.place path); there = λ told. stand }
 
   -- renamed back
-  pub sets_up_renamed : (new : FolderView) → start.place ≡ Lost → IsFolderWrite (Rename path false) false old new
+  pub sets_up_renamed : (new : FolderView) → IsFolder new → start.place ≡ Lost → IsFolderWrite (Rename path false) false old new
       → SetsUp path start state old (plain_start start) (touched_state state) new
-  sets_up_renamed new lost call = record {
+  sets_up_renamed new formed lost call = record {
     goes_on = record {
-      makes = makes_one (IsSetUpCall start.place path) call.called (inl (lost, refl));
+      makes = makes_well_write (IsSetUpCall start.place path) formed call (inl (lost, refl));
       same_size = refl;
+      stood = inr (lost, refl);
+      size = refl;
       same_lost = refl;
       stays_touched = λ touched. refl;
       holds = λ told first writes held. subst (λ (ws : List Write). HoldsRecord (plain_start start) (touched_state state) ws path first new.tree) (sym (append-nil writes))
@@ -61,12 +65,14 @@ module _ (path : List ℕ) (start : Start) (state : FileState) (old : FolderView
   }
 
   -- made
-  pub sets_up_made : (new : FolderView) → start.place ≡ Nowhere → state.touched ≡ false → IsFolderWrite (Make path) false old new
+  pub sets_up_made : (new : FolderView) → IsFolder new → start.place ≡ Nowhere → state.touched ≡ false → IsFolderWrite (Make path) false old new
       → SetsUp path start state old start (touched_state state) new
-  sets_up_made new nowhere untouched call = record {
+  sets_up_made new formed nowhere untouched call = record {
     goes_on = record {
-      makes = makes_one (IsSetUpCall start.place path) call.called (inr (nowhere, refl));
+      makes = makes_well_write (IsSetUpCall start.place path) formed call (inr (nowhere, refl));
       same_size = refl;
+      stood = inl refl;
+      size = refl;
       same_lost = refl;
       stays_touched = λ touched. refl;
       holds = λ told first writes held. subst (λ (ws : List Write). HoldsRecord start (touched_state state) ws path first new.tree) (sym (append-nil writes))
@@ -77,12 +83,14 @@ module _ (path : List ℕ) (start : Start) (state : FileState) (old : FolderView
   }
 
   -- nothing is known of the files
-  pub goes_untold : (P : FolderCall → Type 0) (start_new : Start) (state_new : FileState) (new : FolderView) → old.tells ≡ false → FolderMakes P old new
-      → start_new.size ≡ start.size → state_new.lost ≡ state.lost → (state.touched ≡ true → state_new.touched ≡ true)
+  pub goes_untold : (P : FolderCall → Type 0) (start_new : Start) (state_new : FileState) (new : FolderView) → old.tells ≡ false → FolderMakes (WellCall P) old new
+      → start_new.size ≡ start.size → StaysPlace start.place start_new.place → state_new.size ≡ state.size → state_new.lost ≡ state.lost → (state.touched ≡ true → state_new.touched ≡ true)
       → GoesOnBy P [] path start state old start_new state_new new
-  goes_untold P start_new state_new new untold makes size lost stays = record {
+  goes_untold P start_new state_new new untold makes size stood state_size lost stays = record {
     makes = makes;
     same_size = size;
+    stood = stood;
+    size = state_size;
     same_lost = lost;
     stays_touched = stays;
     holds = λ told. absurd (clash told);
@@ -98,15 +106,15 @@ fails_one : (call : FolderCall) → broke_folder (record { call = call; failed =
 fails_one call broke = rw broke cc
 
 -- a call failed
-pub breaks_off : (P : FolderCall → Type 0) (call : FolderCall) (old new : FolderView) → P call → broke_folder (record { call = call; failed = true }) ≡ true → IsFolderCall call true old new → BreaksOff P old new
-breaks_off P call old new is broke called = record {
-  rose = called.cause cc;
-  call = λ tells. record { gained = _; now_is = called.goes_on.calls.more tells; one = fails_one call broke };
-  makes = makes_one P called is;
+pub breaks_off : (P : FolderCall → Type 0) (call : FolderCall) (old new : FolderView) → P call → broke_folder (record { call = call; failed = true }) ≡ true → IsFolder new → IsFolderWrite call true old new → BreaksOff P old new
+breaks_off P call old new is broke formed wrote = record {
+  rose = wrote.called.cause cc;
+  call = λ tells. record { gained = _; now_is = wrote.called.goes_on.calls.more tells; one = fails_one call broke };
+  makes = makes_any_write P formed wrote is;
 }
 
 -- after others that went well
-pub breaks_then : (P : FolderCall → Type 0) (old mid new : FolderView) → FolderMakes P old mid → BreaksOff P mid new → BreaksOff P old new
+pub breaks_then : (P : FolderCall → Type 0) (old mid new : FolderView) → FolderMakes (WellCall P) old mid → BreaksOff P mid new → BreaksOff P old new
 breaks_then P old mid new makes broke = record {
   rose = let more = makes.goes_on.later in let rose = broke.rose in omega arith;
   call = λ tells.
@@ -117,7 +125,7 @@ breaks_then P old mid new makes broke = record {
         now_is = gained.now_is ∙ ap (λ (cs : List FolderDone). cs ++ gained.gained) (makes.goes_on.calls.more told) ∙ append_assoc old.calls makes.done gained.gained;
         one = any_later makes.done gained.gained gained.one;
       };
-  makes = makes_then P makes broke.makes;
+  makes = makes_then (AnyCall P) (makes_any P makes) broke.makes;
 }
   where
     any_later : (front back : List FolderDone) → IsTrue (list_any broke_folder back) → IsTrue (list_any broke_folder (front ++ back))
@@ -130,12 +138,14 @@ breaks_then P old mid new makes broke = record {
 
 pub ends_wider : (P Q : FolderCall → Type 0) (fault : FileFault) (path : List ℕ) (start : Start) (state : FileState) (old : FolderView) (start_new : Start) (state_new : FileState) (new : FolderView)
     → ((call : FolderCall) → P call → Q call) → EndsBy fault P path start state old start_new state_new new → EndsBy fault Q path start state old start_new state_new new
-ends_wider P Q Failed path start state old start_new state_new new wider ends = record { rose = ends.rose; call = ends.call; makes = makes_wider P Q wider ends.makes }
+ends_wider P Q Failed path start state old start_new state_new new wider ends = record { rose = ends.rose; call = ends.call; makes = makes_any_wider P Q wider ends.makes }
 ends_wider P Q Missing path start state old start_new state_new new wider ends = record {
   untold = ends.untold;
   goes_on = let goes = ends.goes_on in record {
-    makes = makes_wider P Q wider goes.makes;
+    makes = makes_well_wider P Q wider goes.makes;
     same_size = goes.same_size;
+    stood = goes.stood;
+    size = goes.size;
     same_lost = goes.same_lost;
     stays_touched = goes.stays_touched;
     holds = goes.holds;
@@ -147,22 +157,26 @@ ends_wider P Q Missing path start state old start_new state_new new wider ends =
 
 module _ (path : List ℕ) (start : Start) (state : FileState) (old : FolderView) (can : CanSetUp path start state old) where
   -- the file under the other name was gone, or renaming it failed
-  pub rename_ends : (fault : FileFault) (new : FolderView) → start.place ≡ Lost → IsFolderWrite (Rename path false) (file_failed {T = Unit {0}} (Err fault)) old new
+  pub rename_ends : (fault : FileFault) (new : FolderView) → IsFolder new → start.place ≡ Lost → IsFolderWrite (Rename path false) (file_failed {T = Unit {0}} (Err fault)) old new
       → MissingExactly {T = Unit {0}} (Err fault) old (path_of path true) → EndsBy fault (IsSetUpCall start.place path) path start state old start state new
-  rename_ends Failed new lost call missing = breaks_off (IsSetUpCall start.place path) (Rename path false) old new (inl (lost, refl)) refl call.called
-  rename_ends Missing new lost call missing =
+  rename_ends Failed new formed lost call missing = breaks_off (IsSetUpCall start.place path) (Rename path false) old new (inl (lost, refl)) refl formed call
+  rename_ends Missing new formed lost call missing =
       let untold = not_told old.tells (λ told. let far = can.so_far told in lost_there start state far.writes path far.first old.tree far.holds lost (missing told)) in
       record {
         untold = untold;
-        goes_on = goes_untold path start state old (IsSetUpCall start.place path) start state new untold (makes_one (IsSetUpCall start.place path) call.called (inl (lost, refl))) refl refl (λ touched. touched);
+        goes_on = goes_untold path start state old (IsSetUpCall start.place path) start state new untold (makes_well_write (IsSetUpCall start.place path) formed call (inl (lost, refl))) refl (inl refl) refl refl (λ touched. touched);
       }
+
+  -- making it failed
+  pub make_fails : (new : FolderView) → IsFolder new → start.place ≡ Nowhere → IsFolderWrite (Make path) true old new → EndsBy Failed (IsSetUpCall start.place path) path start state old start state new
+  make_fails new formed nowhere call = breaks_off (IsSetUpCall start.place path) (Make path) old new (inr (nowhere, refl)) refl formed call
 
   module _ (start_mid : Start) (state_mid : FileState) (mid : FolderView) (set : SetsUp path start state old start_mid state_mid mid) (at : ℕ) (bytes : List ℕ) where
     abbrev Block : FolderCall → Type 0
     Block = IsBlockCall start.place path at bytes
 
-    set_makes : FolderMakes Block old mid
-    set_makes = makes_wider (IsSetUpCall start.place path) Block (λ call is. inr is) set.goes_on.makes
+    set_makes : FolderMakes (WellCall Block) old mid
+    set_makes = makes_well_wider (IsSetUpCall start.place path) Block (λ call is. inr is) set.goes_on.makes
 
     set_holds : IsTrue old.tells → (first : Tree) (writes : List Write) → HoldsRecord start state writes path first old.tree → HoldsRecord start_mid state_mid writes path first mid.tree
     set_holds told first writes held = subst (λ (ws : List Write). HoldsRecord start_mid state_mid ws path first mid.tree) (append-nil writes) (set.goes_on.holds told first writes held)
@@ -174,12 +188,14 @@ module _ (path : List ℕ) (start : Start) (state : FileState) (old : FolderView
     told_before told = subst IsTrue set.goes_on.makes.goes_on.tells told
 
     -- written
-    pub writes_bytes : (new : FolderView) → IsFolderWrite (WriteAt path at bytes) false mid new
+    pub writes_bytes : (new : FolderView) → IsFolder new → IsFolderWrite (WriteAt path at bytes) false mid new
         → WritesBytes path at bytes start state old start_mid (written_state state_mid (at + length bytes)) new
-    writes_bytes new call = record {
+    writes_bytes new formed call = record {
       goes_on = record {
-        makes = makes_then Block set_makes (makes_one Block call.called (inl refl));
+        makes = makes_then (WellCall Block) set_makes (makes_well_write Block formed call (inl refl));
         same_size = set.goes_on.same_size;
+        stood = set.goes_on.stood;
+        size = ap (λ (n : ℕ). max n (at + length bytes)) set.goes_on.size;
         same_lost = set.goes_on.same_lost;
         stays_touched = λ touched. refl;
         holds = λ told first writes held.
@@ -190,13 +206,13 @@ module _ (path : List ℕ) (start : Start) (state : FileState) (old : FolderView
     }
 
     -- the file was gone, or the write failed
-    pub write_ends : (fault : FileFault) (new : FolderView) → IsFolderWrite (WriteAt path at bytes) (file_failed {T = Unit {0}} (Err fault)) mid new
+    pub write_ends : (fault : FileFault) (new : FolderView) → IsFolder new → IsFolderWrite (WriteAt path at bytes) (file_failed {T = Unit {0}} (Err fault)) mid new
         → MissingExactly {T = Unit {0}} (Err fault) mid path → EndsBy fault Block path start state old start_mid state_mid new
-    write_ends Failed new call missing = breaks_then Block old mid new set_makes (breaks_off Block (WriteAt path at bytes) mid new (inl refl) refl call.called)
-    write_ends Missing new call missing = record {
+    write_ends Failed new formed call missing = breaks_then Block old mid new set_makes (breaks_off Block (WriteAt path at bytes) mid new (inl refl) refl formed call)
+    write_ends Missing new formed call missing = record {
       untold = untold;
-      goes_on = goes_untold path start state old Block start_mid state_mid new untold (makes_then Block set_makes (makes_one Block call.called (inl refl)))
-          set.goes_on.same_size set.goes_on.same_lost set.goes_on.stays_touched;
+      goes_on = goes_untold path start state old Block start_mid state_mid new untold (makes_then (WellCall Block) set_makes (makes_well_write Block formed call (inl refl)))
+          set.goes_on.same_size set.goes_on.stood set.goes_on.size set.goes_on.same_lost set.goes_on.stays_touched;
     }
       where
         untold : old.tells ≡ false

@@ -22,6 +22,7 @@ use Rattle.snap_fix.specs.Findings.{events_of, stripe_events}
 use Rattle.snap_fix.specs.Known.{AreFacts}
 use Rattle.snap_fix.specs.Looking.{AreAllLevelsOf, level_reads, unread_in, LevelsAreRead, Scene, LooksAt}
 use Rattle.snap_fix.specs.Plan.{FixPlan}
+use Rattle.snap_fix.proofs.AskingLemmas.{spare_none, spare_then}
 
 -- ---- the vault
 
@@ -109,6 +110,7 @@ module _ {W R : Type 0} (view : W → SinkView) (standing : R → ReportView) (s
   looks_none counts s none = record {
     are = All-nil (AreFacts plan);
     levels = levels_none plan s.vault;
+    spare = spare_none plan s.spare;
     told = told_nothing view standing stands plan.table.columns s.lines s.reports;
     counts_are = none;
   }
@@ -121,6 +123,7 @@ module _ {W R : Type 0} (view : W → SinkView) (standing : R → ReportView) (s
       record {
         are = All-append (AreFacts plan) xs ys first.are back.are;
         levels = levels_then plan xs ys old.vault mid.vault new.vault first.levels back.levels;
+        spare = spare_then plan xs ys old.spare mid.spare new.spare first.spare back.spare;
         told = rw (events) (told_then view standing stands plan.table.columns (events_of plan xs) (events_of plan ys) old.lines mid.lines new.lines old.reports mid.reports new.reports first.told back.told);
         counts_are = rw (events) (and (events_of plan xs) (events_of plan ys) first.counts_are back.counts_are);
       }

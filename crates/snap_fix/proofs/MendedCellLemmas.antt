@@ -136,6 +136,8 @@ module _ (table : TableValue) (d : ℕ) (cell : Cell) (bytes : List ℕ) (starts
             place = start_new.place;
             state = state_new;
             starts_are = same_starts goes_on.same_size;
+            stood = goes_on.stood;
+            size = goes_on.size;
             states_are = states_are;
             same_lost = goes_on.same_lost;
             touched = λ is. written.touched;
@@ -162,6 +164,8 @@ module _ (table : TableValue) (d : ℕ) (cell : Cell) (bytes : List ℕ) (starts
             place = start_new.place;
             state = state_new;
             starts_are = same_starts finds.goes_on.same_size;
+            stood = finds.goes_on.stood;
+            size = finds.goes_on.size;
             states_are = states_are;
             same_lost = finds.goes_on.same_lost;
             touched = λ is. absurd cc;

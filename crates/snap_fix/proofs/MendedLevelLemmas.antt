@@ -1,27 +1,26 @@
 -- The wrong levels of a stripe, written one after another.
-use Rattle.std.proofs.Common.{◌≡◌, ◌⊎◌, inl, inr, ℕ, ◌+◌, ◌-◌, ◌*◌, ◌<◌, ◌≤◌, List, [], ◌∷◌, ◌++◌, length, take, drop, replicate, get_or, Bool, true, false, if◌then◌else◌, IsTrue, Option, None, Some, refl, sym, ◌∙◌, ap, ap₂, subst, arith, length-append}
-use Rattle.std.specs.List.{range_with_len, count_by}
+use Rattle.std.proofs.Common.{◌≡◌, inl, inr, ℕ, ◌+◌, ◌*◌, ◌<◌, ◌≤◌, List, [], ◌∷◌, ◌++◌, length, get_or, Bool, true, false, if◌then◌else◌, IsTrue, Option, None, Some, refl, sym, ◌∙◌, ap, ap₂, subst, arith}
+use Rattle.std.specs.List.{range_with_len, count_by, flat_map}
 use Rattle.std.specs.Prelude.{◌&&◌}
 use Rattle.std.proofs.lemmas.Bool.{cases_eq, cases_lt}
-use Rattle.std.proofs.lemmas.List.{append-nil, get_or_past, get_or_append_left, get_or-append_right, length-take, length-replicate}
+use Rattle.std.proofs.lemmas.Grind.{flat_map-append}
+use Rattle.std.proofs.lemmas.List.{append-nil, get_or_past, map-append}
 use Rattle.cauchy.specs.Matrix.{parity_of as level_of}
 use Rattle.disk_model.specs.Bytes.{put}
-use Rattle.disk_model.specs.Cause.{Rose}
-use Rattle.disk_model.specs.Files.{Files, parity_of, TearsParity}
+use Rattle.disk_model.specs.Files.{Files, parity_of, with_parity, TearsParity}
+use Rattle.disk_model.specs.Ran.{vault_done}
 use Rattle.disk_model.specs.Sink.{SinkView}
-use Rattle.disk_model.specs.Vault.{VaultView, VaultDone, ParityWrite, GoesOn, SomeCalls, ChangesBy, DraftsStay, Reads}
-use Rattle.disk_model.proofs.BytesLemmas.{length-put}
+use Rattle.disk_model.specs.Vault.{VaultView, VaultCall, ParityWrite, GoesOn, SomeCalls, ChangesBy, DraftsStay, Reads}
 use Rattle.disk_model.proofs.VaultLemmas.{one_call, calls_then, changes_start, changes_then}
 use Rattle.file_table.specs.Table.{Column}
-use Rattle.parity_writer.specs.Keeps.{HasByte, IsOutside}
 use Rattle.parity_writer.specs.LevelsValue.{LevelValue, LevelsValue, level_at, no_level}
 use Rattle.parity_writer.specs.declared.levels.LevelRead.{LevelRead}
 use Rattle.parity_writer.specs.declared.levels.LevelRead.TheVariants as here
 use Rattle.parity_writer.specs.Parity.{Row, HasLevel}
 use Rattle.parity_writer.specs.WindowRow.{row_at}
-use Rattle.parity_writer.proofs.KeepsLemmas.{other_level, tear_keeps}
+use Rattle.parity_writer.proofs.KeepsLemmas.{other_level}
 use Rattle.parity_writer.proofs.Keeping.{drafts_then}
-use Rattle.parity_writer.proofs.SumLemmas.{length-level, byte_of_level}
+use Rattle.parity_writer.proofs.SumLemmas.{length-level}
 use Rattle.snap_report.specs.Report.{ReportView}
 use Rattle.snap_report.specs.Told.{Told}
 use Rattle.snap_report.specs.declared.events.Event.{Event}
@@ -35,35 +34,15 @@ use Rattle.snap_fix.specs.Mended.{is_wrong_level, level_news}
 use Rattle.snap_fix.specs.Plan.{FixPlan, selects_level}
 use Rattle.snap_fix.specs.Repairing.{LevelsOutside, ShowsLevels, MendsLevels, MendsNotLevels}
 use Rattle.snap_fix.specs.RepairSteps.{WritesLevel, WritesNotLevel}
-use Rattle.snap_fix.specs.Underway.{KeepsLevels, IsMendedLevel, HoldsWrong}
+use Rattle.snap_fix.specs.Underway.{AddsZeros, KeepsLevels, IsMendedLevel, HoldsWrong, done_well, level_write, wrong_write}
+use Rattle.snap_fix.proofs.LookingLemmas.{vault_goes_on}
+use Rattle.snap_fix.proofs.SelectLemmas.{range_more}
 use Rattle.snap_fix.proofs.StripeLemmas.{level_of_first, levels_as_many}
 use Rattle.snap_fix.proofs.TellingLemmas.{events_to, events_to-more, told_as}
+use Rattle.snap_fix.proofs.WrittenLevelLemmas.{files_put, keeps_more, keeps_nothing, ran_nothing, ran_write, written_level, zeros_more, zeros_none}
 use Rattle.snap_fix.proofs.MendedCounts.{count_to-more, one_if, events_split, rose_later, gained_later}
 
 -- ---- one write
-
--- what was put at a place is there
-put_there : (file : List ℕ) (at : ℕ) (bytes : List ℕ) (i : ℕ) → i < length bytes → get_or (put file at bytes) (at + i) 0 ≡ get_or bytes i 0
-put_there file at bytes i below =
-    let front = take at file ++ replicate (at - length file) 0 in
-    let a = length-append (take at file) (replicate (at - length file) 0) in
-    let b = length-take at file in
-    let c = length-replicate {A = ℕ} (at - length file) 0 in
-    let long : length front ≡ at = omega arith in
-    let near : at + i < length (front ++ bytes) = omega (arith, below, long, length-append front bytes) in
-    let back : (at + i) - at ≡ i = omega arith in
-    get_or_append_left (front ++ bytes) (drop (at + length bytes) file) 0 (at + i) near
-    ∙ get_or-append_right front bytes at (at + i) 0 long (omega arith)
-    ∙ ap (λ (n : ℕ). get_or bytes n 0) back
-
-written_level : (size level stripe : ℕ) (row : Row) (file : List ℕ) → HasLevel size level stripe row (put file (stripe * size) (level_of level size row))
-written_level size level stripe row file i below =
-    let bytes = level_of level size row in
-    let long : length bytes ≡ size = length-level level size row in
-    record {
-      within = omega (arith, below, long, length-put file (stripe * size) bytes);
-      is = put_there file (stripe * size) bytes i (omega (arith, below, long)) ∙ byte_of_level level size row i below;
-    }
 
 module _ {W R : Type 0} (view : W → SinkView) (standing : R → ReportView) (stands : R → List Event → Type 0) (columns : List Column)
     (size stripe r at : ℕ) (row : Row) (bytes : List ℕ) (old new : LevelsOutside W R) (at_is : at ≡ stripe * size) (long : length bytes ≡ size) where
@@ -73,34 +52,27 @@ module _ {W R : Type 0} (view : W → SinkView) (standing : R → ReportView) (s
       (subst (λ (n : ℕ). ChangesBy (TearsParity r at n) old.vault new.vault) long changes)
 
   -- a write that went well
-  pub level_written : bytes ≡ level_of r size row → (done : List VaultDone) → GoesOn old.vault new.vault done
+  pub level_written : bytes ≡ level_of r size row
+      → GoesOn old.vault new.vault (record { call = ParityWrite r at bytes; failed = false } ∷ [])
       → Reads (λ (files : Files). parity_of files r ≡ put (parity_of old.vault.files r) at bytes) new.vault
       → ChangesBy (TearsParity r at (length bytes)) old.vault new.vault → DraftsStay old.vault new.vault
       → Told view standing stands columns (FixedParity stripe r ∷ []) old.lines new.lines old.reports new.reports
       → WritesLevel view standing stands columns size stripe r row old new
-  level_written bytes_are done goes_on reads changes drafts told = record {
-    calls = one_call old.vault new.vault done goes_on;
-    drafts = drafts;
-    changes = torn_there changes;
-    written = λ tells. subst (HasLevel size r stripe row)
-        (sym (reads tells ∙ ap₂ (λ (n : ℕ) (xs : List ℕ). put (parity_of old.vault.files r) n xs) at_is bytes_are))
-        (written_level size r stripe row (parity_of old.vault.files r));
-    told = told;
-  }
-
-  -- and one that failed
-  pub level_not_written : Rose old.vault.faults new.vault.faults → GoesOn old.vault new.vault (record { call = ParityWrite r at bytes; failed = true } ∷ [])
-      → ChangesBy (TearsParity r at (length bytes)) old.vault new.vault → DraftsStay old.vault new.vault
-      → Told view standing stands columns [] old.lines new.lines old.reports new.reports
-      → WritesNotLevel view standing stands columns size stripe r old new
-  level_not_written rose goes_on changes drafts told = record {
-    rose = rose;
-    call = λ tells. record { gained = record { call = ParityWrite r at bytes; failed = true } ∷ []; now_is = goes_on.calls.more tells; one = refl };
-    calls = one_call old.vault new.vault _ goes_on;
-    drafts = drafts;
-    changes = torn_there changes;
-    told = told;
-  }
+  level_written bytes_are goes_on reads changes drafts told =
+      let put_as : put (parity_of old.vault.files r) at bytes ≡ put (parity_of old.vault.files r) (stripe * size) (level_of r size row) =
+      ap₂ (λ (n : ℕ) (xs : List ℕ). put (parity_of old.vault.files r) n xs) at_is bytes_are in
+      record {
+        calls = one_call old.vault new.vault _ goes_on;
+        ran = ran_write r at bytes (stripe * size) (level_of r size row) old.vault new.vault at_is bytes_are goes_on;
+        drafts = drafts;
+        changes = torn_there changes;
+        put = λ tells.
+            files_put r at (length bytes) bytes old.vault.files new.vault.files (changes.reads tells) (reads (goes_on.tells ∙ tells))
+            ∙ ap (with_parity old.vault.files r) put_as;
+        written = λ tells. subst (HasLevel size r stripe row) (sym (reads tells ∙ put_as))
+            (written_level size r stripe row (parity_of old.vault.files r));
+        told = told;
+      }
 
 -- ---- what is wrong
 
@@ -135,26 +107,6 @@ wrong_shown plan facts stripe i r window levels known shows below =
     ∙ ap (λ (l : LevelValue). is_wrong plan stripe l facts.row r) (level_of_first levels r below)
     ∙ ap (λ (row : Option Row). is_wrong plan stripe (level_at levels r) row r) shows.row
 
--- ---- what is kept
-
-module _ (size : ℕ) (IsOne : ℕ → ℕ → Type 0) where
-  keeps_nothing : (files : Files) → KeepsLevels size IsOne files files
-  keeps_nothing files = record { contents = refl; bytes = λ level at x out has. has }
-
-  -- one more write, of the block of such a level
-  pub keeps_more : (r stripe : ℕ) → IsOne r stripe → (a b c : Files) → KeepsLevels size IsOne a b → TearsParity r (stripe * size) size b c → KeepsLevels size IsOne a c
-  keeps_more r stripe one a b c so_far tears = record {
-    contents = torn.contents ∙ so_far.contents;
-    bytes = λ level at x out has. by level at x (cases_eq level r) out (so_far.bytes level at x out has);
-  }
-    where
-      torn : Rattle.parity_writer.specs.Keeps.KeepsAt (IsOutside size stripe) b c
-      torn = tear_keeps (IsOutside size stripe) r (stripe * size) size (λ i out. out) b c tears
-
-      by : (level at x : ℕ) → (level ≡ r) ⊎ (level ≡ r → ⊥) → ((k : ℕ) → IsOne level k → IsOutside size k at) → HasByte (parity_of b level) at x → HasByte (parity_of c level) at x
-      by level at x (inl same) out has = torn.bytes level at x (out stripe (subst (λ (l : ℕ). IsOne l stripe) (sym same) one)) has
-      by level at x (inr other) out has = subst (λ (file : List ℕ). HasByte file at x) (sym (other_level r tears.file b c tears.rest level other)) has
-
 -- ---- so many levels
 
 module _ {W R : Type 0} (view : W → SinkView) (standing : R → ReportView) (stands : R → List Event → Type 0) (plan : FixPlan) (facts : StripeFacts) where
@@ -166,10 +118,16 @@ module _ {W R : Type 0} (view : W → SinkView) (standing : R → ReportView) (s
   HoldsBelow n files = (r : ℕ) (row : Row) → r < n → is_wrong_level plan facts r ≡ true → facts.row ≡ Some row
       → HasLevel plan.table.shape.block_size r facts.stripe row (parity_of files r)
 
+  -- the writes of those
+  abbrev pub writes_to : ℕ → List VaultCall
+  writes_to n = flat_map (wrong_write plan facts facts.row) (range_with_len 0 n)
+
   pub record LevelsSoFar (r count : ℕ) (old new : LevelsOutside W R) : Type 0 where
     pub told : Told view standing stands plan.table.columns (events_to (level_news plan facts) r) old.lines new.lines old.reports new.reports
     pub count_is : count ≡ count_by (is_wrong_level plan facts) (range_with_len 0 r)
+    pub ran : GoesOn old.vault new.vault (done_well (writes_to r))
     pub changes : ChangesBy (KeepsLevels plan.table.shape.block_size IsOneOf) old.vault new.vault
+    pub zeros : IsTrue old.vault.tells → AddsZeros plan.table.shape.block_size IsOneOf old.vault.files new.vault.files
     pub holds : Reads (HoldsBelow r) new.vault
 
   abbrev size : ℕ
@@ -182,14 +140,32 @@ module _ {W R : Type 0} (view : W → SinkView) (standing : R → ReportView) (s
   more_changes r old mid new wrong calls tears so_far =
       changes_then (KeepsLevels size IsOneOf) (TearsParity r (facts.stripe * size) size) (KeepsLevels size IsOneOf) old.vault mid.vault new.vault
       (λ a b kept. kept)
-      (keeps_more size IsOneOf r facts.stripe (facts, (0, omega arith, refl), refl, wrong))
+      (λ a b c kept torn. keeps_more size IsOneOf r facts.stripe (facts, (0, omega arith, refl), refl, wrong) a b c torn kept)
       calls.goes_on.tells so_far tears
+
+  -- the writes of one level more, with what is written of it
+  writes_more : (r : ℕ) (more : List VaultCall) → wrong_write plan facts facts.row r ≡ more → done_well (writes_to (r + 1)) ≡ done_well (writes_to r) ++ done_well more
+  writes_more r more is =
+      ap (λ (ns : List ℕ). done_well (flat_map (wrong_write plan facts facts.row) ns)) (range_more r)
+      ∙ ap done_well (flat_map-append (wrong_write plan facts facts.row) (range_with_len 0 r) (r ∷ []))
+      ∙ map-append (λ (call : VaultCall). vault_done call false) (writes_to r) (wrong_write plan facts facts.row r ++ [])
+      ∙ ap (λ (calls : List VaultCall). done_well (writes_to r) ++ done_well calls) (append-nil (wrong_write plan facts facts.row r) ∙ is)
+
+  not_written : (r : ℕ) (row : Option Row) → is_wrong_level plan facts r ≡ false → wrong_write plan facts row r ≡ []
+  not_written r None right = refl
+  not_written r (Some row) right = ap (λ (b : Bool). if b then level_write plan facts row r ∷ [] else []) right
+
+  one_written : (r : ℕ) (row : Row) → facts.row ≡ Some row → is_wrong_level plan facts r ≡ true → wrong_write plan facts facts.row r ≡ level_write plan facts row r ∷ []
+  one_written r row is wrong =
+      ap (λ (of : Option Row). wrong_write plan facts of r) is ∙ ap (λ (b : Bool). if b then level_write plan facts row r ∷ [] else []) wrong
 
   pub levels_none : (s : LevelsOutside W R) → LevelsSoFar 0 0 s s
   levels_none s = record {
     told = told_nothing view standing stands plan.table.columns s.lines s.reports;
     count_is = refl;
+    ran = ran_nothing s.vault;
     changes = changes_start (KeepsLevels plan.table.shape.block_size IsOneOf) s.vault (keeps_nothing plan.table.shape.block_size IsOneOf);
+    zeros = λ tells. zeros_none plan.table.shape.block_size IsOneOf s.vault.files;
     holds = λ tells r row none. absurd (omega arith);
   }
 
@@ -201,7 +177,10 @@ module _ {W R : Type 0} (view : W → SinkView) (standing : R → ReportView) (s
         ∙ ap (λ (b : Bool). events_to (level_news plan facts) r ++ (if b then FixedParity facts.stripe r ∷ [] else [])) right
         ∙ append-nil (events_to (level_news plan facts) r)) so_far.told;
     count_is = omega (arith, so_far.count_is, count_to-more (is_wrong_level plan facts) r, ap one_if right);
+    ran = subst (GoesOn old.vault new.vault)
+        (sym (writes_more r [] (not_written r facts.row right) ∙ append-nil (done_well (writes_to r)))) so_far.ran;
     changes = so_far.changes;
+    zeros = so_far.zeros;
     holds = λ tells k row below wrong is. elim (cases_eq k r) [
       | inl same ↦ absurd (let clash : true ≡ false = sym wrong ∙ ap (is_wrong_level plan facts) same ∙ right in cc)
       | inr other ↦ so_far.holds tells k row (omega (arith, below, other)) wrong is
@@ -219,7 +198,12 @@ module _ {W R : Type 0} (view : W → SinkView) (standing : R → ReportView) (s
         ∙ ap (λ (b : Bool). events_to (level_news plan facts) r ++ (if b then FixedParity facts.stripe r ∷ [] else [])) wrong)
         (told_then view standing stands plan.table.columns (events_to (level_news plan facts) r) (FixedParity facts.stripe r ∷ []) old.lines mid.lines new.lines old.reports mid.reports new.reports so_far.told writes.told);
     count_is = omega (arith, so_far.count_is, count_to-more (is_wrong_level plan facts) r, ap one_if wrong);
+    ran = subst (GoesOn old.vault new.vault)
+        (sym (writes_more r (level_write plan facts row r ∷ []) (one_written r row row_is wrong)))
+        (vault_goes_on old.vault mid.vault new.vault (done_well (writes_to r)) (done_well (level_write plan facts row r ∷ [])) so_far.ran writes.ran);
     changes = more_changes r old mid new wrong calls writes.changes so_far.changes;
+    zeros = λ tells. zeros_more size IsOneOf r facts.stripe (level_of r size row) (facts, (0, omega arith, refl), refl, wrong) (length-level r size row)
+        old.vault.files mid.vault.files new.vault.files (writes.put (calls.goes_on.tells ∙ tells)) (so_far.zeros tells);
     holds = λ tells k its below is_wrong is. elim (cases_eq k r) [
       | inl same ↦
           let same_row : its ≡ row = (let both : Some its ≡ Some row = sym is ∙ row_is in cc) in
@@ -269,7 +253,10 @@ module _ {W R : Type 0} (view : W → SinkView) (standing : R → ReportView) (s
     told = λ facts shows. told_as view standing stands plan.table.columns (events_to (level_news plan facts) (length facts.levels)) (events_to (level_news plan facts) r) old.lines new.lines old.reports new.reports
         (ap (events_to (level_news plan facts)) (many facts shows)) (so_far facts shows).told;
     count_is = λ facts shows. (so_far facts shows).count_is ∙ ap (λ (n : ℕ). count_by (is_wrong_level plan facts) (range_with_len 0 n)) (sym (many facts shows));
+    ran = λ facts shows. subst (λ (n : ℕ). GoesOn old.vault new.vault (done_well (flat_map (wrong_write plan facts facts.row) (range_with_len 0 n))))
+        (sym (many facts shows)) (so_far facts shows).ran;
     changes = λ facts shows. (so_far facts shows).changes;
+    zeros = λ facts shows. (so_far facts shows).zeros;
     holds = λ facts shows. all_hold view standing stands plan facts r new.vault (omega (arith, many facts shows)) (so_far facts shows).holds;
   }
     where

@@ -1,10 +1,10 @@
 -- What becomes of the cell of a column of a stripe that is written anew: it stays, it is lost, or it is written.
-use Rattle.std.proofs.Common.{◌≡◌, ◌⊎◌, inl, inr, ℕ, ◌<◌, ◌≤◌, List, [], ◌∷◌, ◌++◌, length, get_or, Bool, true, false, if◌then◌else◌, IsTrue, Option, None, Some, refl, sym, ap, ap₂, ◌∙◌, subst, arith}
+use Rattle.std.proofs.Common.{◌≡◌, ◌⊎◌, inl, inr, ℕ, ◌<◌, ◌≤◌, List, [], ◌∷◌, ◌++◌, length, get_or, Bool, true, false, if◌then◌else◌, IsTrue, Option, Some, refl, sym, ap, ap₂, ◌∙◌, subst, arith}
 use Rattle.std.specs.Prelude.{◌&&◌, ◌||◌, ◌==◌, not}
 use Rattle.std.proofs.Math.Bool.{or-false}
 use Rattle.std.proofs.lemmas.Bool.{cases_eq, eq-eqb, ne_eqb}
 use Rattle.std.proofs.lemmas.List.{get_or-set_other}
-use Rattle.disk_model.specs.Folder.{FolderView, FolderCall}
+use Rattle.disk_model.specs.Folder.{FolderView, FolderCall, SomeFolderCalls}
 use Rattle.disk_model.specs.Sink.{SinkView}
 use Rattle.file_table.specs.Table.{record_at}
 use Rattle.file_table.specs.declared.block.Cell.{Cell}
@@ -13,92 +13,28 @@ use Rattle.snap_report.specs.Report.{ReportView}
 use Rattle.snap_report.specs.Told.{Told}
 use Rattle.snap_report.specs.declared.events.Event.{Event}
 use Rattle.snap_report.proofs.ToldLemmas.{told_nothing}
-use Rattle.stripe_reader.specs.Starts.{StartsValue, StartsFit, starts_at}
+use Rattle.stripe_reader.specs.Starts.{StartsValue, StartsFit, starts_at, start_in}
 use Rattle.stripe_reader.specs.WindowValue.{WindowValue, slot_at}
 use Rattle.stripe_reader.specs.declared.starts.Place.{Place}
 use Rattle.snap_fix.specs.declared.marking.CellMark.{CellMark}
-use Rattle.snap_fix.specs.declared.marking.CellMark.TheVariants.{Right, Given, Missing}
 use Rattle.snap_fix.specs.declared.repairing.Repaired.{Repaired}
 use Rattle.snap_fix.specs.declared.state.FileState.{FileState}
 use Rattle.snap_fix.specs.Counts.{AreCounts}
 use Rattle.snap_fix.specs.Facts.{StripeFacts, damaged_at}
-use Rattle.snap_fix.specs.Marks.{mark_in, is_marked_missing}
-use Rattle.snap_fix.specs.Mended.{Mended, known_block, block_or_none, is_repaired, is_written, is_of, loses, column_writes, answer_of, cell_news, mended_event, is_blocked_cell}
+use Rattle.snap_fix.specs.Marks.{mark_in}
+use Rattle.snap_fix.specs.Mended.{Mended, known_block, block_or_none, is_repaired, is_written, is_of, loses, column_writes, writes_in, answer_of, cell_news, mended_event, is_blocked_cell}
 use Rattle.snap_fix.specs.Mending.{StatesFit, IsBlockCall, CanWrite, block_start, cell_path, mended_writes, with_state}
 use Rattle.snap_fix.specs.Plan.{FixPlan, cell_at, entry_at, records_in, has_selected, is_in_scope, selects_cell}
 use Rattle.snap_fix.specs.RepairSteps.{ColumnOutside, IsMendedAs, CanMendColumn, MendsColumn, MendsNotColumn, WritesBlockOf, WritesNotBlockOf, is_repaired_by, is_lost_by}
-use Rattle.snap_fix.specs.State.{Write, HoldsTold, FolderMakes, state_in}
+use Rattle.snap_fix.specs.State.{WellCall, Write, HoldsTold, FolderMakes, KeepsStarts, has_some, size_after, state_in}
 use Rattle.snap_fix.specs.Underway.{IsForRecord, IsMendCall, IsColumnUnderway, ShowsFacts, is_damaged_mark, is_given_mark}
-use Rattle.snap_fix.proofs.FolderCallLemmas.{makes_none, makes_wider}
+use Rattle.snap_fix.proofs.FolderCallLemmas.{makes_none, makes_some, makes_well_wider, makes_any_wider, some_none}
 use Rattle.snap_fix.proofs.MendedFactsLemmas.{and_parts, block_known, repaired_shown, lost_shown, writes_same, writes_more, loses_by}
-use Rattle.snap_fix.proofs.RepairLemmas.{column_lost, underway_more, state_same, state_other, row_same, states_fit-with, starts_fit-with}
+use Rattle.snap_fix.proofs.RepairLemmas.{RecordGoesOn, record_still, column_lost, underway_more, state_same, state_other, row_same, states_fit-with, starts_fit-with}
+use Rattle.snap_fix.proofs.StartsKeptLemmas.{keeps_starts_same, keeps_starts_with}
 use Rattle.snap_fix.proofs.TellingLemmas.{told_as}
-
-and_false : (b : Bool) → (b && false) ≡ false
-and_false true = refl
-and_false false = refl
-
-or_true : (b : Bool) → (b || true) ≡ true
-or_true true = refl
-or_true false = refl
-
-or_swap : (a b : Bool) → (a || b) ≡ (b || a)
-or_swap true true = refl
-or_swap true false = refl
-or_swap false true = refl
-or_swap false false = refl
-
-both : (a b : Bool) → (a && b) ≡ true → b ≡ true
-both true b is = is
-both false b is = absurd cc
-
-not_blocked : (b : Bool) → not b ≡ true → b ≡ false
-not_blocked true is = absurd cc
-not_blocked false is = refl
-
--- a cell that is to be written is not lost
-not_lost_by : (selected : Bool) (mark : CellMark) (known free : Bool) → (selected && is_damaged_mark mark && (is_given_mark mark || known) && free) ≡ true
-    → (selected && is_marked_missing mark && not known) ≡ false
-not_lost_by selected Missing true free is = and_false (selected && true)
-not_lost_by true Missing false free is = absurd (by free is)
-  where
-    by : (b : Bool) → (false && b) ≡ true → ⊥
-    by true holds = cc
-    by false holds = cc
-not_lost_by false Missing false free is = refl
-not_lost_by true Right known free is = refl
-not_lost_by false Right known free is = refl
-not_lost_by true Given known free is = refl
-not_lost_by false Given known free is = refl
-
--- a lost cell, and one that isn't damaged, is not to be written
-pub lost_stays : (plan : FixPlan) (stripe d : ℕ) (mark : CellMark) (known : Bool) → is_lost_by plan stripe mark known d ≡ true → is_repaired_by plan stripe mark known d ≡ false
-lost_stays plan stripe d mark known lost = by (is_repaired_by plan stripe mark known d) refl
-  where
-    by : (b : Bool) → is_repaired_by plan stripe mark known d ≡ b → b ≡ false
-    by false is = refl
-    by true is = absurd (
-        let lost_not : is_lost_by plan stripe mark known d ≡ false = not_lost_by (selects_cell plan stripe d) mark known (not (is_blocked_cell plan d (cell_at plan stripe d))) is in
-        let clash : true ≡ false = sym lost ∙ lost_not in cc)
-
-pub right_stays : (plan : FixPlan) (stripe d : ℕ) (mark : CellMark) (known : Bool) → is_damaged_mark mark ≡ false
-    → (is_repaired_by plan stripe mark known d ≡ false) × (is_lost_by plan stripe mark known d ≡ false)
-right_stays plan stripe d Right known is = (
-  ap (λ (b : Bool). b && (is_given_mark Right || known) && not (is_blocked_cell plan d (cell_at plan stripe d))) (and_false (selects_cell plan stripe d)),
-  ap (λ (b : Bool). b && not known) (and_false (selects_cell plan stripe d)),
-)
-right_stays plan stripe d Given known is = absurd cc
-right_stays plan stripe d Missing known is = absurd cc
-
-pub none_stays : (plan : FixPlan) (stripe d : ℕ) (mark : CellMark) (known : Bool) → cell_at plan stripe d ≡ None
-    → (is_repaired_by plan stripe mark known d ≡ false) × (is_lost_by plan stripe mark known d ≡ false)
-none_stays plan stripe d mark known none = (
-  ap (λ (b : Bool). b && is_damaged_mark mark && (is_given_mark mark || known) && not (is_blocked_cell plan d (cell_at plan stripe d))) unselected,
-  ap (λ (b : Bool). b && is_marked_missing mark && not known) unselected,
-)
-  where
-    unselected : selects_cell plan stripe d ≡ false
-    unselected = ap (λ (c : Option Cell). is_in_scope plan stripe && has_selected plan d c) none ∙ and_false (is_in_scope plan stripe)
+use Rattle.snap_fix.proofs.WritesLemmas.{writes_in-none, writes_in-other, writes_in-here}
+use Rattle.snap_fix.proofs.RepairMarkLemmas.{and_false, or_true, or_swap, both, not_blocked, not_lost_by}
 
 -- no block of it was written
 abbrev pub none_written : Repaired
@@ -151,18 +87,22 @@ module _ {W R : Type 0} (view : W → SinkView) (standing : R → ReportView) (s
       starts_fit = can.starts_fit;
       states_fit = can.states_fit;
       keeps = record { same_starts = λ k other. refl; same_states = λ k other. refl };
+      stood = keeps_starts_same old.starts;
+      answered = λ mended shown tells goes. sym (repaired_not false mended shown) ∙ goes;
       told = λ mended shown. told_as view standing stands plan.table.columns (cell_news plan mended d) [] old.lines old.lines old.reports old.reports (no_news mended shown)
           (told_nothing view standing stands plan.table.columns old.lines old.reports);
       counts = λ mended shown. subst (λ (events : List Event). AreCounts events none_written.counts) (sym (no_news mended shown)) (record { found = refl; left = refl });
       blocks = λ mended shown. sym (ap (λ (b : Bool). if b then 1 else 0) (not_written mended shown));
       few = omega arith;
-      makes = λ facts is shows. makes_none (IsMendCall plan d (record { facts = facts; answers = [] } ∷ [])) old.folder;
+      makes = λ facts is shows. makes_none (WellCall (IsMendCall plan old.starts d (record { facts = facts; answers = [] } ∷ []))) old.folder;
       underway = λ mended shown stripes first fixable before.
           underway_more plan d stripes mended first old.folder old.folder old.starts old.starts old.states old.states before
-          (makes_none (IsMendCall plan d (record { facts = mended.facts; answers = [] } ∷ [])) old.folder)
+          (some_none old.folder)
           (holds_still mended shown stripes first before)
-          (λ k within. sym (ap (λ (b : Bool). (state_in old.states d k).lost || b) (loses_then false lost_not mended shown k ∙ and_false (is_of k (cell_at plan mended.facts.stripe d)))
-          ∙ or-false (state_in old.states d k).lost));
+          (λ k within. record_still plan d k mended old.folder.tells old.starts old.starts old.states old.states
+          (sym (ap (λ (b : Bool). (state_in old.states d k).lost || b) (loses_then false lost_not mended shown k ∙ and_false (is_of k (cell_at plan mended.facts.stripe d)))
+          ∙ or-false (state_in old.states d k).lost))
+          refl refl refl (writes_in-none plan mended d k (not_written mended shown)));
     }
 
     -- or it is lost
@@ -179,27 +119,41 @@ module _ {W R : Type 0} (view : W → SinkView) (standing : R → ReportView) (s
         same_starts = λ k other. ap (λ (s : StartsValue). starts_at s.columns k) same_starts;
         same_states = λ k other. ap (λ (s : List (List FileState)). get_or s k []) states_are ∙ get_or-set_other old.states d k _ [] other;
       };
+      stood = subst (KeepsStarts old.starts) (sym same_starts) (keeps_starts_same old.starts);
+      answered = λ mended shown tells goes. sym (repaired_not false mended shown) ∙ goes;
       told = λ mended shown. told_as view standing stands plan.table.columns (cell_news plan mended d) [] old.lines new.lines old.reports new.reports (no_news mended shown) nothing;
       counts = λ mended shown. subst (λ (events : List Event). AreCounts events none_written.counts) (sym (no_news mended shown)) (record { found = refl; left = refl });
       blocks = λ mended shown. sym (ap (λ (b : Bool). if b then 1 else 0) (not_written mended shown));
       few = omega arith;
-      makes = λ facts is shows. subst (FolderMakes (IsMendCall plan d (record { facts = facts; answers = [] } ∷ [])) old.folder) (sym same_folder)
-          (makes_none (IsMendCall plan d (record { facts = facts; answers = [] } ∷ [])) old.folder);
+      makes = λ facts is shows. subst (FolderMakes (WellCall (IsMendCall plan old.starts d (record { facts = facts; answers = [] } ∷ []))) old.folder) (sym same_folder)
+          (makes_none (WellCall (IsMendCall plan old.starts d (record { facts = facts; answers = [] } ∷ []))) old.folder);
       underway = λ mended shown stripes first fixable before.
           underway_more plan d stripes mended first old.folder new.folder old.starts new.starts old.states new.states before
-          (subst (FolderMakes (IsMendCall plan d (record { facts = mended.facts; answers = [] } ∷ [])) old.folder) (sym same_folder)
-          (makes_none (IsMendCall plan d (record { facts = mended.facts; answers = [] } ∷ [])) old.folder))
+          (subst (SomeFolderCalls old.folder) (sym same_folder) (some_none old.folder))
           (subst (λ (v : FolderView). HoldsTold (records_in plan.table d) (starts_at new.starts.columns d) (get_or new.states d []) (column_writes plan (stripes ++ mended ∷ []) d records) first v) (sym same_folder)
           (subst (λ (s : StartsValue). HoldsTold (records_in plan.table d) (starts_at s.columns d) (get_or new.states d []) (column_writes plan (stripes ++ mended ∷ []) d records) first old.folder) (sym same_starts)
           (subst (λ (s : List FileState). HoldsTold (records_in plan.table d) (starts_at old.starts.columns d) s (column_writes plan (stripes ++ mended ∷ []) d records) first old.folder)
           (sym (ap (λ (s : List (List FileState)). get_or s d []) states_are ∙ row_same old.states d cell.rec state long))
           (λ tells. column_lost (records_in plan.table d) (starts_at old.starts.columns d) (get_or old.states d []) (column_writes plan (stripes ++ mended ∷ []) d records) first.tree old.folder.tree cell.rec true rec
           (holds_still mended shown stripes first before tells)))))
-          (λ k within. ap (λ (s : List (List FileState)). (state_in s d k).lost) states_are ∙ by mended shown k within (cases_eq cell.rec k));
+          (λ k within. record_still plan d k mended old.folder.tells old.starts new.starts old.states new.states
+          (ap (λ (s : List (List FileState)). (state_in s d k).lost) states_are ∙ by mended shown k within (cases_eq cell.rec k))
+          (ap (λ (s : StartsValue). (start_in (starts_at s.columns d) k).size) same_starts)
+          (ap (λ (s : List (List FileState)). (state_in s d k).size) states_are ∙ still (λ (s : FileState). s.size) refl k (cases_eq cell.rec k))
+          (ap (λ (s : List (List FileState)). (state_in s d k).touched) states_are ∙ still (λ (s : FileState). s.touched) refl k (cases_eq cell.rec k))
+          (writes_in-none plan mended d k (not_written mended shown)));
     }
       where
         state : FileState
         state = record (state_in old.states d cell.rec) { lost = true }
+
+        -- all else of each state stays
+        still : {A : Type 0} (of : FileState → A) → of state ≡ of (state_in old.states d cell.rec) → (k : ℕ) → (cell.rec ≡ k) ⊎ (cell.rec ≡ k → ⊥)
+            → of (state_in (with_state old.states d cell.rec state) d k) ≡ of (state_in old.states d k)
+        still of same_of k (inl same) =
+            ap (λ (n : ℕ). of (state_in (with_state old.states d cell.rec state) d n)) (sym same)
+            ∙ ap of (state_same old.states d cell.rec state long (omega (arith, rec, can.states_fit.records d can.within))) ∙ same_of ∙ ap (λ (n : ℕ). of (state_in old.states d n)) same
+        still of same_of k (inr other) = ap of (state_other old.states d cell.rec k state long (λ same. other (sym same)))
 
         here : (mended : Mended) → Shown false mended → (k : ℕ) → loses plan d k mended ≡ (cell.rec == k)
         here mended shown k =
@@ -257,9 +211,9 @@ module _ {W R : Type 0} (view : W → SinkView) (standing : R → ReportView) (s
           (block_known plan can.facts stripe i d window marks known can.within can.stripe_is can.shows ∙ parts.2);
       starts_fit = can.starts_fit;
       states_fit = can.states_fit;
-      is_open = can.underway.makes.goes_on.closed ∙ can.fixable.is_open;
+      is_open = can.underway.calls.goes_on.closed ∙ can.fixable.is_open (omega (arith, rec));
       underway = λ told.
-          let first_told : IsTrue can.first.tells = subst IsTrue can.underway.makes.goes_on.tells told in
+          let first_told : IsTrue can.first.tells = subst IsTrue can.underway.calls.goes_on.tells told in
           record {
             first = can.first.tree;
             writes = column_writes plan can.stripes d records;
@@ -271,9 +225,12 @@ module _ {W R : Type 0} (view : W → SinkView) (standing : R → ReportView) (s
 
     -- its calls
     module _ (bytes : List ℕ) (bytes_are : bytes ≡ bytes_of (slot_at window i d)) where
-      call_of : (facts : StripeFacts) → facts.stripe ≡ stripe → ShowsFacts plan facts i marks known window → (place : Place) → (call : FolderCall)
-          → IsBlockCall place (cell_path plan.table d cell) (block_start plan.table cell) bytes call → IsMendCall plan d (record { facts = facts; answers = [] } ∷ []) call
-      call_of facts is shows place call = λ made. elim made [
+      abbrev place : Place
+      place = (start_in (starts_at old.starts.columns d) cell.rec).place
+
+      call_of : (facts : StripeFacts) → facts.stripe ≡ stripe → ShowsFacts plan facts i marks known window → (call : FolderCall)
+          → IsBlockCall place (cell_path plan.table d cell) (block_start plan.table cell) bytes call → IsMendCall plan old.starts d (record { facts = facts; answers = [] } ∷ []) call
+      call_of facts is shows call = λ made. elim made [
         | inl write ↦ subst Mends (sym write) (record {
           mended = record { facts = facts; answers = [] };
           is_one = (0, omega arith, refl);
@@ -287,23 +244,23 @@ module _ {W R : Type 0} (view : W → SinkView) (standing : R → ReportView) (s
           };
         })
         | inr up ↦ elim up [
-          | inl back ↦ subst Mends (sym back.1) (cell.rec, for_record)
-          | inr anew ↦ subst Mends (sym anew.1) (cell.rec, for_record)
+          | inl back ↦ subst Mends (sym back.1) (cell.rec, for_record, back.0)
+          | inr anew ↦ subst Mends (sym anew.1) (cell.rec, for_record, anew.0)
         ]
       ]
         where
           Mends : FolderCall → Type 0
-          Mends = IsMendCall plan d (record { facts = facts; answers = [] } ∷ [])
+          Mends = IsMendCall plan old.starts d (record { facts = facts; answers = [] } ∷ [])
 
           for_record : IsForRecord plan d cell.rec (cell_path plan.table d cell)
           for_record = record { within = rec; path_is = refl; selected = is_selected; free = is_free }
 
-      calls_of : (facts : StripeFacts) → facts.stripe ≡ stripe → ShowsFacts plan facts i marks known window → (place : Place) → (new : FolderView)
-          → FolderMakes (IsBlockCall place (cell_path plan.table d cell) (block_start plan.table cell) bytes) old.folder new
-          → FolderMakes (IsMendCall plan d (record { facts = facts; answers = [] } ∷ [])) old.folder new
-      calls_of facts is shows place new makes =
-          makes_wider (IsBlockCall place (cell_path plan.table d cell) (block_start plan.table cell) bytes) (IsMendCall plan d (record { facts = facts; answers = [] } ∷ []))
-          (call_of facts is shows place) makes
+      calls_of : (facts : StripeFacts) → facts.stripe ≡ stripe → ShowsFacts plan facts i marks known window → (new : FolderView)
+          → FolderMakes (WellCall (IsBlockCall place (cell_path plan.table d cell) (block_start plan.table cell) bytes)) old.folder new
+          → FolderMakes (WellCall (IsMendCall plan old.starts d (record { facts = facts; answers = [] } ∷ []))) old.folder new
+      calls_of facts is shows new makes =
+          makes_well_wider (IsBlockCall place (cell_path plan.table d cell) (block_start plan.table cell) bytes) (IsMendCall plan old.starts d (record { facts = facts; answers = [] } ∷ []))
+          (call_of facts is shows) makes
 
       -- a call failed
       pub column_not : (new : ColumnOutside W R) → WritesNotBlockOf view standing stands plan.table d cell bytes old new
@@ -312,7 +269,8 @@ module _ {W R : Type 0} (view : W → SinkView) (standing : R → ReportView) (s
         rose = fails.rose;
         call = fails.call;
         told = fails.told;
-        makes = λ facts is shows. calls_of facts is shows _ new.folder fails.makes;
+        makes = λ facts is shows. makes_any_wider (IsBlockCall place (cell_path plan.table d cell) (block_start plan.table cell) bytes)
+            (IsMendCall plan old.starts d (record { facts = facts; answers = [] } ∷ [])) (call_of facts is shows) fails.makes;
       }
 
       -- it was written, or its file was gone
@@ -362,6 +320,52 @@ module _ {W R : Type 0} (view : W → SinkView) (standing : R → ReportView) (s
             ∙ ap (λ (s : FileState). s.lost) (state_other old.states d cell.rec k writes.state long (λ same. other (sym same)))
             ∙ sym (ap (λ (b : Bool). (state_in old.states d k).lost || b) (loses_is mended shown k ∙ ap (λ (b : Bool). b && not writes.written) (ne_eqb cell.rec k other)) ∙ or-false (state_in old.states d k).lost)
 
+        stood : KeepsStarts old.starts new.starts
+        stood = subst (KeepsStarts old.starts) (sym writes.starts_are) (keeps_starts_with old.starts d cell.rec writes.place
+            (omega (arith, can.within, can.starts_fit.columns)) (omega (arith, rec, can.starts_fit.records d can.within)) writes.stood)
+
+        -- what becomes of each record
+        of_written : {A : Type 0} (of : FileState → A) (k : ℕ) → cell.rec ≡ k → of (state_in new.states d k) ≡ of writes.state
+        of_written of k same =
+            ap (λ (s : List (List FileState)). of (state_in s d k)) writes.states_are
+            ∙ ap (λ (n : ℕ). of (state_in (with_state old.states d cell.rec writes.state) d n)) (sym same)
+            ∙ ap of (state_same old.states d cell.rec writes.state long (omega (arith, rec, can.states_fit.records d can.within)))
+
+        of_other : {A : Type 0} (of : FileState → A) (k : ℕ) → (cell.rec ≡ k → ⊥) → of (state_in new.states d k) ≡ of (state_in old.states d k)
+        of_other of k other =
+            ap (λ (s : List (List FileState)). of (state_in s d k)) writes.states_are ∙ ap of (state_other old.states d cell.rec k writes.state long (λ same. other (sym same)))
+
+        abbrev written_here : Bool → List Write
+        written_here written = if written then record { at = block_start plan.table cell; bytes = bytes } ∷ [] else []
+
+        in_stripe : (mended : Mended) → Shown writes.written mended → (k : ℕ) → cell.rec ≡ k → writes_in plan d k mended ≡ written_here writes.written
+        in_stripe mended shown k same =
+            writes_in-here plan mended d k cell writes.written (cell_of mended.facts shown.stripe_is) same (written_is mended shown)
+            ∙ ap (λ (bs : List ℕ). if writes.written then record { at = block_start plan.table cell; bytes = bs } ∷ [] else []) (sym (bytes_are ∙ block_of mended.facts shown.stripe_is shown.shows))
+
+        some_written : (b : Bool) → has_some (written_here b) ≡ b
+        some_written true = refl
+        some_written false = refl
+
+        goes_on : (mended : Mended) → Shown writes.written mended → (k : ℕ) → k < records → (cell.rec ≡ k) ⊎ (cell.rec ≡ k → ⊥)
+            → RecordGoesOn plan d k mended old.folder.tells old.starts new.starts old.states new.states
+        goes_on mended shown k within (inl same) = record {
+          lost = lost_is mended shown k within (inl same);
+          start = (stood d k).0;
+          size = of_written (λ (s : FileState). s.size) k same ∙ writes.size
+              ∙ ap₂ (λ (n : ℕ) (ws : List Write). size_after (state_in old.states d n).size ws) same (sym (in_stripe mended shown k same));
+          stays = λ was. of_written (λ (s : FileState). s.touched) k same ∙ writes.stays_touched (ap (λ (n : ℕ). (state_in old.states d n).touched) same ∙ was);
+          wrote = λ some. of_written (λ (s : FileState). s.touched) k same
+              ∙ writes.touched (sym (ap has_some (in_stripe mended shown k same) ∙ some_written writes.written) ∙ some);
+          touched = λ tells.
+              let did : writes.written ≡ true = writes.there tells in
+              of_written (λ (s : FileState). s.touched) k same ∙ writes.touched did
+              ∙ sym (ap (λ (b : Bool). (state_in old.states d k).touched || b) (ap has_some (in_stripe mended shown k same) ∙ some_written writes.written ∙ did) ∙ or_true (state_in old.states d k).touched);
+        }
+        goes_on mended shown k within (inr other) = record_still plan d k mended old.folder.tells old.starts new.starts old.states new.states
+            (lost_is mended shown k within (inr other)) (stood d k).0 (of_other (λ (s : FileState). s.size) k other) (of_other (λ (s : FileState). s.touched) k other)
+            (writes_in-other plan mended d k cell (cell_of mended.facts shown.stripe_is) other)
+
         pub column_written : MendsColumn view standing stands plan stripe i d window marks known old new repaired
         column_written = record {
           answer = writes.written;
@@ -371,18 +375,20 @@ module _ {W R : Type 0} (view : W → SinkView) (standing : R → ReportView) (s
             same_starts = λ k other. ap (λ (s : StartsValue). starts_at s.columns k) writes.starts_are ∙ get_or-set_other old.starts.columns d k _ [] other;
             same_states = λ k other. ap (λ (s : List (List FileState)). get_or s k []) writes.states_are ∙ get_or-set_other old.states d k _ [] other;
           };
+          stood = stood;
+          answered = λ mended shown tells goes_on. writes.there tells;
           told = λ mended shown. told_as view standing stands plan.table.columns (cell_news plan mended d) (mended_event stripe d (Some cell) writes.written) old.lines new.lines old.reports new.reports
               (news mended shown) writes.told;
           counts = λ mended shown. subst (λ (events : List Event). AreCounts events repaired.counts) (sym (news mended shown)) writes.counts;
           blocks = λ mended shown. writes.blocks ∙ ap (λ (b : Bool). if b then 1 else 0) (sym (written_is mended shown));
           few = omega (arith, writes.blocks, one_at_most writes.written);
-          makes = λ facts is shows. calls_of facts is shows _ new.folder writes.makes;
+          makes = λ facts is shows. calls_of facts is shows new.folder writes.makes;
           underway = λ mended shown stripes first fixable before.
-              let tells : old.folder.tells ≡ first.tells = before.makes.goes_on.tells in
+              let tells : old.folder.tells ≡ first.tells = before.calls.goes_on.tells in
               underway_more plan d stripes mended first old.folder new.folder old.starts new.starts old.states new.states before
-              (calls_of mended.facts shown.stripe_is shown.shows _ new.folder writes.makes)
+              (makes_some (WellCall (IsBlockCall place (cell_path plan.table d cell) (block_start plan.table cell) bytes)) writes.makes)
               (subst (λ (ws : List (List Write)). HoldsTold (records_in plan.table d) (starts_at new.starts.columns d) (get_or new.states d []) ws first new.folder)
               (sym (writes_are mended shown stripes))
               (writes.holds first (column_writes plan stripes d records) (sym tells) (λ told. fixable.free told cell.rec rec is_free) fixable.is_tree before.holds))
-              (λ k within. lost_is mended shown k within (cases_eq cell.rec k));
+              (λ k within. goes_on mended shown k within (cases_eq cell.rec k));
         }

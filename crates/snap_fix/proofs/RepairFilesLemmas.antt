@@ -1,9 +1,9 @@
 -- The cells of a stripe that are written anew, column after column.
-use Rattle.std.proofs.Common.{◌≡◌, ◌≢◌, ◌⊎◌, inl, inr, ℕ, ◌+◌, ◌<◌, ◌≤◌, List, [], ◌∷◌, ◌++◌, length, get_or, set, Bool, false, IsTrue, refl, sym, ap, ap₂, ◌∙◌, subst, arith, length-append}
+use Rattle.std.proofs.Common.{◌≡◌, ◌≢◌, ◌⊎◌, inl, inr, ℕ, ◌+◌, ◌-◌, ◌<◌, ◌≤◌, List, [], ◌∷◌, ◌++◌, length, replicate, get_or, set, Bool, true, false, IsTrue, refl, sym, ap, ap₂, ◌∙◌, subst, arith, length-append}
 use Rattle.std.specs.Prelude.{count_by}
 use Rattle.std.specs.List.{range_with_len}
 use Rattle.std.proofs.lemmas.Bool.{cases_eq, cases_lt}
-use Rattle.std.proofs.lemmas.List.{append-nil, length-set, get_or-set_same, get_or-set_other, get_or_append_left, get_or_push}
+use Rattle.std.proofs.lemmas.List.{append-nil, length-set, get_or-set_same, get_or-set_other, get_or_append_left, get_or-append_right, get_or-replicate, get_or_push}
 use Rattle.disk_model.specs.Cause.{Rose}
 use Rattle.disk_model.specs.Folder.{FolderView}
 use Rattle.disk_model.specs.Sink.{SinkView}
@@ -19,17 +19,18 @@ use Rattle.snap_fix.specs.declared.marking.CellMark.{CellMark}
 use Rattle.snap_fix.specs.declared.repairing.Repaired.{Repaired}
 use Rattle.snap_fix.specs.Counts.{AreCounts}
 use Rattle.snap_fix.specs.Facts.{StripeFacts}
-use Rattle.snap_fix.specs.Mended.{Mended, answer_of, cell_news, is_written}
+use Rattle.snap_fix.specs.Mended.{Mended, answer_of, cell_news, is_repaired, is_written}
 use Rattle.snap_fix.specs.Mending.{StatesFit}
 use Rattle.snap_fix.specs.Plan.{FixPlan}
 use Rattle.snap_fix.specs.Repairing.{FilesOutside, CanMend, MendsFiles, MendsNotFiles}
 use Rattle.snap_fix.specs.RepairSteps.{column_outside, IsMendedAs, CanMendColumn, MendsColumn, MendsNotColumn}
-use Rattle.snap_fix.specs.State.{FolderMakes}
+use Rattle.snap_fix.specs.State.{AnyCall, WellCall, FolderMakes, KeepsStarts}
 use Rattle.snap_fix.specs.Underway.{IsFixable, IsColumnUnderway, IsMendCall, ShowsFacts}
-use Rattle.snap_fix.proofs.FolderCallLemmas.{makes_none}
+use Rattle.snap_fix.proofs.FolderCallLemmas.{makes_none, makes_any}
 use Rattle.snap_fix.proofs.MendedCounts.{count_to-more, events_split}
 use Rattle.snap_fix.proofs.RepairCellLemmas.{none_written}
 use Rattle.snap_fix.proofs.RepairLemmas.{bare, underway_same}
+use Rattle.snap_fix.proofs.StartsKeptLemmas.{keeps_starts_same, keeps_starts_then, makes_well_before, makes_any_before}
 use Rattle.snap_fix.proofs.TellingLemmas.{Joins, events_to, events_to-more, told_as}
 
 module _ {W R : Type 0} (view : W → SinkView) (standing : R → ReportView) (stands : R → List Event → Type 0)
@@ -46,7 +47,8 @@ module _ {W R : Type 0} (view : W → SinkView) (standing : R → ReportView) (s
   -- a column was looked at
   pub record ColumnDone (k : ℕ) (answers : List Bool) (new : FilesOutside W R) : Type 0 where
     pub makes : (facts : StripeFacts) → facts.stripe ≡ stripe → Shows facts
-        → FolderMakes (IsMendCall plan k (bare facts ∷ [])) (folder_at old.folders k) (folder_at new.folders k)
+        → FolderMakes (WellCall (IsMendCall plan old.starts k (bare facts ∷ []))) (folder_at old.folders k) (folder_at new.folders k)
+    pub answered : (mended : Mended) → AreMendedAs answers mended → IsTrue (folder_at old.folders k).tells → is_repaired plan mended.facts k ≡ true → answer_of mended k ≡ true
     pub underway : (mended : Mended) → AreMendedAs answers mended → (stripes : List Mended) (first : FolderView) → IsFixable plan k first
         → IsColumnUnderway plan k stripes first (folder_at old.folders k) old.starts old.states
         → IsColumnUnderway plan k (stripes ++ mended ∷ []) first (folder_at new.folders k) new.starts new.states
@@ -63,6 +65,7 @@ module _ {W R : Type 0} (view : W → SinkView) (standing : R → ReportView) (s
     pub as_many : length answers ≡ d
     pub starts_fit : StartsFit plan.table new.starts
     pub states_fit : StatesFit plan.table new.states
+    pub stood : KeepsStarts old.starts new.starts
     pub folders : length new.folders ≡ length old.folders
     pub few : repaired.blocks ≤ d
     pub told : (mended : Mended) → AreMendedAs answers mended
@@ -78,6 +81,7 @@ module _ {W R : Type 0} (view : W → SinkView) (standing : R → ReportView) (s
     as_many = refl;
     starts_fit = starts_fit;
     states_fit = states_fit;
+    stood = keeps_starts_same old.starts;
     folders = refl;
     few = omega arith;
     told = λ mended shown. told_nothing view standing stands plan.table.columns old.lines old.reports;
@@ -113,7 +117,8 @@ module _ {W R : Type 0} (view : W → SinkView) (standing : R → ReportView) (s
   done_stays : (k : ℕ) (answers more : List Bool) (mid new : FilesOutside W R) → ((mended : Mended) → AreMendedAs more mended → AreMendedAs answers mended)
       → ColumnLeft k mid new → ColumnDone k answers mid → ColumnDone k more new
   done_stays k answers more mid new fewer stays before = record {
-    makes = λ facts is shows. subst (FolderMakes (IsMendCall plan k (bare facts ∷ [])) (folder_at old.folders k)) (sym stays.same_folder) (before.makes facts is shows);
+    makes = λ facts is shows. subst (FolderMakes (WellCall (IsMendCall plan old.starts k (bare facts ∷ []))) (folder_at old.folders k)) (sym stays.same_folder) (before.makes facts is shows);
+    answered = λ mended shown. before.answered mended (fewer mended shown);
     underway = λ mended shown stripes first fixable was.
         underway_same plan k (stripes ++ mended ∷ []) first (folder_at mid.folders k) (folder_at new.folders k) mid.starts new.starts mid.states new.states
         stays.same_folder stays.same_starts stays.same_states (before.underway mended (fewer mended shown) stripes first fixable was);
@@ -159,8 +164,11 @@ module _ {W R : Type 0} (view : W → SinkView) (standing : R → ReportView) (s
       done_here : ColumnDone d (so_far.answers ++ mends.answer ∷ []) new
       done_here = record {
         makes = λ facts is shows.
-            subst (FolderMakes (IsMendCall plan d (bare facts ∷ [])) (folder_at old.folders d)) (sym here_new)
-            (subst (λ (v : FolderView). FolderMakes (IsMendCall plan d (bare facts ∷ [])) v folder_new) (folder_is ∙ left_here.same_folder) (mends.makes facts is shows));
+            subst (FolderMakes (WellCall (IsMendCall plan old.starts d (bare facts ∷ []))) (folder_at old.folders d)) (sym here_new)
+            (subst (λ (v : FolderView). FolderMakes (WellCall (IsMendCall plan old.starts d (bare facts ∷ []))) v folder_new) (folder_is ∙ left_here.same_folder)
+            (makes_well_before plan old.starts mid.starts d (bare facts ∷ []) so_far.stood folder folder_new (mends.makes facts is shows)));
+        answered = λ mended shown tells goes.
+            (here mended shown).answer_is ∙ mends.answered mended (here mended shown) (subst (λ (v : FolderView). IsTrue v.tells) (sym (folder_is ∙ left_here.same_folder)) tells) goes;
         underway = λ mended shown stripes first fixable was.
             underway_same plan d (stripes ++ mended ∷ []) first folder_new (folder_at new.folders d) new.starts new.starts new.states new.states here_new refl refl
             (mends.underway mended (here mended shown) stripes first fixable
@@ -188,6 +196,7 @@ module _ {W R : Type 0} (view : W → SinkView) (standing : R → ReportView) (s
         as_many = length-append so_far.answers (mends.answer ∷ []) ∙ ap (λ (n : ℕ). n + 1) so_far.as_many;
         starts_fit = mends.starts_fit;
         states_fit = mends.states_fit;
+        stood = keeps_starts_then old.starts mid.starts new.starts so_far.stood mends.stood;
         folders = many_new ∙ so_far.folders;
         few = omega (arith, adds, so_far.few, mends.few);
         told = λ mended shown. told_as view standing stands plan.table.columns (events_to (cell_news plan mended) (d + 1)) (events_to (cell_news plan mended) d ++ cell_news plan mended d)
@@ -215,16 +224,18 @@ module _ {W R : Type 0} (view : W → SinkView) (standing : R → ReportView) (s
           (subst (λ (v : FolderView). IsTrue folder_new.tells_calls → Gained broke_folder v.calls folder_new.calls) was fails.call);
       folders = many_new ∙ so_far.folders;
       events = λ facts is shows.
-          let mended : Mended = record { facts = facts; answers = so_far.answers } in
+          let mended : Mended = record { facts = facts; answers = answers } in
+          let shown : AreMendedAs so_far.answers mended = first_shown facts is shows in
           let split = events_split (cell_news plan mended) d (length plan.table.columns) (omega (arith, within)) in (
-            so_far.answers,
+            answers,
             events_to (cell_news plan mended) d,
             split.0,
             split.1,
+            λ k below tells goes. fit mended shown refl k below tells goes (cases_lt k d),
             told_as view standing stands plan.table.columns (events_to (cell_news plan mended) d) (events_to (cell_news plan mended) d ++ []) old.lines new.lines old.reports new.reports
                 (sym (append-nil (events_to (cell_news plan mended) d)))
                 (told_then view standing stands plan.table.columns (events_to (cell_news plan mended) d) [] old.lines mid.lines new.lines old.reports mid.reports new.reports
-                (so_far.told mended (record { stripe_is = is; shows = shows; answers_are = λ k below. refl })) fails.told),
+                (so_far.told mended shown) fails.told),
           );
       makes = λ facts is shows k below. makes_of facts is shows k below (cases_eq k d) (cases_lt k d);
     }
@@ -232,17 +243,37 @@ module _ {W R : Type 0} (view : W → SinkView) (standing : R → ReportView) (s
         was : folder ≡ folder_at old.folders d
         was = folder_is ∙ (so_far.left d (omega arith)).same_folder
 
+        -- a cell that was not come to is taken as written
+        rest : List Bool
+        rest = replicate (length plan.table.columns) true
+
+        answers : List Bool
+        answers = so_far.answers ++ rest
+
+        first_shown : (facts : StripeFacts) → facts.stripe ≡ stripe → Shows facts → AreMendedAs so_far.answers (record { facts = facts; answers = answers })
+        first_shown facts is shows = record { stripe_is = is; shows = shows; answers_are = λ k below. get_or_append_left so_far.answers rest false k below }
+
+        fit : (mended : Mended) → AreMendedAs so_far.answers mended → mended.answers ≡ answers → (k : ℕ) → k < length plan.table.columns → IsTrue (folder_at old.folders k).tells
+            → is_repaired plan mended.facts k ≡ true → (k < d) ⊎ (d ≤ k) → answer_of mended k ≡ true
+        fit mended shown are k below tells goes (inl near) = (so_far.done k near).answered mended shown tells goes
+        fit mended shown are k below tells goes (inr far) =
+            ap (λ (bs : List Bool). get_or bs k false) are
+            ∙ get_or-append_right so_far.answers rest d k false so_far.as_many far
+            ∙ get_or-replicate (length plan.table.columns) (k - d) true false (omega (arith, far, below))
+
         makes_of : (facts : StripeFacts) → facts.stripe ≡ stripe → Shows facts → (k : ℕ) → k < length plan.table.columns → (k ≡ d) ⊎ (k ≡ d → ⊥) → (k < d) ⊎ (d ≤ k)
-            → FolderMakes (IsMendCall plan k (bare facts ∷ [])) (folder_at old.folders k) (folder_at new.folders k)
+            → FolderMakes (AnyCall (IsMendCall plan old.starts k (bare facts ∷ []))) (folder_at old.folders k) (folder_at new.folders k)
         makes_of facts is shows k below (inl same) side =
-            subst (λ (n : ℕ). FolderMakes (IsMendCall plan n (bare facts ∷ [])) (folder_at old.folders n) (folder_at new.folders n)) (sym same)
-            (subst (FolderMakes (IsMendCall plan d (bare facts ∷ [])) (folder_at old.folders d)) (sym here_new)
-            (subst (λ (v : FolderView). FolderMakes (IsMendCall plan d (bare facts ∷ [])) v folder_new) was (fails.makes facts is shows)))
+            subst (λ (n : ℕ). FolderMakes (AnyCall (IsMendCall plan old.starts n (bare facts ∷ []))) (folder_at old.folders n) (folder_at new.folders n)) (sym same)
+            (subst (FolderMakes (AnyCall (IsMendCall plan old.starts d (bare facts ∷ []))) (folder_at old.folders d)) (sym here_new)
+            (subst (λ (v : FolderView). FolderMakes (AnyCall (IsMendCall plan old.starts d (bare facts ∷ []))) v folder_new) was
+            (makes_any_before plan old.starts mid.starts d (bare facts ∷ []) so_far.stood folder folder_new (fails.makes facts is shows))))
         makes_of facts is shows k below (inr other) (inl near) =
-            subst (FolderMakes (IsMendCall plan k (bare facts ∷ [])) (folder_at old.folders k)) (sym (other_new k other)) ((so_far.done k near).makes facts is shows)
+            subst (FolderMakes (AnyCall (IsMendCall plan old.starts k (bare facts ∷ []))) (folder_at old.folders k)) (sym (other_new k other))
+            (makes_any (IsMendCall plan old.starts k (bare facts ∷ [])) ((so_far.done k near).makes facts is shows))
         makes_of facts is shows k below (inr other) (inr far) =
-            subst (FolderMakes (IsMendCall plan k (bare facts ∷ [])) (folder_at old.folders k)) (sym (other_new k other ∙ (so_far.left k far).same_folder))
-            (makes_none (IsMendCall plan k (bare facts ∷ [])) (folder_at old.folders k))
+            subst (FolderMakes (AnyCall (IsMendCall plan old.starts k (bare facts ∷ []))) (folder_at old.folders k)) (sym (other_new k other ∙ (so_far.left k far).same_folder))
+            (makes_none (AnyCall (IsMendCall plan old.starts k (bare facts ∷ []))) (folder_at old.folders k))
 
   -- all columns
   pub files_all : (d : ℕ) (new : FilesOutside W R) (repaired : Repaired) → length plan.table.columns ≡ d → FilesSoFar d new repaired
@@ -252,7 +283,9 @@ module _ {W R : Type 0} (view : W → SinkView) (standing : R → ReportView) (s
     as_many = so_far.as_many ∙ sym all;
     starts_fit = so_far.starts_fit;
     states_fit = so_far.states_fit;
+    stood = so_far.stood;
     folders = so_far.folders;
+    answered = λ facts is shows k within. (so_far.done k (omega (arith, within, all))).answered (record { facts = facts; answers = so_far.answers }) (shown facts is shows);
     told = λ facts is shows. told_as view standing stands plan.table.columns (events_to (cell_news plan (record { facts = facts; answers = so_far.answers })) (length plan.table.columns)) (events_to (cell_news plan (record { facts = facts; answers = so_far.answers })) d)
         old.lines new.lines old.reports new.reports (ap (events_to (cell_news plan (record { facts = facts; answers = so_far.answers }))) all) (so_far.told (record { facts = facts; answers = so_far.answers }) (shown facts is shows));
     counts = λ facts is shows. subst (λ (n : ℕ). AreCounts (events_to (cell_news plan (record { facts = facts; answers = so_far.answers })) n) repaired.counts) (sym all) (so_far.counts (record { facts = facts; answers = so_far.answers }) (shown facts is shows));

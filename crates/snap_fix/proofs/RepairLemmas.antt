@@ -1,10 +1,10 @@
 -- The cell of a column of a stripe that is written anew: a column that is underway goes on.
-use Rattle.std.proofs.Common.{◌≡◌, ◌≢◌, ◌⊎◌, inl, inr, ℕ, ◌<◌, List, [], ◌∷◌, ◌++◌, length, get_or, set, slice_index_or, Bool, true, false, Contains, sym, ap, ◌∙◌, subst, arith}
+use Rattle.std.proofs.Common.{◌≡◌, ◌≢◌, ◌⊎◌, inl, inr, ℕ, ◌<◌, List, [], ◌∷◌, ◌++◌, length, get_or, set, slice_index_or, Bool, true, false, IsTrue, refl, sym, ap, ◌∙◌, subst, arith}
 use Rattle.std.specs.Prelude.{◌||◌}
+use Rattle.std.proofs.Math.Bool.{or-false}
 use Rattle.std.proofs.lemmas.Bool.{cases_eq}
 use Rattle.std.proofs.lemmas.List.{length-set, get_or-set_same, get_or-set_other}
-use Rattle.std.proofs.lemmas.List.Elements.{Contains-append_left, Contains-push, Contains-push_cases}
-use Rattle.disk_model.specs.Folder.{FolderView, FolderCall, ListFiles, Look, ReadAt, Make, WriteAt, SetSize, SetStamp, Rename}
+use Rattle.disk_model.specs.Folder.{FolderView, SomeFolderCalls}
 use Rattle.disk_model.specs.Tree.{Tree}
 use Rattle.file_table.specs.Table.{Record}
 use Rattle.stripe_reader.specs.Starts.{StartsValue, StartsFit, no_start, starts_at, start_in}
@@ -12,50 +12,18 @@ use Rattle.stripe_reader.specs.declared.starts.Start.{Start}
 use Rattle.stripe_reader.specs.declared.starts.Place.{Place}
 use Rattle.snap_fix.specs.declared.state.FileState.{FileState}
 use Rattle.snap_fix.specs.Facts.{StripeFacts}
-use Rattle.snap_fix.specs.Mended.{Mended, loses, column_writes}
+use Rattle.snap_fix.specs.Mended.{Mended, loses, column_writes, writes_in, writes_of}
 use Rattle.snap_fix.specs.Mending.{StatesFit, with_place, with_state}
 use Rattle.snap_fix.specs.Plan.{FixPlan, records_in}
-use Rattle.snap_fix.specs.State.{Write, HoldsBy, HoldsRecord, HoldsColumn, HoldsTold, FolderMakes, record_path, state_in, no_state}
-use Rattle.snap_fix.specs.Underway.{WritesCell, WritesOneOf, IsMendCall, IsColumnUnderway}
-use Rattle.snap_fix.proofs.FolderCallLemmas.{makes_then, makes_wider}
+use Rattle.snap_fix.specs.State.{Write, HoldsBy, HoldsRecord, HoldsColumn, HoldsTold, has_some, size_after, record_path, state_in, no_state}
+use Rattle.snap_fix.specs.Underway.{IsColumnUnderway}
+use Rattle.snap_fix.proofs.FolderCallLemmas.{calls_then}
 use Rattle.snap_fix.proofs.MendedFactsLemmas.{lost_push}
-
--- ---- by which calls
-
--- a call for some stripes is one for others, if its write is
-mend_call_wider : (plan : FixPlan) (d : ℕ) (xs ys : List Mended)
-    → ((path : List ℕ) (at : ℕ) (bytes : List ℕ) → WritesOneOf plan d xs path at bytes → WritesOneOf plan d ys path at bytes)
-    → (call : FolderCall) → IsMendCall plan d xs call → IsMendCall plan d ys call
-mend_call_wider plan d xs ys wider ListFiles is = is
-mend_call_wider plan d xs ys wider (Look path lost) is = is
-mend_call_wider plan d xs ys wider (ReadAt path lost at n) is = is
-mend_call_wider plan d xs ys wider (Make path) is = is
-mend_call_wider plan d xs ys wider (WriteAt path at bytes) is = wider path at bytes is
-mend_call_wider plan d xs ys wider (SetSize path size) is = is
-mend_call_wider plan d xs ys wider (SetStamp path stamp) is = is
-mend_call_wider plan d xs ys wider (Rename path true) is = is
-mend_call_wider plan d xs ys wider (Rename path false) is = is
+use Rattle.snap_fix.proofs.WritesLemmas.{size_after-append, has_some-append, writes_of-push}
 
 -- facts of which no answers are known
 abbrev pub bare : StripeFacts → Mended
 bare facts = record { facts = facts; answers = [] }
-
-module _ (plan : FixPlan) (d : ℕ) (stripes : List Mended) (mended : Mended) where
-  call_before : (call : FolderCall) → IsMendCall plan d stripes call → IsMendCall plan d (stripes ++ mended ∷ []) call
-  call_before = mend_call_wider plan d stripes (stripes ++ mended ∷ [])
-      (λ path at bytes one. record { mended = one.mended; is_one = Contains-append_left stripes (mended ∷ []) one.mended one.is_one; writes = one.writes })
-
-  call_here : (call : FolderCall) → IsMendCall plan d (bare mended.facts ∷ []) call → IsMendCall plan d (stripes ++ mended ∷ []) call
-  call_here = mend_call_wider plan d (bare mended.facts ∷ []) (stripes ++ mended ∷ [])
-      (λ path at bytes one. record {
-        mended = mended;
-        is_one = Contains-push stripes mended;
-        writes = subst (λ (facts : StripeFacts). WritesCell plan d facts path at bytes) (sym (facts_of one.mended (Contains-push_cases [] (bare mended.facts) one.mended one.is_one))) one.writes;
-      })
-    where
-      facts_of : (it : Mended) → (Contains [] it) ⊎ (bare mended.facts ≡ it) → mended.facts ≡ it.facts
-      facts_of it (inl none) = absurd (let below = none.1 in omega (arith, below))
-      facts_of it (inr same) = ap (λ (m : Mended). m.facts) same
 
 -- ---- what is held of a column
 
@@ -64,12 +32,16 @@ pub underway_same : (plan : FixPlan) (d : ℕ) (stripes : List Mended) (first no
     → later ≡ now → starts_at starts_new.columns d ≡ starts_at starts.columns d → get_or states_new d [] ≡ get_or states d []
     → IsColumnUnderway plan d stripes first now starts states → IsColumnUnderway plan d stripes first later starts_new states_new
 underway_same plan d stripes first now later starts starts_new states states_new same starts_same states_same before = record {
-  makes = subst (FolderMakes (IsMendCall plan d stripes) first) (sym same) before.makes;
+  calls = subst (SomeFolderCalls first) (sym same) before.calls;
   holds =
       subst (λ (v : FolderView). HoldsTold records (starts_at starts_new.columns d) (get_or states_new d []) writes first v) (sym same)
       (subst (λ (s : List Start). HoldsTold records s (get_or states_new d []) writes first now) (sym starts_same)
       (subst (λ (s : List FileState). HoldsTold records (starts_at starts.columns d) s writes first now) (sym states_same) before.holds));
   lost = λ i within. ap (λ (s : List FileState). (slice_index_or s i no_state).lost) states_same ∙ before.lost i within;
+  sizes = λ i within. ap (λ (s : List FileState). (slice_index_or s i no_state).size) states_same ∙ before.sizes i within
+      ∙ ap (λ (s : List Start). size_after (start_in s i).size (writes_of plan stripes d i)) (sym starts_same);
+  wrote = λ i within some. ap (λ (s : List FileState). (slice_index_or s i no_state).touched) states_same ∙ before.wrote i within some;
+  touched = λ told i within. ap (λ (s : List FileState). (slice_index_or s i no_state).touched) states_same ∙ before.touched told i within;
 }
   where
     records : List Record
@@ -78,21 +50,60 @@ underway_same plan d stripes first now later starts starts_new states states_new
     writes : List (List Write)
     writes = column_writes plan stripes d (length (records_in plan.table d))
 
+-- What becomes of the state of a record in one stripe more.
+pub record RecordGoesOn (plan : FixPlan) (d i : ℕ) (mended : Mended) (told : Bool) (starts starts_new : StartsValue) (states states_new : List (List FileState)) : Type 0 where
+  pub lost : (state_in states_new d i).lost ≡ ((state_in states d i).lost || loses plan d i mended)
+  pub start : (start_in (starts_at starts_new.columns d) i).size ≡ (start_in (starts_at starts.columns d) i).size
+  pub size : (state_in states_new d i).size ≡ size_after (state_in states d i).size (writes_in plan d i mended)
+  pub stays : (state_in states d i).touched ≡ true → (state_in states_new d i).touched ≡ true
+  pub wrote : has_some (writes_in plan d i mended) ≡ true → (state_in states_new d i).touched ≡ true
+  pub touched : IsTrue told → (state_in states_new d i).touched ≡ ((state_in states d i).touched || has_some (writes_in plan d i mended))
+
+-- nothing is written to it
+pub record_still : (plan : FixPlan) (d i : ℕ) (mended : Mended) (told : Bool) (starts starts_new : StartsValue) (states states_new : List (List FileState))
+    → (state_in states_new d i).lost ≡ ((state_in states d i).lost || loses plan d i mended)
+    → (start_in (starts_at starts_new.columns d) i).size ≡ (start_in (starts_at starts.columns d) i).size
+    → (state_in states_new d i).size ≡ (state_in states d i).size → (state_in states_new d i).touched ≡ (state_in states d i).touched
+    → writes_in plan d i mended ≡ [] → RecordGoesOn plan d i mended told starts starts_new states states_new
+record_still plan d i mended told starts starts_new states states_new lost start size touched none = record {
+  lost = lost;
+  start = start;
+  size = size ∙ ap (size_after (state_in states d i).size) (sym none);
+  stays = λ yes. touched ∙ yes;
+  wrote = λ some. absurd (let clash : false ≡ true = sym (ap has_some none) ∙ some in cc);
+  touched = λ tells. touched ∙ sym (or-false (state_in states d i).touched) ∙ ap (λ (b : Bool). (state_in states d i).touched || b) (sym (ap has_some none));
+}
+
+either : (a b : Bool) → (a || b) ≡ true → (a ≡ true) ⊎ (b ≡ true)
+either true b is = inl refl
+either false true is = inr refl
+either false false is = absurd cc
+
 -- one stripe more
 pub underway_more : (plan : FixPlan) (d : ℕ) (stripes : List Mended) (mended : Mended) (first now later : FolderView) (starts starts_new : StartsValue)
-    (states states_new : List (List FileState)) → IsColumnUnderway plan d stripes first now starts states
-    → FolderMakes (IsMendCall plan d (bare mended.facts ∷ [])) now later
+    (states states_new : List (List FileState)) → IsColumnUnderway plan d stripes first now starts states → SomeFolderCalls now later
     → HoldsTold (records_in plan.table d) (starts_at starts_new.columns d) (get_or states_new d [])
     (column_writes plan (stripes ++ mended ∷ []) d (length (records_in plan.table d))) first later
-    → ((i : ℕ) → i < length (records_in plan.table d) → (state_in states_new d i).lost ≡ ((state_in states d i).lost || loses plan d i mended))
+    → ((i : ℕ) → i < length (records_in plan.table d) → RecordGoesOn plan d i mended now.tells starts starts_new states states_new)
     → IsColumnUnderway plan d (stripes ++ mended ∷ []) first later starts_new states_new
-underway_more plan d stripes mended first now later starts starts_new states states_new before makes holds lost = record {
-  makes = makes_then (IsMendCall plan d (stripes ++ mended ∷ []))
-      (makes_wider (IsMendCall plan d stripes) (IsMendCall plan d (stripes ++ mended ∷ [])) (call_before plan d stripes mended) before.makes)
-      (makes_wider (IsMendCall plan d (bare mended.facts ∷ [])) (IsMendCall plan d (stripes ++ mended ∷ [])) (call_here plan d stripes mended) makes);
+underway_more plan d stripes mended first now later starts starts_new states states_new before calls holds each = record {
+  calls = calls_then before.calls calls;
   holds = holds;
-  lost = λ i within. lost i within ∙ ap (λ (b : Bool). b || loses plan d i mended) (before.lost i within) ∙ sym (lost_push plan stripes mended d i);
+  lost = λ i within. (each i within).lost ∙ ap (λ (b : Bool). b || loses plan d i mended) (before.lost i within) ∙ sym (lost_push plan stripes mended d i);
+  sizes = λ i within. (each i within).size
+      ∙ ap (λ (n : ℕ). size_after n (writes_in plan d i mended)) (before.sizes i within ∙ ap (λ (n : ℕ). size_after n (writes_of plan stripes d i)) (sym (each i within).start))
+      ∙ sym (size_after-append (start_in (starts_at starts_new.columns d) i).size (writes_of plan stripes d i) (writes_in plan d i mended))
+      ∙ ap (size_after (start_in (starts_at starts_new.columns d) i).size) (sym (writes_of-push plan mended d i stripes));
+  wrote = λ i within some. elim (either (has_some (writes_of plan stripes d i)) (has_some (writes_in plan d i mended)) (sym (some_is i) ∙ some)) [
+    | inl earlier ↦ (each i within).stays (before.wrote i within earlier)
+    | inr here ↦ (each i within).wrote here
+  ];
+  touched = λ told i within. (each i within).touched (subst IsTrue (sym before.calls.goes_on.tells) told)
+      ∙ ap (λ (b : Bool). b || has_some (writes_in plan d i mended)) (before.touched told i within) ∙ sym (some_is i);
 }
+  where
+    some_is : (i : ℕ) → has_some (writes_of plan (stripes ++ mended ∷ []) d i) ≡ (has_some (writes_of plan stripes d i) || has_some (writes_in plan d i mended))
+    some_is i = ap has_some (writes_of-push plan mended d i stripes) ∙ has_some-append (writes_of plan stripes d i) (writes_in plan d i mended)
 
 -- whether a block of it is lost is not looked at
 record_lost : (start : Start) (state : FileState) (lost : Bool) (writes : List Write) (path : List ℕ) (first later : Tree)

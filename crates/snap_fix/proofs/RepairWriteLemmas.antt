@@ -1,5 +1,5 @@
 -- The block of a cell was written, or its file was gone, so that the cell is lost.
-use Rattle.std.proofs.Common.{◌≡◌, ℕ, ◌<◌, List, [], length, get_or, set, Bool, true, false, Some, Result, Ok, Err, IfOk, IfErr, refl, sym, ap, ◌∙◌, subst, arith}
+use Rattle.std.proofs.Common.{◌≡◌, ℕ, ◌<◌, List, [], ◌∷◌, length, get_or, set, if◌then◌else◌, Bool, true, false, Some, Result, Ok, Err, IfOk, IfErr, refl, sym, ap, ◌∙◌, subst, arith}
 use Rattle.std.proofs.lemmas.List.{set-set, length-set}
 use Rattle.disk_model.specs.Folder.{FolderView}
 use Rattle.disk_model.specs.Sink.{SinkView}
@@ -12,10 +12,10 @@ use Rattle.snap_report.specs.declared.pages.Lines.{Lines}
 use Rattle.stripe_reader.specs.Starts.{StartsValue, starts_at}
 use Rattle.snap_fix.specs.declared.state.FileState.{FileState}
 use Rattle.snap_fix.specs.Mended.{mended_event}
-use Rattle.snap_fix.specs.Mending.{CanWrite, MendsCell, mended_writes, with_state}
+use Rattle.snap_fix.specs.Mending.{CanWrite, MendsCell, block_start, mended_writes, with_state}
 use Rattle.snap_fix.specs.Plan.{records_in}
 use Rattle.snap_fix.specs.RepairSteps.{WritesBlockOf, column_outside}
-use Rattle.snap_fix.specs.State.{HoldsColumn, HoldsTold, state_in}
+use Rattle.snap_fix.specs.State.{HoldsColumn, HoldsTold, size_after, state_in}
 use Rattle.snap_fix.proofs.RepairLemmas.{column_lost, row_same, state_same}
 
 pub if_ok_then : {T E : Type 0} (P Q : T → Type 0) (result : Result T E) → ((x : T) → P x → Q x) → IfOk result P → IfOk result Q
@@ -47,6 +47,11 @@ module _ {W R : Type 0} (view : W → SinkView) (standing : R → ReportView) (s
     state = mends.state;
     starts_are = mends.starts_are;
     states_are = mends.states_are;
+    stood = mends.stood;
+    there = λ tells. refl;
+    size = mends.size ∙ ap (λ (b : Bool). size_after (state_in states d cell.rec).size (if b then record { at = block_start table cell; bytes = bytes } ∷ [] else [])) is;
+    touched = λ yes. mends.touched is;
+    stays_touched = mends.stays_touched;
     lost = mends.same_lost;
     told = told;
     counts = record { found = refl; left = refl };
@@ -72,6 +77,11 @@ module _ {W R : Type 0} (view : W → SinkView) (standing : R → ReportView) (s
         ∙ ap (λ (s : FileState). with_state (with_state states d cell.rec mends.state) d cell.rec (record s { lost = true }))
         (state_same states d cell.rec mends.state long (omega (arith, can.rec, can.states_fit.records d can.column)))
         ∙ state_twice states d cell.rec mends.state (record mends.state { lost = true }) long;
+    stood = mends.stood;
+    there = λ tells. sym is ∙ mends.there tells;
+    size = mends.size ∙ ap (λ (b : Bool). size_after (state_in states d cell.rec).size (if b then record { at = block_start table cell; bytes = bytes } ∷ [] else [])) is;
+    touched = λ yes. absurd (let clash : false ≡ true = yes in cc);
+    stays_touched = mends.stays_touched;
     lost = refl;
     told = told;
     counts = record { found = refl; left = refl };

@@ -15,6 +15,7 @@ use Rattle.snap_report.specs.declared.events.Event.{Event}
 use Rattle.stripe_reader.specs.SlotValue.{SlotValue}
 use Rattle.stripe_reader.specs.WindowValue.{WindowValue, slot_at, no_slot}
 use Rattle.snap_fix.specs.declared.counts.Counts.{Counts}
+use Rattle.snap_fix.specs.Asking.{AsksSpare}
 use Rattle.snap_fix.specs.Counts.{AreCounts}
 use Rattle.snap_fix.specs.Examining.{ReadsTried, ReadsNothing}
 use Rattle.snap_fix.specs.Facts.{StripeFacts}
@@ -88,14 +89,15 @@ slots_same one other k lanes same =
 
 module _ {W R : Type 0} (view : W → SinkView) (standing : R → ReportView) (stands : R → List Event → Type 0) (plan : FixPlan) where
   -- one stripe that was examined
-  pub looks_one : (facts : StripeFacts) (counts : Counts) (old new : Scene W R) → AreFacts plan facts → LevelsAreRead plan (facts ∷ []) old.vault new.vault
+  pub looks_one : (facts : StripeFacts) (counts : Counts) (old new : Scene W R) → AreFacts plan facts → LevelsAreRead plan (facts ∷ []) old.vault new.vault → AsksSpare plan (facts ∷ []) old.spare new.spare
       → Told view standing stands plan.table.columns (stripe_events plan facts) old.lines new.lines old.reports new.reports → AreCounts (stripe_events plan facts) counts
       → LooksAt view standing stands plan (facts ∷ []) counts old new
-  looks_one facts counts old new are levels told counted =
+  looks_one facts counts old new are levels spare told counted =
       let only : stripe_events plan facts ++ [] ≡ stripe_events plan facts = append-nil (stripe_events plan facts) in
       record {
         are = All-cons (AreFacts plan) facts [] are (All-nil (AreFacts plan));
         levels = levels;
+        spare = spare;
         told = rw (only) told;
         counts_are = rw (only) counted;
       }

@@ -17,28 +17,32 @@ use Rattle.snap_report.specs.declared.events.Event.{Event}
 use Rattle.snap_report.specs.declared.pages.Lines.{Lines}
 use Rattle.snap_fix.specs.declared.checks.FixEnd.{FixEnd}
 use Rattle.snap_fix.specs.declared.scope.Mode.{Mode}
+use Rattle.snap_fix.specs.Asking.{AsksSpare}
 use Rattle.snap_fix.specs.Counts.{at_most}
 use Rattle.snap_fix.specs.Facts.{StripeFacts}
 use Rattle.snap_fix.specs.Findings.{opening_events, events_of}
 use Rattle.snap_fix.specs.Known.{AreFacts}
 use Rattle.snap_fix.specs.Looking.{AreRead, LevelsAreRead, numbers_of}
 use Rattle.snap_fix.specs.Plan.{FixPlan, IsScope, entries_of, starts_of, stripes_of}
+use Rattle.snap_fix.specs.Spare.{SpareView, IsSpareFor}
 
--- what a check or a fix works on: the folders, the vault, the lines, and those who are told
+-- what a check or a fix works on: the folders, the vault, the spare, the lines, and those who are told
 pub record Outside (W R : Type 0) : Type 1 where
   pub folders : List FolderView
   pub vault : VaultView
+  pub spare : SpareView
   pub lines : Lines W
   pub reports : List R
 
-abbrev pub outside : {W R : Type 0} → List FolderView → VaultView → Lines W → List R → Outside W R
-outside folders vault lines reports = record { folders = folders; vault = vault; lines = lines; reports = reports }
+abbrev pub outside : {W R : Type 0} → List FolderView → VaultView → SpareView → Lines W → List R → Outside W R
+outside folders vault spare lines reports = record { folders = folders; vault = vault; spare = spare; lines = lines; reports = reports }
 
--- an array: a table, and folders, disks and a vault that go with it
-pub record IsArray (table : TableValue) (disks : ℕ) (folders : List FolderView) (vault : VaultView) : Type 0 where
+-- an array: a table, and folders, disks, a vault and a spare that go with it
+pub record IsArray (table : TableValue) (disks : ℕ) (folders : List FolderView) (vault : VaultView) (spare : SpareView) : Type 0 where
   pub folders_are : length folders ≡ length table.columns
   pub disks_are : disks ≡ length table.columns
   pub levels : vault.levels ≡ table.shape.levels
+  pub spare_is : IsSpareFor table.shape spare
 
 -- the plan of a run for this selection, by what the folders of these disks list
 pub record IsPlan (mode : Mode) (selection : Selection) (names : List (List ℕ)) (table : TableValue)
@@ -66,6 +70,7 @@ pub record Checks {W R : Type 0} (view : W → SinkView) (standing : R → Repor
   pub are : All (AreFacts plan) stripes
   pub read : AreRead plan (starts_of table lists) stripes mids new.folders
   pub levels : LevelsAreRead plan stripes old.vault new.vault
+  pub spare : AsksSpare plan stripes old.spare new.spare
   pub given : AllGiven standing stands (check_events plan stripes) old.reports new.reports
   pub puts : Puts view (lines_of table.columns (check_events plan stripes) ++ check_text end.findings) old.lines new.lines
   pub settled : Settled (state_of view new.lines)

@@ -9,7 +9,8 @@ use Rattle.disk_model.specs.Sink.{SinkView}
 use Rattle.disk_model.specs.Tree.{Tree, file_of, path_of}
 use Rattle.disk_model.specs.Vault.{VaultView, VaultCall, ParitySync, SomeCalls, ChangesBy, DraftsStay, Holds, state_of}
 use Rattle.file_table.specs.Table.{record_at}
-use Rattle.snap_report.specs.Answer.{Gained, broke_folder, broke_vault}
+use Rattle.snap_report.specs.Answer.{Gained, broke_folder}
+use Rattle.snap_fix.specs.Breaking.{broke_parity}
 use Rattle.snap_report.specs.Report.{ReportView}
 use Rattle.snap_report.specs.Told.{Told}
 use Rattle.snap_report.specs.declared.events.Event.{Event}
@@ -26,7 +27,7 @@ use Rattle.snap_fix.specs.Finishing.{FitsTree, HoldsFinished, StandsWhole, IsFin
 use Rattle.snap_fix.specs.Mending.{StatesFit, IsFree}
 use Rattle.snap_fix.specs.Plan.{FixPlan, EntriesFit, entry_at, records_in}
 use Rattle.snap_fix.specs.Repairing.{FilesOutside}
-use Rattle.snap_fix.specs.State.{FolderMakes, no_state, record_path}
+use Rattle.snap_fix.specs.State.{AnyCall, WellCall, FolderMakes, no_state, record_path}
 
 -- ---- levels
 
@@ -59,7 +60,7 @@ pub record SyncsWritten (written : List Bool) (old new : VaultView) : Type 0 whe
 -- a call of the vault failed that reads no parity, and its count rose
 pub record SyncsNot (old new : VaultView) : Type 0 where
   pub rose : Rose old.faults new.faults
-  pub call : IsTrue new.tells_calls → Gained broke_vault old.calls new.calls
+  pub call : IsTrue new.tells_calls → Gained broke_parity old.calls new.calls
   pub calls : SomeCalls old new
   pub drafts : DraftsStay old new
   pub changes : ChangesBy Stays old new
@@ -95,7 +96,10 @@ abbrev pub column_news : FixPlan → ℕ → List Finish → List Event
 column_news plan d done = flat_map (record_news plan d done) (range_with_len 0 (length (records_in plan.table d)))
 
 -- of each column
-abbrev pub finishes_at : List (List Finish) → ℕ → List Finish
+abbrev pub Finishes : Type 0
+Finishes = List (List Finish)
+
+abbrev pub finishes_at : Finishes → ℕ → List Finish
 finishes_at finishes d = get_or finishes d []
 
 abbrev pub column_news_at : FixPlan → List (List Finish) → ℕ → List Event
@@ -115,7 +119,7 @@ state_at states i = slice_index_or states i no_state
 
 -- a call that finishes a record
 abbrev pub IsCallOf : FixPlan → ℕ → List Start → List FileState → ℕ → FolderCall → Type 0
-IsCallOf plan d starts states i call = IsFinishCall (state_at states i).lost (start_in starts i).place
+IsCallOf plan d starts states i call = IsFinishCall (state_at states i).lost (entry_at plan d i).listed (start_in starts i) (state_at states i)
     (record_path (records_in plan.table d) i) (record_at plan.table.columns d i).meta call
 
 -- one that finishes some record of the column
@@ -130,10 +134,10 @@ pub record CanFinishFile (plan : FixPlan) (d : ℕ) (starts : List Start) (state
   pub free : IsFree tree (record_path (records_in plan.table d) i)
   pub fits : FitsTree (record_path (records_in plan.table d) i) (entry_at plan d i).listed (start_in starts i) (state_at states i) tree
 
--- The files of a column can be finished: its folder is open, and where it tells its files, those of all selected records that
+-- The files of a column can be finished: its folder is open, if it has records, and where it tells its files, those of all selected records that
 -- aren't blocked can be.
 pub record CanFinishColumn (plan : FixPlan) (d : ℕ) (starts : List Start) (states : List FileState) (folder : FolderView) : Type 0 where
-  pub is_open : folder.closed ≡ false
+  pub is_open : 0 < length (records_in plan.table d) → folder.closed ≡ false
   pub each : IsTrue folder.tells → (i : ℕ) → i < length (records_in plan.table d) → is_finished plan d i ≡ true
       → CanFinishFile plan d starts states i folder.tree
 
@@ -149,7 +153,8 @@ pub record CanFinishAll (plan : FixPlan) (starts : StartsValue) (states : List (
 abbrev pub IsDone : FixPlan → ℕ → List Start → List FileState → FolderView → ℕ → Finish → Type 0
 IsDone plan d starts states folder i finish =
     (finish ≡ finish_of (record_at plan.table.columns d i).meta (entry_at plan d i).listed (start_in starts i) (state_at states i) folder.keeps_stamps)
-    ⊎ ((finish ≡ Gone) × (folder.tells ≡ false))
+    ⊎ ((finish ≡ Gone) × (folder.tells ≡ false)
+    × (finish_of (record_at plan.table.columns d i).meta (entry_at plan d i).listed (start_in starts i) (state_at states i) folder.keeps_stamps ≢ Kept))
 
 -- what the folder holds of it then
 abbrev pub HoldsEnd : FixPlan → ℕ → List Start → List FileState → Bool → ℕ → Finish → Tree → Tree → Type 0
@@ -166,7 +171,7 @@ StandsEnd plan d starts keeps i before later =
 -- What was done to the files of a column, since all blocks were written: to each record what its start and state ask for.
 pub record FinishesFiles (plan : FixPlan) (d : ℕ) (starts : List Start) (states : List FileState) (done : List Finish)
     (folder folder_new : FolderView) : Type 0 where
-  pub makes : FolderMakes (FinishesFile plan d starts states) folder folder_new
+  pub makes : FolderMakes (WellCall (FinishesFile plan d starts states)) folder folder_new
   pub is : (i : ℕ) → i < length (records_in plan.table d) → is_finished plan d i ≡ true → IsDone plan d starts states folder i (finish_at done i)
   pub holds : IsTrue folder.tells → (i : ℕ) → i < length (records_in plan.table d) → is_finished plan d i ≡ true
       → HoldsEnd plan d starts states folder.keeps_stamps i (finish_at done i) folder.tree folder_new.tree
@@ -183,6 +188,12 @@ abbrev pub FinishesColumn : FixPlan → StartsValue → List (List FileState) �
 FinishesColumn plan starts states d finishes folder folder_new =
     FinishesFiles plan d (starts_at starts.columns d) (states_at states d) (finishes_at finishes d) folder folder_new
 
+-- what is done to each record that is finished, column by column
+abbrev pub AreDone : FixPlan → StartsValue → List (List FileState) → List FolderView → List (List Finish) → Type 0
+AreDone plan starts states folders finishes = (d i : ℕ) → d < length plan.table.columns → i < length (records_in plan.table d)
+    → is_finished plan d i ≡ true
+    → IsDone plan d (starts_at starts.columns d) (states_at states d) (folder_at folders d) i (finish_at (finishes_at finishes d) i)
+
 -- All selected records that aren't blocked were finished, and just that was told.
 pub record FinishesAll {W R : Type 0} (view : W → SinkView) (standing : R → ReportView) (stands : R → List Event → Type 0)
     (plan : FixPlan) (old new : FilesOutside W R) (counts : Counts) : Type 0 where
@@ -192,7 +203,7 @@ pub record FinishesAll {W R : Type 0} (view : W → SinkView) (standing : R → 
   pub told : Told view standing stands plan.table.columns (all_finish_news plan finishes) old.lines new.lines old.reports new.reports
   pub counts_are : AreCounts (all_finish_news plan finishes) counts
 
--- The folder of a column failed. Only finishing calls were made, and a prefix of what would be told was.
+-- The folder of a column failed. Only finishing calls were made, and a prefix was told of what is told where none fails.
 pub record FinishesNotAll {W R : Type 0} (view : W → SinkView) (standing : R → ReportView) (stands : R → List Event → Type 0)
     (plan : FixPlan) (old new : FilesOutside W R) (disk : ℕ) : Type 0 where
   pub within : disk < length plan.table.columns
@@ -200,8 +211,9 @@ pub record FinishesNotAll {W R : Type 0} (view : W → SinkView) (standing : R �
   pub call : IsTrue (folder_at new.folders disk).tells_calls → Gained broke_folder (folder_at old.folders disk).calls (folder_at new.folders disk).calls
   pub folders : length new.folders ≡ length old.folders
   pub makes : (d : ℕ) → d < length plan.table.columns
-      → FolderMakes (FinishesOne plan d old.starts old.states) (folder_at old.folders d) (folder_at new.folders d)
+      → FolderMakes (AnyCall (FinishesOne plan d old.starts old.states)) (folder_at old.folders d) (folder_at new.folders d)
   pub finishes : List (List Finish)
+  pub are : AreDone plan old.starts old.states old.folders finishes
   pub first : List Event
   pub rest : List Event
   pub events : all_finish_news plan finishes ≡ first ++ rest

@@ -18,10 +18,10 @@ use Rattle.snap_fix.specs.declared.finishing.Finish.{Finish}
 use Rattle.snap_fix.specs.declared.finishing.Finish.TheVariants.{Kept, Restored, Unstamped, Renamed, Gone}
 use Rattle.snap_fix.specs.declared.state.FileState.{FileState}
 use Rattle.snap_fix.specs.Counts.{AreCounts}
-use Rattle.snap_fix.specs.Ending.{CanFinishFile, CanFinishColumn, FinishesFiles, FinishesFile, HoldsEnd, StandsEnd, IsCallOf, IsDone, column_news, is_finished, news_of, stamp_news, states_at}
+use Rattle.snap_fix.specs.Ending.{CanFinishFile, CanFinishColumn, FinishesFiles, FinishesFile, HoldsEnd, StandsEnd, IsCallOf, IsDone, column_news, finish_at, is_finished, news_of, stamp_news, states_at}
 use Rattle.snap_fix.specs.Mending.{StatesFit}
 use Rattle.snap_fix.specs.Plan.{FixPlan, EntriesFit, records_in}
-use Rattle.snap_fix.specs.State.{FolderMakes, record_path, state_in}
+use Rattle.snap_fix.specs.State.{AnyCall, WellCall, FolderMakes, record_path, state_in}
 
 -- what is written, and told, for one column: as of a run, with the folder of the column alone
 pub record ColumnOutside (W R : Type 0) : Type 0 where
@@ -73,7 +73,7 @@ pub record EndsRecord {W R : Type 0} (view : W → SinkView) (standing : R → R
   pub states_fit : StatesFit plan.table new.states
   pub other_starts : (k j : ℕ) → ((k ≢ d) ⊎ (j ≢ i)) → start_in (starts_at new.starts.columns k) j ≡ start_in (starts_at old.starts.columns k) j
   pub other_states : (k j : ℕ) → ((k ≢ d) ⊎ (j ≢ i)) → state_in new.states k j ≡ state_in old.states k j
-  pub makes : FolderMakes (FinishesThis plan d i (starts_at old.starts.columns d) (states_at old.states d)) old.folder new.folder
+  pub makes : FolderMakes (WellCall (FinishesThis plan d i (starts_at old.starts.columns d) (states_at old.states d))) old.folder new.folder
   pub is : is_finished plan d i ≡ true → IsDone plan d (starts_at old.starts.columns d) (states_at old.states d) old.folder i finish
   pub holds : IsTrue old.folder.tells → is_finished plan d i ≡ true
       → HoldsEnd plan d (starts_at old.starts.columns d) (states_at old.states d) old.folder.keeps_stamps i finish old.folder.tree new.folder.tree
@@ -90,7 +90,7 @@ pub record EndsNotRecord {W R : Type 0} (view : W → SinkView) (standing : R �
     (plan : FixPlan) (d i : ℕ) (old new : ColumnOutside W R) : Type 0 where
   pub rose : Rose old.folder.faults new.folder.faults
   pub call : IsTrue new.folder.tells_calls → Gained broke_folder old.folder.calls new.folder.calls
-  pub makes : FolderMakes (FinishesThis plan d i (starts_at old.starts.columns d) (states_at old.states d)) old.folder new.folder
+  pub makes : FolderMakes (AnyCall (FinishesThis plan d i (starts_at old.starts.columns d) (states_at old.states d))) old.folder new.folder
   pub told : Told view standing stands plan.table.columns [] old.lines new.lines old.reports new.reports
 
 -- ---- one column
@@ -116,13 +116,15 @@ pub record EndsColumn {W R : Type 0} (view : W → SinkView) (standing : R → R
   pub told : Told view standing stands plan.table.columns (column_news plan d done) old.lines new.lines old.reports new.reports
   pub counts_are : AreCounts (column_news plan d done) counts
 
--- The folder failed, and a prefix of what would be told was.
+-- The folder failed, and a prefix was told of what is told where it does not.
 pub record EndsNotColumn {W R : Type 0} (view : W → SinkView) (standing : R → ReportView) (stands : R → List Event → Type 0)
     (plan : FixPlan) (d : ℕ) (old new : ColumnOutside W R) : Type 0 where
   pub rose : Rose old.folder.faults new.folder.faults
   pub call : IsTrue new.folder.tells_calls → Gained broke_folder old.folder.calls new.folder.calls
-  pub makes : FolderMakes (FinishesFile plan d (starts_at old.starts.columns d) (states_at old.states d)) old.folder new.folder
+  pub makes : FolderMakes (AnyCall (FinishesFile plan d (starts_at old.starts.columns d) (states_at old.states d))) old.folder new.folder
   pub done : List Finish
+  pub is : (i : ℕ) → i < length (records_in plan.table d) → is_finished plan d i ≡ true
+      → IsDone plan d (starts_at old.starts.columns d) (states_at old.states d) old.folder i (finish_at done i)
   pub first : List Event
   pub rest : List Event
   pub events : column_news plan d done ≡ first ++ rest

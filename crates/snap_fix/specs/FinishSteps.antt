@@ -1,6 +1,6 @@
 -- The steps of a finish, each on the file of one record: it is put under its path, then its size is set, then its stamp.
 use Rattle.std.specs.Prelude.{◌≡◌, ◌≢◌, ℕ, ◌==◌, List, Bool, true, false, Option, None, Some, IsTrue}
-use Rattle.disk_model.specs.Folder.{FolderView, FolderCall, SetSize, TreeBy, TreeStays}
+use Rattle.disk_model.specs.Folder.{FolderView, FolderCall, SetSize, Rename, TreeBy, TreeStays}
 use Rattle.disk_model.specs.Path.{IsRecordPath}
 use Rattle.disk_model.specs.Stamp.{IsStamp}
 use Rattle.disk_model.specs.Tree.{Tree, File, file_of, path_of, IsTree}
@@ -15,7 +15,7 @@ use Rattle.snap_fix.specs.declared.finishing.Finish.{Finish}
 use Rattle.snap_fix.specs.declared.state.FileState.{FileState}
 use Rattle.snap_fix.specs.Finishing.{FitsTree, HoldsFinished, bytes_now, lost_after}
 use Rattle.snap_fix.specs.Mending.{BreaksOff, IsFree, IsSetUpCall}
-use Rattle.snap_fix.specs.State.{FolderMakes, OthersStay, stands}
+use Rattle.snap_fix.specs.State.{WellCall, FolderMakes, OthersStay, stands}
 
 -- ---- what a step begins with
 
@@ -41,12 +41,27 @@ pub record IsReady (path : List ℕ) (listed : Option Meta) (meta : Meta) (start
   pub stamp : IsStamp meta.stamp
   pub fits : IsTrue folder.tells → FitsTree path listed start state folder.tree
 
+-- ---- its calls, each only where it is due
+
+-- the file does not stand under its path, and is renamed back or made
+abbrev pub IsPutCall : Place → Bool → List ℕ → FolderCall → Type 0
+IsPutCall place touched path call = (stands place touched ≡ false) × IsSetUpCall place path call
+
+-- the size differs, and is set
+abbrev pub IsSizeCall : List ℕ → ℕ → ℕ → FolderCall → Type 0
+IsSizeCall path before size call = ((before == size) ≡ false) × (call ≡ SetSize path size)
+
+-- the file stands under its path, and is renamed
+abbrev pub IsLostCall : Start → FileState → List ℕ → FolderCall → Type 0
+IsLostCall start state path call = (stands start.place state.touched ≡ true) × (call ≡ Rename path true)
+
 -- ---- what it ends with
 
 -- such calls were made, and the last of them found no file, which does not happen where the folder tells its files
 pub record FindsNoFile (P : FolderCall → Type 0) (old new : FolderView) : Type 0 where
   pub untold : old.tells ≡ false
-  pub makes : FolderMakes P old new
+  pub makes : FolderMakes (WellCall P) old new
+  pub last : (call : FolderCall) × P call
 
 abbrev pub BreaksBy : FileFault → (FolderCall → Type 0) → FolderView → FolderView → Type 0
 BreaksBy Failed = BreaksOff
@@ -62,7 +77,7 @@ pub record Stands (path bytes : List ℕ) (lost : Option File) (before later : T
 
 -- the file stands under its path: it did, or it was renamed back, or made
 pub record SetsUp (path : List ℕ) (place : Place) (touched : Bool) (old new : FolderView) : Type 0 where
-  pub makes : FolderMakes (IsSetUpCall place path) old new
+  pub makes : FolderMakes (WellCall (IsPutCall place touched path)) old new
   pub stays : stands place touched ≡ true → TreeStays old new
   pub stand : IsTrue old.tells
       → Stands path (bytes_now old.tree path) (lost_after place (file_of old.tree (path_of path true))) old.tree new.tree
@@ -73,14 +88,14 @@ SizesBy true path size old new = new ≡ old
 SizesBy false path size old new = ChangesFile path (Resizes size) old new
 
 pub record FitsSize (path : List ℕ) (before size : ℕ) (old new : FolderView) : Type 0 where
-  pub makes : FolderMakes (λ call. call ≡ SetSize path size) old new
+  pub makes : FolderMakes (WellCall (IsSizeCall path before size)) old new
   pub tree : TreeBy (SizesBy (before == size) path size) old new
 
 -- the file is finished as it was to be, by such calls
 pub record FinishesBy (wanted finish : Finish) (P : FolderCall → Type 0) (meta : Meta) (start : Start) (state : FileState)
     (path : List ℕ) (old new : FolderView) : Type 0 where
   pub is : finish ≡ wanted
-  pub makes : FolderMakes P old new
+  pub makes : FolderMakes (WellCall P) old new
   pub holds : IsTrue old.tells
       → HoldsFinished finish old.keeps_stamps meta start state (bytes_now old.tree path) path old.tree new.tree
   pub others : IsTrue old.tells → OthersStay path old.tree new.tree

@@ -19,7 +19,7 @@ use Rattle.snap_fix.specs.declared.state.FileState.{FileState}
 use Rattle.snap_fix.specs.Mending.{StatesFit, IsFree}
 use Rattle.snap_fix.specs.Plan.{records_in}
 pub use Rattle.snap_fix.specs.State.{OthersStay, stands}
-use Rattle.snap_fix.specs.State.{FolderMakes, bytes_placed, record_path, state_in}
+use Rattle.snap_fix.specs.State.{AnyCall, WellCall, FolderMakes, bytes_placed, record_path, state_in}
 
 -- ---- what is done, by what is known of the file
 
@@ -54,14 +54,14 @@ finish_of meta listed start state keeps =
 
 -- ---- by which calls
 
-abbrev pub IsWholeCall : Place → List ℕ → Meta → FolderCall → Type 0
-IsWholeCall place path meta call =
-    ((place ≡ Lost) × (call ≡ Rename path false)) ⊎ (((place ≡ Nowhere) × (call ≡ Make path))
-    ⊎ ((call ≡ SetSize path meta.size) ⊎ (call ≡ SetStamp path meta.stamp)))
+abbrev pub IsWholeCall : Option Meta → Start → FileState → List ℕ → Meta → FolderCall → Type 0
+IsWholeCall listed start state path meta call =
+    ((start.place ≡ Lost) × (call ≡ Rename path false)) ⊎ (((stands start.place state.touched ≡ false) × (start.place ≡ Nowhere) × (call ≡ Make path))
+    ⊎ ((((state.size == meta.size) ≡ false) × (call ≡ SetSize path meta.size)) ⊎ ((is_stamped meta listed start state ≡ true) × (call ≡ SetStamp path meta.stamp))))
 
-abbrev pub IsFinishCall : Bool → Place → List ℕ → Meta → FolderCall → Type 0
-IsFinishCall false place path meta call = IsWholeCall place path meta call
-IsFinishCall true place path meta call = call ≡ Rename path true
+abbrev pub IsFinishCall : Bool → Option Meta → Start → FileState → List ℕ → Meta → FolderCall → Type 0
+IsFinishCall false listed start state path meta call = IsWholeCall listed start state path meta call
+IsFinishCall true listed start state path meta call = (stands start.place state.touched ≡ true) × (call ≡ Rename path true)
 
 -- ---- what the folder holds then
 
@@ -126,12 +126,13 @@ pub record FinishesRecord (table : TableValue) (d i : ℕ) (listed : Option Meta
     (states : List (List FileState)) (folder : FolderView) (starts_new : StartsValue)
     (states_new : List (List FileState)) (folder_new : FolderView) : Type 0 where
   pub is : (finish ≡ finish_of (record_at table.columns d i).meta listed (start_in (starts_at starts.columns d) i) (state_in states d i) folder.keeps_stamps)
-      ⊎ ((finish ≡ Gone) × (folder.tells ≡ false))
+      ⊎ ((finish ≡ Gone) × (folder.tells ≡ false)
+      × (finish_of (record_at table.columns d i).meta listed (start_in (starts_at starts.columns d) i) (state_in states d i) folder.keeps_stamps ≢ Kept))
   pub starts_fit : StartsFit table starts_new
   pub states_fit : StatesFit table states_new
   pub other_starts : (k j : ℕ) → ((k ≢ d) ⊎ (j ≢ i)) → start_in (starts_at starts_new.columns k) j ≡ start_in (starts_at starts.columns k) j
   pub other_states : (k j : ℕ) → ((k ≢ d) ⊎ (j ≢ i)) → state_in states_new k j ≡ state_in states k j
-  pub makes : FolderMakes (IsFinishCall (state_in states d i).lost (start_in (starts_at starts.columns d) i).place (record_path (records_in table d) i) (record_at table.columns d i).meta) folder folder_new
+  pub makes : FolderMakes (WellCall (IsFinishCall (state_in states d i).lost listed (start_in (starts_at starts.columns d) i) (state_in states d i) (record_path (records_in table d) i) (record_at table.columns d i).meta)) folder folder_new
   pub holds : IsTrue folder.tells → HoldsFinished finish folder.keeps_stamps (record_at table.columns d i).meta (start_in (starts_at starts.columns d) i) (state_in states d i)
       (bytes_now folder.tree (record_path (records_in table d) i)) (record_path (records_in table d) i) folder.tree folder_new.tree
   pub whole : IsTrue folder.tells → (state_in states d i).lost ≡ false → StandsWhole folder.keeps_stamps (record_at table.columns d i).meta (start_in (starts_at starts.columns d) i).place
@@ -139,7 +140,7 @@ pub record FinishesRecord (table : TableValue) (d i : ℕ) (listed : Option Meta
   pub others : IsTrue folder.tells → OthersStay (record_path (records_in table d) i) folder.tree folder_new.tree
 
 -- one of its calls failed
-pub record FinishesNot (table : TableValue) (d i : ℕ) (starts : StartsValue) (states : List (List FileState)) (folder folder_new : FolderView) : Type 0 where
+pub record FinishesNot (table : TableValue) (d i : ℕ) (listed : Option Meta) (starts : StartsValue) (states : List (List FileState)) (folder folder_new : FolderView) : Type 0 where
   pub rose : Rose folder.faults folder_new.faults
   pub call : IsTrue folder_new.tells_calls → Gained broke_folder folder.calls folder_new.calls
-  pub makes : FolderMakes (IsFinishCall (state_in states d i).lost (start_in (starts_at starts.columns d) i).place (record_path (records_in table d) i) (record_at table.columns d i).meta) folder folder_new
+  pub makes : FolderMakes (AnyCall (IsFinishCall (state_in states d i).lost listed (start_in (starts_at starts.columns d) i) (state_in states d i) (record_path (records_in table d) i) (record_at table.columns d i).meta)) folder folder_new

@@ -1,11 +1,17 @@
 -- A fix as a whole.
-use Rattle.std.specs.Prelude.{◌≡◌, ◌⊎◌, ℕ, ◌<◌, List, ◌++◌, length, sum_by, count_by, All, true, false}
+use Rattle.std.specs.Prelude.{◌≡◌, ◌⊎◌, ℕ, ◌<◌, List, [], ◌++◌, length, sum_by, count_by, All, Bool, true, false, IsTrue}
+use Rattle.std.specs.List.{range_with_len, flat_map}
 use Rattle.array_scan.specs.Kept.{ListedFile}
 use Rattle.array_scan.specs.Listings.{ListsAll}
-use Rattle.disk_model.specs.Folder.{FolderView, FolderCall}
+use Rattle.disk_model.specs.Cause.{RoseBy}
+use Rattle.disk_model.specs.Folder.{FolderView, FolderCall, ListFiles, Look, ReadAt, Make, WriteAt, SetSize, SetStamp, Rename}
 use Rattle.disk_model.specs.Sink.{SinkView}
-use Rattle.file_table.specs.Table.{TableValue}
+use Rattle.disk_model.specs.Vault.{VaultView, VaultCall, VaultDone, GoesOn}
+use Rattle.disk_model.specs.declared.meta.Meta.{Meta}
+use Rattle.file_table.specs.Table.{TableValue, record_at}
+use Rattle.parity_writer.specs.LevelReading.{LevelReading}
 use Rattle.snap_config.specs.declared.options.Selection.{Selection}
+use Rattle.snap_report.specs.Answer.{is_io_of}
 use Rattle.snap_report.specs.EndLines.{fix_text}
 use Rattle.snap_report.specs.EventLines.{lines_of}
 use Rattle.snap_report.specs.Kind.{is_finding, is_left}
@@ -17,27 +23,29 @@ use Rattle.snap_report.specs.declared.answer.RunFault.{RunFault}
 use Rattle.snap_report.specs.declared.events.Event.{Event}
 use Rattle.stripe_reader.specs.Columns.{folder_at}
 use Rattle.stripe_reader.specs.Starts.{StartsValue}
+use Rattle.stripe_reader.specs.declared.starts.Place.TheVariants.{Lost, Nowhere}
 use Rattle.snap_fix.specs.declared.checks.FixEnd.{FixEnd}
 use Rattle.snap_fix.specs.declared.finishing.Finish.{Finish}
 use Rattle.snap_fix.specs.declared.scope.Mode.{Mode}
 use Rattle.snap_fix.specs.declared.state.FileState.{FileState}
+use Rattle.snap_fix.specs.Asking.{AsksSpare}
 use Rattle.snap_fix.specs.Beginning.{BeginsNot}
 use Rattle.snap_fix.specs.Counts.{at_most}
 use Rattle.snap_fix.specs.Course.{IsPlan, Outside}
-use Rattle.snap_fix.specs.Ending.{FinishesColumn, FinishesOne, IsSettled, all_finish_news}
+use Rattle.snap_fix.specs.Ending.{AreDone, FinishesColumn, FinishesOne, IsSettled, all_finish_news, sync_if}
 use Rattle.snap_fix.specs.Findings.{opening_events}
 use Rattle.snap_fix.specs.FixRun.{HasBroken, HoldAllWrong}
-use Rattle.snap_fix.specs.Fixing.{AreReadThen, MendsVault, facts_of, was_written}
+use Rattle.snap_fix.specs.Fixing.{ArePresent, MendsVault, facts_of, was_written}
 use Rattle.snap_fix.specs.Known.{AreFacts}
-use Rattle.snap_fix.specs.Looking.{numbers_of}
-use Rattle.snap_fix.specs.Mended.{Mended, all_mended_events, written_in, wrong_in}
-use Rattle.snap_fix.specs.Plan.{FixPlan, stripes_of}
-use Rattle.snap_fix.specs.State.{FolderMakes}
-use Rattle.snap_fix.specs.Underway.{AreUnderway, IsMendCall}
+use Rattle.snap_fix.specs.Looking.{AreAllLevelsOf, numbers_of, unread_cells, unread_in}
+use Rattle.snap_fix.specs.Mended.{AnswersFit, Mended, has_lost, all_mended_events, written_in, wrong_in}
+use Rattle.snap_fix.specs.Plan.{FixPlan, records_in, starts_of, stripes_of}
+use Rattle.snap_fix.specs.State.{AnyCall, WellCall, FolderMakes, KeepsStarts}
+use Rattle.snap_fix.specs.Underway.{AddsZeros, AreUnderway, IsForPlace, IsForRecord, IsMendCall, IsMendedLevel, WritesOneOf, done_well, mend_calls}
 
--- the folders are open
-abbrev pub AreOpen : List FolderView → Type 0
-AreOpen folders = (d : ℕ) → d < length folders → (folder_at folders d).closed ≡ false
+-- the folders of all columns that have records are open
+abbrev pub AreOpen : TableValue → List FolderView → Type 0
+AreOpen table folders = (d : ℕ) → d < length folders → 0 < length (records_in table d) → (folder_at folders d).closed ≡ false
 
 -- all events of a fix
 abbrev pub fix_events : FixPlan → List Mended → List (List Finish) → List Event
@@ -48,6 +56,72 @@ pub record Written : Type 0 where
   pub starts : StartsValue
   pub states : List (List FileState)
   pub folders : List FolderView
+
+-- What a fix knows of some stripes: their facts, of what stood in the folders and in the levels at first; and each of their cells that is
+-- to be written is, where its folder tells its files.
+pub record FixFinds (plan : FixPlan) (starts : StartsValue) (firsts : List FolderView) (vault : VaultView) (stripes : List Mended)
+    (readings : List (List LevelReading)) : Type 0 where
+  pub are : All (AreFacts plan) (facts_of stripes)
+  pub cells : ArePresent plan starts firsts (facts_of stripes)
+  pub levels : AreAllLevelsOf plan.table.shape.block_size vault (facts_of stripes) readings
+  pub answered : All (AnswersFit plan firsts) stripes
+
+-- one sync of each level that was written, in order, and all calls of a fix: stripe after stripe its levels are read and the wrong ones
+-- written, and then those levels are synced
+abbrev pub mend_syncs : FixPlan → List Mended → List VaultCall
+mend_syncs plan stripes = flat_map (λ (r : ℕ). sync_if (was_written plan stripes r) r) (range_with_len 0 plan.table.shape.levels)
+
+abbrev pub fix_calls : FixPlan → List Mended → List (List LevelReading) → List VaultDone
+fix_calls plan stripes readings = mend_calls plan (facts_of stripes) readings ++ done_well (mend_syncs plan stripes)
+
+-- What a fix did to the vault: just these calls were made; the wrong levels of its stripes were written and nothing else changed, and a
+-- level grew by zeros and such blocks alone; each that was written is synced.
+pub record FixesVault (plan : FixPlan) (stripes : List Mended) (readings : List (List LevelReading)) (old new : VaultView) : Type 0 where
+  pub ran : GoesOn old new (fix_calls plan stripes readings)
+  pub unread : RoseBy (unread_in readings) old.faults new.faults
+  pub mends : MendsVault plan (facts_of stripes) old new
+  pub zeros : IsTrue old.tells → AddsZeros plan.table.shape.block_size (IsMendedLevel plan (facts_of stripes)) old.files new.files
+  pub holds : HoldAllWrong plan (facts_of stripes) new
+  pub synced : (level : ℕ) → level < plan.table.shape.levels → was_written plan stripes level ≡ true → IsSettled level new new
+
+-- Any call of a fix of these stripes, once the folders are listed, by where files stood then: files are read; of the records that are selected and not
+-- blocked, a file is made if there was none, renamed back if it had the other name, and its known blocks are written; one without a lost
+-- block gets its recorded size and stamp, and one with a lost block is renamed.
+abbrev pub IsForRecordOf : FixPlan → List Mended → ℕ → Bool → List ℕ → (Meta → Type 0) → Type 0
+IsForRecordOf plan stripes d lost path P = (i : ℕ) × IsForRecord plan d i path × (has_lost plan stripes d i ≡ lost)
+    × P (record_at plan.table.columns d i).meta
+
+abbrev pub IsFixCall : FixPlan → StartsValue → ℕ → List Mended → FolderCall → Type 0
+IsFixCall plan starts d stripes ListFiles = ⊥
+IsFixCall plan starts d stripes (Look path lost) = Unit {0}
+IsFixCall plan starts d stripes (ReadAt path lost at n) = Unit {0}
+IsFixCall plan starts d stripes (Make path) = IsForPlace plan starts d Nowhere path
+IsFixCall plan starts d stripes (WriteAt path at bytes) = WritesOneOf plan d stripes path at bytes
+IsFixCall plan starts d stripes (SetSize path size) = IsForRecordOf plan stripes d false path (λ meta. size ≡ meta.size)
+IsFixCall plan starts d stripes (SetStamp path stamp) = IsForRecordOf plan stripes d false path (λ meta. stamp ≡ meta.stamp)
+IsFixCall plan starts d stripes (Rename path true) = IsForRecordOf plan stripes d true path (λ meta. Unit {0})
+IsFixCall plan starts d stripes (Rename path false) = IsForPlace plan starts d Lost path
+
+-- only such calls were made of the folders
+abbrev pub MakeFixCalls : FixPlan → StartsValue → List Mended → List FolderView → List FolderView → Type 0
+MakeFixCalls plan starts stripes firsts news = (d : ℕ) → d < length plan.table.columns
+    → FolderMakes (AnyCall (IsFixCall plan starts d stripes)) (folder_at firsts d) (folder_at news d)
+
+-- All blocks were written: what was done to the files so far.
+pub record WritesFiles (plan : FixPlan) (starts : StartsValue) (stripes : List Mended) (firsts : List FolderView) (written : Written) : Type 0 where
+  pub stood : KeepsStarts starts written.starts
+  pub underway : AreUnderway plan stripes firsts written.folders written.starts written.states
+  pub makes : (d : ℕ) → d < length plan.table.columns
+      → FolderMakes (WellCall (IsMendCall plan starts d stripes)) (folder_at firsts d) (folder_at written.folders d)
+
+-- What a fix did to the files: all blocks were written, and then the selected records that aren't blocked were finished.
+pub record FixesFiles (plan : FixPlan) (starts : StartsValue) (stripes : List Mended) (finishes : List (List Finish)) (firsts news : List FolderView) : Type 0 where
+  pub written : Written
+  pub writes : WritesFiles plan starts stripes firsts written
+  pub folders : length news ≡ length firsts
+  pub calls : MakeFixCalls plan starts stripes firsts news
+  pub finished : (d : ℕ) → d < length plan.table.columns
+      → FinishesColumn plan written.starts written.states d finishes (folder_at written.folders d) (folder_at news d)
 
 -- A fix: each folder was listed once; then, stripe by stripe, the cells and levels with something selected were read, and what is
 -- damaged and known was written; then the levels that were written were synced, and the files of the selected records finished. Just
@@ -62,17 +136,16 @@ pub record Fixes {W R : Type 0} (view : W → SinkView) (standing : R → Report
   pub plan_is : IsPlan mode selection names table lists plan
   pub stripes : List Mended
   pub numbers : numbers_of (facts_of stripes) ≡ stripes_of plan
-  pub are : All (AreFacts plan) (facts_of stripes)
-  pub read : AreReadThen plan mids stripes
-  pub written : Written
-  pub underway : AreUnderway plan stripes mids written.folders written.starts written.states
+  pub readings : List (List LevelReading)
+  pub finds : FixFinds plan (starts_of table lists) mids old.vault stripes readings
+  pub spare : AsksSpare plan (facts_of stripes) old.spare new.spare
+  pub vault : FixesVault plan stripes readings old.vault new.vault
   pub finishes : List (List Finish)
-  pub folders : length new.folders ≡ length old.folders
-  pub finished : (d : ℕ) → d < length table.columns
-      → FinishesColumn plan written.starts written.states d finishes (folder_at written.folders d) (folder_at new.folders d)
-  pub vault : MendsVault plan (facts_of stripes) old.vault new.vault
-  pub holds : HoldAllWrong plan (facts_of stripes) new.vault
-  pub synced : (level : ℕ) → level < table.shape.levels → was_written plan stripes level ≡ true → IsSettled level new.vault new.vault
+  pub files : FixesFiles plan (starts_of table lists) stripes finishes mids new.folders
+  pub unread : (d : ℕ) → d < length plan.table.columns
+      → RoseBy (unread_cells d (facts_of stripes)) (folder_at old.folders d).faults (folder_at new.folders d).faults
+  pub io : (d : ℕ) → d < length plan.table.columns
+      → RoseBy (count_by (is_io_of d) (fix_events plan stripes finishes)) (folder_at old.folders d).faults (folder_at new.folders d).faults
   pub given : AllGiven standing stands (fix_events plan stripes finishes) old.reports new.reports
   pub puts : Puts view (lines_of table.columns (fix_events plan stripes finishes) ++ fix_text end.blocks end.parities end.left) old.lines new.lines
   pub settled : Settled (state_of view new.lines)
@@ -81,11 +154,28 @@ pub record Fixes {W R : Type 0} (view : W → SinkView) (standing : R → Report
   pub blocks : end.blocks ≡ at_most (sum_by (written_in plan) stripes)
   pub parities : end.parities ≡ at_most (sum_by (wrong_in plan) stripes)
 
--- the calls of a fix: those that write blocks, and those that finish files
-abbrev pub IsFixCall : FixPlan → ℕ → List Mended → StartsValue → List (List FileState) → FolderCall → Type 0
-IsFixCall plan d stripes starts states call = IsMendCall plan d stripes call ⊎ FinishesOne plan d starts states call
+-- ---- how it breaks off
 
--- A fix that broke off after the folders were listed: an object failed, a prefix of its events was told, and only such calls were made.
+-- While blocks were written: a prefix of the events of its stripes was told, and only calls that write their blocks were made.
+pub record BreaksWriting (plan : FixPlan) (starts : StartsValue) (stripes : List Mended) (first : List Event) (firsts news : List FolderView) : Type 0 where
+  pub rest : List Event
+  pub events : opening_events plan ++ all_mended_events plan stripes ≡ first ++ rest
+  pub makes : (d : ℕ) → d < length plan.table.columns → FolderMakes (AnyCall (IsMendCall plan starts d stripes)) (folder_at firsts d) (folder_at news d)
+
+-- While levels were synced or files finished: all blocks were written, a prefix was told of what is told where nothing fails, and only
+-- calls that finish files were made.
+pub record BreaksFinishing (plan : FixPlan) (starts : StartsValue) (stripes : List Mended) (first : List Event) (firsts news : List FolderView) : Type 0 where
+  pub written : Written
+  pub writes : WritesFiles plan starts stripes firsts written
+  pub finishes : List (List Finish)
+  pub are : AreDone plan written.starts written.states written.folders finishes
+  pub rest : List Event
+  pub events : fix_events plan stripes finishes ≡ first ++ rest
+  pub makes : (d : ℕ) → d < length plan.table.columns
+      → FolderMakes (AnyCall (FinishesOne plan d written.starts written.states)) (folder_at written.folders d) (folder_at news d)
+
+-- A fix that broke off after the folders were listed: an object failed otherwise than in the readings that were told. These first stripes
+-- were looked at, and all of them before files were finished.
 pub record FixBreaks {W R : Type 0} (view : W → SinkView) (standing : R → ReportView) (stands : R → List Event → Type 0)
     (mode : Mode) (selection : Selection) (names : List (List ℕ)) (table : TableValue) (old new : Outside W R) (fault : RunFault) : Type 0 where
   pub lists : List (List ListedFile)
@@ -95,17 +185,21 @@ pub record FixBreaks {W R : Type 0} (view : W → SinkView) (standing : R → Re
   pub plan : FixPlan
   pub plan_is : IsPlan mode selection names table lists plan
   pub stripes : List Mended
-  pub are : All (AreFacts plan) (facts_of stripes)
-  pub finishes : List (List Finish)
+  pub behind : List ℕ
+  pub numbers : stripes_of plan ≡ numbers_of (facts_of stripes) ++ behind
+  pub readings : List (List LevelReading)
+  pub finds : FixFinds plan (starts_of table lists) mids old.vault stripes readings
+  pub unread : RoseBy (unread_in readings) old.vault.faults new.vault.faults
+  pub unread_cells_of : (d : ℕ) → d < length plan.table.columns
+      → RoseBy (unread_cells d (facts_of stripes)) (folder_at old.folders d).faults (folder_at new.folders d).faults
+  pub spare : AsksSpare plan (facts_of stripes) old.spare new.spare
+  pub vault : MendsVault plan (facts_of stripes) old.vault new.vault
   pub first : List Event
-  pub rest : List Event
-  pub events : fix_events plan stripes finishes ≡ first ++ rest
+  pub files : BreaksWriting plan (starts_of table lists) stripes first mids new.folders
+      ⊎ ((behind ≡ []) × BreaksFinishing plan (starts_of table lists) stripes first mids new.folders)
   pub told : Told view standing stands table.columns first old.lines new.lines old.reports new.reports
   pub folders : length new.folders ≡ length old.folders
-  pub starts : StartsValue
-  pub states : List (List FileState)
-  pub makes : (d : ℕ) → d < length table.columns → FolderMakes (IsFixCall plan d stripes starts states) (folder_at mids d) (folder_at new.folders d)
-  pub vault : MendsVault plan (facts_of stripes) old.vault new.vault
+  pub calls : MakeFixCalls plan (starts_of table lists) stripes mids new.folders
   pub broke : HasBroken plan fault first mids new.folders old.vault new.vault
 
 -- why a fix did not end: it did not begin, and nothing but the folders was touched, or it broke off

@@ -1,11 +1,13 @@
 -- All stripes of a fix.
-use Rattle.std.specs.Prelude.{◌≡◌, ◌≢◌, ℕ, ◌+◌, ◌<◌, ◌≤◌, List, [], ◌++◌, length, count_by, IsTrue, All, AllPairs}
+use Rattle.std.specs.Prelude.{◌≡◌, ℕ, ◌+◌, ◌<◌, List, [], ◌++◌, length, count_by, IsTrue, All, AllPairs}
 use Rattle.disk_model.specs.Cause.{RoseBy}
 use Rattle.disk_model.specs.Folder.{FolderView}
 use Rattle.disk_model.specs.Sink.{SinkView}
-use Rattle.disk_model.specs.Vault.{VaultView, Reads}
+use Rattle.disk_model.specs.Vault.{VaultView, GoesOn, Reads}
+use Rattle.parity_writer.specs.LevelReading.{LevelReading}
 use Rattle.file_table.specs.Table.{TableValue}
-use Rattle.snap_report.specs.Answer.{Gained, broke_folder, broke_vault, is_io_of, is_parity_io}
+use Rattle.snap_report.specs.Answer.{Gained, broke_folder, is_io_of, is_parity_io}
+use Rattle.snap_fix.specs.Breaking.{broke_parity}
 use Rattle.snap_report.specs.Report.{ReportView}
 use Rattle.snap_report.specs.Told.{Told}
 use Rattle.snap_report.specs.declared.answer.RunFault.{RunFault}
@@ -15,21 +17,22 @@ use Rattle.stripe_reader.specs.Columns.{ReadsWindow, folder_at}
 use Rattle.stripe_reader.specs.WindowValue.{WindowValue}
 use Rattle.snap_fix.specs.declared.beginning.Work.{Work}
 use Rattle.snap_fix.specs.declared.fixing.Totals.{Totals}
+use Rattle.snap_fix.specs.Asking.{AsksSpare}
 use Rattle.snap_fix.specs.Checking.{plan_for}
 use Rattle.snap_fix.specs.Facts.{StripeFacts}
 use Rattle.snap_fix.specs.Fixing.{AreTotals, AreReadThen, FixScene, FolderBroke, MendsVault, SceneFits, Writes, facts_of}
 use Rattle.snap_fix.specs.Known.{AreFacts}
-use Rattle.snap_fix.specs.Looking.{numbers_of, facts_at}
+use Rattle.snap_fix.specs.Looking.{AreAllLevelsOf, numbers_of, facts_at, unread_cells, unread_in}
 use Rattle.snap_fix.specs.Marks.{slots_at}
-use Rattle.snap_fix.specs.Mended.{Mended, all_mended_events}
+use Rattle.snap_fix.specs.Mended.{Mended, AnswersFit, all_mended_events}
 use Rattle.snap_fix.specs.Plan.{FixPlan}
 use Rattle.snap_fix.specs.Room.{IsRoomFor}
-use Rattle.snap_fix.specs.State.{FolderMakes}
-use Rattle.snap_fix.specs.Underway.{AreFixable, AreUnderway, HoldsWrong, IsMendCall}
+use Rattle.snap_fix.specs.State.{AnyCall, WellCall, FolderMakes, KeepsStarts}
+use Rattle.snap_fix.specs.Underway.{AddsZeros, AreFixable, AreUnderway, HoldsWrong, IsMendCall, IsMendedLevel, mend_calls}
 
--- no stripe is looked at twice
-abbrev pub AreDistinct : List ℕ → Type 0
-AreDistinct numbers = AllPairs (λ (a b : ℕ). a ≢ b) numbers
+-- the stripes are looked at in ascending order, none twice
+abbrev pub AreAscending : List ℕ → Type 0
+AreAscending numbers = AllPairs (λ (a b : ℕ). a < b) numbers
 
 -- the wrong levels of each of these stripes hold the sums of its row
 abbrev pub HoldAllWrong : FixPlan → List StripeFacts → VaultView → Type 0
@@ -43,10 +46,18 @@ pub record FixesAll {W R : Type 0} (view : W → SinkView) (standing : R → Rep
   pub told : Told view standing stands plan.table.columns (all_mended_events plan stripes) old.lines new.lines old.reports new.reports
   pub totals_are : AreTotals plan stripes totals
   pub written : Writes plan stripes old.written new.written
+  pub answered : All (AnswersFit plan old.folders) stripes
+  pub stood : KeepsStarts old.starts new.starts
+  pub readings : List (List LevelReading)
+  pub read : AreAllLevelsOf plan.table.shape.block_size old.vault (facts_of stripes) readings
+  pub unread : RoseBy (unread_in readings) old.vault.faults new.vault.faults
+  pub ran : GoesOn old.vault new.vault (mend_calls plan (facts_of stripes) readings)
   pub vault : MendsVault plan (facts_of stripes) old.vault new.vault
+  pub zeros : IsTrue old.vault.tells → AddsZeros plan.table.shape.block_size (IsMendedLevel plan (facts_of stripes)) old.vault.files new.vault.files
   pub holds : HoldAllWrong plan (facts_of stripes) new.vault
   pub parity_io : RoseBy (count_by is_parity_io (all_mended_events plan stripes)) old.vault.faults new.vault.faults
-  pub makes : (d : ℕ) → d < length plan.table.columns → FolderMakes (IsMendCall plan d stripes) (folder_at old.folders d) (folder_at new.folders d)
+  pub spare : AsksSpare plan (facts_of stripes) old.spare new.spare
+  pub makes : (d : ℕ) → d < length plan.table.columns → FolderMakes (WellCall (IsMendCall plan old.starts d stripes)) (folder_at old.folders d) (folder_at new.folders d)
   pub underway : (before : List Mended) (firsts : List FolderView) → AreFixable plan firsts
       → AreUnderway plan before firsts old.folders old.starts old.states
       → AreUnderway plan (before ++ stripes) firsts new.folders new.starts new.states
@@ -83,7 +94,9 @@ pub record FixesStripes {W R : Type 0} (view : W → SinkView) (standing : R →
   pub numbers_are : numbers_of (facts_of stripes) ≡ numbers
   pub fixes : FixesAll view standing stands plan stripes old new totals
   pub read : (firsts : List FolderView) → AreFixable plan firsts → AreUnderway plan [] firsts old.folders old.starts old.states
-      → AreReadThen plan firsts stripes
+      → AreReadThen plan old.starts firsts stripes
+  pub unread : (d : ℕ) → d < length plan.table.columns
+      → RoseBy (unread_cells d (facts_of stripes)) (folder_at old.folders d).faults (folder_at new.folders d).faults
   pub io : (d : ℕ) → d < length plan.table.columns
       → RoseBy (count_by (is_io_of d) (all_mended_events plan stripes)) (folder_at old.folders d).faults (folder_at new.folders d).faults
 
@@ -96,7 +109,7 @@ pub record FolderFailedBy (disk : ℕ) (told : List Event) (old new : FolderView
 
 pub record VaultFailedBy (told : List Event) (old new : VaultView) : Type 0 where
   pub rose : RoseBy (count_by is_parity_io told + 1) old.faults new.faults
-  pub call : IsTrue new.tells_calls → Gained broke_vault old.calls new.calls
+  pub call : IsTrue new.tells_calls → Gained broke_parity old.calls new.calls
 
 abbrev pub HasBroken : FixPlan → RunFault → List Event → List FolderView → List FolderView → VaultView → VaultView → Type 0
 HasBroken plan (Folder disk) told olds news old new = (disk < length plan.table.columns) × FolderFailedBy disk told (folder_at olds disk) (folder_at news disk)
@@ -106,16 +119,27 @@ HasBroken plan Memory told olds news old new = ⊥
 -- Some first stripes were written anew, and the one after them broke off: a prefix of their events was told, and only calls were made
 -- that they ask for.
 pub record BreaksStripes {W R : Type 0} (view : W → SinkView) (standing : R → ReportView) (stands : R → List Event → Type 0)
-    (plan : FixPlan) (old new : FixScene W R) (fault : RunFault) : Type 0 where
+    (plan : FixPlan) (numbers : List ℕ) (old new : FixScene W R) (fault : RunFault) : Type 0 where
   pub stripes : List Mended
+  pub behind : List ℕ
+  pub numbers_are : numbers ≡ numbers_of (facts_of stripes) ++ behind
   pub are : All (AreFacts plan) (facts_of stripes)
   pub first : List Event
   pub rest : List Event
   pub events : all_mended_events plan stripes ≡ first ++ rest
   pub told : Told view standing stands plan.table.columns first old.lines new.lines old.reports new.reports
   pub folders : length new.folders ≡ length old.folders
+  pub answered : All (AnswersFit plan old.folders) stripes
+  pub cells : (firsts : List FolderView) → AreFixable plan firsts → AreUnderway plan [] firsts old.folders old.starts old.states
+      → AreReadThen plan old.starts firsts stripes
+  pub readings : List (List LevelReading)
+  pub read : AreAllLevelsOf plan.table.shape.block_size old.vault (facts_of stripes) readings
+  pub unread : RoseBy (unread_in readings) old.vault.faults new.vault.faults
+  pub unread_cells_of : (d : ℕ) → d < length plan.table.columns
+      → RoseBy (unread_cells d (facts_of stripes)) (folder_at old.folders d).faults (folder_at new.folders d).faults
+  pub spare : AsksSpare plan (facts_of stripes) old.spare new.spare
   pub vault : MendsVault plan (facts_of stripes) old.vault new.vault
-  pub makes : (d : ℕ) → d < length plan.table.columns → FolderMakes (IsMendCall plan d stripes) (folder_at old.folders d) (folder_at new.folders d)
+  pub makes : (d : ℕ) → d < length plan.table.columns → FolderMakes (AnyCall (IsMendCall plan old.starts d stripes)) (folder_at old.folders d) (folder_at new.folders d)
   pub broke : HasBroken plan fault first old.folders new.folders old.vault new.vault
 
 -- The same within a window, which was read before: the failed readings that were told of its cells were counted then.
@@ -125,9 +149,10 @@ HasBrokenInto plan Vault told olds news old new = VaultFailedBy told old new
 HasBrokenInto plan Memory told olds news old new = ⊥
 
 pub record BreaksInto {W R : Type 0} (view : W → SinkView) (standing : R → ReportView) (stands : R → List Event → Type 0)
-    (plan : FixPlan) (window : WindowValue) (old new : FixScene W R) (fault : RunFault) : Type 0 where
+    (plan : FixPlan) (numbers : List ℕ) (window : WindowValue) (old new : FixScene W R) (fault : RunFault) : Type 0 where
   pub stripes : List Mended
-  pub few : length stripes ≤ window.count
+  pub behind : List ℕ
+  pub numbers_are : numbers ≡ numbers_of (facts_of stripes) ++ behind
   pub slots : (k : ℕ) → k < length stripes → (facts_at (facts_of stripes) k).slots ≡ slots_at window k
   pub are : All (AreFacts plan) (facts_of stripes)
   pub first : List Event
@@ -135,6 +160,19 @@ pub record BreaksInto {W R : Type 0} (view : W → SinkView) (standing : R → R
   pub events : all_mended_events plan stripes ≡ first ++ rest
   pub told : Told view standing stands plan.table.columns first old.lines new.lines old.reports new.reports
   pub folders : length new.folders ≡ length old.folders
+  pub answered : All (AnswersFit plan old.folders) stripes
+  pub readings : List (List LevelReading)
+  pub read : AreAllLevelsOf plan.table.shape.block_size old.vault (facts_of stripes) readings
+  pub unread : RoseBy (unread_in readings) old.vault.faults new.vault.faults
+  pub spare : AsksSpare plan (facts_of stripes) old.spare new.spare
   pub vault : MendsVault plan (facts_of stripes) old.vault new.vault
-  pub makes : (d : ℕ) → d < length plan.table.columns → FolderMakes (IsMendCall plan d stripes) (folder_at old.folders d) (folder_at new.folders d)
+  pub makes : (d : ℕ) → d < length plan.table.columns → FolderMakes (AnyCall (IsMendCall plan old.starts d stripes)) (folder_at old.folders d) (folder_at new.folders d)
   pub broke : HasBrokenInto plan fault first old.folders new.folders old.vault new.vault
+
+-- Some stripes of the work were read into the window, and then it broke off.
+pub record BreaksWindow {W R : Type 0} (view : W → SinkView) (standing : R → ReportView) (stands : R → List Event → Type 0)
+    (table : TableValue) (work : Work) (numbers : List ℕ) (old new : FixScene W R) (fault : RunFault) : Type 0 where
+  pub window : WindowValue
+  pub mids : List FolderView
+  pub read : ReadsWindow table work.starts numbers work.room.window window old.folders mids
+  pub breaks : BreaksInto view standing stands (plan_for table work) numbers window (with_folders old mids) new fault

@@ -2,9 +2,10 @@
 use Rattle.std.specs.Prelude.{◌≡◌, ℕ, List, [], ◌∷◌, ◌++◌, Bool, IsTrue}
 use Rattle.disk_model.specs.Cause.{Rose}
 use Rattle.disk_model.specs.Sink.{SinkView}
-use Rattle.disk_model.specs.Vault.{SomeCalls, ChangesBy, DraftsStay, Reads}
+use Rattle.disk_model.specs.Vault.{GoesOn, SomeCalls, ChangesBy, DraftsStay, Reads}
 use Rattle.parity_writer.specs.LevelsValue.{LevelsValue}
-use Rattle.snap_report.specs.Answer.{Gained, broke_vault}
+use Rattle.snap_report.specs.Answer.{Gained}
+use Rattle.snap_fix.specs.Breaking.{broke_parity}
 use Rattle.snap_report.specs.Report.{ReportView}
 use Rattle.snap_report.specs.Told.{Told}
 use Rattle.snap_report.specs.declared.events.Event.{Event}
@@ -15,7 +16,7 @@ use Rattle.snap_fix.specs.Marks.{levels_read, row_if}
 use Rattle.snap_fix.specs.Mended.{all_level_news, wrong_in}
 use Rattle.snap_fix.specs.Plan.{FixPlan, is_searched}
 use Rattle.snap_fix.specs.Repairing.{FlagsWritten, LevelsOutside}
-use Rattle.snap_fix.specs.Underway.{KeepsLevels, IsMendedLevel, HoldsWrong}
+use Rattle.snap_fix.specs.Underway.{AddsZeros, KeepsLevels, IsMendedLevel, HoldsWrong, done_well, wrong_writes}
 
 -- these are the facts of a stripe of the window: its levels were read where a recovery is tried
 pub record ShowsTried (plan : FixPlan) (facts : StripeFacts) (stripe i : ℕ) (window : WindowValue) (levels : LevelsValue)
@@ -29,10 +30,12 @@ pub record ShowsTried (plan : FixPlan) (facts : StripeFacts) (stripe i : ℕ) (w
 pub record MendsParity {W R : Type 0} (view : W → SinkView) (standing : R → ReportView) (stands : R → List Event → Type 0)
     (plan : FixPlan) (facts : StripeFacts) (before after : List Bool) (old new : LevelsOutside W R) (count : ℕ) : Type 0 where
   pub calls : SomeCalls old.vault new.vault
+  pub ran : GoesOn old.vault new.vault (done_well (wrong_writes plan facts))
   pub drafts : DraftsStay old.vault new.vault
   pub told : Told view standing stands plan.table.columns (all_level_news plan facts) old.lines new.lines old.reports new.reports
   pub count_is : count ≡ wrong_in plan (record { facts = facts; answers = [] })
   pub changes : ChangesBy (KeepsLevels plan.table.shape.block_size (IsMendedLevel plan (facts ∷ []))) old.vault new.vault
+  pub zeros : IsTrue old.vault.tells → AddsZeros plan.table.shape.block_size (IsMendedLevel plan (facts ∷ [])) old.vault.files new.vault.files
   pub holds : Reads (HoldsWrong plan facts) new.vault
   pub flags : FlagsWritten plan facts before after
 
@@ -40,7 +43,7 @@ pub record MendsParity {W R : Type 0} (view : W → SinkView) (standing : R → 
 pub record MendsNotParity {W R : Type 0} (view : W → SinkView) (standing : R → ReportView) (stands : R → List Event → Type 0)
     (plan : FixPlan) (facts : StripeFacts) (old new : LevelsOutside W R) : Type 0 where
   pub rose : Rose old.vault.faults new.vault.faults
-  pub call : IsTrue new.vault.tells_calls → Gained broke_vault old.vault.calls new.vault.calls
+  pub call : IsTrue new.vault.tells_calls → Gained broke_parity old.vault.calls new.vault.calls
   pub calls : SomeCalls old.vault new.vault
   pub drafts : DraftsStay old.vault new.vault
   pub first : List Event

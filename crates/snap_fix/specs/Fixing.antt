@@ -1,13 +1,14 @@
 -- Stripes that are looked at and written anew, one after another.
-use Rattle.std.specs.Prelude.{◌≡◌, ◌⊎◌, ℕ, ◌+◌, ◌<◌, ◌≤◌, List, [], ◌∷◌, ◌++◌, length, map, take, get_or, count_by, sum_by, Bool, true, false, IsTrue, None}
+use Rattle.std.specs.Prelude.{◌≡◌, ◌⊎◌, ℕ, ◌+◌, ◌<◌, ◌≤◌, List, [], ◌∷◌, ◌++◌, length, map, take, get_or, count_by, sum_by, All, Bool, true, false, IsTrue, None}
 use Rattle.std.specs.List.{list_any}
 use Rattle.disk_model.specs.Cause.{Rose, RoseBy}
 use Rattle.disk_model.specs.Folder.{FolderView}
 use Rattle.disk_model.specs.Sink.{SinkView}
-use Rattle.disk_model.specs.Vault.{VaultView, SomeCalls, ChangesBy, DraftsStay, Reads}
+use Rattle.disk_model.specs.Vault.{VaultView, GoesOn, SomeCalls, ChangesBy, DraftsStay, Reads}
 use Rattle.file_table.specs.declared.shape.Shape.{Shape}
 use Rattle.parity_writer.specs.LevelReading.{LevelReading, has_failed}
-use Rattle.snap_report.specs.Answer.{Gained, broke_folder, broke_vault}
+use Rattle.snap_report.specs.Answer.{Gained, broke_folder}
+use Rattle.snap_fix.specs.Breaking.{broke_parity}
 use Rattle.snap_report.specs.Report.{ReportView}
 use Rattle.snap_report.specs.Told.{Told}
 use Rattle.snap_report.specs.declared.answer.RunFault.{RunFault}
@@ -23,36 +24,40 @@ use Rattle.stripe_reader.specs.Starts.{StartsValue, StartsFit}
 use Rattle.snap_fix.specs.declared.fixing.Totals.{Totals}
 use Rattle.snap_fix.specs.declared.room.Room.{Room}
 use Rattle.snap_fix.specs.declared.state.FileState.{FileState}
+use Rattle.snap_fix.specs.Asking.{AsksSpare}
 use Rattle.snap_fix.specs.Counts.{AreCounts, at_most}
 use Rattle.snap_fix.specs.Facts.{StripeFacts, slot_of}
 use Rattle.snap_fix.specs.Known.{AreFacts}
 use Rattle.snap_fix.specs.Looking.{AreLevelsOf}
 use Rattle.snap_fix.specs.Marks.{ChangesStripe, slots_at}
-use Rattle.snap_fix.specs.Mended.{Mended, all_mended_events, mended_events, is_wrong_level, written_in, wrong_in}
+use Rattle.snap_fix.specs.Mended.{Mended, AnswersFit, all_mended_events, mended_events, is_wrong_level, written_in, wrong_in}
 use Rattle.snap_fix.specs.Mending.{StatesFit}
 use Rattle.snap_fix.specs.Plan.{FixPlan}
 use Rattle.snap_fix.specs.Room.{IsRoomFor}
-use Rattle.snap_fix.specs.State.{FolderMakes}
-use Rattle.snap_fix.specs.Underway.{AreFixable, AreUnderway, IsMendCall, KeepsLevels, IsMendedLevel, HoldsWrong}
+use Rattle.snap_fix.specs.Spare.{SpareView, IsSpareFor}
+use Rattle.snap_fix.specs.State.{AnyCall, WellCall, FolderMakes, KeepsStarts}
+use Rattle.snap_fix.specs.Underway.{AreFixable, AreUnderway, IsMendCall, AddsZeros, KeepsLevels, IsMendedLevel, HoldsWrong, stripe_calls}
 
--- all that a fix works on: where files stand, what was done to them, which levels were written, the folders, the vault, the lines, and
--- those who are told
+-- all that a fix works on: where files stand, what was done to them, which levels were written, the folders, the vault, the spare, the
+-- lines, and those who are told
 pub record FixScene (W R : Type 0) : Type 1 where
   pub starts : StartsValue
   pub states : List (List FileState)
   pub written : List Bool
   pub folders : List FolderView
   pub vault : VaultView
+  pub spare : SpareView
   pub lines : Lines W
   pub reports : List R
 
-abbrev pub fix_scene : {W R : Type 0} → StartsValue → List (List FileState) → List Bool → List FolderView → VaultView → Lines W → List R → FixScene W R
-fix_scene starts states written folders vault lines reports = record {
+abbrev pub fix_scene : {W R : Type 0} → StartsValue → List (List FileState) → List Bool → List FolderView → VaultView → SpareView → Lines W → List R → FixScene W R
+fix_scene starts states written folders vault spare lines reports = record {
   starts = starts;
   states = states;
   written = written;
   folders = folders;
   vault = vault;
+  spare = spare;
   lines = lines;
   reports = reports;
 }
@@ -64,6 +69,7 @@ pub record SceneFits {W R : Type 0} (plan : FixPlan) (scene : FixScene W R) : Ty
   pub states : StatesFit plan.table scene.states
   pub written : length scene.written ≡ plan.table.shape.levels
   pub levels : scene.vault.levels ≡ plan.table.shape.levels
+  pub spare : IsSpareFor plan.table.shape scene.spare
 
 -- the facts of stripes
 abbrev pub facts_of : List Mended → List StripeFacts
@@ -94,15 +100,32 @@ pub record IsCellRead (shape : Shape) (folder : FolderView) (task : Task) (slot 
   pub is_kept : slot ≡ kept shape reading
 
 -- The cells of a stripe were read of the folders once the first so many stripes had been written anew.
-pub record IsReadThen (plan : FixPlan) (firsts : List FolderView) (stripes : List Mended) (k : ℕ) (facts : StripeFacts) : Type 0 where
+pub record IsReadThen (plan : FixPlan) (begun : StartsValue) (firsts : List FolderView) (stripes : List Mended) (k : ℕ) (facts : StripeFacts) : Type 0 where
   pub count : ℕ
   pub earlier : count ≤ k
   pub starts : StartsValue
+  pub stood : KeepsStarts begun starts
   pub states : List (List FileState)
   pub folders : List FolderView
   pub underway : AreUnderway plan (take count stripes) firsts folders starts states
   pub cells : (d : ℕ) → d < length plan.table.columns
       → IsCellRead plan.table.shape (folder_at folders d) (task_at plan.table starts d facts.stripe) (slot_of facts d)
+
+-- What a slot keeps of a cell is what stood in its place at first, or its reading failed; what was seen of the file's size and stamp
+-- may be later.
+pub record IsPresent (shape : Shape) (first : FolderView) (task : Task) (slot : SlotValue) : Type 0 where
+  pub reading : CellReading
+  pub is_of : IsReadingOf first task reading
+  pub found : slot.cell.found ≡ (kept shape reading).cell.found
+  pub got : slot.cell.got ≡ (kept shape reading).cell.got
+  pub digest : slot.digest ≡ (kept shape reading).digest
+  pub block : slot.block ≡ (kept shape reading).block
+
+-- The cells of stripes are those that stood there at first.
+abbrev pub ArePresent : FixPlan → StartsValue → List FolderView → List StripeFacts → Type 0
+ArePresent plan starts firsts stripes =
+    All (λ (facts : StripeFacts). (d : ℕ) → d < length plan.table.columns
+    → IsPresent plan.table.shape (folder_at firsts d) (task_at plan.table starts d facts.stripe) (slot_of facts d)) stripes
 
 -- what stands for a stripe that is not there
 abbrev pub no_mended : Mended
@@ -111,9 +134,9 @@ no_mended = record { facts = record { stripe = 0; slots = []; gifts = []; levels
 abbrev pub mended_at : List Mended → ℕ → Mended
 mended_at stripes k = get_or stripes k no_mended
 
-abbrev pub AreReadThen : FixPlan → List FolderView → List Mended → Type 0
-AreReadThen plan firsts stripes =
-    (k : ℕ) → k < length stripes → IsReadThen plan firsts stripes k (mended_at stripes k).facts
+abbrev pub AreReadThen : FixPlan → StartsValue → List FolderView → List Mended → Type 0
+AreReadThen plan begun firsts stripes =
+    (k : ℕ) → k < length stripes → IsReadThen plan begun firsts stripes k (mended_at stripes k).facts
 
 -- ---- one stripe
 
@@ -144,10 +167,15 @@ pub record FixesStripe {W R : Type 0} (view : W → SinkView) (standing : R → 
   pub told : Told view standing stands plan.table.columns (mended_events plan mended) old.lines new.lines old.reports new.reports
   pub totals_are : AreTotals plan (mended ∷ []) totals
   pub written : Writes plan (mended ∷ []) old.written new.written
+  pub answered : AnswersFit plan old.folders mended
+  pub stood : KeepsStarts old.starts new.starts
   pub read : LevelsWereRead plan mended.facts old.vault new.vault
+  pub ran : GoesOn old.vault new.vault (stripe_calls plan mended.facts read.readings)
   pub vault : MendsVault plan (mended.facts ∷ []) old.vault new.vault
+  pub zeros : IsTrue old.vault.tells → AddsZeros plan.table.shape.block_size (IsMendedLevel plan (mended.facts ∷ [])) old.vault.files new.vault.files
   pub holds : Reads (HoldsWrong plan mended.facts) new.vault
-  pub makes : (d : ℕ) → d < length plan.table.columns → FolderMakes (IsMendCall plan d (mended ∷ [])) (folder_at old.folders d) (folder_at new.folders d)
+  pub spare : AsksSpare plan (mended.facts ∷ []) old.spare new.spare
+  pub makes : (d : ℕ) → d < length plan.table.columns → FolderMakes (WellCall (IsMendCall plan old.starts d (mended ∷ []))) (folder_at old.folders d) (folder_at new.folders d)
   pub underway : (stripes : List Mended) (firsts : List FolderView) → AreFixable plan firsts
       → AreUnderway plan stripes firsts old.folders old.starts old.states
       → AreUnderway plan (stripes ++ mended ∷ []) firsts new.folders new.starts new.states
@@ -162,7 +190,7 @@ pub record FolderBroke (old new : FolderView) : Type 0 where
 -- the same of a vault, besides so many readings of levels that failed
 pub record VaultBroke (unread : ℕ) (old new : VaultView) : Type 0 where
   pub rose : RoseBy (unread + 1) old.faults new.faults
-  pub call : IsTrue new.tells_calls → Gained broke_vault old.calls new.calls
+  pub call : IsTrue new.tells_calls → Gained broke_parity old.calls new.calls
 
 abbrev pub IsBrokenBy : FixPlan → RunFault → ℕ → List FolderView → List FolderView → VaultView → VaultView → Type 0
 IsBrokenBy plan (Folder disk) unread olds news old new = (disk < length plan.table.columns) × FolderBroke (folder_at olds disk) (folder_at news disk)
@@ -181,7 +209,9 @@ pub record BreaksStripe {W R : Type 0} (view : W → SinkView) (standing : R →
   pub events : mended_events plan mended ≡ first ++ rest
   pub told : Told view standing stands plan.table.columns first old.lines new.lines old.reports new.reports
   pub folders : length new.folders ≡ length old.folders
+  pub answered : AnswersFit plan old.folders mended
   pub read : LevelsWereRead plan mended.facts old.vault new.vault
+  pub spare : AsksSpare plan (mended.facts ∷ []) old.spare new.spare
   pub vault : MendsVault plan (mended.facts ∷ []) old.vault new.vault
-  pub makes : (d : ℕ) → d < length plan.table.columns → FolderMakes (IsMendCall plan d (mended ∷ [])) (folder_at old.folders d) (folder_at new.folders d)
+  pub makes : (d : ℕ) → d < length plan.table.columns → FolderMakes (AnyCall (IsMendCall plan old.starts d (mended ∷ []))) (folder_at old.folders d) (folder_at new.folders d)
   pub broke : IsBrokenBy plan fault (count_by has_failed read.readings) old.folders new.folders old.vault new.vault

@@ -5,11 +5,14 @@ pub mod Plan
 pub mod Search
 pub mod Restorable
 pub mod Facts
+pub mod Asking
+pub mod Breaking
 pub mod Known
 pub mod Findings
 pub mod Counts
 pub mod Marks
 pub mod MarkedCell
+pub mod AskedCell
 pub mod Knowing
 pub mod Room
 pub mod Beginning
@@ -33,3 +36,7 @@ pub mod Fixing
 pub mod FixSteps
 pub mod FixRun
 pub mod FixCourse
+pub mod Genuine
+pub mod Stopped
+pub mod Restored
+pub mod Found

@@ -18,12 +18,14 @@ use Rattle.stripe_reader.specs.SlotValue.{SlotValue}
 use Rattle.stripe_reader.specs.Starts.{StartsValue}
 use Rattle.stripe_reader.specs.WindowValue.{WindowValue}
 use Rattle.snap_fix.specs.declared.counts.Counts.{Counts}
+use Rattle.snap_fix.specs.Asking.{AsksSpare}
 use Rattle.snap_fix.specs.Counts.{AreCounts}
 use Rattle.snap_fix.specs.Facts.{StripeFacts, slot_of}
-use Rattle.snap_fix.specs.Findings.{events_of}
+use Rattle.snap_fix.specs.Findings.{events_of, is_unread}
 use Rattle.snap_fix.specs.Known.{AreFacts}
 use Rattle.snap_fix.specs.Marks.{slots_at}
 use Rattle.snap_fix.specs.Plan.{FixPlan}
+use Rattle.snap_fix.specs.Spare.{SpareView}
 
 -- the numbers of stripes, and the slots of a column
 abbrev pub numbers_of : List StripeFacts → List ℕ
@@ -31,6 +33,10 @@ numbers_of stripes = map (λ (facts : StripeFacts). facts.stripe) stripes
 
 abbrev pub slots_of : ℕ → List StripeFacts → List SlotValue
 slots_of d stripes = map (λ (facts : StripeFacts). slot_of facts d) stripes
+
+-- how many cells of a column were not read
+abbrev pub unread_cells : ℕ → List StripeFacts → ℕ
+unread_cells d stripes = count_by (λ (facts : StripeFacts). is_unread (slot_of facts d).cell.found) stripes
 
 -- what stands for the facts of a stripe that is not there
 abbrev pub no_facts : StripeFacts
@@ -80,20 +86,22 @@ pub record LevelsAreRead (plan : FixPlan) (stripes : List StripeFacts) (old new 
   pub changes : ChangesBy Stays old new
   pub drafts : DraftsStay old new
 
--- what is looked at: the vault, the lines, and those who are told
+-- what is looked at: the vault, the spare, the lines, and those who are told
 pub record Scene (W R : Type 0) : Type 1 where
   pub vault : VaultView
+  pub spare : SpareView
   pub lines : Lines W
   pub reports : List R
 
-abbrev pub scene : {W R : Type 0} → VaultView → Lines W → List R → Scene W R
-scene vault lines reports = record { vault = vault; lines = lines; reports = reports }
+abbrev pub scene : {W R : Type 0} → VaultView → SpareView → Lines W → List R → Scene W R
+scene vault spare lines reports = record { vault = vault; spare = spare; lines = lines; reports = reports }
 
 -- Stripes were looked at: these are the facts of them, and just their events were told.
 pub record LooksAt {W R : Type 0} (view : W → SinkView) (standing : R → ReportView) (stands : R → List Event → Type 0)
     (plan : FixPlan) (stripes : List StripeFacts) (counts : Counts) (old new : Scene W R) : Type 0 where
   pub are : All (AreFacts plan) stripes
   pub levels : LevelsAreRead plan stripes old.vault new.vault
+  pub spare : AsksSpare plan stripes old.spare new.spare
   pub told : Told view standing stands plan.table.columns (events_of plan stripes) old.lines new.lines old.reports new.reports
   pub counts_are : AreCounts (events_of plan stripes) counts
 

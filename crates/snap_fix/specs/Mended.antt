@@ -1,11 +1,13 @@
 -- A stripe whose damaged blocks and wrong levels a fix writes anew: what is written, what is told of it, and what it leaves.
-use Rattle.std.specs.Prelude.{ℕ, ◌*◌, ◌==◌, ◌&&◌, ◌||◌, not, List, [], ◌∷◌, ◌++◌, length, map, get_or, is_some, count_by, Bool, false, if◌then◌else◌, Option, None, Some}
+use Rattle.std.specs.Prelude.{◌≡◌, ℕ, ◌*◌, ◌<◌, ◌==◌, ◌&&◌, ◌||◌, not, List, [], ◌∷◌, ◌++◌, length, map, get_or, is_some, count_by, Bool, true, false, if◌then◌else◌, Option, None, Some, IsTrue}
 use Rattle.std.specs.List.{range_with_len, flat_map, list_any}
+use Rattle.disk_model.specs.Folder.{FolderView}
 use Rattle.file_table.specs.declared.block.Cell.{Cell}
 use Rattle.parity_writer.specs.LevelsValue.{no_level}
 use Rattle.parity_writer.specs.Parity.{Row}
 use Rattle.snap_report.specs.declared.events.Event.{Event}
 use Rattle.snap_report.specs.declared.events.Event.TheVariants.{Fixed, FixedParity}
+use Rattle.stripe_reader.specs.Columns.{folder_at}
 use Rattle.snap_fix.specs.Facts.{StripeFacts, gift_of, damaged_at, is_missing}
 use Rattle.snap_fix.specs.Findings.{is_lost, is_wrong, lost_event, stripe_events}
 use Rattle.snap_fix.specs.Plan.{FixPlan, cell_at, entry_at, selects_cell}
@@ -45,6 +47,11 @@ is_repaired plan facts d =
 
 abbrev pub is_written : FixPlan → Mended → ℕ → Bool
 is_written plan mended d = is_repaired plan mended.facts d && answer_of mended d
+
+-- where its folder tells its files, each cell that is to be written is
+abbrev pub AnswersFit : FixPlan → List FolderView → Mended → Type 0
+AnswersFit plan folders mended = (d : ℕ) → d < length plan.table.columns → IsTrue (folder_at folders d).tells
+    → is_repaired plan mended.facts d ≡ true → answer_of mended d ≡ true
 
 -- ---- what is told
 

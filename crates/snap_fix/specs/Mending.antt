@@ -15,7 +15,7 @@ use Rattle.stripe_reader.specs.declared.starts.Place.{Place}
 use Rattle.stripe_reader.specs.declared.starts.Place.TheVariants.{Lost, Nowhere}
 use Rattle.snap_fix.specs.declared.state.FileState.{FileState}
 use Rattle.snap_fix.specs.Plan.{records_in}
-use Rattle.snap_fix.specs.State.{Write, HoldsRecord, HoldsColumn, HoldsTold, FolderMakes, OthersStay, record_path, state_in, stands}
+use Rattle.snap_fix.specs.State.{AnyCall, WellCall, Write, HoldsRecord, HoldsColumn, HoldsTold, FolderMakes, OthersStay, StaysPlace, record_path, size_after, state_in, stands}
 
 -- there is a state for each record of each column
 pub record StatesFit (table : TableValue) (states : List (List FileState)) : Type 0 where
@@ -75,8 +75,10 @@ pub record CanSetUp (path : List ℕ) (start : Start) (state : FileState) (folde
 -- These calls were made, and what the folder holds of the record goes on by these writes. All other names hold what they held.
 pub record GoesOnBy (P : FolderCall → Type 0) (added : List Write) (path : List ℕ) (start : Start) (state : FileState)
     (folder : FolderView) (start_new : Start) (state_new : FileState) (folder_new : FolderView) : Type 0 where
-  pub makes : FolderMakes P folder folder_new
+  pub makes : FolderMakes (WellCall P) folder folder_new
   pub same_size : start_new.size ≡ start.size
+  pub stood : StaysPlace start.place start_new.place
+  pub size : state_new.size ≡ size_after state.size added
   pub same_lost : state_new.lost ≡ state.lost
   pub stays_touched : state.touched ≡ true → state_new.touched ≡ true
   pub holds : IsTrue folder.tells → (first : Tree) (writes : List Write)
@@ -100,7 +102,7 @@ pub record WritesBytes (path : List ℕ) (at : ℕ) (bytes : List ℕ) (start : 
 pub record BreaksOff (P : FolderCall → Type 0) (folder folder_new : FolderView) : Type 0 where
   pub rose : Rose folder.faults folder_new.faults
   pub call : IsTrue folder_new.tells_calls → Gained broke_folder folder.calls folder_new.calls
-  pub makes : FolderMakes P folder folder_new
+  pub makes : FolderMakes (AnyCall P) folder folder_new
 
 -- its file was gone, which does not happen where the folder tells its files
 pub record FindsNone (P : FolderCall → Type 0) (path : List ℕ) (start : Start) (state : FileState) (folder : FolderView)
@@ -142,12 +144,14 @@ pub record MendsCell (table : TableValue) (d : ℕ) (cell : Cell) (bytes : List 
   pub place : Place
   pub state : FileState
   pub starts_are : starts_new ≡ with_place starts d cell.rec place
+  pub stood : StaysPlace (start_in (starts_at starts.columns d) cell.rec).place place
   pub states_are : states_new ≡ with_state states d cell.rec state
   pub same_lost : state.lost ≡ (state_in states d cell.rec).lost
+  pub size : state.size ≡ size_after (state_in states d cell.rec).size (if written then record { at = block_start table cell; bytes = bytes } ∷ [] else [])
   pub touched : written ≡ true → state.touched ≡ true
   pub stays_touched : (state_in states d cell.rec).touched ≡ true → state.touched ≡ true
   pub there : IsTrue folder.tells → written ≡ true
-  pub makes : FolderMakes (IsBlockCall (start_in (starts_at starts.columns d) cell.rec).place (cell_path table d cell) (block_start table cell) bytes) folder folder_new
+  pub makes : FolderMakes (WellCall (IsBlockCall (start_in (starts_at starts.columns d) cell.rec).place (cell_path table d cell) (block_start table cell) bytes)) folder folder_new
   pub holds : (first : FolderView) (writes : List (List Write)) → first.tells ≡ folder.tells → (IsTrue first.tells → IsFree first.tree (cell_path table d cell)) → (IsTrue first.tells → IsTree first.tree)
       → HoldsTold (records_in table d) (starts_at starts.columns d) (get_or states d []) writes first folder
       → HoldsTold (records_in table d) (starts_at starts_new.columns d) (get_or states_new d []) (mended_writes table cell bytes written writes) first folder_new
@@ -156,4 +160,4 @@ pub record MendsCell (table : TableValue) (d : ℕ) (cell : Cell) (bytes : List 
 pub record MendsNot (table : TableValue) (d : ℕ) (cell : Cell) (bytes : List ℕ) (starts : StartsValue) (folder folder_new : FolderView) : Type 0 where
   pub rose : Rose folder.faults folder_new.faults
   pub call : IsTrue folder_new.tells_calls → Gained broke_folder folder.calls folder_new.calls
-  pub makes : FolderMakes (IsBlockCall (start_in (starts_at starts.columns d) cell.rec).place (cell_path table d cell) (block_start table cell) bytes) folder folder_new
+  pub makes : FolderMakes (AnyCall (IsBlockCall (start_in (starts_at starts.columns d) cell.rec).place (cell_path table d cell) (block_start table cell) bytes)) folder folder_new

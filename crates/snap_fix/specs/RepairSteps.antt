@@ -1,15 +1,18 @@
 -- The steps by which a stripe is written anew: one cell of it, and one level.
-use Rattle.std.specs.Prelude.{◌≡◌, ◌≢◌, ℕ, ◌*◌, ◌<◌, ◌≤◌, ◌&&◌, ◌||◌, not, List, [], ◌∷◌, ◌++◌, length, get_or, Bool, if◌then◌else◌, Some, IsTrue}
+use Rattle.std.specs.Prelude.{◌≡◌, ◌≢◌, ℕ, ◌*◌, ◌<◌, ◌≤◌, ◌&&◌, ◌||◌, not, List, [], ◌∷◌, ◌++◌, length, get_or, Bool, if◌then◌else◌, true, Some, IsTrue}
+use Rattle.cauchy.specs.Matrix.{parity_of as level_of}
 use Rattle.disk_model.specs.Cause.{Rose}
-use Rattle.disk_model.specs.Files.{Files, parity_of, TearsParity}
+use Rattle.disk_model.specs.Bytes.{put}
+use Rattle.disk_model.specs.Files.{Files, parity_of, with_parity, TearsParity}
 use Rattle.disk_model.specs.Folder.{FolderView}
 use Rattle.disk_model.specs.Sink.{SinkView}
 use Rattle.disk_model.specs.Tree.{IsTree}
-use Rattle.disk_model.specs.Vault.{SomeCalls, ChangesBy, DraftsStay, Reads}
+use Rattle.disk_model.specs.Vault.{GoesOn, ParityWrite, SomeCalls, ChangesBy, DraftsStay, Reads}
 use Rattle.file_table.specs.Table.{Column, TableValue}
 use Rattle.file_table.specs.declared.block.Cell.{Cell}
 use Rattle.parity_writer.specs.Parity.{Row, HasLevel}
-use Rattle.snap_report.specs.Answer.{Gained, broke_folder, broke_vault}
+use Rattle.snap_report.specs.Answer.{Gained, broke_folder}
+use Rattle.snap_fix.specs.Breaking.{broke_parity}
 use Rattle.snap_report.specs.Report.{ReportView}
 use Rattle.snap_report.specs.Told.{Told}
 use Rattle.snap_report.specs.declared.events.Event.{Event}
@@ -25,12 +28,12 @@ use Rattle.snap_fix.specs.Counts.{AreCounts}
 use Rattle.snap_fix.specs.Facts.{StripeFacts}
 use Rattle.snap_fix.specs.Findings.{is_lost}
 use Rattle.snap_fix.specs.Marks.{is_marked_missing}
-use Rattle.snap_fix.specs.Mended.{Mended, answer_of, cell_news, is_written, is_blocked_cell, mended_event}
+use Rattle.snap_fix.specs.Mended.{Mended, answer_of, cell_news, is_repaired, is_written, is_blocked_cell, mended_event}
 use Rattle.snap_fix.specs.Mending.{StatesFit, IsFree, IsBlockCall, block_start, cell_path, mended_writes, with_place, with_state}
 use Rattle.snap_fix.specs.Plan.{FixPlan, cell_at, records_in, selects_cell}
 use Rattle.snap_fix.specs.Repairing.{LevelsOutside}
-use Rattle.snap_fix.specs.State.{Write, HoldsTold, FolderMakes, state_in}
-use Rattle.snap_fix.specs.Underway.{IsFixable, IsColumnUnderway, IsMendCall, ShowsFacts, is_damaged_mark, is_given_mark}
+use Rattle.snap_fix.specs.State.{AnyCall, WellCall, Write, HoldsTold, FolderMakes, KeepsStarts, StaysPlace, size_after, state_in}
+use Rattle.snap_fix.specs.Underway.{IsFixable, IsColumnUnderway, IsMendCall, ShowsFacts, done_well, is_damaged_mark, is_given_mark}
 
 -- ---- one cell
 
@@ -91,6 +94,9 @@ pub record MendsColumn {W R : Type 0} (view : W → SinkView) (standing : R → 
   pub starts_fit : StartsFit plan.table new.starts
   pub states_fit : StatesFit plan.table new.states
   pub keeps : KeepsColumns d old.starts old.states new.starts new.states
+  pub stood : KeepsStarts old.starts new.starts
+  pub answered : (mended : Mended) → IsMendedAs plan stripe i d window marks known answer mended
+      → IsTrue old.folder.tells → is_repaired plan mended.facts d ≡ true → answer ≡ true
   pub told : (mended : Mended) → IsMendedAs plan stripe i d window marks known answer mended
       → Told view standing stands plan.table.columns (cell_news plan mended d) old.lines new.lines old.reports new.reports
   pub counts : (mended : Mended) → IsMendedAs plan stripe i d window marks known answer mended → AreCounts (cell_news plan mended d) repaired.counts
@@ -98,7 +104,7 @@ pub record MendsColumn {W R : Type 0} (view : W → SinkView) (standing : R → 
       → repaired.blocks ≡ (if is_written plan mended d then 1 else 0)
   pub few : repaired.blocks ≤ 1
   pub makes : (facts : StripeFacts) → facts.stripe ≡ stripe → ShowsFacts plan facts i marks known window
-      → FolderMakes (IsMendCall plan d (record { facts = facts; answers = [] } ∷ [])) old.folder new.folder
+      → FolderMakes (WellCall (IsMendCall plan old.starts d (record { facts = facts; answers = [] } ∷ []))) old.folder new.folder
   pub underway : (mended : Mended) → IsMendedAs plan stripe i d window marks known answer mended
       → (stripes : List Mended) (first : FolderView) → IsFixable plan d first → IsColumnUnderway plan d stripes first old.folder old.starts old.states
       → IsColumnUnderway plan d (stripes ++ mended ∷ []) first new.folder new.starts new.states
@@ -111,7 +117,7 @@ pub record MendsNotColumn {W R : Type 0} (view : W → SinkView) (standing : R �
   pub call : IsTrue new.folder.tells_calls → Gained broke_folder old.folder.calls new.folder.calls
   pub told : Told view standing stands plan.table.columns [] old.lines new.lines old.reports new.reports
   pub makes : (facts : StripeFacts) → facts.stripe ≡ stripe → ShowsFacts plan facts i marks known window
-      → FolderMakes (IsMendCall plan d (record { facts = facts; answers = [] } ∷ [])) old.folder new.folder
+      → FolderMakes (AnyCall (IsMendCall plan old.starts d (record { facts = facts; answers = [] } ∷ []))) old.folder new.folder
 
 -- The block of a cell was written, and that told; or its file was gone, and that it is lost was.
 pub record WritesBlockOf {W R : Type 0} (view : W → SinkView) (standing : R → ReportView) (stands : R → List Event → Type 0)
@@ -120,12 +126,17 @@ pub record WritesBlockOf {W R : Type 0} (view : W → SinkView) (standing : R �
   pub place : Place
   pub state : FileState
   pub starts_are : new.starts ≡ with_place old.starts d cell.rec place
+  pub stood : StaysPlace (start_in (starts_at old.starts.columns d) cell.rec).place place
+  pub there : IsTrue old.folder.tells → written ≡ true
+  pub size : state.size ≡ size_after (state_in old.states d cell.rec).size (if written then record { at = block_start table cell; bytes = bytes } ∷ [] else [])
+  pub touched : written ≡ true → state.touched ≡ true
+  pub stays_touched : (state_in old.states d cell.rec).touched ≡ true → state.touched ≡ true
   pub states_are : new.states ≡ with_state old.states d cell.rec state
   pub lost : state.lost ≡ (not written || (state_in old.states d cell.rec).lost)
   pub told : Told view standing stands table.columns (mended_event stripe d (Some cell) written) old.lines new.lines old.reports new.reports
   pub counts : AreCounts (mended_event stripe d (Some cell) written) repaired.counts
   pub blocks : repaired.blocks ≡ (if written then 1 else 0)
-  pub makes : FolderMakes (IsBlockCall (start_in (starts_at old.starts.columns d) cell.rec).place (cell_path table d cell) (block_start table cell) bytes)
+  pub makes : FolderMakes (WellCall (IsBlockCall (start_in (starts_at old.starts.columns d) cell.rec).place (cell_path table d cell) (block_start table cell) bytes))
       old.folder new.folder
   pub holds : (first : FolderView) (writes : List (List Write)) → first.tells ≡ old.folder.tells
       → (IsTrue first.tells → IsFree first.tree (cell_path table d cell)) → (IsTrue first.tells → IsTree first.tree)
@@ -138,7 +149,7 @@ pub record WritesNotBlockOf {W R : Type 0} (view : W → SinkView) (standing : R
   pub rose : Rose old.folder.faults new.folder.faults
   pub call : IsTrue new.folder.tells_calls → Gained broke_folder old.folder.calls new.folder.calls
   pub told : Told view standing stands table.columns [] old.lines new.lines old.reports new.reports
-  pub makes : FolderMakes (IsBlockCall (start_in (starts_at old.starts.columns d) cell.rec).place (cell_path table d cell) (block_start table cell) bytes)
+  pub makes : FolderMakes (AnyCall (IsBlockCall (start_in (starts_at old.starts.columns d) cell.rec).place (cell_path table d cell) (block_start table cell) bytes))
       old.folder new.folder
 
 -- ---- one level
@@ -147,8 +158,10 @@ pub record WritesNotBlockOf {W R : Type 0} (view : W → SinkView) (standing : R
 pub record WritesLevel {W R : Type 0} (view : W → SinkView) (standing : R → ReportView) (stands : R → List Event → Type 0)
     (columns : List Column) (block_size stripe r : ℕ) (row : Row) (old new : LevelsOutside W R) : Type 0 where
   pub calls : SomeCalls old.vault new.vault
+  pub ran : GoesOn old.vault new.vault (done_well (ParityWrite r (stripe * block_size) (level_of r block_size row) ∷ []))
   pub drafts : DraftsStay old.vault new.vault
   pub changes : ChangesBy (TearsParity r (stripe * block_size) block_size) old.vault new.vault
+  pub put : IsTrue old.vault.tells → new.vault.files ≡ with_parity old.vault.files r (put (parity_of old.vault.files r) (stripe * block_size) (level_of r block_size row))
   pub written : Reads (λ (files : Files). HasLevel block_size r stripe row (parity_of files r)) new.vault
   pub told : Told view standing stands columns (FixedParity stripe r ∷ []) old.lines new.lines old.reports new.reports
 
@@ -156,7 +169,7 @@ pub record WritesLevel {W R : Type 0} (view : W → SinkView) (standing : R → 
 pub record WritesNotLevel {W R : Type 0} (view : W → SinkView) (standing : R → ReportView) (stands : R → List Event → Type 0)
     (columns : List Column) (block_size stripe r : ℕ) (old new : LevelsOutside W R) : Type 0 where
   pub rose : Rose old.vault.faults new.vault.faults
-  pub call : IsTrue new.vault.tells_calls → Gained broke_vault old.vault.calls new.vault.calls
+  pub call : IsTrue new.vault.tells_calls → Gained broke_parity old.vault.calls new.vault.calls
   pub calls : SomeCalls old.vault new.vault
   pub drafts : DraftsStay old.vault new.vault
   pub changes : ChangesBy (TearsParity r (stripe * block_size) block_size) old.vault new.vault

@@ -3,9 +3,10 @@ use Rattle.std.specs.Prelude.{◌≡◌, ℕ, ◌<◌, ◌≤◌, ◌||◌, List
 use Rattle.disk_model.specs.Cause.{Rose}
 use Rattle.disk_model.specs.Folder.{FolderView}
 use Rattle.disk_model.specs.Sink.{SinkView}
-use Rattle.disk_model.specs.Vault.{VaultView, SomeCalls, ChangesBy, DraftsStay, Reads}
+use Rattle.disk_model.specs.Vault.{VaultView, GoesOn, SomeCalls, ChangesBy, DraftsStay, Reads}
 use Rattle.parity_writer.specs.LevelsValue.{LevelsValue}
-use Rattle.snap_report.specs.Answer.{Gained, broke_folder, broke_vault}
+use Rattle.snap_report.specs.Answer.{Gained, broke_folder}
+use Rattle.snap_fix.specs.Breaking.{broke_parity}
 use Rattle.snap_report.specs.Report.{ReportView}
 use Rattle.snap_report.specs.Told.{Told}
 use Rattle.snap_report.specs.declared.events.Event.{Event}
@@ -19,11 +20,11 @@ use Rattle.snap_fix.specs.declared.state.FileState.{FileState}
 use Rattle.snap_fix.specs.Counts.{AreCounts}
 use Rattle.snap_fix.specs.Facts.{StripeFacts}
 use Rattle.snap_fix.specs.Marks.{row_if}
-use Rattle.snap_fix.specs.Mended.{Mended, all_cell_news, all_level_news, is_wrong_level, written_in, wrong_in}
+use Rattle.snap_fix.specs.Mended.{Mended, AnswersFit, all_cell_news, all_level_news, is_wrong_level, written_in, wrong_in}
 use Rattle.snap_fix.specs.Mending.{StatesFit}
 use Rattle.snap_fix.specs.Plan.{FixPlan}
-use Rattle.snap_fix.specs.State.{FolderMakes}
-use Rattle.snap_fix.specs.Underway.{AreFixable, AreUnderway, FixUnderway, IsMendCall, ShowsFacts, KeepsLevels, IsMendedLevel, HoldsWrong}
+use Rattle.snap_fix.specs.State.{AnyCall, WellCall, FolderMakes, KeepsStarts}
+use Rattle.snap_fix.specs.Underway.{AreFixable, AreUnderway, FixUnderway, IsMendCall, ShowsFacts, KeepsLevels, AddsZeros, IsMendedLevel, HoldsWrong, done_well, wrong_writes}
 
 -- ---- files
 
@@ -59,7 +60,10 @@ pub record MendsFiles {W R : Type 0} (view : W → SinkView) (standing : R → R
   pub as_many : length answers ≡ length plan.table.columns
   pub starts_fit : StartsFit plan.table new.starts
   pub states_fit : StatesFit plan.table new.states
+  pub stood : KeepsStarts old.starts new.starts
   pub folders : length new.folders ≡ length old.folders
+  pub answered : (facts : StripeFacts) → facts.stripe ≡ stripe → ShowsFacts plan facts i marks known window
+      → AnswersFit plan old.folders (record { facts = facts; answers = answers })
   pub told : (facts : StripeFacts) → facts.stripe ≡ stripe → ShowsFacts plan facts i marks known window
       → Told view standing stands plan.table.columns (all_cell_news plan (record { facts = facts; answers = answers })) old.lines new.lines old.reports new.reports
   pub counts : (facts : StripeFacts) → facts.stripe ≡ stripe → ShowsFacts plan facts i marks known window
@@ -67,7 +71,7 @@ pub record MendsFiles {W R : Type 0} (view : W → SinkView) (standing : R → R
   pub blocks : (facts : StripeFacts) → facts.stripe ≡ stripe → ShowsFacts plan facts i marks known window
       → repaired.blocks ≡ written_in plan (record { facts = facts; answers = answers })
   pub makes : (facts : StripeFacts) → facts.stripe ≡ stripe → ShowsFacts plan facts i marks known window → (d : ℕ) → d < length plan.table.columns
-      → FolderMakes (IsMendCall plan d (record { facts = facts; answers = [] } ∷ [])) (folder_at old.folders d) (folder_at new.folders d)
+      → FolderMakes (WellCall (IsMendCall plan old.starts d (record { facts = facts; answers = [] } ∷ []))) (folder_at old.folders d) (folder_at new.folders d)
   pub underway : (facts : StripeFacts) → facts.stripe ≡ stripe → ShowsFacts plan facts i marks known window
       → (stripes : List Mended) (firsts : List FolderView) → AreFixable plan firsts → AreUnderway plan stripes firsts old.folders old.starts old.states
       → AreUnderway plan (stripes ++ record { facts = facts; answers = answers } ∷ []) firsts new.folders new.starts new.states
@@ -82,9 +86,10 @@ pub record MendsNotFiles {W R : Type 0} (view : W → SinkView) (standing : R �
   pub folders : length new.folders ≡ length old.folders
   pub events : (facts : StripeFacts) → facts.stripe ≡ stripe → ShowsFacts plan facts i marks known window
       → (answers : List Bool) × (first : List Event) × (rest : List Event) × (all_cell_news plan (record { facts = facts; answers = answers }) ≡ first ++ rest)
+      × AnswersFit plan old.folders (record { facts = facts; answers = answers })
       × Told view standing stands plan.table.columns first old.lines new.lines old.reports new.reports
   pub makes : (facts : StripeFacts) → facts.stripe ≡ stripe → ShowsFacts plan facts i marks known window → (d : ℕ) → d < length plan.table.columns
-      → FolderMakes (IsMendCall plan d (record { facts = facts; answers = [] } ∷ [])) (folder_at old.folders d) (folder_at new.folders d)
+      → FolderMakes (AnyCall (IsMendCall plan old.starts d (record { facts = facts; answers = [] } ∷ []))) (folder_at old.folders d) (folder_at new.folders d)
 
 -- ---- levels
 
@@ -120,12 +125,15 @@ pub record MendsLevels {W R : Type 0} (view : W → SinkView) (standing : R → 
     (plan : FixPlan) (stripe i : ℕ) (window : WindowValue) (levels : LevelsValue) (known : Bool)
     (old new : LevelsOutside W R) (count : ℕ) : Type 0 where
   pub calls : SomeCalls old.vault new.vault
+  pub ran : (facts : StripeFacts) → ShowsLevels facts stripe i window levels known → GoesOn old.vault new.vault (done_well (wrong_writes plan facts))
   pub drafts : DraftsStay old.vault new.vault
   pub told : (facts : StripeFacts) → ShowsLevels facts stripe i window levels known
       → Told view standing stands plan.table.columns (all_level_news plan facts) old.lines new.lines old.reports new.reports
   pub count_is : (facts : StripeFacts) → ShowsLevels facts stripe i window levels known → count ≡ wrong_in plan (record { facts = facts; answers = [] })
   pub changes : (facts : StripeFacts) → ShowsLevels facts stripe i window levels known
       → ChangesBy (KeepsLevels plan.table.shape.block_size (IsMendedLevel plan (facts ∷ []))) old.vault new.vault
+  pub zeros : (facts : StripeFacts) → ShowsLevels facts stripe i window levels known → IsTrue old.vault.tells
+      → AddsZeros plan.table.shape.block_size (IsMendedLevel plan (facts ∷ [])) old.vault.files new.vault.files
   pub holds : (facts : StripeFacts) → ShowsLevels facts stripe i window levels known → Reads (HoldsWrong plan facts) new.vault
 
 -- A call of the vault failed that reads no parity, and its count rose. Some events were told.
@@ -133,7 +141,7 @@ pub record MendsNotLevels {W R : Type 0} (view : W → SinkView) (standing : R �
     (plan : FixPlan) (stripe i : ℕ) (window : WindowValue) (levels : LevelsValue) (known : Bool)
     (old new : LevelsOutside W R) : Type 0 where
   pub rose : Rose old.vault.faults new.vault.faults
-  pub call : IsTrue new.vault.tells_calls → Gained broke_vault old.vault.calls new.vault.calls
+  pub call : IsTrue new.vault.tells_calls → Gained broke_parity old.vault.calls new.vault.calls
   pub calls : SomeCalls old.vault new.vault
   pub drafts : DraftsStay old.vault new.vault
   pub events : (facts : StripeFacts) → ShowsLevels facts stripe i window levels known

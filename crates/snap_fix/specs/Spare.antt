@@ -1,10 +1,12 @@
 -- What a spare holds, and what it gives.
-use Rattle.std.specs.Prelude.{◌≡◌, ℕ, ◌≤◌, List, [], length, Contains, Option, None, Some, Bool, true, false, IsTrue, Result, IfOk, OnErr}
+use Rattle.std.specs.Prelude.{◌≡◌, ◌⊎◌, ℕ, ◌==◌, ◌≤◌, ◌&&◌, List, [], length, Contains, Option, None, Some, Bool, true, false, IsTrue, Result, IfOk, OnErr, bytes_eq}
+use Rattle.std.specs.List.{list_any}
 use Rattle.block_hash.specs.Hash.{hash}
 use Rattle.block_hash.specs.declared.Digest16.{Digest16}
 use Rattle.block_hash.specs.declared.Kind.{Kind}
 use Rattle.disk_model.specs.Cause.{Rose}
 use Rattle.disk_model.specs.declared.fault.Failed.{Failed}
+use Rattle.file_table.specs.declared.shape.Shape.{Shape}
 
 -- by which kind, and with which seed, blocks are hashed
 pub record Hashing : Type 0 where
@@ -39,3 +41,11 @@ pub record IsSpareCall (asked : Digest16) (bytes : List ℕ) (result : Result Bo
   pub same : new ≡ record old { faults = new.faults }
   pub gives : IsTrue old.tells → IfOk result (Gives old asked bytes)
   pub cause : OnErr result (Rose old.faults new.faults)
+
+-- it holds a block with this hash and length
+abbrev pub holds_block : SpareView → List ℕ → ℕ → Bool
+holds_block spare hash_is long = list_any (λ (block : List ℕ × ℕ). bytes_eq block.0 hash_is && block.1 == long) spare.blocks
+
+-- it is for the hashing of a table, or for every one
+abbrev pub IsSpareFor : Shape → SpareView → Type 0
+IsSpareFor shape spare = (spare.hashing ≡ None) ⊎ (spare.hashing ≡ Some (record { kind = shape.kind; seed = shape.seed }))

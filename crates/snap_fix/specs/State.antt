@@ -1,10 +1,12 @@
 -- What a fix did to the files of a column's records, and what its folder holds then.
-use Rattle.std.specs.Prelude.{◌≡◌, ◌≢◌, ℕ, ◌<◌, List, [], ◌∷◌, length, get_or, slice_index_or, Bool, true, false, Option, None, Some, IsTrue, All, map}
+use Rattle.std.specs.Prelude.{◌≡◌, ◌≢◌, ◌⊎◌, ℕ, ◌+◌, ◌<◌, max, List, [], ◌∷◌, length, get_or, slice_index_or, Bool, true, false, Option, None, Some, IsTrue, All, map}
 use Rattle.disk_model.specs.Bytes.{put}
 use Rattle.disk_model.specs.Folder.{FolderView, FolderCall, FolderDone, FolderGoesOn}
-use Rattle.disk_model.specs.Tree.{Tree, File, file_of, path_of}
+use Rattle.disk_model.specs.Stopped.{MayBeLeft}
+use Rattle.disk_model.specs.Tree.{Tree, File, IsTree, file_of, path_of}
 use Rattle.file_table.specs.Table.{Record, no_record}
-use Rattle.stripe_reader.specs.Starts.{StartsValue, no_start}
+use Rattle.snap_report.specs.Answer.{broke_folder}
+use Rattle.stripe_reader.specs.Starts.{StartsValue, no_start, start_in, starts_at}
 use Rattle.stripe_reader.specs.declared.starts.Start.{Start}
 use Rattle.stripe_reader.specs.declared.starts.Place.{Place}
 use Rattle.stripe_reader.specs.declared.starts.Place.TheVariants.{Plain, Lost, Nowhere}
@@ -30,10 +32,20 @@ pub record Write : Type 0 where
   pub at : ℕ
   pub bytes : List ℕ
 
+-- something was written
+abbrev pub has_some : List Write → Bool
+has_some [] = false
+has_some (write ∷ writes) = true
+
 -- the bytes of a file after some writes, one after another
 abbrev pub puts : List ℕ → List Write → List ℕ
 puts file [] = file
 puts file (write ∷ writes) = puts (put file write.at write.bytes) writes
+
+-- the length of a file of a length after some writes
+abbrev pub size_after : ℕ → List Write → ℕ
+size_after size [] = size
+size_after size (write ∷ writes) = size_after (max size (write.at + length write.bytes)) writes
 
 -- the bytes that stood in the place of a record: under PATH, else under PATH`.unrecoverable`, else none
 abbrev pub bytes_or : Option File → List ℕ → List ℕ
@@ -111,11 +123,19 @@ pub record HoldsColumn (records : List Record) (starts : List Start) (states : L
 abbrev pub HoldsTold : List Record → List Start → List FileState → List (List Write) → FolderView → FolderView → Type 0
 HoldsTold records starts states writes first later = IsTrue first.tells → HoldsColumn records starts states writes first.tree later.tree
 
--- only such calls were made of a folder
-pub record FolderMakes (P : FolderCall → Type 0) (old new : FolderView) : Type 0 where
+-- such a call, whether or not it failed; and one that did not fail, or only reads
+abbrev pub AnyCall : (FolderCall → Type 0) → FolderDone → Type 0
+AnyCall P done = P done.call
+
+abbrev pub WellCall : (FolderCall → Type 0) → FolderDone → Type 0
+WellCall P done = P done.call × (broke_folder done ≡ false)
+
+-- Only such calls were made of a folder. Where it tells its files, what it holds then is among what a stop within these calls may leave.
+pub record FolderMakes (P : FolderDone → Type 0) (old new : FolderView) : Type 0 where
   pub done : List FolderDone
-  pub each : All (λ (call : FolderDone). P call.call) done
+  pub each : All P done
   pub goes_on : FolderGoesOn old new done
+  pub left : IsTrue old.tells → IsTree old.tree → MayBeLeft old.keeps_stamps done old.tree new.tree
 
 -- each name but the two of this path holds what it held
 abbrev pub OthersStay : List ℕ → Tree → Tree → Type 0
@@ -126,3 +146,15 @@ abbrev pub stands : Place → Bool → Bool
 stands Plain touched = true
 stands Lost touched = false
 stands Nowhere touched = touched
+
+-- ---- where files are looked for
+
+-- a place stays, or the file that had the other name is looked for under PATH
+abbrev pub StaysPlace : Place → Place → Type 0
+StaysPlace before after = (after ≡ before) ⊎ ((before ≡ Lost) × (after ≡ Plain))
+
+-- Each start keeps its size and, but for files that were renamed back, its place.
+abbrev pub KeepsStarts : StartsValue → StartsValue → Type 0
+KeepsStarts before after = (d i : ℕ)
+    → ((start_in (starts_at after.columns d) i).size ≡ (start_in (starts_at before.columns d) i).size)
+    × StaysPlace (start_in (starts_at before.columns d) i).place (start_in (starts_at after.columns d) i).place

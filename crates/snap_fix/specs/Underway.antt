@@ -1,35 +1,40 @@
 -- How far a fix is with the files of its columns.
-use Rattle.std.specs.Prelude.{◌≡◌, ℕ, ◌*◌, ◌<◌, List, [], length, get_or, is_some, Bool, true, false, Some, IsTrue, Contains}
+use Rattle.std.specs.Prelude.{◌≡◌, ◌⊎◌, ℕ, ◌*◌, ◌<◌, ◌≤◌, List, [], ◌∷◌, ◌++◌, length, map, get_or, is_some, Bool, true, false, if◌then◌else◌, Option, None, Some, IsTrue, Contains}
+use Rattle.std.specs.List.{range_with_len, flat_map}
 use Rattle.disk_model.specs.Files.{Files, parity_of}
-use Rattle.disk_model.specs.Folder.{FolderView, FolderCall, ListFiles, Look, ReadAt, Make, WriteAt, SetSize, SetStamp, Rename}
+use Rattle.disk_model.specs.Folder.{FolderView, FolderCall, SomeFolderCalls, ListFiles, Look, ReadAt, Make, WriteAt, SetSize, SetStamp, Rename}
 use Rattle.disk_model.specs.Tree.{IsTree}
-use Rattle.disk_model.specs.Vault.{VaultCall, ParityWrite}
+use Rattle.disk_model.specs.Ran.{vault_done}
+use Rattle.disk_model.specs.Vault.{VaultCall, VaultDone, ParityWrite}
 use Rattle.cauchy.specs.Matrix.{parity_of as level_of}
 use Rattle.file_table.specs.Table.{record_at}
 use Rattle.file_table.specs.declared.block.Cell.{Cell}
 use Rattle.parity_writer.specs.Keeps.{HasByte, IsOutside}
+use Rattle.parity_writer.specs.LevelReading.{LevelReading, calls_of}
 use Rattle.parity_writer.specs.Parity.{Row, HasLevel}
 use Rattle.parity_writer.specs.WindowRow.{bytes_of}
 use Rattle.stripe_reader.specs.Columns.{folder_at}
 use Rattle.stripe_reader.specs.Reading.{block_length}
-use Rattle.stripe_reader.specs.Starts.{StartsValue, starts_at}
+use Rattle.stripe_reader.specs.Starts.{StartsValue, starts_at, start_in}
 use Rattle.stripe_reader.specs.WindowValue.{WindowValue, slot_at}
+use Rattle.stripe_reader.specs.declared.starts.Place.{Place}
+use Rattle.stripe_reader.specs.declared.starts.Place.TheVariants.{Lost, Nowhere}
 use Rattle.snap_fix.specs.declared.marking.CellMark.{CellMark}
 use Rattle.snap_fix.specs.declared.marking.CellMark.TheVariants.{Right, Given, Missing}
 use Rattle.snap_fix.specs.declared.state.FileState.{FileState}
 use Rattle.snap_fix.specs.Facts.{StripeFacts, gift_of, damaged_at}
 use Rattle.snap_fix.specs.Marks.{mark_in, row_if}
-use Rattle.snap_fix.specs.Mended.{Mended, is_repaired, is_wrong_level, known_block, block_or_none, has_lost, column_writes}
+use Rattle.snap_fix.specs.Mended.{Mended, is_repaired, is_wrong_level, known_block, block_or_none, has_lost, column_writes, writes_of}
 use Rattle.snap_fix.specs.Mending.{IsFree, block_start}
 use Rattle.snap_fix.specs.Plan.{FixPlan, cell_at, entry_at, records_in}
-use Rattle.snap_fix.specs.State.{HoldsTold, FolderMakes, record_path, state_in}
+use Rattle.snap_fix.specs.State.{HoldsTold, has_some, record_path, size_after, state_in}
 
 -- ---- what a fix stands on
 
--- A folder as it was listed: it is open and, where it tells its files, they are a tree in which the file of each record that isn't
+-- A folder as it was listed: it is open, if the column has records, and, where it tells its files, they are a tree in which the file of each record that isn't
 -- blocked may stand.
 pub record IsFixable (plan : FixPlan) (d : ℕ) (first : FolderView) : Type 0 where
-  pub is_open : first.closed ≡ false
+  pub is_open : 0 < length (records_in plan.table d) → first.closed ≡ false
   pub is_tree : IsTrue first.tells → IsTree first.tree
   pub free : IsTrue first.tells → (i : ℕ) → i < length (records_in plan.table d) → (entry_at plan d i).blocked ≡ false
       → IsFree first.tree (record_path (records_in plan.table d) i)
@@ -46,8 +51,9 @@ pub record IsForRecord (plan : FixPlan) (d i : ℕ) (path : List ℕ) : Type 0 w
   pub selected : (entry_at plan d i).selected ≡ true
   pub free : (entry_at plan d i).blocked ≡ false
 
-abbrev pub IsForSome : FixPlan → ℕ → List ℕ → Type 0
-IsForSome plan d path = (i : ℕ) × IsForRecord plan d i path
+-- so is one whose file stood in this place
+abbrev pub IsForPlace : FixPlan → StartsValue → ℕ → Place → List ℕ → Type 0
+IsForPlace plan starts d place path = (i : ℕ) × IsForRecord plan d i path × ((start_in (starts_at starts.columns d) i).place ≡ place)
 
 -- the write of a damaged cell's block, which is known, to the file of its record
 pub record WritesCell (plan : FixPlan) (d : ℕ) (facts : StripeFacts) (path : List ℕ) (at : ℕ) (bytes : List ℕ) : Type 0 where
@@ -64,29 +70,33 @@ pub record WritesOneOf (plan : FixPlan) (d : ℕ) (stripes : List Mended) (path 
   pub is_one : Contains stripes mended
   pub writes : WritesCell plan d mended.facts path at bytes
 
--- The calls while blocks are written: a folder is read; the file of a selected record that isn't blocked is made or renamed back; and
--- blocks that are damaged and known are written.
-abbrev pub IsMendCall : FixPlan → ℕ → List Mended → FolderCall → Type 0
-IsMendCall plan d stripes ListFiles = Unit {0}
-IsMendCall plan d stripes (Look path lost) = Unit {0}
-IsMendCall plan d stripes (ReadAt path lost at n) = Unit {0}
-IsMendCall plan d stripes (Make path) = IsForSome plan d path
-IsMendCall plan d stripes (WriteAt path at bytes) = WritesOneOf plan d stripes path at bytes
-IsMendCall plan d stripes (SetSize path size) = ⊥
-IsMendCall plan d stripes (SetStamp path stamp) = ⊥
-IsMendCall plan d stripes (Rename path true) = ⊥
-IsMendCall plan d stripes (Rename path false) = IsForSome plan d path
+-- The calls while blocks are written, by where files stood before: files are read; the file of a selected record that isn't blocked is
+-- made if there was none, or renamed back if it had the other name; and blocks that are damaged and known are written.
+abbrev pub IsMendCall : FixPlan → StartsValue → ℕ → List Mended → FolderCall → Type 0
+IsMendCall plan starts d stripes ListFiles = ⊥
+IsMendCall plan starts d stripes (Look path lost) = Unit {0}
+IsMendCall plan starts d stripes (ReadAt path lost at n) = Unit {0}
+IsMendCall plan starts d stripes (Make path) = IsForPlace plan starts d Nowhere path
+IsMendCall plan starts d stripes (WriteAt path at bytes) = WritesOneOf plan d stripes path at bytes
+IsMendCall plan starts d stripes (SetSize path size) = ⊥
+IsMendCall plan starts d stripes (SetStamp path stamp) = ⊥
+IsMendCall plan starts d stripes (Rename path true) = ⊥
+IsMendCall plan starts d stripes (Rename path false) = IsForPlace plan starts d Lost path
 
 -- ---- how far it is
 
--- A column, since its folder was listed: only such calls were made, the files hold what was written to them, and the states say which
--- have a lost block.
+-- A column, since its folder was listed: some calls were made, the files hold what was written to them, and the states say which
+-- have a lost block. Where the folder tells its files, just those were touched to which something was written.
 pub record IsColumnUnderway (plan : FixPlan) (d : ℕ) (stripes : List Mended) (first now : FolderView) (starts : StartsValue)
     (states : List (List FileState)) : Type 0 where
-  pub makes : FolderMakes (IsMendCall plan d stripes) first now
+  pub calls : SomeFolderCalls first now
   pub holds : HoldsTold (records_in plan.table d) (starts_at starts.columns d) (get_or states d [])
       (column_writes plan stripes d (length (records_in plan.table d))) first now
   pub lost : (i : ℕ) → i < length (records_in plan.table d) → (state_in states d i).lost ≡ has_lost plan stripes d i
+  pub sizes : (i : ℕ) → i < length (records_in plan.table d)
+      → (state_in states d i).size ≡ size_after (start_in (starts_at starts.columns d) i).size (writes_of plan stripes d i)
+  pub wrote : (i : ℕ) → i < length (records_in plan.table d) → has_some (writes_of plan stripes d i) ≡ true → (state_in states d i).touched ≡ true
+  pub touched : IsTrue first.tells → (i : ℕ) → i < length (records_in plan.table d) → (state_in states d i).touched ≡ has_some (writes_of plan stripes d i)
 
 pub record AreUnderway (plan : FixPlan) (stripes : List Mended) (firsts nows : List FolderView) (starts : StartsValue)
     (states : List (List FileState)) : Type 0 where
@@ -127,21 +137,51 @@ pub record ShowsFacts (plan : FixPlan) (facts : StripeFacts) (i : ℕ) (marks : 
 
 -- ---- levels
 
--- the writes of the wrong levels of a stripe, in order
+-- the write of a level of a stripe
 abbrev pub level_write : FixPlan → StripeFacts → Row → ℕ → VaultCall
 level_write plan facts row r =
     ParityWrite r (facts.stripe * plan.table.shape.block_size) (level_of r plan.table.shape.block_size row)
+
+-- the writes of the wrong levels of a stripe, in order
+abbrev pub wrong_write : FixPlan → StripeFacts → Option Row → ℕ → List VaultCall
+wrong_write plan facts None r = []
+wrong_write plan facts (Some row) r = if is_wrong_level plan facts r then level_write plan facts row r ∷ [] else []
+
+abbrev pub wrong_writes : FixPlan → StripeFacts → List VaultCall
+wrong_writes plan facts = flat_map (wrong_write plan facts facts.row) (range_with_len 0 (length facts.levels))
+
+-- calls of which none failed
+abbrev pub done_well : List VaultCall → List VaultDone
+done_well calls = map (λ (call : VaultCall). vault_done call false) calls
+
+-- all calls for a stripe: its levels are read, and then the wrong ones written
+abbrev pub stripe_calls : FixPlan → StripeFacts → List LevelReading → List VaultDone
+stripe_calls plan facts readings = calls_of plan.table.shape.block_size facts.stripe readings ++ done_well (wrong_writes plan facts)
+
+-- for stripes, one after another
+abbrev pub mend_calls : FixPlan → List StripeFacts → List (List LevelReading) → List VaultDone
+mend_calls plan [] readings = []
+mend_calls plan (facts ∷ stripes) [] = []
+mend_calls plan (facts ∷ stripes) (of ∷ readings) = stripe_calls plan facts of ++ mend_calls plan stripes readings
 
 -- such a block of a level is written anew
 abbrev pub IsMendedLevel : FixPlan → List StripeFacts → ℕ → ℕ → Type 0
 IsMendedLevel plan stripes r stripe =
     (facts : StripeFacts) × Contains stripes facts × (facts.stripe ≡ stripe) × (is_wrong_level plan facts r ≡ true)
 
--- The copies stay, and so does each byte of a level outside of the blocks of it that are written anew.
+-- The copies stay, and so does each byte of a level outside of the blocks of it that are written anew. A level grows only up to such blocks.
 pub record KeepsLevels (block_size : ℕ) (IsOne : ℕ → ℕ → Type 0) (old new : Files) : Type 0 where
   pub contents : new.contents ≡ old.contents
   pub bytes : (level at x : ℕ) → ((stripe : ℕ) → IsOne level stripe → IsOutside block_size stripe at)
       → HasByte (parity_of old level) at x → HasByte (parity_of new level) at x
+  pub grown : (level at x : ℕ) → ((stripe : ℕ) → IsOne level stripe → IsOutside block_size stripe at)
+      → HasByte (parity_of new level) at x
+      → HasByte (parity_of old level) at x ⊎ ((stripe : ℕ) × IsOne level stripe × (at < stripe * block_size))
+
+-- each byte that a level grew by outside of these blocks is zero
+abbrev pub AddsZeros : ℕ → (ℕ → ℕ → Type 0) → Files → Files → Type 0
+AddsZeros block_size IsOne old new = (level at x : ℕ) → ((stripe : ℕ) → IsOne level stripe → IsOutside block_size stripe at)
+    → length (parity_of old level) ≤ at → HasByte (parity_of new level) at x → x ≡ 0
 
 -- the wrong levels of a stripe hold the sums of its row
 abbrev pub HoldsWrong : FixPlan → StripeFacts → Files → Type 0

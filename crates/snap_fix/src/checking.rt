@@ -5,6 +5,7 @@ ghost use Rattle.snap_fix.specs.Looking.{LooksInto, scene};
 ghost use Rattle.snap_fix.specs.Marks.{CanExamine};
 ghost use Rattle.snap_fix.specs.Plan.{EntriesFit, plan_of};
 ghost use Rattle.snap_fix.specs.Room.{IsRoomFor};
+ghost use Rattle.snap_fix.specs.Spare.{IsSpareFor};
 ghost use Rattle.stripe_reader.specs.WindowValue.{Fits};
 
 use crate::beginning::Work;
@@ -37,10 +38,11 @@ fn look_into<V: Vault, P: Spare, W: Sink>(
     requires count { room.old.window.count ≡ length stripes.now }
     requires within { All (λ stripe. stripe < length table.now.infos) stripes.now }
     requires levels { (V.view vault.old).levels ≡ table.now.shape.levels }
+    requires spare { IsSpareFor table.now.shape (P.holding spare.old) }
     ensures room { IsRoomFor table.now room.new }
     ensures same_room { room.new.window.room ≡ room.old.window.room }
     ensures looks { LooksInto W.view standing stands (plan_of scope table.now entries.now) stripes.now room.old.window result
-        (scene (V.view vault.old) lines.old reports.old.items) (scene (V.view vault.new) lines.new reports.new.items) }
+        (scene (V.view vault.old) (P.holding spare.old) lines.old reports.old.items) (scene (V.view vault.new) (P.holding spare.new) lines.new reports.new.items) }
 {
     let mut counts = Counts::NONE;
     for i in 0..room.window.count() {
@@ -80,11 +82,12 @@ fn check_window<R: Threads + Sync, F: Folder, V: Vault, P: Spare, W: Sink>(
     requires room { count ≤ work.old.room.window.room }
     requires folders { length folders.old ≡ length table.now.columns }
     requires levels { (V.view vault.old).levels ≡ table.now.shape.levels }
+    requires spare { IsSpareFor table.now.shape (P.holding spare.old) }
     ensures work { KeepsWork table.now work.old work.new }
     ensures same_room { work.new.room.window.room ≡ work.old.room.window.room }
     ensures checks { ChecksWindow W.view standing stands table.now work.old (take count (drop done work.old.stripes.items)) result
         (map F.view folders.old) (map F.view folders.new)
-        (scene (V.view vault.old) lines.old reports.old.items) (scene (V.view vault.new) lines.new reports.new.items) }
+        (scene (V.view vault.old) (P.holding spare.old) lines.old reports.old.items) (scene (V.view vault.new) (P.holding spare.new) lines.new reports.new.items) }
 {
     let stripes = &work.stripes[done..done + count];
     let room = &mut work.room;
@@ -125,10 +128,11 @@ pub(crate) fn check_stripes<R: Threads + Sync, F: Folder, V: Vault, P: Spare, W:
     requires work { IsWorkFor table.now work.old }
     requires folders { length folders.old ≡ length table.now.columns }
     requires levels { (V.view vault.old).levels ≡ table.now.shape.levels }
+    requires spare { IsSpareFor table.now.shape (P.holding spare.old) }
     ensures work { KeepsWork table.now work.old work.new }
     ensures checks { ChecksStripes W.view standing stands table.now work.old result
         (map F.view folders.old) (map F.view folders.new)
-        (scene (V.view vault.old) lines.old reports.old.items) (scene (V.view vault.new) lines.new reports.new.items) }
+        (scene (V.view vault.old) (P.holding spare.old) lines.old reports.old.items) (scene (V.view vault.new) (P.holding spare.new) lines.new reports.new.items) }
 {
     let mut counts = Counts::NONE;
     let mut done = 0;

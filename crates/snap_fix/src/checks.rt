@@ -46,12 +46,12 @@ pub fn check<R: Threads + Sync, F: Folder, V: Vault, P: Spare, W: Sink>(
     reports: &mut Vec<Box<dyn Report>>,
     lines: &mut Lines<'_, W>,
 ) -> Result<FixEnd, RunFault>
-    requires { IsArray table.now (length setup.now.disks) (map F.view folders.old) (V.view vault.old) }
+    requires { IsArray table.now (length setup.now.disks) (map F.view folders.old) (V.view vault.old) (P.holding spare.old) }
     ensures checks { IfOk result (Checks W.view standing stands mode selection.now (names_of (setup_value setup.now)) table.now
-        (outside (map F.view folders.old) (V.view vault.old) lines.old reports.old.items)
-        (outside (map F.view folders.new) (V.view vault.new) lines.new reports.new.items)) }
+        (outside (map F.view folders.old) (V.view vault.old) (P.holding spare.old) lines.old reports.old.items)
+        (outside (map F.view folders.new) (V.view vault.new) (P.holding spare.new) lines.new reports.new.items)) }
     ensures failed { IfErr result (λ fault. BeginsNot (map F.view folders.old) (map F.view folders.new) fault ×
-        (vault.new ≡ vault.old) × (lines.new ≡ lines.old) × (reports.new ≡ reports.old)) }
+        (vault.new ≡ vault.old) × (spare.new ≡ spare.old) × (lines.new ≡ lines.old) × (reports.new ≡ reports.old)) }
 {
     let mut work = begin(alloc, mode, selection, setup, folders, table)?;
     let opening = tell_opening(work.scope, table, &work.entries, lines, reports);

@@ -1,7 +1,8 @@
 // A stripe of a window that was read: what is found in it, and its row, where it is known.
-ghost use Rattle.std.specs.Prelude.{◌≡◌, ◌≤◌, length};
+ghost use Rattle.std.specs.Prelude.{◌≡◌, ◌≤◌, [], ◌∷◌, length};
 ghost use Rattle.parity_writer.specs.LevelReading.{ReadsLevels};
 ghost use Rattle.snap_report.specs.Told.{Told};
+ghost use Rattle.snap_fix.specs.Asking.{AsksSpare};
 ghost use Rattle.snap_fix.specs.Counts.{AreCounts};
 ghost use Rattle.snap_fix.specs.Examining.{Examines, ReadsTried, facts_examined};
 ghost use Rattle.snap_fix.specs.Findings.{stripe_events};
@@ -9,6 +10,7 @@ ghost use Rattle.snap_fix.specs.Knowing.{HaveCells};
 ghost use Rattle.snap_fix.specs.Marks.{CanExamine};
 ghost use Rattle.snap_fix.specs.Plan.{plan_of, is_searched as is_searched_at};
 ghost use Rattle.snap_fix.specs.Room.{IsRoomFor};
+ghost use Rattle.snap_fix.specs.Spare.{IsSpareFor};
 ghost use Rattle.snap_fix.specs.Trying.{Tries, tried_events};
 
 use crate::counts::Counts;
@@ -129,9 +131,13 @@ pub(crate) fn examine<V: Vault, P: Spare, W: Sink>(
     requires can { CanExamine (plan_of scope table.now entries.now) stripe i room.old.window }
     requires room { IsRoomFor table.now room.old }
     requires levels { (V.view vault.old).levels ≡ table.now.shape.levels }
+    requires spare { IsSpareFor table.now.shape (P.holding spare.old) }
     ensures examined { Examines (plan_of scope table.now entries.now) stripe i room.old room.new result.known }
     ensures read { ReadsTried (is_searched_at (plan_of scope table.now entries.now) stripe) stripe room.new.levels
         (V.view vault.old) (V.view vault.new) }
+    ensures spare { AsksSpare (plan_of scope table.now entries.now)
+        (facts_examined (plan_of scope table.now entries.now) stripe i room.old room.new result.known ∷ [])
+        (P.holding spare.old) (P.holding spare.new) }
     ensures told { Told W.view standing stands table.now.columns
         (stripe_events (plan_of scope table.now entries.now)
         (facts_examined (plan_of scope table.now entries.now) stripe i room.old room.new result.known))

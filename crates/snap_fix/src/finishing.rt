@@ -1,6 +1,5 @@
 // The files of the selected records, once all blocks are written.
 ghost use Rattle.std.specs.Prelude.{◌≡◌, ◌≢◌, ◌||◌, not, true, None, IfOk, IfErr, IsTrue};
-ghost use Rattle.disk_model.specs.Folder.{SetSize, Rename};
 ghost use Rattle.disk_model.specs.Tree.{file_of};
 ghost use Rattle.disk_model.specs.declared.meta.Meta.{Meta};
 ghost use Rattle.snap_fix.specs.Finishing.{CanFinish, FinishesRecord, FinishesNot};
@@ -8,8 +7,8 @@ ghost use Rattle.snap_fix.specs.Finishing.{IsWholeCall, IsFinishCall, finish_of,
 ghost use Rattle.snap_fix.specs.Finishing.{same_stamp as same_stamp_by};
 ghost use Rattle.snap_fix.specs.Finishing.{is_changed as is_changed_by, stamped_finish as stamped_finish_by};
 ghost use Rattle.snap_fix.specs.FinishSteps.{IsPlaced, IsReady};
+ghost use Rattle.snap_fix.specs.FinishSteps.{IsPutCall, IsSizeCall, IsLostCall};
 ghost use Rattle.snap_fix.specs.FinishSteps.{BreaksBy, SetsUp, FitsSize, FinishesBy};
-ghost use Rattle.snap_fix.specs.Mending.{IsSetUpCall};
 ghost use Rattle.snap_fix.specs.State.{stands as stands_by};
 
 use crate::state::{FileState, States};
@@ -71,7 +70,7 @@ fn set_up<F: Folder>(
     ensures set_up { IfOk result (λ _. SetsUp path.now place touched
         (F.view folder.old) (F.view folder.new)) }
     ensures broke { IfErr result (λ fault.
-        BreaksBy fault (IsSetUpCall place path.now) (F.view folder.old) (F.view folder.new)) }
+        BreaksBy fault (IsPutCall place touched path.now) (F.view folder.old) (F.view folder.new)) }
 {
     if stands(place, touched) {
         return Ok(());
@@ -92,7 +91,7 @@ fn fit_size<F: Folder>(folder: &mut F, path: &Path, before: u64, size: u64) -> R
     ensures sized { IfOk result (λ _. FitsSize path.now before size
         (F.view folder.old) (F.view folder.new)) }
     ensures broke { IfErr result (λ fault.
-        BreaksBy fault (λ call. call ≡ SetSize path.now size)
+        BreaksBy fault (IsSizeCall path.now before size)
         (F.view folder.old) (F.view folder.new)) }
 {
     if before == size {
@@ -113,9 +112,9 @@ fn finish_whole<F: Folder>(
     requires { IsReady path.now listed meta start state (F.view folder.old) }
     ensures finished { IfOk result (λ finish. FinishesBy
         (whole_finish meta listed start state (F.view folder.old).keeps_stamps) finish
-        (IsWholeCall start.place path.now meta) meta start state path.now
+        (IsWholeCall listed start state path.now meta) meta start state path.now
         (F.view folder.old) (F.view folder.new)) }
-    ensures broke { IfErr result (λ fault. BreaksBy fault (IsWholeCall start.place path.now meta)
+    ensures broke { IfErr result (λ fault. BreaksBy fault (IsWholeCall listed start state path.now meta)
         (F.view folder.old) (F.view folder.new)) }
 {
     set_up(folder, path, start.place, state.touched)?;
@@ -155,9 +154,9 @@ fn finish_lost<F: Folder>(
 ) -> Result<Finish, FileFault>
     requires { IsPlaced path.now start.place state.touched (F.view folder.old) }
     ensures finished { (meta : Meta) → IfOk result (λ finish. FinishesBy (lost_finish start state)
-        finish (λ call. call ≡ Rename path.now true) meta start state path.now
+        finish (IsLostCall start state path.now) meta start state path.now
         (F.view folder.old) (F.view folder.new)) }
-    ensures broke { IfErr result (λ fault. BreaksBy fault (λ call. call ≡ Rename path.now true)
+    ensures broke { IfErr result (λ fault. BreaksBy fault (IsLostCall start state path.now)
         (F.view folder.old) (F.view folder.new)) }
 {
     if !stands(start.place, state.touched) {
@@ -179,10 +178,10 @@ fn finish_file<F: Folder>(
     requires { IsReady path.now listed meta start state (F.view folder.old) }
     ensures finished { IfOk result (λ finish. FinishesBy
         (finish_of meta listed start state (F.view folder.old).keeps_stamps) finish
-        (IsFinishCall state.lost start.place path.now meta) meta start state path.now
+        (IsFinishCall state.lost listed start state path.now meta) meta start state path.now
         (F.view folder.old) (F.view folder.new)) }
     ensures broke { IfErr result (λ fault. BreaksBy fault
-        (IsFinishCall state.lost start.place path.now meta) (F.view folder.old) (F.view folder.new)) }
+        (IsFinishCall state.lost listed start state path.now meta) (F.view folder.old) (F.view folder.new)) }
 {
     if state.lost {
         finish_lost(folder, path, start, state)
@@ -205,7 +204,7 @@ pub(crate) fn finish_record<F: Folder>(
     requires { CanFinish table.now d i listed starts.old states.old (F.view folder.old) }
     ensures finished { IfOk result (λ finish. FinishesRecord table.now d i listed finish
         starts.old states.old (F.view folder.old) starts.new states.new (F.view folder.new)) }
-    ensures failed { IfErr result (λ _. FinishesNot table.now d i starts.old states.old
+    ensures failed { IfErr result (λ _. FinishesNot table.now d i listed starts.old states.old
         (F.view folder.old) (F.view folder.new)) }
 {
     // The path of a record leaves room for the name of its lost file, and its stamp is one.

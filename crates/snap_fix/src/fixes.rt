@@ -2,7 +2,7 @@
 ghost use Rattle.std.specs.Prelude.{◌≡◌, ◌+◌, ◌++◌, ◌<◌, ◌≤◌, All, IfOk, IfErr, List, length, map, take, drop};
 ghost use Rattle.snap_fix.specs.Checking.{IsWorkFor, plan_for};
 ghost use Rattle.snap_fix.specs.Fixing.{AreTotals, SceneFits, fix_scene};
-ghost use Rattle.snap_fix.specs.FixRun.{AreDistinct, BreaksInto, BreaksStripes, FixesInto, FixesStripes, FixesWindow, KeepsFixWork};
+ghost use Rattle.snap_fix.specs.FixRun.{AreAscending, BreaksInto, BreaksStripes, BreaksWindow, FixesInto, FixesStripes, FixesWindow, KeepsFixWork};
 ghost use Rattle.snap_fix.specs.Mended.{Mended};
 ghost use Rattle.snap_fix.specs.Plan.{EntriesFit, FixPlan, plan_of};
 ghost use Rattle.snap_fix.specs.Room.{IsRoomFor};
@@ -63,18 +63,18 @@ fn fix_into<F: Folder, V: Vault, P: Spare, W: Sink>(
     requires room { IsRoomFor table.now room.old }
     requires count { room.old.window.count ≡ length stripes.now }
     requires within { All (λ stripe. stripe < length table.now.infos) stripes.now }
-    requires distinct { AreDistinct stripes.now }
+    requires ascending { AreAscending stripes.now }
     requires fits { SceneFits (plan_of scope table.now entries.now) (fix_scene starts.old states.old written.old
-        (map F.view folders.old) (V.view vault.old) lines.old reports.old.items) }
+        (map F.view folders.old) (V.view vault.old) (P.holding spare.old) lines.old reports.old.items) }
     requires underway { FixUnderway (plan_of scope table.now entries.now) (map F.view folders.old) starts.old states.old }
     ensures room { IfOk result (λ _. IsRoomFor table.now room.new) }
     ensures same_room { IfOk result (λ _. room.new.window.room ≡ room.old.window.room) }
     ensures fixed { IfOk result (FixesInto W.view standing stands (plan_of scope table.now entries.now) stripes.now room.old.window
-        (fix_scene starts.old states.old written.old (map F.view folders.old) (V.view vault.old) lines.old reports.old.items)
-        (fix_scene starts.new states.new written.new (map F.view folders.new) (V.view vault.new) lines.new reports.new.items)) }
-    ensures broke { IfErr result (BreaksInto W.view standing stands (plan_of scope table.now entries.now) room.old.window
-        (fix_scene starts.old states.old written.old (map F.view folders.old) (V.view vault.old) lines.old reports.old.items)
-        (fix_scene starts.new states.new written.new (map F.view folders.new) (V.view vault.new) lines.new reports.new.items)) }
+        (fix_scene starts.old states.old written.old (map F.view folders.old) (V.view vault.old) (P.holding spare.old) lines.old reports.old.items)
+        (fix_scene starts.new states.new written.new (map F.view folders.new) (V.view vault.new) (P.holding spare.new) lines.new reports.new.items)) }
+    ensures broke { IfErr result (BreaksInto W.view standing stands (plan_of scope table.now entries.now) stripes.now room.old.window
+        (fix_scene starts.old states.old written.old (map F.view folders.old) (V.view vault.old) (P.holding spare.old) lines.old reports.old.items)
+        (fix_scene starts.new states.new written.new (map F.view folders.new) (V.view vault.new) (P.holding spare.new) lines.new reports.new.items)) }
 {
     let mut totals = Totals::NONE;
     for i in 0..room.window.count() {
@@ -118,18 +118,18 @@ fn fix_window<R: Threads + Sync, F: Folder, V: Vault, P: Spare, W: Sink>(
     requires work { IsWorkFor table.now work.old }
     requires within { done + count ≤ length work.old.stripes.items }
     requires enough { count ≤ work.old.room.window.room }
-    requires distinct { AreDistinct work.old.stripes.items }
+    requires ascending { AreAscending work.old.stripes.items }
     requires fits { SceneFits (plan_for table.now work.old) (fix_scene work.old.starts states.old written.old
-        (map F.view folders.old) (V.view vault.old) lines.old reports.old.items) }
+        (map F.view folders.old) (V.view vault.old) (P.holding spare.old) lines.old reports.old.items) }
     requires underway { FixUnderway (plan_for table.now work.old) (map F.view folders.old) work.old.starts states.old }
     ensures kept { IfOk result (λ _. KeepsFixWork table.now work.old work.new) }
     ensures same_room { IfOk result (λ _. work.new.room.window.room ≡ work.old.room.window.room) }
     ensures fixed { IfOk result (FixesWindow W.view standing stands table.now work.old (take count (drop done work.old.stripes.items))
-        (fix_scene work.old.starts states.old written.old (map F.view folders.old) (V.view vault.old) lines.old reports.old.items)
-        (fix_scene work.new.starts states.new written.new (map F.view folders.new) (V.view vault.new) lines.new reports.new.items)) }
-    ensures broke { IfErr result (BreaksStripes W.view standing stands (plan_for table.now work.old)
-        (fix_scene work.old.starts states.old written.old (map F.view folders.old) (V.view vault.old) lines.old reports.old.items)
-        (fix_scene work.new.starts states.new written.new (map F.view folders.new) (V.view vault.new) lines.new reports.new.items)) }
+        (fix_scene work.old.starts states.old written.old (map F.view folders.old) (V.view vault.old) (P.holding spare.old) lines.old reports.old.items)
+        (fix_scene work.new.starts states.new written.new (map F.view folders.new) (V.view vault.new) (P.holding spare.new) lines.new reports.new.items)) }
+    ensures broke { IfErr result (BreaksWindow W.view standing stands table.now work.old (take count (drop done work.old.stripes.items))
+        (fix_scene work.old.starts states.old written.old (map F.view folders.old) (V.view vault.old) (P.holding spare.old) lines.old reports.old.items)
+        (fix_scene work.new.starts states.new written.new (map F.view folders.new) (V.view vault.new) (P.holding spare.new) lines.new reports.new.items)) }
 {
     let stripes = &work.stripes[done..done + count];
     let room = &mut work.room;
@@ -175,17 +175,17 @@ pub(crate) fn fix_stripes<R: Threads + Sync, F: Folder, V: Vault, P: Spare, W: S
     reports: &mut Vec<Box<dyn Report>>,
 ) -> Result<Totals, RunFault>
     requires work { IsWorkFor table.now work.old }
-    requires distinct { AreDistinct work.old.stripes.items }
+    requires ascending { AreAscending work.old.stripes.items }
     requires fits { SceneFits (plan_for table.now work.old) (fix_scene work.old.starts states.old written.old
-        (map F.view folders.old) (V.view vault.old) lines.old reports.old.items) }
+        (map F.view folders.old) (V.view vault.old) (P.holding spare.old) lines.old reports.old.items) }
     requires underway { FixUnderway (plan_for table.now work.old) (map F.view folders.old) work.old.starts states.old }
     ensures kept { IfOk result (λ _. (work.new.scope ≡ work.old.scope) × (work.new.entries ≡ work.old.entries)) }
     ensures fixed { IfOk result (FixesStripes W.view standing stands (plan_for table.now work.old) work.old.stripes.items
-        (fix_scene work.old.starts states.old written.old (map F.view folders.old) (V.view vault.old) lines.old reports.old.items)
-        (fix_scene work.new.starts states.new written.new (map F.view folders.new) (V.view vault.new) lines.new reports.new.items)) }
-    ensures broke { IfErr result (BreaksStripes W.view standing stands (plan_for table.now work.old)
-        (fix_scene work.old.starts states.old written.old (map F.view folders.old) (V.view vault.old) lines.old reports.old.items)
-        (fix_scene work.new.starts states.new written.new (map F.view folders.new) (V.view vault.new) lines.new reports.new.items)) }
+        (fix_scene work.old.starts states.old written.old (map F.view folders.old) (V.view vault.old) (P.holding spare.old) lines.old reports.old.items)
+        (fix_scene work.new.starts states.new written.new (map F.view folders.new) (V.view vault.new) (P.holding spare.new) lines.new reports.new.items)) }
+    ensures broke { IfErr result (BreaksStripes W.view standing stands (plan_for table.now work.old) work.old.stripes.items
+        (fix_scene work.old.starts states.old written.old (map F.view folders.old) (V.view vault.old) (P.holding spare.old) lines.old reports.old.items)
+        (fix_scene work.new.starts states.new written.new (map F.view folders.new) (V.view vault.new) (P.holding spare.new) lines.new reports.new.items)) }
 {
     let mut totals = Totals::NONE;
     let mut done = 0;

@@ -94,14 +94,14 @@ pub(crate) fn fix_stripe<F: Folder, V: Vault, P: Spare, W: Sink>(
     requires can { CanExamine (plan_of scope table.now entries.now) stripe i room.old.window }
     requires room { IsRoomFor table.now room.old }
     requires fits { SceneFits (plan_of scope table.now entries.now) (fix_scene starts.old states.old written.old
-        (map F.view folders.old) (V.view vault.old) lines.old reports.old.items) }
+        (map F.view folders.old) (V.view vault.old) (P.holding spare.old) lines.old reports.old.items) }
     requires underway { FixUnderway (plan_of scope table.now entries.now) (map F.view folders.old) starts.old states.old }
     ensures fixed { IfOk result (FixesStripe W.view standing stands (plan_of scope table.now entries.now) stripe i room.old room.new
-        (fix_scene starts.old states.old written.old (map F.view folders.old) (V.view vault.old) lines.old reports.old.items)
-        (fix_scene starts.new states.new written.new (map F.view folders.new) (V.view vault.new) lines.new reports.new.items)) }
+        (fix_scene starts.old states.old written.old (map F.view folders.old) (V.view vault.old) (P.holding spare.old) lines.old reports.old.items)
+        (fix_scene starts.new states.new written.new (map F.view folders.new) (V.view vault.new) (P.holding spare.new) lines.new reports.new.items)) }
     ensures broke { IfErr result (BreaksStripe W.view standing stands (plan_of scope table.now entries.now) stripe i room.old
-        (fix_scene starts.old states.old written.old (map F.view folders.old) (V.view vault.old) lines.old reports.old.items)
-        (fix_scene starts.new states.new written.new (map F.view folders.new) (V.view vault.new) lines.new reports.new.items)) }
+        (fix_scene starts.old states.old written.old (map F.view folders.old) (V.view vault.old) (P.holding spare.old) lines.old reports.old.items)
+        (fix_scene starts.new states.new written.new (map F.view folders.new) (V.view vault.new) (P.holding spare.new) lines.new reports.new.items)) }
 {
     let examined = examine(
         scope, table, entries, stripe, i, room, vault, spare, lines, reports,

@@ -1,19 +1,60 @@
-//! What follows of a search for lost blocks. The calls do nothing: their contracts are laws.
+//! What follows of a search for lost blocks, and of a fix that is stopped. The calls do nothing: their contracts are laws.
 
-ghost use Rattle.std.specs.Prelude.{◌≡◌, ◌↔◌, ℕ, ◌<◌, ◌≤◌, Bool, List, [], length};
-ghost use Rattle.std.specs.Prelude.{slice_index, slice_index_or, All};
+ghost use Rattle.std.specs.Prelude.{◌≡◌, ◌↔◌, ℕ, ◌+◌, ◌*◌, ◌<◌, ◌≤◌, Bool, true, false, List, [], length};
+ghost use Rattle.std.specs.Prelude.{slice_index, slice_index_or, All, Contains, is_some, Some};
+ghost use Rattle.std.specs.Prelude.{IsTrue, None};
+ghost use Rattle.std.specs.Prelude.{filter, get_or};
+ghost use Rattle.array_scan.specs.Kept.{ListedFile};
 ghost use Rattle.cauchy.specs.Matrix.{byte_of, parity_byte};
-ghost use Rattle.cauchy.specs.Recovery.{others_sum};
+ghost use Rattle.cauchy.specs.Recovery.{AreBytes, others_sum};
 ghost use Rattle.cauchy.specs.System.{AreDistinctBelow};
-ghost use Rattle.parity_writer.specs.Parity.{Row};
+ghost use Rattle.disk_model.specs.Files.{Files, parity_of};
+ghost use Rattle.disk_model.specs.Folder.{FolderView};
+ghost use Rattle.disk_model.specs.Tree.{file_of, path_of};
+ghost use Rattle.disk_model.specs.Tree.{Tree, File, listing_of};
+ghost use Rattle.file_table.specs.Table.{TableValue, record_at};
+ghost use Rattle.file_table.specs.declared.block.Cell.{Cell};
+ghost use Rattle.parity_writer.specs.Keeps.{HasByte};
+ghost use Rattle.parity_writer.specs.Parity.{HasLevel, Row};
+ghost use Rattle.parity_writer.specs.Sound.{Snapshot, Sound};
+ghost use Rattle.snap_config.specs.declared.options.Selection.{Selection};
+ghost use Rattle.snap_report.specs.Kind.{is_finding};
+ghost use Rattle.snap_report.specs.declared.events.Event.TheVariants as event;
+ghost use Rattle.stripe_reader.specs.Columns.{folder_at};
+ghost use Rattle.stripe_reader.specs.Reading.{block_length};
+ghost use Rattle.stripe_reader.specs.Starts.{StartsValue};
+ghost use Rattle.stripe_reader.specs.declared.starts.Place.TheVariants as place;
+ghost use Rattle.snap_fix.specs.declared.finishing.Finish.{Finish};
+ghost use Rattle.snap_fix.specs.declared.scope.Mode.TheVariants as mode;
+ghost use Rattle.snap_fix.specs.Course.{IsPlan, check_events};
+ghost use Rattle.snap_fix.specs.Ending.{is_finished};
+ghost use Rattle.snap_fix.specs.Facts.{StripeFacts, gift_of, is_missing};
+ghost use Rattle.snap_fix.specs.Findings.{is_lost};
+ghost use Rattle.snap_fix.specs.FixCourse.{fix_events};
+ghost use Rattle.snap_fix.specs.Fixing.{facts_of};
+ghost use Rattle.snap_fix.specs.Found.{AreAllWritten, DifferInMode, IsNoneGone};
+ghost use Rattle.snap_fix.specs.Genuine.{AreGenuineOf, HasGenuineFacts, IsBlockIn};
+ghost use Rattle.snap_fix.specs.Genuine.{IsRestorableStripe, IsSameRow, TellsIntactLevels};
+ghost use Rattle.snap_fix.specs.Known.{AreFacts};
+ghost use Rattle.snap_fix.specs.Mended.{Mended, block_or_none, has_lost, is_written};
+ghost use Rattle.snap_fix.specs.Mended.{is_wrong_level, known_block, writes_of};
+ghost use Rattle.snap_fix.specs.Plan.{FixPlan, entry_at, is_audit, is_searched, records_in};
+ghost use Rattle.snap_fix.specs.Plan.{starts_of, stripes_of};
 ghost use Rattle.snap_fix.specs.Restorable.{Accepts, AreBlocksOf, CanAccept};
 ghost use Rattle.snap_fix.specs.Restorable.{CandidatesAreGenuine, Follows, IsIntact, IsKnownBeside};
 ghost use Rattle.snap_fix.specs.Restorable.{IsLost, IsOneOf, IsRestorable, IsSnapshotOf};
 ghost use Rattle.snap_fix.specs.Restorable.{LostStripe, SearchFinds, SearchFindsNone, SomeAccepted};
 ghost use Rattle.snap_fix.specs.Restorable.{TellsIntact, row_with};
+ghost use Rattle.snap_fix.specs.Restored.{CanBeHad, HasFixed, HoldsCell, IsDamagedCell};
+ghost use Rattle.snap_fix.specs.Restored.{IsNotWritten, IsUnknownCell, StandsRestored, StandsUnrecoverable};
 ghost use Rattle.snap_fix.specs.Search.{IsRightBlock, wanted_at};
+ghost use Rattle.snap_fix.specs.State.{IsNameOf, bytes_placed, has_some, place_in, record_path};
+ghost use Rattle.snap_fix.specs.Stopped.{FixStop, IsNoneOf, IsStop, StandInPlace, StandsSpared};
+ghost use Rattle.snap_fix.specs.Stopped.{file_placed, path_at, records_of};
+ghost use Rattle.snap_fix.specs.Underway.{HoldsWrong, IsMendedLevel, KeepsLevels};
 
 use cauchy::laws::one_solution;
+use disk_model::laws::{a_file_that_no_call_names_stays, bytes_that_no_call_touches_stay};
 use gf256::laws::products;
 
 /// The row with accepted blocks in its lost columns has the levels that they follow from. It is as it was in all other
@@ -74,3 +115,220 @@ pub fn a_stripe_is_restorable_by_counting()
 {
     one_solution();
 }
+
+/// Wherever a fix is stopped or breaks off, the file that stood in the place of a record stands under one of its names
+/// with all bytes that it had, but in blocks that are written, and behind the recorded end where no block is lost. The
+/// files of records that are blocked or not selected stay, and so do all that are no record's. This is of all calls of a
+/// run, the listing included, wherever it is stopped: a stop after some of the calls is among what all of them may leave
+/// (`disk_model::laws::a_folder_stands_among_what_a_stop_may_leave`, clause `later`).
+pub fn a_stop_within_a_fix_changes_written_blocks_alone()
+    ensures bytes { (stop : FixStop) (i : ℕ) (file : File) → IsStop stop → i < length (records_of stop) →
+        file_placed stop.first (path_at stop i) ≡ Some file → StandsSpared stop i file }
+    ensures not_selected { (stop : FixStop) (i : ℕ) (lost : Bool) → IsStop stop → i < length (records_of stop) →
+        is_finished stop.plan stop.d i ≡ false →
+        file_of stop.left (path_of (path_at stop i) lost) ≡ file_of stop.first (path_of (path_at stop i) lost) }
+    ensures others { (stop : FixStop) (name : List ℕ) → IsStop stop → IsNoneOf stop name →
+        file_of stop.left name ≡ file_of stop.first name }
+    // The starts that follow from what a folder listed are where its files stand.
+    ensures listed { (plan : FixPlan) (lists : List (List ListedFile)) (d : ℕ) (first : Tree) →
+        d < length plan.table.columns → get_or lists d [] ≡ listing_of first →
+        StandInPlace plan (starts_of plan.table lists) d first }
+{
+    bytes_that_no_call_touches_stay();
+    a_file_that_no_call_names_stays();
+}
+
+/// Where no block of a stripe has a recorded hash by chance, the row that is known of it is the snapshot's. A row is
+/// known exactly where no more cells are missing than levels are intact. What the spare gave is the snapshot's block.
+pub fn a_known_row_is_the_snapshots()
+    ensures known { (plan : FixPlan) (starts : StartsValue) (firsts : List FolderView)
+        (snapshot row : Row) (facts : StripeFacts) →
+        HasGenuineFacts plan starts firsts snapshot facts → facts.row ≡ Some row →
+        IsSameRow plan.table.shape.block_size row snapshot }
+    ensures restorable { (plan : FixPlan) (starts : StartsValue) (firsts : List FolderView)
+        (snapshot : Row) (facts : StripeFacts) (is_intact : ℕ → Bool) →
+        HasGenuineFacts plan starts firsts snapshot facts → AreBytes snapshot →
+        TellsIntactLevels plan facts snapshot is_intact →
+        (is_some facts.row ≡ true ↔ IsRestorableStripe plan facts is_intact) }
+    ensures given { (plan : FixPlan) (starts : StartsValue) (firsts : List FolderView)
+        (snapshot : Row) (facts : StripeFacts) (d : ℕ) (bytes : List ℕ) →
+        HasGenuineFacts plan starts firsts snapshot facts → gift_of facts d ≡ Some bytes →
+        IsBlockIn plan.table.shape.block_size snapshot d bytes }
+{
+    products();
+}
+
+/// A level that a fix writes was changed from outside since its stripe was synced. So parity that was sound stays
+/// sound, for each table with this snapshot, and the levels that were written are the snapshot's again.
+pub fn a_fix_keeps_what_is_sound()
+    ensures facts { (plan : FixPlan) (starts : StartsValue) (firsts : List FolderView)
+        (read : Files) (snapshot : Snapshot)
+        (is_changed : ℕ → ℕ → Bool) (stripes : List StripeFacts) (facts : StripeFacts) →
+        AreGenuineOf plan starts firsts read snapshot is_changed stripes →
+        Contains stripes facts → is_searched plan facts.stripe ≡ true →
+        HasGenuineFacts plan starts firsts (snapshot facts.stripe) facts }
+    ensures wrong { (plan : FixPlan) (starts : StartsValue) (firsts : List FolderView)
+        (read : Files) (snapshot : Snapshot)
+        (is_changed : ℕ → ℕ → Bool) (stripes : List StripeFacts) (facts : StripeFacts) (r : ℕ) →
+        AreGenuineOf plan starts firsts read snapshot is_changed stripes →
+        Contains stripes facts → is_wrong_level plan facts r ≡ true →
+        is_changed facts.stripe r ≡ true }
+    ensures sound { (plan : FixPlan) (starts : StartsValue) (firsts : List FolderView)
+        (read : Files) (snapshot : Snapshot)
+        (is_changed : ℕ → ℕ → Bool) (stripes : List StripeFacts) (table : TableValue)
+        (files left : Files) →
+        AreGenuineOf plan starts firsts read snapshot is_changed stripes →
+        table.shape.block_size ≡ plan.table.shape.block_size →
+        KeepsLevels plan.table.shape.block_size (IsMendedLevel plan stripes) files left →
+        Sound table files snapshot is_changed → Sound table left snapshot is_changed }
+    ensures mended { (plan : FixPlan) (starts : StartsValue) (firsts : List FolderView)
+        (snapshot : Row) (facts : StripeFacts) (left : Files) (r : ℕ) →
+        HasGenuineFacts plan starts firsts snapshot facts → HoldsWrong plan facts left →
+        is_wrong_level plan facts r ≡ true →
+        HasLevel plan.table.shape.block_size r facts.stripe snapshot (parity_of left r) }
+{
+    products();
+}
+
+/// What a fix leaves of a selected damaged cell. If its block is known and its record isn't blocked, the file of the
+/// record has that block, where its folder tells its files. If no block is known, the cell is lost: that is told, and
+/// nothing is written. Where no block has a recorded hash by chance, a known block is the snapshot's, and one is known
+/// exactly where the spare gave it or the stripe is restorable.
+pub fn a_fix_restores()
+    ensures held { (plan : FixPlan) (starts : StartsValue) (stripes : List Mended)
+        (finishes : List (List Finish)) (firsts news : List FolderView) (mended : Mended) (d : ℕ)
+        (cell : Cell) → HasFixed plan starts stripes finishes firsts news →
+        IsDamagedCell plan stripes mended d cell → (entry_at plan d cell.rec).blocked ≡ false →
+        IsTrue (folder_at firsts d).tells → is_some (known_block mended.facts d) ≡ true →
+        HoldsCell plan.table d cell (has_lost plan stripes d cell.rec)
+        (slice_index (block_or_none (known_block mended.facts d))) (folder_at news d).tree }
+    ensures lost { (plan : FixPlan) (stripes : List Mended) (finishes : List (List Finish))
+        (mended : Mended) (d : ℕ) (cell : Cell) → IsDamagedCell plan stripes mended d cell →
+        is_audit plan.scope.mode ≡ false → is_some (known_block mended.facts d) ≡ false →
+        (is_lost plan mended.facts.stripe (is_missing plan mended.facts d) (is_some mended.facts.row) d ≡ true)
+        × Contains (fix_events plan stripes finishes) (event.Lost mended.facts.stripe d cell.rec cell.index)
+        × (is_written plan mended d ≡ false) }
+    // No other cell of such a folder is told to be lost.
+    ensures told { (plan : FixPlan) (starts : StartsValue) (stripes : List Mended)
+        (finishes : List (List Finish)) (firsts news : List FolderView) (stripe d : ℕ) (cell : Cell) →
+        HasFixed plan starts stripes finishes firsts news → IsTrue (folder_at firsts d).tells →
+        Contains (fix_events plan stripes finishes) (event.Lost stripe d cell.rec cell.index) →
+        IsUnknownCell plan stripes stripe d cell }
+    ensures known { (plan : FixPlan) (starts : StartsValue) (firsts : List FolderView)
+        (snapshot : Row) (facts : StripeFacts) (is_intact : ℕ → Bool) (d : ℕ) →
+        HasGenuineFacts plan starts firsts snapshot facts → AreBytes snapshot →
+        TellsIntactLevels plan facts snapshot is_intact →
+        (is_some (known_block facts d) ≡ true ↔ CanBeHad plan facts is_intact d) }
+    ensures restored { (plan : FixPlan) (starts : StartsValue) (stripes : List Mended)
+        (finishes : List (List Finish)) (firsts news : List FolderView) (mended : Mended) (d : ℕ)
+        (cell : Cell) (snapshot : Row) (is_intact : ℕ → Bool) →
+        HasFixed plan starts stripes finishes firsts news → IsDamagedCell plan stripes mended d cell →
+        HasGenuineFacts plan starts firsts snapshot mended.facts → AreBytes snapshot →
+        TellsIntactLevels plan mended.facts snapshot is_intact →
+        (entry_at plan d cell.rec).blocked ≡ false → IsTrue (folder_at firsts d).tells →
+        CanBeHad plan mended.facts is_intact d →
+        HoldsCell plan.table d cell (has_lost plan stripes d cell.rec) (byte_of snapshot d)
+        (folder_at news d).tree }
+    ensures unrestored { (plan : FixPlan) (starts : StartsValue) (stripes : List Mended)
+        (finishes : List (List Finish)) (firsts : List FolderView) (mended : Mended) (d : ℕ)
+        (cell : Cell) (snapshot : Row) (is_intact : ℕ → Bool) →
+        IsDamagedCell plan stripes mended d cell →
+        HasGenuineFacts plan starts firsts snapshot mended.facts → AreBytes snapshot →
+        TellsIntactLevels plan mended.facts snapshot is_intact →
+        (CanBeHad plan mended.facts is_intact d → ⊥) →
+        (is_lost plan mended.facts.stripe (is_missing plan mended.facts d) (is_some mended.facts.row) d ≡ true)
+        × Contains (fix_events plan stripes finishes) (event.Lost mended.facts.stripe d cell.rec cell.index)
+        × (is_written plan mended d ≡ false) }
+{
+    products();
+}
+
+/// What a fix leaves as it was, where a folder tells its files. Each byte of a cell that it did not write stays in the
+/// place of its record, and so do the files of records that are not selected or are blocked, and all other files. A
+/// selected record that isn't blocked stands under its path with its recorded size, if it has no lost cell, and else
+/// has the name for that.
+pub fn a_fix_leaves_the_rest()
+    ensures bytes { (plan : FixPlan) (starts : StartsValue) (stripes : List Mended)
+        (finishes : List (List Finish)) (firsts news : List FolderView) (d i index p b : ℕ) →
+        HasFixed plan starts stripes finishes firsts news → IsTrue (folder_at firsts d).tells →
+        d < length plan.table.columns → i < length (records_in plan.table d) →
+        p < block_length plan.table.shape.block_size (record_at plan.table.columns d i).meta.size index →
+        IsNotWritten plan stripes d (let cell : Cell = record { rec = i; index = index } in cell) →
+        HasByte (bytes_placed (folder_at firsts d).tree (record_path (records_in plan.table d) i))
+        (index * plan.table.shape.block_size + p) b →
+        HasByte (bytes_placed (folder_at news d).tree (record_path (records_in plan.table d) i))
+        (index * plan.table.shape.block_size + p) b }
+    ensures unfinished { (plan : FixPlan) (starts : StartsValue) (stripes : List Mended)
+        (finishes : List (List Finish)) (firsts news : List FolderView) (d i : ℕ) (lost : Bool) →
+        HasFixed plan starts stripes finishes firsts news → IsTrue (folder_at firsts d).tells →
+        d < length plan.table.columns → i < length (records_in plan.table d) →
+        is_finished plan d i ≡ false →
+        file_of (folder_at news d).tree (path_of (record_path (records_in plan.table d) i) lost)
+        ≡ file_of (folder_at firsts d).tree (path_of (record_path (records_in plan.table d) i) lost) }
+    ensures others { (plan : FixPlan) (starts : StartsValue) (stripes : List Mended)
+        (finishes : List (List Finish)) (firsts news : List FolderView) (d : ℕ) (name : List ℕ) →
+        HasFixed plan starts stripes finishes firsts news → IsTrue (folder_at firsts d).tells →
+        d < length plan.table.columns → ¬ (IsNameOf (records_in plan.table d) name) →
+        file_of (folder_at news d).tree name ≡ file_of (folder_at firsts d).tree name }
+    ensures whole { (plan : FixPlan) (starts : StartsValue) (stripes : List Mended)
+        (finishes : List (List Finish)) (firsts news : List FolderView) (d i : ℕ) →
+        HasFixed plan starts stripes finishes firsts news → IsTrue (folder_at firsts d).tells →
+        d < length plan.table.columns → i < length (records_in plan.table d) →
+        is_finished plan d i ≡ true → has_lost plan stripes d i ≡ false →
+        StandsRestored (folder_at firsts d).keeps_stamps (record_at plan.table.columns d i).meta
+        (record_path (records_in plan.table d) i) (folder_at news d).tree }
+    // An older file under the name for a lost cell stays, unless it was in the place of the record.
+    ensures kept { (plan : FixPlan) (starts : StartsValue) (stripes : List Mended)
+        (finishes : List (List Finish)) (firsts news : List FolderView) (d i : ℕ) →
+        HasFixed plan starts stripes finishes firsts news → IsTrue (folder_at firsts d).tells →
+        d < length plan.table.columns → i < length (records_in plan.table d) →
+        is_finished plan d i ≡ true → has_lost plan stripes d i ≡ false →
+        place_in (folder_at firsts d).tree (record_path (records_in plan.table d) i) ≡ place.Plain →
+        file_of (folder_at news d).tree (path_of (record_path (records_in plan.table d) i) true)
+        ≡ file_of (folder_at firsts d).tree (path_of (record_path (records_in plan.table d) i) true) }
+    ensures gone { (plan : FixPlan) (starts : StartsValue) (stripes : List Mended)
+        (finishes : List (List Finish)) (firsts news : List FolderView) (d i : ℕ) →
+        HasFixed plan starts stripes finishes firsts news → IsTrue (folder_at firsts d).tells →
+        d < length plan.table.columns → i < length (records_in plan.table d) →
+        is_finished plan d i ≡ true → has_lost plan stripes d i ≡ false →
+        place_in (folder_at firsts d).tree (record_path (records_in plan.table d) i) ≡ place.Lost →
+        file_of (folder_at news d).tree (path_of (record_path (records_in plan.table d) i) true) ≡ None }
+    ensures renamed { (plan : FixPlan) (starts : StartsValue) (stripes : List Mended)
+        (finishes : List (List Finish)) (firsts news : List FolderView) (d i : ℕ) →
+        HasFixed plan starts stripes finishes firsts news → IsTrue (folder_at firsts d).tells →
+        d < length plan.table.columns → i < length (records_in plan.table d) →
+        is_finished plan d i ≡ true → has_lost plan stripes d i ≡ true →
+        place_in (folder_at firsts d).tree (record_path (records_in plan.table d) i) ≡ place.Plain →
+        StandsUnrecoverable (record_path (records_in plan.table d) i) (folder_at news d).tree }
+    ensures nowhere { (plan : FixPlan) (starts : StartsValue) (stripes : List Mended)
+        (finishes : List (List Finish)) (firsts news : List FolderView) (d i : ℕ) (lost : Bool) →
+        HasFixed plan starts stripes finishes firsts news → IsTrue (folder_at firsts d).tells →
+        d < length plan.table.columns → i < length (records_in plan.table d) →
+        is_finished plan d i ≡ true → has_lost plan stripes d i ≡ true →
+        place_in (folder_at firsts d).tree (record_path (records_in plan.table d) i) ≡ place.Nowhere →
+        has_some (writes_of plan stripes d i) ≡ false →
+        file_of (folder_at news d).tree (path_of (record_path (records_in plan.table d) i) lost) ≡ None }
+{}
+
+/// A fix finds just what a check finds of the same stripes, and tells besides what it did: where each cell that was to be
+/// written was, and no file that was to be finished was gone. That is so where all folders tell their files. The plan of a
+/// check looks at the same stripes as that of a fix, the same are the facts of a stripe, and the same is found.
+pub fn a_check_finds_what_a_fix_finds()
+    ensures found { (plan : FixPlan) (stripes : List Mended) (finishes : List (List Finish)) →
+        AreAllWritten plan stripes → IsNoneGone plan finishes →
+        filter is_finding (fix_events plan stripes finishes) ≡ check_events plan (facts_of stripes) }
+    ensures fixed { (plan : FixPlan) (starts : StartsValue) (stripes : List Mended)
+        (finishes : List (List Finish)) (firsts news : List FolderView) →
+        HasFixed plan starts stripes finishes firsts news →
+        ((d : ℕ) → d < length plan.table.columns → IsTrue (folder_at firsts d).tells) →
+        filter is_finding (fix_events plan stripes finishes) ≡ check_events plan (facts_of stripes) }
+    ensures plans { (selection : Selection) (names : List (List ℕ)) (table : TableValue)
+        (lists : List (List ListedFile)) (check fix : FixPlan) →
+        IsPlan mode.Check selection names table lists check →
+        IsPlan mode.Fix selection names table lists fix → DifferInMode check fix }
+    ensures stripes { (check fix : FixPlan) → DifferInMode check fix → stripes_of check ≡ stripes_of fix }
+    ensures facts { (check fix : FixPlan) (facts : StripeFacts) → DifferInMode check fix →
+        (AreFacts check facts ↔ AreFacts fix facts) }
+    ensures events { (check fix : FixPlan) (stripes : List StripeFacts) → DifferInMode check fix →
+        check_events check stripes ≡ check_events fix stripes }
+{}

@@ -1,15 +1,18 @@
 // Which cells of a stripe are damaged, and what the spare gives of them.
-ghost use Rattle.std.specs.Prelude.{◌≡◌, ◌<◌, ◌≤◌, List, Some, IsTrue, length};
+ghost use Rattle.std.specs.Prelude.{◌≡◌, ◌<◌, ◌≤◌, List, Some, IsTrue, is_some, length, true};
 ghost use Rattle.block_hash.specs.Hash.{hash as hash_of};
 ghost use Rattle.file_table.specs.Cells.{cell_seen, cell_view};
 ghost use Rattle.file_table.specs.Table.{column_at, record_at};
 ghost use Rattle.parity_writer.specs.Sound.{real_length};
 ghost use Rattle.stripe_reader.specs.WindowValue.{Fits, slot_at};
 ghost use Rattle.snap_fix.specs.declared.entry.Entry.{Entry};
-ghost use Rattle.snap_fix.specs.Facts.{agrees as agrees_with};
+ghost use Rattle.snap_fix.specs.AskedCell.{AsksBlock, AsksMarked};
+ghost use Rattle.snap_fix.specs.AskedCell.{asks_for, holds_wanted, is_marked_given};
+ghost use Rattle.snap_fix.specs.Facts.{agrees as agrees_with, hash_or_none, wanted_by};
 ghost use Rattle.snap_fix.specs.MarkedCell.{ChangesSlot, IsSettled};
 ghost use Rattle.snap_fix.specs.Marks.{CanExamine, IsMarked, MarksCells};
 ghost use Rattle.snap_fix.specs.Plan.{plan_of, is_searched as is_searched_by};
+ghost use Rattle.snap_fix.specs.Spare.{IsSpareFor, holds_block};
 
 use crate::entry::Entries;
 use crate::scope::{Mode, Scope};
@@ -66,13 +69,16 @@ fn agrees(recorded: Option<Digest16>, came: Option<Digest16>) -> bool
 
 // Whether the spare gave the block of this hash, which is not taken on its word.
 fn ask<P: Spare>(spare: &mut P, shape: Shape, hash: Digest16, out: &mut [u8]) -> bool
-    requires { length out.old ≤ 4194304 }
+    requires size { length out.old ≤ 4194304 }
+    requires spare { IsSpareFor shape (P.holding spare.old) }
     ensures size { length out.new ≡ length out.old }
     ensures given { IsTrue result → hash ≡ record { 0 = hash_of shape.kind shape.seed out.new } }
+    ensures asks { AsksBlock true (holds_block (P.holding spare.old) hash.0 (length out.old)) result
+        (P.holding spare.old) (P.holding spare.new) }
 {
     match spare.block(hash, out) {
-        Ok(true) => digest(shape.kind, &shape.seed, out) == hash,
-        _ => false,
+        Ok(held) => held && digest(shape.kind, &shape.seed, out) == hash,
+        Err(_) => false,
     }
 }
 
@@ -99,10 +105,14 @@ fn mark_damaged<P: Spare>(
     requires column { d < length window.old.lanes }
     requires size { length block.old ≤ window.old.block_size }
     requires most { length block.old ≤ 4194304 }
+    requires spare { IsSpareFor shape (P.holding spare.old) }
     ensures block { length block.new ≡ length block.old }
     ensures mark { IsSettled asked shape window.old.block_size (length block.old)
         (slot_at window.old i d) result (slot_at window.new i d) }
     ensures changes { ChangesSlot i d window.old window.new }
+    ensures asks { AsksBlock (is_some asked)
+        (holds_block (P.holding spare.old) (hash_or_none asked).0 (length block.old))
+        (is_marked_given result) (P.holding spare.old) (P.holding spare.new) }
 {
     if let Some(hash) = asked {
         if ask(spare, shape, hash, block) {
@@ -130,11 +140,17 @@ fn mark_cell<P: Spare>(
     requires fits { Fits table.now window.old }
     requires stripe { i < window.old.count }
     requires block { length block.old ≡ table.now.shape.block_size }
+    requires spare { IsSpareFor table.now.shape (P.holding spare.old) }
     ensures block { length block.new ≡ length block.old }
     ensures mark { IsMarked searched table.now.shape
         (cell_view (column_at table.now.columns d) stripe)
         (slot_at window.old i d) result (slot_at window.new i d) }
     ensures changes { ChangesSlot i d window.old window.new }
+    ensures asks { AsksBlock
+        (asks_for searched (cell_view (column_at table.now.columns d) stripe) (slot_at window.old i d))
+        (holds_wanted (P.holding spare.old)
+        (wanted_by table.now.shape d (cell_view (column_at table.now.columns d) stripe)))
+        (is_marked_given result) (P.holding spare.old) (P.holding spare.new) }
 {
     let Some(cell) = table.cell(stripe, d) else {
         return CellMark::Right;
@@ -174,9 +190,12 @@ pub(crate) fn mark_cells<P: Spare>(
     requires can { CanExamine (plan_of scope table.now entries.now) stripe i window.old }
     requires marks { length marks.old ≡ length table.now.columns }
     requires block { length block.old ≡ table.now.shape.block_size }
+    requires spare { IsSpareFor table.now.shape (P.holding spare.old) }
     ensures block { length block.new ≡ length block.old }
     ensures marked { MarksCells (plan_of scope table.now entries.now) stripe i
         window.old marks.new window.new }
+    ensures asks { AsksMarked (plan_of scope table.now entries.now) stripe i
+        window.old marks.new (P.holding spare.old) (P.holding spare.new) }
 {
     let searched = is_searched(scope, table, stripe);
     for d in 0..table.disks() {

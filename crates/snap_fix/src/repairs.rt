@@ -72,15 +72,15 @@ pub fn fix<R: Threads + Sync, F: Folder, V: Vault, P: Spare, W: Sink>(
     reports: &mut Vec<Box<dyn Report>>,
     lines: &mut Lines<'_, W>,
 ) -> Result<FixEnd, RunFault>
-    requires array { IsArray table.now (length setup.now.disks) (map F.view folders.old) (V.view vault.old) }
-    requires open { AreOpen (map F.view folders.old) }
+    requires array { IsArray table.now (length setup.now.disks) (map F.view folders.old) (V.view vault.old) (P.holding spare.old) }
+    requires open { AreOpen table.now (map F.view folders.old) }
     ensures fixes { IfOk result (Fixes W.view standing stands Mode.Fix selection.now (names_of (setup_value setup.now)) table.now
-        (outside (map F.view folders.old) (V.view vault.old) lines.old reports.old.items)
-        (outside (map F.view folders.new) (V.view vault.new) lines.new reports.new.items)) }
+        (outside (map F.view folders.old) (V.view vault.old) (P.holding spare.old) lines.old reports.old.items)
+        (outside (map F.view folders.new) (V.view vault.new) (P.holding spare.new) lines.new reports.new.items)) }
     ensures failed { IfErr result (FixesNot W.view standing stands Mode.Fix selection.now (names_of (setup_value setup.now)) table.now
-        (outside (map F.view folders.old) (V.view vault.old) lines.old reports.old.items)
-        (outside (map F.view folders.new) (V.view vault.new) lines.new reports.new.items)
-        ((vault.new ≡ vault.old) × (lines.new ≡ lines.old) × (reports.new ≡ reports.old))) }
+        (outside (map F.view folders.old) (V.view vault.old) (P.holding spare.old) lines.old reports.old.items)
+        (outside (map F.view folders.new) (V.view vault.new) (P.holding spare.new) lines.new reports.new.items)
+        ((vault.new ≡ vault.old) × (spare.new ≡ spare.old) × (lines.new ≡ lines.old) × (reports.new ≡ reports.old))) }
 {
     let mut work = begin(alloc, Mode::Fix, selection, setup, folders, table)?;
     let Ok(mut states) = states_before(alloc, &work.starts) else {

@@ -1,32 +1,34 @@
 -- What a check leaves, as a command that was carried out.
-use Rattle.std.proofs.Common.{◌≡◌, ℕ, ◌+◌, ◌<◌, ◌==◌, List, [], ◌∷◌, ◌++◌, length, count_by, Bool, true, false, if◌then◌else◌, IsTrue, get_or, None, Some, refl, sym, ap, ◌∙◌, subst, arith}
-use Rattle.disk_model.specs.Files.{Files, Stays}
-use Rattle.disk_model.specs.Folder.{FolderView, IsFolderReading, ListFiles}
+use Rattle.std.proofs.Common.{◌≡◌, ℕ, ◌==◌, List, [], ◌∷◌, ◌++◌, length, Bool, true, false, if◌then◌else◌, get_or, is_some, Option, None, Some, refl, sym, ap, ◌∙◌, subst}
+use Rattle.std.specs.List.{All}
+use Rattle.std.proofs.lemmas.Bool.{both_ways}
+use Rattle.std.proofs.lemmas.List.Elements.{All-weaker}
+use Rattle.disk_model.specs.Files.{Stays}
+use Rattle.disk_model.specs.Folder.{FolderView}
 use Rattle.disk_model.specs.Sink.{SinkView}
-use Rattle.disk_model.specs.Vault.{VaultView, state_of}
+use Rattle.disk_model.specs.Vault.{VaultView, VaultDone, GoesOn, state_of}
 use Rattle.disk_model.proofs.VaultLemmas.{no_calls, changes_start}
-use Rattle.array_scan.specs.Listings.{FailsAt}
 use Rattle.file_table.specs.Table.{TableValue}
 use Rattle.snap_config.specs.declared.options.Command.{Command}
-use Rattle.snap_config.specs.declared.options.Command.TheVariants as commands
 use Rattle.snap_config.specs.declared.options.Selection.{Selection}
+use Rattle.snap_fix.specs.Asking.{AsksSpare, is_held}
 use Rattle.snap_fix.specs.Beginning.{BeginsNot}
 use Rattle.snap_fix.specs.Course.{Checks, check_events, outside}
-use Rattle.snap_fix.specs.Facts.{StripeFacts}
+use Rattle.snap_fix.specs.Facts.{StripeFacts, gift_of}
 use Rattle.parity_writer.specs.LevelReading.{LevelReading, IsReadingOf}
 use Rattle.snap_fix.specs.Looking.{AreAllLevelsOf, AreRead, LevelsAreRead}
 use Rattle.stripe_reader.specs.Starts.{StartsValue}
 use Rattle.snap_fix.specs.Plan.{FixPlan, names_of}
+use Rattle.snap_fix.specs.Spare.{SpareView, nothing}
 use Rattle.snap_fix.specs.declared.checks.FixEnd.{FixEnd}
 use Rattle.snap_fix.specs.declared.scope.Mode.{Mode}
 use Rattle.snap_fix.specs.declared.scope.Mode.TheVariants as modes
-use Rattle.snap_report.specs.Answer.{Outside, IsCaused, FolderFailed, done_answer}
+use Rattle.snap_report.specs.Answer.{Outside, IsCaused, done_answer}
 use Rattle.snap_report.specs.EndLines.{check_text}
 use Rattle.snap_report.specs.EventLines.{lines_of}
 use Rattle.snap_report.specs.Report.{ReportView}
 use Rattle.snap_report.specs.State.{state_of as told_of}
 use Rattle.snap_report.specs.Telling.{Written, between}
-use Rattle.snap_report.specs.declared.answer.Answer.{Answer}
 use Rattle.snap_report.specs.declared.answer.Answer.TheVariants as answers
 use Rattle.snap_report.specs.declared.answer.RunFault.{RunFault}
 use Rattle.snap_report.specs.declared.answer.RunFault.TheVariants as runs
@@ -36,7 +38,7 @@ use Rattle.snap_report.proofs.ReportLemmas.{all_given_nothing}
 use Rattle.snap_top.specs.Checking.{CheckEnds, CheckRefuses, ChecksBy, checks_as}
 use Rattle.snap_top.specs.Does.{DoesCommand, IsDone}
 use Rattle.snap_top.specs.Task.{Task, Did, reads_only, Left}
-use Rattle.snap_top.specs.Views.{World, world_view, world_of, view_of, outside_of, folder_at, AllReadOnly}
+use Rattle.snap_top.specs.Views.{World, world_view, world_of, view_of, outside_of, AllReadOnly}
 use Rattle.snap_top.proofs.DoneLemmas.{by_output, nothing_more}
 use Rattle.snap_top.proofs.FolderLemmas.{all_listed, first_listed, failed_at}
 use Rattle.snap_top.proofs.SyncLemmas.{changes_of, printed_lines, listing_failed}
@@ -44,28 +46,31 @@ use Rattle.snap_top.proofs.ViewsLemmas.{some_calls_of, sink_stays, all_read_then
 
 -- ---- by its states
 
+pub goes_on_of : (old new : VaultView) (done : List VaultDone) → GoesOn old new done → GoesOn (view_of (state_of old)) (view_of (state_of new)) done
+goes_on_of old new done g = record { later = g.later; levels = g.levels; copies = g.copies; tells = g.tells; calls = g.calls }
+
+pub all_levels_of : (block_size : ℕ) (v : VaultView) (stripes : List StripeFacts) (readings : List (List LevelReading)) → AreAllLevelsOf block_size v stripes readings → AreAllLevelsOf block_size (view_of (state_of v)) stripes readings
+all_levels_of block_size v [] [] are = tt
+all_levels_of block_size v [] (of ∷ readings) are = absurd are
+all_levels_of block_size v (facts ∷ stripes) [] are = absurd are
+all_levels_of block_size v (facts ∷ stripes) (of ∷ readings) (first, rest) = (
+  record { as_many = first.as_many; are_kept = first.are_kept; are_of = λ r below. one facts.stripe r (get_or of r None) (first.are_of r below) },
+  all_levels_of block_size v stripes readings rest,
+)
+  where
+    one : (stripe r : ℕ) (reading : LevelReading) → IsReadingOf v block_size stripe r reading → IsReadingOf (view_of (state_of v)) block_size stripe r reading
+    one stripe r None is = tt
+    one stripe r (Some bytes) is = is
+
 levels_of : (plan : FixPlan) (stripes : List StripeFacts) (old new : VaultView) → LevelsAreRead plan stripes old new → LevelsAreRead plan stripes (view_of (state_of old)) (view_of (state_of new))
 levels_of plan stripes old new read = record {
   readings = read.readings;
-  are = same stripes read.readings read.are;
+  are = all_levels_of plan.table.shape.block_size old stripes read.readings read.are;
   unread = read.unread;
-  goes_on = let g = read.goes_on in record { later = g.later; levels = g.levels; copies = g.copies; tells = g.tells; calls = g.calls };
+  goes_on = goes_on_of old new _ read.goes_on;
   changes = changes_of Stays old new read.changes;
   drafts = record { state = read.drafts.state; bytes = read.drafts.bytes };
 }
-  where
-    same : (xs : List StripeFacts) (rs : List (List LevelReading)) → AreAllLevelsOf plan.table.shape.block_size old xs rs → AreAllLevelsOf plan.table.shape.block_size (view_of (state_of old)) xs rs
-    same [] [] are = tt
-    same [] (of ∷ rs) are = absurd are
-    same (facts ∷ xs) [] are = absurd are
-    same (facts ∷ xs) (of ∷ rs) (first, rest) = (
-      record { as_many = first.as_many; are_kept = first.are_kept; are_of = λ r below. one facts.stripe r (get_or of r None) (first.are_of r below) },
-      same xs rs rest,
-    )
-      where
-        one : (stripe r : ℕ) (reading : LevelReading) → IsReadingOf old plan.table.shape.block_size stripe r reading → IsReadingOf (view_of (state_of old)) plan.table.shape.block_size stripe r reading
-        one stripe r None is = tt
-        one stripe r (Some bytes) is = is
 
 folders_read : (plan : FixPlan) (starts : StartsValue) (stripes : List StripeFacts) (olds news : List FolderView) → AreRead plan starts stripes olds news → AllReadOnly olds news
 folders_read plan starts stripes olds news read = record {
@@ -77,6 +82,65 @@ begun_not : (olds news : List FolderView) (fault : RunFault) → length news ≡
 begun_not olds news (runs.Folder disk) many why = failed_at disk olds news many why
 begun_not olds news runs.Memory many why = first_listed why.0 olds news why.1
 begun_not olds news runs.Vault many why = absurd why
+
+-- what holds nothing gives none
+gives_none : (gift : Option (List ℕ)) → (is_some gift ≡ true → false ≡ true) → gift ≡ None
+gives_none None held = refl
+gives_none (Some given) held = absurd (both_ways false refl (held refl))
+
+pub none_given : (plan : FixPlan) (stripes : List StripeFacts) (new : SpareView) → AsksSpare plan stripes nothing new → All (λ (facts : StripeFacts). (d : ℕ) → gift_of facts d ≡ None) stripes
+none_given plan stripes new asks =
+    All-weaker (λ (facts : StripeFacts). (d : ℕ) → is_some (gift_of facts d) ≡ true → is_held nothing plan facts d ≡ true) (λ (facts : StripeFacts). (d : ℕ) → gift_of facts d ≡ None)
+    (λ facts held d. gives_none (gift_of facts d) (held d)) stripes (asks.gave refl)
+
+-- ---- one that did not begin, a check or a fix
+
+caused_by : (fault : RunFault) (olds news : List FolderView) (old new : Outside) → old.folders ≡ olds → new.folders ≡ news → BeginsNot olds news fault → IsCaused (answers.Broken fault) 0 [] old new
+caused_by (runs.Folder disk) olds news old new os ns fails = (
+  rw (os) fails.within,
+  rw (os, ns) (listing_failed disk _ _ fails.failed),
+)
+caused_by runs.Memory olds news old new os ns why = tt
+caused_by runs.Vault olds news old new os ns why = absurd why
+
+-- what is left to be said of it
+abbrev pub refusal_of : RunFault → Left
+refusal_of fault = record { answer = answers.Broken fault; named = None; counted = 0; told = [] }
+
+-- it is a refusal of its command
+abbrev pub IsRefusal : Task → TableValue → RunFault → Type 0
+IsRefusal task table fault = (first last : World) → BeginsNot first.folders last.folders fault → CheckRefuses first last (refusal_of fault) reads_only
+    → DoesCommand task.command task table first last (refusal_of fault) reads_only
+
+module _ {W R : Type 0} (standing : R → ReportView) (stands : R → List Event → Type 0) (view : W → SinkView) (task : Task) (table : TableValue)
+    (folders folders_new : List FolderView) (vault vault_new : VaultView) (out out_new : SinkView) (lines lines_new : Lines W) (olds news : List R)
+    (start_is : told_of view lines ≡ between false out) (last_is : (told_of view lines_new).sink ≡ out_new) where
+  refused_done : (fault : RunFault) → length folders_new ≡ length folders → BeginsNot folders folders_new fault → IsRefusal task table fault
+      → IsDone standing stands task table (world_view folders vault out) (world_view folders_new vault out) olds olds (answers.Broken fault) None
+  refused_done fault many why does =
+      let before = world_of (world_view folders vault out) in
+      let here = world_of (world_view folders_new vault out) in
+      record {
+        left = refusal_of fault;
+        answer_is = refl;
+        named_is = refl;
+        did = reads_only;
+        does = does before here why (record { fault = fault; why = why; left_is = refl; did_is = refl; others = refl });
+        changes = changes_start Stays vault (λ files. refl);
+        ends = λ tells. nothing_more vault.files vault;
+        caused = caused_by fault folders folders_new (outside_of before) (outside_of here) refl refl why;
+        keeps = record { folders = begun_not folders folders_new fault many why; vault = no_calls (view_of (state_of vault)); out = sink_stays out };
+        reports = all_given_nothing standing stands olds;
+      }
+
+  pub not_begun_done : (untouched : Type 0) (fault : RunFault) → length folders_new ≡ length folders → (untouched → (P : VaultView → Type 0) → P vault → P vault_new) → (untouched → told_of view lines_new ≡ told_of view lines)
+      → (untouched → news ≡ olds) → untouched → BeginsNot folders folders_new fault → IsRefusal task table fault
+      → IsDone standing stands task table (world_view folders vault out) (world_view folders_new vault_new out_new) olds news (answers.Broken fault) None
+  not_begun_done untouched fault many same_vault same_lines same_reports still why does =
+      let out_same : out_new ≡ out = sym last_is ∙ ap (λ (w : Written). w.sink) (same_lines still ∙ start_is) in
+      subst (λ rs. IsDone standing stands task table (world_view folders vault out) (world_view folders_new vault_new out_new) olds rs (answers.Broken fault) None) (sym (same_reports still))
+      (subst (λ o. IsDone standing stands task table (world_view folders vault out) (world_view folders_new vault_new o) olds olds (answers.Broken fault) None) (sym out_same)
+      (same_vault still (λ v. IsDone standing stands task table (world_view folders vault out) (world_view folders_new v out) olds olds (answers.Broken fault) None) (refused_done fault many why does)))
 
 -- ---- by its answer
 
@@ -94,14 +158,6 @@ refuses_by : (fault : RunFault) (mode : Mode) (selection : Selection) (task : Ta
 refuses_by (runs.Folder disk) mode selection task table before after left did why refuses = refuses
 refuses_by runs.Memory mode selection task table before after left did why refuses = refuses
 refuses_by runs.Vault mode selection task table before after left did why refuses = absurd why
-
-caused_by : (fault : RunFault) (olds news : List FolderView) (old new : Outside) → old.folders ≡ olds → new.folders ≡ news → BeginsNot olds news fault → IsCaused (answers.Broken fault) 0 [] old new
-caused_by (runs.Folder disk) olds news old new os ns fails = (
-  rw (os) fails.within,
-  rw (os, ns) (listing_failed disk _ _ fails.failed),
-)
-caused_by runs.Memory olds news old new os ns why = tt
-caused_by runs.Vault olds news old new os ns why = absurd why
 
 -- by the command
 as_command : (mode : Mode) (selection : Selection) (task : Task) (table : TableValue) (before after : World) (left : Left) (did : Did) → checks_as mode selection task.command → ChecksBy left.answer mode selection task table before after left did
@@ -121,7 +177,7 @@ module _ {W R : Type 0} (standing : R → ReportView) (stands : R → List Event
   abbrev after : World
   after = world_of (world_view folders_new vault_new out_new)
 
-  pub check_done : (end : FixEnd) → Checks view standing stands mode selection (names_of task.setup) table (outside folders vault lines olds) (outside folders_new vault_new lines_new news) end
+  pub check_done : (end : FixEnd) → Checks view standing stands mode selection (names_of task.setup) table (outside folders vault nothing lines olds) (outside folders_new vault_new nothing lines_new news) end
       → IsDone standing stands task table (world_view folders vault out) (world_view folders_new vault_new out_new) olds news (done_answer end.findings lines_new.failed) None
   check_done end checks =
       let events = check_events checks.plan checks.stripes in
@@ -144,6 +200,7 @@ module _ {W R : Type 0} (standing : R → ReportView) (stands : R → List Event
               stripes = checks.stripes;
               numbers = checks.numbers;
               are = checks.are;
+              no_gifts = none_given checks.plan checks.stripes nothing checks.spare;
               read = checks.read;
               levels = levels_of checks.plan checks.stripes vault vault_new checks.levels;
               told_is = refl;
@@ -162,30 +219,9 @@ module _ {W R : Type 0} (standing : R → ReportView) (stands : R → List Event
         reports = checks.given;
       }
 
-  refused_done : (fault : RunFault) → length folders_new ≡ length folders → BeginsNot folders folders_new fault
-      → IsDone standing stands task table (world_view folders vault out) (world_view folders_new vault out) olds olds (answers.Broken fault) None
-  refused_done fault many why =
-      let left : Left = record { answer = answers.Broken fault; named = None; counted = 0; told = [] } in
-      let here = world_of (world_view folders_new vault out) in
-      record {
-        left = left;
-        answer_is = refl;
-        named_is = refl;
-        did = reads_only;
-        does = as_command mode selection task table before here left reads_only command
-            (refuses_by fault mode selection task table before here left reads_only why (record { fault = fault; why = why; left_is = refl; did_is = refl; others = refl }));
-        changes = changes_start Stays vault (λ files. refl);
-        ends = λ tells. nothing_more vault.files vault;
-        caused = caused_by fault folders folders_new (outside_of before) (outside_of here) refl refl why;
-        keeps = record { folders = begun_not folders folders_new fault many why; vault = no_calls (view_of (state_of vault)); out = sink_stays out };
-        reports = all_given_nothing standing stands olds;
-      }
-
   pub check_refused : (untouched : Type 0) (fault : RunFault) → length folders_new ≡ length folders → (untouched → (P : VaultView → Type 0) → P vault → P vault_new) → (untouched → told_of view lines_new ≡ told_of view lines)
       → (untouched → news ≡ olds) → untouched → BeginsNot folders folders_new fault
       → IsDone standing stands task table (world_view folders vault out) (world_view folders_new vault_new out_new) olds news (answers.Broken fault) None
   check_refused untouched fault many same_vault same_lines same_reports still why =
-      let out_same : out_new ≡ out = sym last_is ∙ ap (λ (w : Written). w.sink) (same_lines still ∙ start_is) in
-      subst (λ rs. IsDone standing stands task table (world_view folders vault out) (world_view folders_new vault_new out_new) olds rs (answers.Broken fault) None) (sym (same_reports still))
-      (subst (λ o. IsDone standing stands task table (world_view folders vault out) (world_view folders_new vault_new o) olds olds (answers.Broken fault) None) (sym out_same)
-      (same_vault still (λ v. IsDone standing stands task table (world_view folders vault out) (world_view folders_new v out) olds olds (answers.Broken fault) None) (refused_done fault many why)))
+      not_begun_done standing stands view task table folders folders_new vault vault_new out out_new lines lines_new olds news start_is last_is untouched fault many same_vault same_lines same_reports still why
+      (λ first last not_begun refuses. as_command mode selection task table first last (refusal_of fault) reads_only command (refuses_by fault mode selection task table first last (refusal_of fault) reads_only not_begun refuses))

@@ -9,10 +9,10 @@ use Rattle.snap_sync.specs.Beginning.{RefusesLayout, BeginsNot}
 use Rattle.snap_sync.specs.Work.{VaultBroke, broke_sync}
 use Rattle.snap_sync.specs.declared.fault.SyncFault.{SyncFault}
 use Rattle.snap_sync.specs.declared.fault.SyncFault.TheVariants.{Scan, Run}
-use Rattle.snap_top.proofs.SyncLemmas.{broke_more}
+use Rattle.snap_top.proofs.SyncLemmas.{any_more, broke_more}
 use Rattle.disk_model.specs.Files.{content_of}
 use Rattle.disk_model.specs.Sink.{SinkView}
-use Rattle.disk_model.specs.Vault.{VaultView, VaultState, VaultCall, SomeCalls, state_of}
+use Rattle.disk_model.specs.Vault.{VaultView, VaultState, VaultCall, VaultDone, SomeCalls, state_of, ParityLen, ParityRead, ParityWrite, ParitySetLen, ParitySync, ContentSize, ContentRead, DraftBegin, DraftAppend, DraftSeal, Publish}
 use Rattle.disk_model.specs.declared.fault.OpenFault.{OpenFault}
 use Rattle.disk_model.specs.declared.fault.OpenFault.TheVariants as opens
 use Rattle.content_file.specs.declared.fault.Damage.{Damage}
@@ -24,13 +24,16 @@ use Rattle.snap_config.specs.Config.{read_setup}
 use Rattle.snap_config.specs.Setup.{SetupValue, setup_value}
 use Rattle.snap_config.specs.declared.options.Command.{Command}
 use Rattle.snap_config.specs.declared.options.Command.TheVariants as commands
+use Rattle.snap_fix.specs.Breaking.{broke_parity}
+use Rattle.snap_fix.specs.FixRun.{VaultFailedBy}
 use Rattle.snap_fix.specs.declared.scope.Mode.TheVariants as modes
 use Rattle.snap_top.specs.Checking.{ChecksBy}
+use Rattle.snap_top.specs.Fixing.{FixBroke, FixesBy}
 use Rattle.snap_config.specs.declared.options.Options.{Options}
 use Rattle.snap_config.specs.declared.options.WordsFault.{WordsFault}
 use Rattle.snap_config.specs.declared.why.ConfigFault.{ConfigFault}
 use Rattle.snap_config.specs.declared.why.ConfigFault.TheVariants as config
-use Rattle.snap_report.specs.Answer.{done_answer, status_of as answer_status, broke_vault, is_io_of, Gained, FolderFailed}
+use Rattle.snap_report.specs.Answer.{done_answer, status_of as answer_status, broke_vault, is_io_of, is_parity_io, Gained, FolderFailed}
 use Rattle.snap_report.specs.declared.answer.Answer.{Answer}
 use Rattle.snap_report.specs.declared.answer.Answer.TheVariants.{Clean, Found, OutputFailed, Zeroed, Emptied, Full, Broken}
 use Rattle.snap_report.specs.declared.answer.RunFault.TheVariants.{Folder, Vault, Memory}
@@ -46,7 +49,7 @@ use Rattle.snap_top.specs.Known.{unknown_in}
 use Rattle.snap_top.specs.Opening.{SaysNot, asked_by, IsConfigured, IsWordsFault, is_failure, IsUnknown}
 use Rattle.snap_top.specs.Run.{Entry, Exit, Goes, IsRun, IsRefused, Ran, IsAnswered, ReadsCopies, LoadsFrom, BeginsWith}
 use Rattle.snap_top.specs.Views.{World, world_of, view_of, folder_at}
-use Rattle.snap_top.proofs.RefusalLemmas.{done_is_no_refusal, check_not_refused}
+use Rattle.snap_top.proofs.RefusalLemmas.{done_is_no_refusal, check_not_refused, fix_not_refused}
 use Rattle.snap_top.proofs.RunLemmas.{any_later}
 use Rattle.snap_top.specs.declared.end.Difference.{Difference}
 use Rattle.snap_top.specs.declared.end.Difference.TheVariants.{BlockSize, Levels, DiskName}
@@ -180,7 +183,7 @@ refused_is_sync (commands.Sync way) task table start after left did does two = (
 refused_is_sync (commands.Scrub way) task table start after left did does two = absurd does
 refused_is_sync (commands.Check selection) task table start after left did does two = absurd (check_not_refused left.answer modes.Check selection task table start after left did does (inl two))
 refused_is_sync (commands.Audit selection) task table start after left did does two = absurd (check_not_refused left.answer modes.Audit selection task table start after left did does (inl two))
-refused_is_sync (commands.Fix selection) task table start after left did does two = absurd does
+refused_is_sync (commands.Fix selection) task table start after left did does two = absurd (fix_not_refused left.answer selection task table start after left did does (inl two))
 
 -- a fault that is answered with status 2 is one of the layout, which is not for memory
 fault_of_layout : (setup : SetupValue) (way : SyncWay) (table : TableValue) (olds news : List FolderView) (fault : SyncFault) → answer_status (answer_of fault) ≡ 2 → BeginsNot setup way table olds news fault
@@ -193,7 +196,7 @@ fault_of_layout setup way table olds news (Run (Folder disk)) two why = absurd (
 fault_of_layout setup way table olds news (Run Vault) two why = absurd (omega (arith, two))
 fault_of_layout setup way table olds news (Run Memory) two why = absurd (omega (arith, two))
 
--- only a sync ends by the vault once it is loaded
+-- only a sync and a fix end by the vault once it is loaded
 done_is_no_break : (counted : ℕ) (failed : Bool) → done_answer counted failed ≡ Broken Vault → ⊥
 done_is_no_break counted true is = let clash : OutputFailed ≡ Broken Vault = is in cc
 done_is_no_break counted false is = by (counted == 0) is
@@ -201,6 +204,32 @@ done_is_no_break counted false is = by (counted == 0) is
     by : (none : Bool) → cond none Clean Found ≡ Broken Vault → ⊥
     by true is' = let clash : Clean ≡ Broken Vault = is' in cc
     by false is' = let clash : Found ≡ Broken Vault = is' in cc
+
+untrue : {P : Type 0} → IsTrue false → P
+untrue told = absurd (let clash : false ≡ true = told in cc)
+
+-- a call that writes or syncs parity reads nothing
+broke_writing : (call : VaultCall) (failed : Bool) → IsTrue (broke_parity (record { call = call; failed = failed })) → IsTrue (broke_sync (record { call = call; failed = failed }))
+broke_writing (ParityLen level) failed is = untrue is
+broke_writing (ParityRead level at n) failed is = untrue is
+broke_writing (ParityWrite level at bytes) failed is = is
+broke_writing (ParitySetLen level len) failed is = untrue is
+broke_writing (ParitySync level) failed is = is
+broke_writing (ContentSize copy) failed is = untrue is
+broke_writing (ContentRead copy at n) failed is = untrue is
+broke_writing (DraftBegin copy) failed is = untrue is
+broke_writing (DraftAppend copy bytes) failed is = untrue is
+broke_writing (DraftSeal copy) failed is = untrue is
+broke_writing (Publish copy) failed is = untrue is
+
+fix_broke : (told : List Event) (old new : VaultView) → VaultFailedBy told old new → VaultBroke old new
+fix_broke told old new broke = record {
+  rose = rose_by_more (count_by is_parity_io told) old.faults new.faults broke.rose;
+  call = λ now. let gained = broke.call now in record { gained = gained.gained; now_is = gained.now_is; one = any_more broke_parity broke_sync (λ (done : VaultDone) is. broke_writing done.call done.failed is) gained.gained gained.one };
+}
+  where
+    rose_by_more : (n old' new' : ℕ) → RoseBy (n + 1) old' new' → Rose old' new'
+    rose_by_more n old' new' rose = omega (arith, rose)
 
 vault_broke : (command : Command) (task : Task) (table : TableValue) (start after : World) (left : Left) (did : Did) → DoesCommand command task table start after left did → left.answer ≡ Broken Vault
     → VaultBroke (view_of start.vault) (view_of after.vault) × SomeCalls (view_of start.vault) (view_of after.vault)
@@ -212,7 +241,9 @@ vault_broke (commands.Sync way) task table start after left did does broken =
 vault_broke (commands.Scrub way) task table start after left did does broken = absurd does
 vault_broke (commands.Check selection) task table start after left did does broken = absurd (subst (λ a. ChecksBy a modes.Check selection task table start after left did) broken does)
 vault_broke (commands.Audit selection) task table start after left did does broken = absurd (subst (λ a. ChecksBy a modes.Audit selection task table start after left did) broken does)
-vault_broke (commands.Fix selection) task table start after left did does broken = absurd does
+vault_broke (commands.Fix selection) task table start after left did does broken =
+    let broke : FixBroke Vault selection task table start after left did = subst (λ a. FixesBy a selection task table start after left did) broken does in
+    (fix_broke left.told (view_of start.vault) (view_of after.vault) broke.broke, broke.vault.calls)
 
 -- a failure since loading is one since the opening
 breaks_since : (given mid new : VaultState) → ReadsCopies given mid → VaultBroke (view_of mid) (view_of new) → SomeCalls (view_of mid) (view_of new) → BreaksVault (view_of given) (view_of new)

@@ -1,29 +1,38 @@
 -- What stands at each moment of a run is sound.
-use Rattle.std.proofs.Common.{◌≡◌, ◌⊎◌, inl, inr, ⊎_elim, ℕ, ◌<◌, ◌^◌, List, ◌++◌, length, Bool, IsTrue, refl, sym, ap, ◌∙◌, subst, arith}
-use Rattle.disk_model.specs.Files.{Files}
+use Rattle.std.proofs.Common.{◌≡◌, ◌⊎◌, inl, inr, ⊎_elim, ℕ, ◌<◌, ◌^◌, List, ◌++◌, length, get_or, Bool, IsTrue, Option, None, Some, refl, sym, ap, ◌∙◌, subst, arith}
+use Rattle.content_file.specs.Spelling.{spelling}
+use Rattle.disk_model.specs.Files.{Files, content_of}
 use Rattle.disk_model.specs.Folder.{FolderView}
 use Rattle.disk_model.specs.Moments.{ComesBy}
 use Rattle.disk_model.specs.Opener.{SameVault}
 use Rattle.disk_model.specs.Vault.{ChangesBy, copies_of}
 use Rattle.file_table.specs.Table.{TableValue}
 use Rattle.parity_writer.specs.Parity.{Rows}
-use Rattle.parity_writer.specs.Sound.{Snapshot}
+use Rattle.parity_writer.specs.Sound.{Snapshot, Sound}
+use Rattle.stripe_reader.specs.Starts.{StartsValue}
+use Rattle.snap_fix.specs.Facts.{StripeFacts}
+use Rattle.snap_fix.specs.Fixing.{facts_of}
+use Rattle.snap_fix.specs.Genuine.{AreGenuineOf}
+use Rattle.snap_fix.specs.Plan.{FixPlan, starts_of}
+use Rattle.snap_fix.specs.Underway.{IsMendedLevel, KeepsLevels}
 use Rattle.snap_report.specs.declared.events.Event.{Event}
 use Rattle.snap_sync.specs.Calls.{SyncPlan}
 use Rattle.snap_sync.specs.Images.{MayStand, rows_after}
 use Rattle.snap_sync.specs.Part.{AreOfPartSyncs, IsToldRun, SyncRun, layout_by, run_trees}
 use Rattle.snap_sync.specs.Reading.{StripeReading, ReadsFirst}
 use Rattle.snap_sync.specs.Soundness.{AreSound, AreSoundAfter, StandsOn, changed_without, snapshot_with}
-use Rattle.snap_top.specs.Moment.{EveryMomentIsSound, HoldsFresh, ChangesNothing, IsSoundAlways, IsSyncOf, StandsIn}
+use Rattle.snap_top.specs.Fix.{FixRun, MayStandFixed}
+use Rattle.snap_top.specs.Moment.{EveryMomentIsSound, HoldsFresh, ChangesNothing, IsFixOf, IsSoundAlways, IsSyncOf, StandsIn}
 use Rattle.snap_top.specs.Opening.{asked_by}
 use Rattle.snap_top.specs.Run.{Entry, Exit, Ran}
-use Rattle.snap_top.specs.Task.{Did, reads_only, syncs, may_stand}
+use Rattle.snap_top.specs.Task.{Did, fixes, reads_only, syncs, may_stand}
 use Rattle.snap_top.specs.declared.end.End.{End}
 use Rattle.snap_top.specs.declared.end.End.TheVariants.{Refused, Worked}
 use Rattle.snap_config.specs.Setup.{setup_value}
 use Rattle.snap_config.specs.declared.options.Options.{Options}
 use Rattle.snap_top.proofs.CompleteLemmas.{same_ok}
-use Rattle.snap_top.proofs.OfSyncLemmas.{KeepsItsStripes, run_did}
+use Rattle.snap_top.proofs.OfFixLemmas.{HasFix, HasSync, genuine_of, run_did}
+use Rattle.snap_top.proofs.OfSyncLemmas.{KeepsItsStripes}
 use Rattle.snap_top.proofs.RunLemmas.{stands_still}
 
 -- ---- what snap_sync says of its moments
@@ -39,6 +48,13 @@ abbrev pub MomentsAreSound : Type 0
 MomentsAreSound = (plan : SyncPlan) (loaded : TableValue) (readings ahead : List StripeReading) (olds news : List FolderView) (old new : Files) (snapshot : Snapshot) (is_changed : ℕ → ℕ → Bool)
     → length olds ≡ length plan.start.columns → ReadsFirst plan.start (readings ++ ahead) olds news → StandsOn plan loaded old → AreSound plan.copies old snapshot is_changed
     → MayStand plan readings old new → AreSoundAfter plan readings new snapshot is_changed
+
+-- ---- and snap_fix of those of a fix
+
+abbrev pub FixKeepsSound : Type 0
+FixKeepsSound = (plan : FixPlan) (starts : StartsValue) (firsts : List FolderView) (read : Files) (snapshot : Snapshot) (is_changed : ℕ → ℕ → Bool) (stripes : List StripeFacts) (table : TableValue) (files left : Files)
+    → AreGenuineOf plan starts firsts read snapshot is_changed stripes → table.shape.block_size ≡ plan.table.shape.block_size → KeepsLevels plan.table.shape.block_size (IsMendedLevel plan stripes) files left
+    → Sound table files snapshot is_changed → Sound table left snapshot is_changed
 
 -- ---- what stands at a moment
 
@@ -70,13 +86,38 @@ module _ (before : Entry) (exit : Exit) (fresh : HoldsFresh before) where
     reads = λ asked words none. refl;
     moments = still;
     copies = still;
-    sound = λ files snapshot is_changed at are. record {
+    sound = λ files snapshot is_changed at are supposed. record {
       count = 0;
       sound = subst (λ (fs : Files). AreSound (copies_of before.opener.vault) fs snapshot is_changed) (sym (still files at)) are;
     };
   }
 
-  module _ (laid : LayoutIsOfTrees) (of_parts : CopiesAreOfPartSyncs) (sound : MomentsAreSound) where
+  -- a fix
+  sound_fixing : FixKeepsSound → (failed : Bool) (run : FixRun) → IsFixOf before exit run → ((files : Files) → StandsIn before exit files → MayStandFixed run old files) → IsSoundAlways before exit
+  sound_fixing keeps_sound failed run is moments =
+      let over = is.over in
+      record {
+        did = fixes failed run;
+        is_did = is;
+        reads = λ asked words none.
+            let same = same_ok (asked_by before.texts) is.configured.asked asked is.configured.read words in
+            absurd (subst ChangesNothing (sym (is.configured.command_is ∙ ap (λ (a : Options). a.command) same)) none);
+        moments = moments;
+        copies = λ files at. (moments files at).contents;
+        sound = λ files snapshot is_changed at are supposed.
+            let kept : MayStandFixed run old files = moments files at in
+            let genuine = genuine_of (copies_of before.opener.vault) before.opener.vault run snapshot is_changed fresh.tells_vault over supposed are in
+            record {
+              count = 0;
+              sound = λ copy table below valid spells.
+                  let spelled : content_of old copy ≡ Some (spelling table) = ap (λ (contents : List (Option (List ℕ))). get_or contents copy None) (sym kept.contents) ∙ spells in
+                  let size : table.shape.block_size ≡ run.plan.table.shape.block_size
+                  = supposed.one_size copy table below valid spelled ∙ ap (λ (t : TableValue). t.shape.block_size) (sym over.plan_is.table_is) in
+                  keeps_sound run.plan (starts_of run.loaded run.lists) run.listed old snapshot is_changed (facts_of run.stripes) table old files genuine size kept (are copy table below valid spelled);
+            };
+      }
+
+  module _ (laid : LayoutIsOfTrees) (of_parts : CopiesAreOfPartSyncs) (sound : MomentsAreSound) (keeps_sound : FixKeepsSound) where
     -- a sync
     sound_syncing : (failed : Bool) (run : SyncRun) → IsSyncOf before exit run → ((files : Files) → StandsIn before exit files → MayStand run.plan run.readings old files) → IsSoundAlways before exit
     sound_syncing failed run is moments =
@@ -92,7 +133,7 @@ module _ (before : Entry) (exit : Exit) (fresh : HoldsFresh before) where
               let told_run : IsToldRun run = record { told = told; of_lists = over.listed } in
               subst (λ (n : ℕ). AreOfPartSyncs (layout_by run.setup run.loaded (run_trees run)) (run_trees run) run.plan.now n old files) over.copies_are
               (subst (λ (start : TableValue). AreOfPartSyncs start (run_trees run) run.plan.now run.plan.copies old files) (laid run told_run) (of_parts run old files told_run (moments files at)));
-          sound = λ files snapshot is_changed at are.
+          sound = λ files snapshot is_changed at are supposed.
               let long : length run.listed ≡ length run.plan.start.columns = over.listed.as_many ∙ over.listed.folders ∙ sym over.stands.keeps.columns in
               let after = sound run.plan run.loaded run.readings run.ahead run.listed run.ended old files snapshot is_changed long over.listed.reads over.stands
               (subst (λ (n : ℕ). AreSound n old snapshot is_changed) (sym over.copies_are) are) (moments files at) in
@@ -104,18 +145,16 @@ module _ (before : Entry) (exit : Exit) (fresh : HoldsFresh before) where
         }
 
     -- a run that opened its array
-    sound_run : (did : Did) → ChangesBy (may_stand did) before.opener.vault exit.after.vault → (did ≡ reads_only) ⊎ ((failed : Bool) × (run : SyncRun) × (did ≡ syncs failed run) × IsSyncOf before exit run)
-        → IsSoundAlways before exit
+    sound_run : (did : Did) → ChangesBy (may_stand did) before.opener.vault exit.after.vault → (did ≡ reads_only) ⊎ (HasSync before exit did ⊎ HasFix before exit did) → IsSoundAlways before exit
     sound_run did changes (inl read) = sound_reading (stands_by reads_only (subst (λ d. ChangesBy (may_stand d) before.opener.vault exit.after.vault) read changes))
-    sound_run did changes (inr sync) =
-        sound_syncing sync.0 sync.1 sync.3 (stands_by (syncs sync.0 sync.1) (subst (λ d. ChangesBy (may_stand d) before.opener.vault exit.after.vault) sync.2 changes))
+    sound_run did changes (inr (inl sync)) =
+        sound_syncing sync.failed sync.run sync.is_sync (stands_by (syncs sync.failed sync.run) (subst (λ d. ChangesBy (may_stand d) before.opener.vault exit.after.vault) sync.did_is changes))
+    sound_run did changes (inr (inr fix)) =
+        sound_fixing keeps_sound fix.failed fix.run fix.is_fix (stands_by (fixes fix.failed fix.run) (subst (λ d. ChangesBy (may_stand d) before.opener.vault exit.after.vault) fix.did_is changes))
 
 -- of each run
-pub every_moment : LayoutIsOfTrees → CopiesAreOfPartSyncs → MomentsAreSound → KeepsItsStripes → (before : Entry) (exit : Exit) (end : End) (told : List Event) → before.moment < 2 ^ 64
+pub every_moment : LayoutIsOfTrees → CopiesAreOfPartSyncs → MomentsAreSound → FixKeepsSound → KeepsItsStripes → (before : Entry) (exit : Exit) (end : End) (told : List Event) → before.moment < 2 ^ 64
     → Ran before exit end told → EveryMomentIsSound before exit
-every_moment laid of_parts sound keeps before exit (Refused why) told in_time ran fresh = sound_reading before exit fresh (stands_same before exit fresh ran.vault)
-every_moment laid of_parts sound keeps before exit (Worked setup ending) told in_time ran fresh =
-    sound_run before exit fresh laid of_parts sound ran.did (ran.changes fresh.tells) (⊎_elim
-    (λ read. inl read)
-    (λ sync. inr (sync.failed, sync.run, sync.did_is, sync.is_sync))
-    (run_did keeps before exit in_time fresh.tells fresh.tells_vault (setup_value setup) ending told ran))
+every_moment laid of_parts sound keeps_sound keeps before exit (Refused why) told in_time ran fresh = sound_reading before exit fresh (stands_same before exit fresh ran.vault)
+every_moment laid of_parts sound keeps_sound keeps before exit (Worked setup ending) told in_time ran fresh =
+    sound_run before exit fresh laid of_parts sound keeps_sound ran.did (ran.changes fresh.tells) (run_did before exit fresh.tells fresh.tells_vault keeps in_time (setup_value setup) ending told ran)

@@ -80,7 +80,7 @@ all_read readings ahead pending first many =
 
 -- ---- the status of a sync that is done
 
-none_found : (counted : ℕ) (failed : Bool) → answers.Clean ≡ done_answer counted failed → counted ≡ 0
+pub none_found : (counted : ℕ) (failed : Bool) → answers.Clean ≡ done_answer counted failed → counted ≡ 0
 none_found counted true is = absurd (let clash : answers.Clean ≡ answers.OutputFailed = is in cc)
 none_found counted false is = by (counted == 0) refl is
   where
@@ -88,7 +88,7 @@ none_found counted false is = by (counted == 0) refl is
     by true at is' = (Decides-eqb counted 0).0 at
     by false at is' = absurd (let clash : answers.Clean ≡ answers.Found = is' in cc)
 
-some_found : (counted : ℕ) (failed : Bool) → answers.Found ≡ done_answer counted failed → counted ≡ 0 → ⊥
+pub some_found : (counted : ℕ) (failed : Bool) → answers.Found ≡ done_answer counted failed → counted ≡ 0 → ⊥
 some_found counted true is none = let clash : answers.Found ≡ answers.OutputFailed = is in cc
 some_found counted false is none = let clash : answers.Found ≡ answers.Clean = is ∙ ap (λ (n : ℕ). done_answer n false) none in cc
 
@@ -107,7 +107,7 @@ module _ (laid : LayoutIsOfTrees) (part : ReadIsPartSync) (full : VerifiedIsFull
     old = before.opener.vault.files
 
     is_sync : IsSyncOf before exit run
-    is_sync = sync_of keeps before exit in_time tells.tells tells.tells_vault setup (Answered answer named) told ran left one course_of
+    is_sync = sync_of before exit tells.tells tells.tells_vault setup (Answered answer named) told ran left one keeps in_time course_of
 
     told_run : IsToldRun run
     told_run = record {
@@ -173,7 +173,7 @@ module _ (laid : LayoutIsOfTrees) (part : ReadIsPartSync) (full : VerifiedIsFull
   by_answer setup answer named told ran (answers.Broken runs.Vault) left_named counted one way command status is low ends = absurd (omega (arith, is, low))
   by_answer setup answer named told ran (answers.Broken runs.Memory) left_named counted one way command status is low ends = absurd (omega (arith, is, low))
 
-too_high : (n status : ℕ) → 2 ≤ n → status ≡ n → status ≤ 1 → ⊥
+pub too_high : (n status : ℕ) → 2 ≤ n → status ≡ n → status ≤ 1 → ⊥
 too_high n status high is low = omega (arith, high, is, low)
 
 -- of each run

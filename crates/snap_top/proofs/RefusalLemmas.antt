@@ -15,6 +15,7 @@ use Rattle.snap_report.specs.declared.events.Event.{Event}
 use Rattle.snap_top.specs.Checking.{ChecksBy}
 use Rattle.snap_top.specs.Complete.{RefusalsTouchNothing}
 use Rattle.snap_top.specs.Does.{DoesCommand}
+use Rattle.snap_top.specs.Fixing.{FixesBy}
 use Rattle.snap_config.specs.declared.options.SyncWay.{SyncWay}
 use Rattle.snap_top.specs.Syncing.{SyncsBy, SyncRefuses}
 use Rattle.snap_top.specs.Task.{Task, Did, reads_only, may_stand, Left}
@@ -75,6 +76,19 @@ check_not_refused (Broken (Folder disk)) mode selection task table start after l
 check_not_refused (Broken Vault) mode selection task table start after left did does refused = does
 check_not_refused (Broken Memory) mode selection task table start after left did does refused = no_refusal 4 (omega arith) (omega arith) refused
 
+-- nor is a fix
+pub fix_not_refused : (answer : Answer) (selection : Selection) (task : Task) (table : TableValue) (start after : World) (left : Left) (did : Did) → FixesBy answer selection task table start after left did
+    → (answer_status answer ≡ 2) ⊎ (answer_status answer ≡ 5) → ⊥
+fix_not_refused Clean selection task table start after left did does refused = no_refusal 0 (omega arith) (omega arith) refused
+fix_not_refused Found selection task table start after left did does refused = no_refusal 1 (omega arith) (omega arith) refused
+fix_not_refused OutputFailed selection task table start after left did does refused = no_refusal 3 (omega arith) (omega arith) refused
+fix_not_refused (Zeroed disk rec) selection task table start after left did does refused = does
+fix_not_refused (Emptied disk) selection task table start after left did does refused = does
+fix_not_refused (Full blocks files) selection task table start after left did does refused = does
+fix_not_refused (Broken (Folder disk)) selection task table start after left did does refused = no_refusal 3 (omega arith) (omega arith) refused
+fix_not_refused (Broken Vault) selection task table start after left did does refused = no_refusal 3 (omega arith) (omega arith) refused
+fix_not_refused (Broken Memory) selection task table start after left did does refused = no_refusal 4 (omega arith) (omega arith) refused
+
 command_untouched : (command : Command) (task : Task) (table : TableValue) (start after : World) (left : Left) (did : Did) → DoesCommand command task table start after left did
     → (answer_status left.answer ≡ 2) ⊎ (answer_status left.answer ≡ 5) → Untouched start after did
 command_untouched commands.List task table start after left did does refused =
@@ -85,7 +99,7 @@ command_untouched (commands.Sync way) task table start after left did does refus
 command_untouched (commands.Scrub way) task table start after left did does refused = absurd does
 command_untouched (commands.Check selection) task table start after left did does refused = absurd (check_not_refused left.answer modes.Check selection task table start after left did does refused)
 command_untouched (commands.Audit selection) task table start after left did does refused = absurd (check_not_refused left.answer modes.Audit selection task table start after left did does refused)
-command_untouched (commands.Fix selection) task table start after left did does refused = absurd does
+command_untouched (commands.Fix selection) task table start after left did does refused = absurd (fix_not_refused left.answer selection task table start after left did does refused)
 
 ending_untouched : (ending : Ending) (task : Task) (given after : World) (told : List Event) (did : Did) → Goes task given after ending told did
     → (ending_status ending ≡ 2) ⊎ (ending_status ending ≡ 5) → Untouched given after did

@@ -12,6 +12,7 @@ use Rattle.file_table.specs.Table.{TableValue}
 use Rattle.parity_writer.specs.Sound.{Snapshot}
 use Rattle.snap_config.specs.Config.{read_setup}
 use Rattle.snap_config.specs.Setup.{SetupValue}
+use Rattle.snap_config.specs.declared.options.Command.TheVariants as commands
 use Rattle.snap_config.specs.declared.options.Options.{Options}
 use Rattle.snap_sync.specs.Images.{MayStand}
 use Rattle.snap_sync.specs.Part.{AllTell, IsFullSync, SyncRun, run_trees, trees_of}
@@ -23,7 +24,7 @@ use Rattle.snap_top.specs.Opening.{asked_by}
 use Rattle.snap_top.specs.Resumed.{AreStoppedRuns, AsksForSync, EndAlike, EndsClean, RunOf, StandsAfter, StoppedRun, end_of, entry_of}
 use Rattle.snap_top.specs.Run.{Entry, Exit}
 use Rattle.snap_top.specs.Sync.{AreStopped, IsOfArray, Stop, SyncsFrom}
-use Rattle.snap_top.specs.Task.{Did, reads_only, syncs, may_stand, end_table}
+use Rattle.snap_top.specs.Task.{Did, fixes, reads_only, syncs, may_stand, end_table}
 use Rattle.snap_top.proofs.CompleteLemmas.{same_ok}
 use Rattle.snap_top.proofs.ResumeLemmas.{FullKeepsShape, by_shape}
 
@@ -73,11 +74,16 @@ module _ (setup : SetupValue) (trees : List Tree) (seed : List ℕ) (files : Fil
 
 -- ---- the stops
 
--- what a run did is to read, so that all is as it was, or to sync
-by_did : (before : Entry) (exit : Exit) (old left : Files) (did : Did) → IsDidOf before exit did → may_stand did old left
+-- what a run did is to read, so that all is as it was, or to sync: it was asked for that
+by_did : (setup : SetupValue) (trees : List Tree) (seed : List ℕ) (files : Files) (before : Entry) (exit : Exit) → AsksForSync setup trees seed files before exit
+    → (old left : Files) (did : Did) → IsDidOf before exit did → may_stand did old left
     → (left ≡ old) ⊎ ((run : SyncRun) × IsSyncOf before exit run × MayStand run.plan run.readings old left)
-by_did before exit old left reads_only is moment = inl moment
-by_did before exit old left (syncs failed run) is moment = inr (run, is, moment)
+by_did setup trees seed files before exit asks old left reads_only is moment = inl moment
+by_did setup trees seed files before exit asks old left (syncs failed run) is moment = inr (run, is, moment)
+by_did setup trees seed files before exit asks old left (fixes failed run) is moment =
+    let same : is.configured.asked ≡ asks.asked = same_ok (asked_by before.texts) is.configured.asked asks.asked is.configured.read asks.words in
+    let clash : commands.Fix run.selection ≡ commands.Sync asks.way = is.configured.command_is ∙ ap (λ (a : Options). a.command) same ∙ asks.command_is in
+    absurd cc
 
 -- what holds in a vault at the end of a run, holds of what stands then
 stands_after : (P : Files → Type 0) (exit : Exit) (files : Files) → Holds P exit.after.vault → StandsAfter exit files → P files
@@ -110,7 +116,7 @@ module _ {O F V W : Type 0} (opener_view : O → OpenerView) (folder_view : F �
           rest.1,
         ),
       ))
-      (by_did before exit before.opener.vault.files stop.left always.did always.is_did (always.moments stop.left are.0.stands))
+      (by_did setup trees seed files before exit asks before.opener.vault.files stop.left always.did always.is_did (always.moments stop.left are.0.stands))
 
   -- a run that ended with status 0
   ends_in_part : (files : Files) (run : RunOf O F V W) (left : Files) → EndsClean opener_view folder_view vault_view sink_view setup trees seed files run left

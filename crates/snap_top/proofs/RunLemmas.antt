@@ -1,5 +1,5 @@
 -- A run, from what it was given and what it loaded.
-use Rattle.std.proofs.Common.{◌≡◌, ℕ, ◌≤◌, List, [], ◌∷◌, ◌++◌, length, map, take, Option, None, Some, Bool, ◌||◌, IsTrue, true, false, refl, ap, ◌∙◌, sym, subst, arith, append_assoc}
+use Rattle.std.proofs.Common.{◌≡◌, inl, ℕ, ◌≤◌, List, [], ◌∷◌, ◌++◌, length, map, take, Option, None, Some, Bool, ◌||◌, IsTrue, true, false, refl, ap, ◌∙◌, sym, subst, arith, append_assoc}
 use Rattle.std.specs.List.{list_any}
 use Rattle.std.proofs.Math.Seq.{take-append_seam}
 use Rattle.disk_model.specs.Cause.{RoseBy}
@@ -9,7 +9,7 @@ use Rattle.disk_model.specs.Opener.{OpenerView, SameImages}
 use Rattle.disk_model.specs.Sink.{SinkView}
 use Rattle.disk_model.specs.Vault.{VaultView, VaultState, state_of, ChangesBy, Holds, IsSettled}
 use Rattle.disk_model.proofs.GivenLemmas.{changes_held}
-use Rattle.disk_model.proofs.VaultLemmas.{stays_then}
+use Rattle.disk_model.proofs.VaultLemmas.{calls_then, stays_then}
 use Rattle.content_file.specs.declared.loading.LoadFault.{LoadFault}
 use Rattle.file_table.specs.Table.{TableValue}
 use Rattle.file_table.specs.Valid.{IsValid}
@@ -23,26 +23,26 @@ use Rattle.snap_report.specs.declared.answer.RunFault.TheVariants.{Folder, Vault
 use Rattle.snap_report.specs.declared.events.Event.{Event}
 use Rattle.snap_report.proofs.ReportLemmas.{all_given_nothing}
 use Rattle.snap_top.specs.Does.{IsDone}
-use Rattle.snap_top.specs.Task.{Task, Did, reads_only, syncs, may_stand, stands_after, Left}
+use Rattle.snap_top.specs.Task.{Task, Did, fixes, reads_only, syncs, may_stand, stands_after, Left}
 use Rattle.content_file.specs.Spelling.{spelling}
 use Rattle.content_file.proofs.SaveLemmas.{saves_nothing}
 use Rattle.snap_sync.specs.Images.{Opening}
 use Rattle.snap_top.specs.Opening.{IsGiven}
-use Rattle.snap_top.specs.Syncing.{IsOpened}
 use Rattle.snap_top.specs.Run.{Works, IsAnswered, OnlyLoads, ReadsCopies, LoadsFrom, LoadsNot, BeginsWith, BeginsNot, IsRun, RanWith, at_entry, at_exit}
-use Rattle.snap_top.specs.Views.{WorldView, world_view, world_of, outside_of}
+use Rattle.snap_top.specs.Views.{WorldView, world_view, world_of, view_of, outside_of}
 use Rattle.snap_top.specs.declared.end.End.TheVariants.{Worked}
 use Rattle.snap_top.specs.declared.end.Ending.{Ending}
 use Rattle.snap_top.specs.declared.end.Ending.TheVariants.{NotLoaded, NoTable, OtherArray, Answered}
 use Rattle.std.proofs.lemmas.List.{length-map}
 use Rattle.snap_top.proofs.DoneLemmas.{nothing_more}
 use Rattle.snap_top.proofs.MatchingLemmas.{length-columns, length-disks}
-use Rattle.snap_top.proofs.ViewsLemmas.{all_read_nothing, sink_stays, keeps_then}
+use Rattle.snap_top.proofs.ViewsLemmas.{all_read_nothing, sink_stays}
 
 -- what a run did, it need not have done
 pub stands_still : (did : Did) (files : Files) → may_stand did files files
 stands_still reads_only files = refl
 stands_still (syncs failed run) files = Opening (saves_nothing (spelling run.plan.start) files)
+stands_still (fixes failed run) files = record { contents = refl; bytes = λ level at x outside has. has; grown = λ level at x outside has. inl has }
 
 only_loads : (folders : List FolderView) (given mid : VaultView) (out : SinkView) → ReadsCopies (state_of given) (state_of mid) → OnlyLoads (world_of (world_view folders given out)) (world_of (world_view folders mid out))
 only_loads folders given mid out reads = record { vault = reads; others = refl }
@@ -85,7 +85,7 @@ caused_before (Broken Memory) counted told folders given mid out after reads tel
 
 -- ---- the table that a command begins with has as many columns and levels as the configuration
 
-pub table_fits : (setup : SetupValue) (seed : List ℕ) (loaded : Option TableValue) (table : TableValue) → BeginsWith setup seed loaded table → (length table.columns ≡ length setup.disks) × (table.shape.levels ≡ length setup.parities)
+table_fits : (setup : SetupValue) (seed : List ℕ) (loaded : Option TableValue) (table : TableValue) → BeginsWith setup seed loaded table → (length table.columns ≡ length setup.disks) × (table.shape.levels ≡ length setup.parities)
 table_fits setup seed None table begins = (ap (λ (t : TableValue). length t.columns) begins ∙ length-map _ _, ap (λ (t : TableValue). t.shape.levels) begins)
 table_fits setup seed (Some loaded) table begins =
     let names = ap length begins.1.names in
@@ -164,16 +164,13 @@ module _ {R : Type 0} (standing : R → ReportView) (stands : R → List Event �
         );
         changes = stays_then (may_stand done.did) given mid after.vault reads.calls.goes_on.tells changes done.changes (stands_still done.did);
         ends = λ told. subst (λ files. Holds (stands_after done.did files) after.vault) (reads.files told) (done.ends (reads.calls.goes_on.tells ∙ told));
-        keeps = keeps_then (world_of (world_view folders given out)) (world_of (world_view folders mid out)) (world_of after) (record { folders = all_read_nothing folders; vault = reads.calls; out = sink_stays out }) done.keeps;
+        keeps = record {
+          folders = done.keeps.folders;
+          vault = calls_then (view_of (state_of given)) (view_of (state_of mid)) (view_of (state_of after.vault)) reads.calls done.keeps.vault;
+          out = done.keeps.out;
+        };
         reports = done.reports;
       }
-
--- what was opened goes together with it
-pub opened_array : (setup : SetupValue) (seed : List ℕ) (loaded : Option TableValue) (table : TableValue) (folders : List FolderView) (given mid : VaultView) → BeginsWith setup seed loaded table
-    → length folders ≡ length setup.disks → given.levels ≡ length setup.parities → mid.levels ≡ given.levels → IsOpened setup table folders mid
-opened_array setup seed loaded table folders given mid begins many levels same =
-    let fits = table_fits setup seed loaded table begins in
-    record { folders_are = many; columns = fits.0; levels = same ∙ levels ∙ sym fits.1 }
 
 -- ---- the whole
 

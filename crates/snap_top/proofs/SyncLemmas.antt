@@ -91,7 +91,7 @@ no_level_read start readings = flat_none (stripe_events start) readings (λ read
 
 -- ---- the vault, by its states
 
-never : {P : Type 0} → IsTrue false → P
+pub never : {P : Type 0} → IsTrue false → P
 never told = absurd (let clash : false ≡ true = told in cc)
 
 pub changes_of : (step : Files → Files → Type 0) (old new : VaultView) → ChangesBy step old new → ChangesBy step (view_of (state_of old)) (view_of (state_of new))
@@ -100,7 +100,7 @@ changes_of step old new changes = record {
   leaves = record { told = λ t. t; later = λ t. never t; within = λ t u files le left. never t; at_end = λ t files left. never t };
 }
 
-holds_of : (P : Files → Type 0) (v : VaultView) → Holds P v → Holds P (view_of (state_of v))
+pub holds_of : (P : Files → Type 0) (v : VaultView) → Holds P v → Holds P (view_of (state_of v))
 holds_of P v holds = record { reads = holds.reads; leaves = λ told files left. never told }
 
 touches_of : (plan : SyncPlan) (failed : Bool) (readings : List StripeReading) (old new : VaultView) → TouchesVault plan failed readings old new → TouchesVault plan failed readings (view_of (state_of old)) (view_of (state_of new))
@@ -125,15 +125,19 @@ one_more (DraftAppend copy bytes) failed is = is
 one_more (DraftSeal copy) failed is = is
 one_more (Publish copy) failed is = is
 
-pub broke_more : (calls : List VaultDone) → IsTrue (list_any broke_sync calls) → IsTrue (list_any broke_vault calls)
-broke_more [] is = is
-broke_more (done ∷ calls) is = either (broke_sync done) (broke_vault done) (list_any broke_sync calls) (list_any broke_vault calls) (one_more done.call done.failed) (broke_more calls) is
+-- where one test is met, so is a wider one
+pub any_more : {A : Type 0} (p q : A → Bool) → ((x : A) → IsTrue (p x) → IsTrue (q x)) → (xs : List A) → IsTrue (list_any p xs) → IsTrue (list_any q xs)
+any_more p q each [] is = is
+any_more p q each (x ∷ xs) is = either (p x) (q x) (list_any p xs) (list_any q xs) (each x) (any_more p q each xs) is
   where
     either : (a b c d : Bool) → (IsTrue a → IsTrue b) → (IsTrue c → IsTrue d) → IsTrue (a || c) → IsTrue (b || d)
     either true true c d one two is' = refl
     either true false c d one two is' = never (one refl)
     either false true c d one two is' = refl
     either false false c d one two is' = two is'
+
+pub broke_more : (calls : List VaultDone) → IsTrue (list_any broke_sync calls) → IsTrue (list_any broke_vault calls)
+broke_more calls is = any_more broke_sync broke_vault (λ (done : VaultDone). one_more done.call done.failed) calls is
 
 -- ---- what was printed
 

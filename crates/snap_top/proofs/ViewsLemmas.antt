@@ -5,7 +5,7 @@ use Rattle.disk_model.specs.Folder.{FolderView}
 use Rattle.disk_model.specs.Sink.{SinkView, SinkGoesOn}
 use Rattle.disk_model.specs.Vault.{VaultView, SomeCalls, state_of}
 use Rattle.disk_model.proofs.VaultLemmas.{no_calls, calls_then}
-use Rattle.snap_top.specs.Views.{World, view_of, folder_at, ReadsOnly, AllReadOnly, Keeps}
+use Rattle.snap_top.specs.Views.{World, view_of, folder_at, ReadsOnly, AllReadOnly, KeepsBy}
 
 pub sink_stays : (out : SinkView) → SinkGoesOn out out
 sink_stays out = record { later = omega arith; tells = refl }
@@ -59,10 +59,10 @@ some_calls_of old new calls = let g = calls.goes_on in record {
   goes_on = record { later = g.later; levels = g.levels; copies = g.copies; tells = g.tells; calls = g.calls };
 }
 
-pub keeps_nothing : (world : World) → Keeps world world
+pub keeps_nothing : (world : World) → KeepsBy AllReadOnly world world
 keeps_nothing world = record { folders = all_read_nothing world.folders; vault = no_calls (view_of world.vault); out = sink_stays world.out }
 
-pub keeps_then : (before mid after : World) → Keeps before mid → Keeps mid after → Keeps before after
+pub keeps_then : (before mid after : World) → KeepsBy AllReadOnly before mid → KeepsBy AllReadOnly mid after → KeepsBy AllReadOnly before after
 keeps_then before mid after one two = record {
   folders = all_read_then before.folders mid.folders after.folders one.folders two.folders;
   vault = calls_then (view_of before.vault) (view_of mid.vault) (view_of after.vault) one.vault two.vault;

@@ -10,7 +10,7 @@ use Rattle.snap_config.specs.declared.options.Selection.{Selection}
 use Rattle.snap_fix.specs.Beginning.{BeginsNot}
 use Rattle.snap_fix.specs.Counts.{at_most}
 use Rattle.snap_fix.specs.Course.{IsPlan, check_events}
-use Rattle.snap_fix.specs.Facts.{StripeFacts}
+use Rattle.snap_fix.specs.Facts.{StripeFacts, gift_of}
 use Rattle.snap_fix.specs.Known.{AreFacts}
 use Rattle.snap_fix.specs.Looking.{AreRead, LevelsAreRead, numbers_of}
 use Rattle.snap_fix.specs.Plan.{FixPlan, names_of, starts_of, stripes_of}
@@ -39,6 +39,8 @@ pub record CheckEnds (mode : Mode) (selection : Selection) (task : Task) (table 
   pub stripes : List StripeFacts
   pub numbers : numbers_of stripes ≡ stripes_of plan
   pub are : All (AreFacts plan) stripes
+  -- there is no spare that holds anything
+  pub no_gifts : All (λ (facts : StripeFacts). (d : ℕ) → gift_of facts d ≡ None) stripes
   pub read : AreRead plan (starts_of table lists) stripes listed after.folders
   pub levels : LevelsAreRead plan stripes (view_of before.vault) (view_of after.vault)
   pub told_is : left.told ≡ check_events plan stripes

@@ -12,9 +12,10 @@ use Rattle.snap_report.specs.declared.answer.Answer.{Answer}
 use Rattle.snap_report.specs.declared.events.Event.{Event}
 use Rattle.snap_fix.specs.declared.scope.Mode.TheVariants as modes
 use Rattle.snap_top.specs.Checking.{ChecksBy}
+use Rattle.snap_top.specs.Fixing.{FixesBy}
 use Rattle.snap_top.specs.Syncing.{SyncsBy}
-use Rattle.snap_top.specs.Task.{Task, Did, reads_only, may_stand, stands_after, Left, Prints}
-use Rattle.snap_top.specs.Views.{World, WorldView, world_of, outside_of, Keeps}
+use Rattle.snap_top.specs.Task.{Task, Did, reads_only, may_stand, stands_after, Keeps, Left, Prints}
+use Rattle.snap_top.specs.Views.{World, WorldView, world_of, outside_of}
 
 -- it prints a text, tells no event, and touches nothing but the output
 pub record PrintsAlone (text : List ℕ) (counted : ℕ) (before after : World) (left : Left) (did : Did) : Type 0 where
@@ -30,6 +31,7 @@ DoesCommand commands.Status task table before after left did = PrintsAlone (stat
 DoesCommand (commands.Sync way) task table before after left did = SyncsBy left.answer task way table before after left did
 DoesCommand (commands.Check selection) task table before after left did = ChecksBy left.answer modes.Check selection task table before after left did
 DoesCommand (commands.Audit selection) task table before after left did = ChecksBy left.answer modes.Audit selection task table before after left did
+DoesCommand (commands.Fix selection) task table before after left did = FixesBy left.answer selection task table before after left did
 -- the others are not built
 DoesCommand _ task table before after left did = ⊥
 
@@ -47,5 +49,5 @@ pub record IsDone {R : Type 0} (standing : R → ReportView) (stands : R → Lis
   pub changes : ChangesBy (may_stand did) before.vault after.vault
   pub ends : IsTrue before.vault.tells → Holds (stands_after did before.vault.files) after.vault
   pub caused : IsCaused left.answer left.counted left.told (outside_of (world_of before)) (outside_of (world_of after))
-  pub keeps : Keeps (world_of before) (world_of after)
+  pub keeps : Keeps did (world_of before) (world_of after)
   pub reports : AllGiven standing stands left.told olds news

@@ -3,9 +3,12 @@ pub mod Checking
 pub mod Complete
 pub mod Does
 pub mod End
+pub mod Fix
+pub mod Fixing
 pub mod Known
 pub mod Moment
 pub mod Opening
+pub mod Restoring
 pub mod Resumed
 pub mod Run
 pub mod Sync

@@ -20,8 +20,9 @@ use Rattle.snap_sync.specs.Reading.{StripeReading, is_verified, stripes_of}
 use Rattle.snap_sync.specs.Soundness.{AreSound, changed_without, snapshot_with}
 use Rattle.snap_top.specs.Opening.{IsConfigured, asked_by}
 use Rattle.snap_top.specs.Run.{Entry, Exit}
-use Rattle.snap_top.specs.Sync.{SyncsFrom, SyncsOver}
-use Rattle.snap_top.specs.Task.{Did, reads_only, syncs, may_stand, end_table}
+use Rattle.snap_top.specs.Fix.{FixRun, FixesOver, IsGenuineFix}
+use Rattle.snap_top.specs.Sync.{BeginsFrom, SyncsFrom, SyncsOver}
+use Rattle.snap_top.specs.Task.{Did, fixes, reads_only, syncs, may_stand, end_table}
 
 -- ---- what a run did
 
@@ -39,10 +40,22 @@ pub record IsSyncOf (before : Entry) (exit : Exit) (run : SyncRun) : Type 0 wher
   pub from : ((copy : ℕ) → ¬ (HasFailed before.opener.vault exit.after.vault copy))
       → SyncsFrom before.seed (copies_of before.opener.vault) before.opener.vault.files run
 
--- a run that did more than to read is one that synced, and this is its sync
+-- The fix of a run, by the configuration that was asked for, over the folders and the vault that the opener held. Where no copy's reading
+-- failed, the table that it loaded is that of the first copy that is a content file.
+pub record IsFixOf (before : Entry) (exit : Exit) (run : FixRun) : Type 0 where
+  pub readers : ℕ
+  pub configured : IsConfigured before.texts before.opener (commands.Fix run.selection) readers run.setup
+  pub folders_are : run.folders ≡ before.opener.folders
+  pub ended_is : run.ended ≡ exit.after.folders
+  pub over : FixesOver (copies_of before.opener.vault) before.opener.vault run
+  pub from : ((copy : ℕ) → ¬ (HasFailed before.opener.vault exit.after.vault copy))
+      → BeginsFrom run.setup before.seed (copies_of before.opener.vault) before.opener.vault.files run.loaded
+
+-- a run that did more than to read is one that synced or fixed, and this is its sync or its fix
 abbrev pub IsDidOf : Entry → Exit → Did → Type 0
 IsDidOf before exit reads_only = Unit {0}
 IsDidOf before exit (syncs failed run) = IsSyncOf before exit run
+IsDidOf before exit (fixes failed run) = IsFixOf before exit run
 
 -- the commands that change nothing
 abbrev pub ChangesNothing : Command → Type 0
@@ -69,6 +82,7 @@ StandsIn before exit files = (files ≡ exit.after.vault.files)
 abbrev pub rows_closed : Did → ℕ → Rows
 rows_closed reads_only count = no_rows
 rows_closed (syncs failed run) count = rows_after run.plan run.readings count
+rows_closed (fixes failed run) count = no_rows
 
 -- Sound at a moment of a run: with the rows that it has closed by then in the snapshot, and nothing of their stripes changed from outside.
 pub record IsSoundIn (did : Did) (copies : ℕ) (files : Files) (snapshot : Snapshot) (is_changed : ℕ → ℕ → Bool) : Type 0 where
@@ -81,8 +95,16 @@ abbrev pub AreOfRun : Did → ℕ → Files → Files → Type 0
 AreOfRun reads_only copies old new = new ≡ old
 AreOfRun (syncs failed run) copies old new = AllTell run.folders →
     AreOfPartSyncs (layout_by run.setup run.loaded (run_trees run)) (run_trees run) run.plan.now copies old new
+AreOfRun (fixes failed run) copies old new = new.contents ≡ old.contents
 
--- Where all copies are sound at the beginning of a run, they are at each moment of it, whatever it answers. What a run did is to read, or to sync.
+-- What soundness rests on besides: of a fix, that no hash was met by chance.
+abbrev pub IsSupposed : Did → ℕ → Files → Snapshot → Type 0
+IsSupposed reads_only copies files snapshot = Unit {0}
+IsSupposed (syncs failed run) copies files snapshot = Unit {0}
+IsSupposed (fixes failed run) copies files snapshot = IsGenuineFix run copies files snapshot
+
+-- Where all copies are sound at the beginning of a run, they are at each moment of it, whatever it answers. What a run did is to read, to sync, or to fix;
+-- of a fix this rests on that no hash was met by chance.
 pub record IsSoundAlways (before : Entry) (exit : Exit) : Type 0 where
   pub did : Did
   pub is_did : IsDidOf before exit did
@@ -92,6 +114,7 @@ pub record IsSoundAlways (before : Entry) (exit : Exit) : Type 0 where
       → AreOfRun did (copies_of before.opener.vault) before.opener.vault.files files
   pub sound : (files : Files) (snapshot : Snapshot) (is_changed : ℕ → ℕ → Bool) → StandsIn before exit files
       → AreSound (copies_of before.opener.vault) before.opener.vault.files snapshot is_changed
+      → IsSupposed did (copies_of before.opener.vault) before.opener.vault.files snapshot
       → IsSoundIn did (copies_of before.opener.vault) files snapshot is_changed
 
 abbrev pub EveryMomentIsSound : Entry → Exit → Type 0

@@ -17,10 +17,10 @@ use Rattle.snap_report.specs.Telling.{Tells, between}
 use Rattle.snap_report.specs.declared.events.Event.{Event}
 use Rattle.snap_top.specs.Array.{empty_table, Matches, DiffersIn}
 use Rattle.snap_top.specs.Does.{Does}
-use Rattle.snap_top.specs.Task.{Task, Did, reads_only, may_stand, stands_after, Left}
+use Rattle.snap_top.specs.Task.{Task, Did, reads_only, may_stand, stands_after, Keeps, Left}
 use Rattle.snap_top.specs.End.{status_of, line_of}
 use Rattle.snap_top.specs.Opening.{Refuses, IsGiven}
-use Rattle.snap_top.specs.Views.{World, WorldView, world_view, world_of, view_of, outside_of, Keeps}
+use Rattle.snap_top.specs.Views.{World, WorldView, world_view, world_of, view_of, outside_of}
 use Rattle.snap_top.specs.declared.end.Difference.{Difference}
 use Rattle.snap_top.specs.declared.end.End.{End}
 use Rattle.snap_top.specs.declared.end.End.TheVariants.{Refused, Worked}
@@ -105,7 +105,7 @@ pub record Works {R : Type 0} (standing : R → ReportView) (stands : R → List
   pub goes : Goes task (world_of given) (world_of after) ending told did
   pub changes : ChangesBy (may_stand did) given.vault after.vault
   pub ends : IsTrue given.vault.tells → Holds (stands_after did given.vault.files) after.vault
-  pub keeps : Keeps (world_of given) (world_of after)
+  pub keeps : Keeps did (world_of given) (world_of after)
   pub reports : AllGiven standing stands told olds news
 
 -- ---- a run
@@ -164,7 +164,7 @@ pub record IsRun (before : Entry) (exit : Exit) (setup : SetupValue) (ending : E
   -- function and causes
   pub goes : Goes task given (world_of exit.after) ending told did
   -- what stays
-  pub keeps : Keeps given (world_of exit.after)
+  pub keeps : Keeps did given (world_of exit.after)
   -- what every stop leaves, and what reads give; it began with nothing unsynced
   pub settled : IsTrue before.opener.tells → IsSettled before.opener.vault
   pub changes : IsTrue before.opener.tells → ChangesBy (may_stand did) before.opener.vault exit.after.vault

@@ -26,10 +26,11 @@ use Rattle.snap_sync.specs.Work.{more_findings}
 use Rattle.snap_sync.specs.declared.fault.SyncFault.{SyncFault}
 use Rattle.snap_sync.specs.declared.fault.SyncFault.TheVariants.{Scan, Run}
 use Rattle.snap_top.specs.Task.{Task, Did, reads_only, syncs, Left, Prints}
-use Rattle.snap_top.specs.Views.{World, view_of}
+use Rattle.snap_top.specs.Views.{World, AreAllOpen, view_of}
 
 -- folders and a vault that were opened for this configuration, and a table of its array
 pub record IsOpened (setup : SetupValue) (table : TableValue) (folders : List FolderView) (vault : VaultView) : Type 0 where
+  pub are_open : AreAllOpen folders
   pub folders_are : length folders ≡ length setup.disks
   pub columns : length table.columns ≡ length setup.disks
   pub levels : vault.levels ≡ table.shape.levels

@@ -3,6 +3,7 @@ use Rattle.std.specs.Prelude.{◌≡◌, ℕ, List, length, Bool, true, false, O
 use Rattle.content_file.specs.Save.{HasSaved}
 use Rattle.content_file.specs.Spelling.{spelling}
 use Rattle.disk_model.specs.Files.{Files, Stays}
+use Rattle.disk_model.specs.Folder.{FolderView}
 use Rattle.disk_model.specs.Sink.{SinkView}
 use Rattle.file_table.specs.Table.{TableValue}
 use Rattle.snap_config.specs.Setup.{SetupValue, setup_value}
@@ -15,6 +16,8 @@ use Rattle.snap_report.specs.declared.events.Event.{Event}
 use Rattle.snap_sync.specs.Closing.{closed}
 use Rattle.snap_sync.specs.Images.{MayStand, HasParityAfter}
 use Rattle.snap_sync.specs.Part.{SyncRun}
+use Rattle.snap_top.specs.Fix.{FixRun, AllFixed, LeavesFixed, MayStandFixed}
+use Rattle.snap_top.specs.Views.{World, AllReadOnly, KeepsBy}
 use Rattle.snap_top.specs.declared.job.Job.{Job}
 
 -- what a run is to do: its command and its configuration, how many readers it has, the time in seconds since 1970, and the seed of a new array
@@ -35,17 +38,21 @@ IsBuilt commands.Status = Unit {0}
 IsBuilt (commands.Sync way) = Unit {0}
 IsBuilt (commands.Check selection) = Unit {0}
 IsBuilt (commands.Audit selection) = Unit {0}
+IsBuilt (commands.Fix selection) = Unit {0}
 IsBuilt _ = ⊥
 
--- what a run did to the files of the vault: it only read them, or it synced them, and a call failed in that or none did
+-- what a run did to the files of the vault and of the folders: it only read them, or it synced or fixed them, and a call failed in that or
+-- none did
 pub data Did : Type 0 where
   reads_only : Did
   syncs : (failed : Bool) → SyncRun → Did
+  fixes : (failed : Bool) → FixRun → Did
 
 -- whatever the run did and whenever it is stopped, each image comes by this from one that there was before it
 abbrev pub may_stand : Did → Files → Files → Type 0
 may_stand reads_only = Stays
 may_stand (syncs failed run) = MayStand run.plan run.readings
+may_stand (fixes failed run) = MayStandFixed run
 
 -- the table of a sync that read all its stripes
 abbrev pub end_table : SyncRun → TableValue
@@ -61,6 +68,18 @@ abbrev pub stands_after : Did → Files → Files → Type 0
 stands_after reads_only old new = Unit {0}
 stands_after (syncs true run) old new = Unit {0}
 stands_after (syncs false run) old new = LeavesSynced run old new
+stands_after (fixes true run) old new = Unit {0}
+stands_after (fixes false run) old new = LeavesFixed run new
+
+-- what it did to the folders: a sync only reads them
+abbrev pub folders_after : Did → List FolderView → List FolderView → Type 0
+folders_after reads_only = AllReadOnly
+folders_after (syncs failed run) = AllReadOnly
+folders_after (fixes failed run) = AllFixed run
+
+-- what stays whatever was done, and what only grows
+abbrev pub Keeps : Did → World → World → Type 0
+Keeps did = KeepsBy (folders_after did)
 
 -- what a command leaves to be said of it: its answer, the table of the file that this names, how many findings count, and the events that were told
 pub record Left : Type 0 where

@@ -44,6 +44,10 @@ outside_of world = record { folders = world.folders; vault = world.vault; output
 abbrev pub folder_at : List FolderView → ℕ → FolderView
 folder_at folders d = slice_index_or folders d (quiet_folder 0 false)
 
+-- no folder is closed
+abbrev pub AreAllOpen : List FolderView → Type 0
+AreAllOpen folders = (d : ℕ) → d < length folders → (folder_at folders d).closed ≡ false
+
 -- a folder was only read
 pub record ReadsOnly (old new : FolderView) : Type 0 where
   pub calls : SomeFolderCalls old new
@@ -54,8 +58,8 @@ pub record AllReadOnly (olds news : List FolderView) : Type 0 where
   pub count : length news ≡ length olds
   pub each : (d : ℕ) → d < length olds → ReadsOnly (folder_at olds d) (folder_at news d)
 
--- what stays whatever was done, and what only grows
-pub record Keeps (before after : World) : Type 0 where
-  pub folders : AllReadOnly before.folders after.folders
+-- the folders went on by this, the vault by some calls, and the output only grew
+pub record KeepsBy (P : List FolderView → List FolderView → Type 0) (before after : World) : Type 0 where
+  pub folders : P before.folders after.folders
   pub vault : SomeCalls (view_of before.vault) (view_of after.vault)
   pub out : SinkGoesOn before.out after.out

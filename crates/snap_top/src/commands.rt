@@ -11,6 +11,7 @@ ghost use Rattle.snap_top.specs.Syncing.{IsOpened};
 ghost use Rattle.snap_top.specs.Views.{world_view};
 
 use crate::checking::check_array;
+use crate::fixing::fix_array;
 use crate::job::{Done, Job};
 use crate::syncing::sync_array;
 use disk_model::{Folder, Sink, Vault};
@@ -22,9 +23,10 @@ use std::alloc::Global;
 use std::thread::Threads;
 
 /// The commands that are built.
-pub const COMMANDS: [CommandName; 4] = [
+pub const COMMANDS: [CommandName; 5] = [
     CommandName::Sync,
     CommandName::Check,
+    CommandName::Fix,
     CommandName::Status,
     CommandName::List,
 ];
@@ -129,6 +131,9 @@ pub(crate) fn carry_out<R: Threads + Sync, F: Folder, V: Vault, W: Sink>(
             vault,
             reports,
             out,
+        ),
+        Command::Fix(selection) => fix_array(
+            rt, alloc, job, selection, &table, folders, vault, reports, out,
         ),
         _ => unreachable!(),
     }

@@ -18,6 +18,7 @@ mod checking;
 mod commands;
 mod empty;
 mod end;
+mod fixing;
 mod job;
 mod known;
 pub mod laws;

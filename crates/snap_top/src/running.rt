@@ -5,9 +5,10 @@ ghost use Rattle.snap_config.specs.Setup.{IsSetup, setup_value};
 ghost use Rattle.snap_config.specs.Words.{IsWay};
 ghost use Rattle.snap_top.specs.Complete.{IsSilent, RefusalsTouchNothing, SmoothRunsAreDone};
 ghost use Rattle.snap_top.specs.Moment.{EveryMomentIsSound, SyncsEndInPart};
+ghost use Rattle.snap_top.specs.Restoring.{FixesEnd};
 ghost use Rattle.snap_top.specs.Task.{IsBuilt, task_of};
 ghost use Rattle.snap_top.specs.Run.{BeginsWith, BeginsNot, Works, Ran, RanWith, EndsWith, at_entry, exit_of};
-ghost use Rattle.snap_top.specs.Views.{world_view};
+ghost use Rattle.snap_top.specs.Views.{AreAllOpen, world_view};
 
 use crate::commands::carry_out;
 use crate::empty::empty;
@@ -20,6 +21,7 @@ use array_scan::laws::a_layout_keeps_its_stripes;
 use content_file::load;
 use disk_model::{Folder, Opener, Sink, Vault};
 use file_table::Table;
+use snap_fix::laws::{a_fix_keeps_what_is_sound, a_fix_restores};
 use snap_report::Report;
 use snap_sync::laws::{a_sync_is_a_part_sync, every_moment_is_sound, what_is_pending_is_found};
 use std::alloc::Global;
@@ -75,6 +77,7 @@ fn work_on<R: Threads + Sync, F: Folder, V: Vault, W: Sink>(
     requires way { IsWay job.now.command }
     requires valid { IsSetup (setup_value job.now.setup) }
     requires folders { length folders.old ≡ length job.now.setup.disks }
+    requires open { AreAllOpen (map F.view folders.old) }
     requires levels { (V.view vault.old).levels ≡ length job.now.setup.places.parities.items }
     ensures { Works standing stands (task_of job.now)
         (world_view (map F.view folders.old) (V.view vault.old) (W.view out.old))
@@ -176,6 +179,9 @@ pub fn run<R: Threads + Sync, O: Opener, W: Sink, E: Sink>(
     ensures synced { SyncsEndInPart (at_entry (map string_bytes words.now) (O.view opener.old) (W.view out.old) now seed)
         (exit_of O.Folder.view O.Vault.view (O.view opener.new) result.folders.items result.vault (W.view out.new))
         result.status }
+    ensures fixed { FixesEnd (at_entry (map string_bytes words.now) (O.view opener.old) (W.view out.old) now seed)
+        (exit_of O.Folder.view O.Vault.view (O.view opener.new) result.folders.items result.vault (W.view out.new))
+        result.status }
     ensures complete { SmoothRunsAreDone (at_entry (map string_bytes words.now) (O.view opener.old) (W.view out.old) now seed)
         (exit_of O.Folder.view O.Vault.view (O.view opener.new) result.folders.items result.vault (W.view out.new))
         result.status }
@@ -184,6 +190,8 @@ pub fn run<R: Threads + Sync, O: Opener, W: Sink, E: Sink>(
     a_sync_is_a_part_sync();
     what_is_pending_is_found();
     every_moment_is_sound();
+    a_fix_keeps_what_is_sound();
+    a_fix_restores();
     let Ended {
         end,
         folders,

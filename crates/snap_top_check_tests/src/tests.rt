@@ -1,4 +1,5 @@
-// Checks over objects in memory.
+// Checks and fixes over objects in memory.
 mod array;
 mod damaged;
+mod fixed;
 mod selected;

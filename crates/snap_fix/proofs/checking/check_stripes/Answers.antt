@@ -1,5 +1,6 @@
 use Rattle.std.proofs.Common.{[], length, arith, refl, sym, ap, ◌∙◌}
 use Rattle.std.proofs.lemmas.List.{length-map}
+use Rattle.snap_fix.proofs.AskingLemmas.{is_for_still}
 use Rattle.snap_fix.proofs.CheckLemmas.{checked_more, keeps_then}
 use Rattle.snap_fix.proofs.LookingLemmas.{looks_none}
 use Rattle.snap_fix.proofs.ReadLemmas.{read_none}
@@ -16,6 +17,10 @@ loop-done-init g c = record {
   folders = c.requires.folders;
   levels = c.requires.levels;
 }
+
+pub check_window-more-requires-clause-spare : goal.check_window-more-requires-clause-spare
+check_window-more-requires-clause-spare g c = λ lifetimes outlive.
+    is_for_still c.args.table.now.shape (g.P.Spare.holding c.args.spare.now) (g.P.Spare.holding c.loop-done.spare) c.loop-done.invariant.looks.spare.same c.requires.spare
 
 pub loop-done-preserved : goal.loop-done-preserved
 loop-done-preserved g c =

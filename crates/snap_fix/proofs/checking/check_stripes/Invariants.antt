@@ -12,7 +12,7 @@ invariant-loop-done g l =
       read : AreRead (plan_for l.table l.fn.work) l.fn.work.starts stripes (map g.F.Folder.view l.fn.folders) (map g.F.Folder.view l.folders);
       looks : LooksAt g.W.Sink.view (λ b. (goal.Report-dyn g (b.vtable, b.value)).standing b.value) (λ b. (goal.Report-dyn g (b.vtable, b.value)).stands b.value)
           (plan_for l.table l.fn.work) stripes l.counts
-          (scene (g.V.Vault.view l.fn.vault) l.fn.lines l.fn.reports.items) (scene (g.V.Vault.view l.vault) l.lines l.reports.items);
+          (scene (g.V.Vault.view l.fn.vault) (g.P.Spare.holding l.fn.spare) l.fn.lines l.fn.reports.items) (scene (g.V.Vault.view l.vault) (g.P.Spare.holding l.spare) l.lines l.reports.items);
       within : l.done ≤ length l.fn.work.stripes.items;
       kept : KeepsWork l.table l.fn.work l.work;
       folders : length l.folders ≡ length l.table.columns;

@@ -1,6 +1,7 @@
 use Rattle.std.proofs.Common.{◌<◌, length, get_or, arith, refl, sym, ◌∙◌}
 use Rattle.snap_fix.specs.Examining.{facts_examined}
 use Rattle.snap_fix.specs.Plan.{plan_of, is_searched}
+use Rattle.snap_fix.proofs.AskingLemmas.{is_for_still}
 use Rattle.snap_fix.proofs.WindowLemmas.{into_none, into_more, looks_one, levels_one, length_tried}
 use Rattle.snap_fix.proofs.checking.look_into.Goals as goal
 
@@ -14,6 +15,10 @@ loop-i-init g c = record {
   later = λ k d le. refl;
   levels = c.requires.levels;
 }
+
+pub examine-examined-requires-clause-spare : goal.examine-examined-requires-clause-spare
+examine-examined-requires-clause-spare g c = λ lifetimes outlive.
+    is_for_still c.args.table.now.shape (g.P.Spare.holding c.args.spare.now) (g.P.Spare.holding c.loop-i.spare) c.loop-i.invariant.looks.looks.spare.same c.requires.spare
 
 pub loop-i-preserved : goal.loop-i-preserved
 loop-i-preserved g c =
@@ -29,7 +34,7 @@ loop-i-preserved g c =
     record {
       looks = into_more _ _ _ plan c.args.stripes.now i c.args.room.now.window c.loop-i.room.window c.examine-examined.new.room.window facts c.loop-i.counts c.examine-examined.result.counts c.and-counts.result
           _ _ _ within refl refl so_far.lanes (λ d. so_far.later i d (omega arith)) c.and-counts.ensures so_far.looks
-          (looks_one _ _ _ plan facts c.examine-examined.result.counts _ _ examined.examined.facts levels examined.told examined.counts);
+          (looks_one _ _ _ plan facts c.examine-examined.result.counts _ _ examined.examined.facts levels examined.spare examined.told examined.counts);
       room = examined.examined.room;
       as_large = examined.examined.changes.room ∙ so_far.as_large;
       count = examined.examined.changes.count ∙ so_far.count;

@@ -10,7 +10,7 @@ invariant-loop-i g l =
     record {
       looks : LooksInto g.W.Sink.view (λ b. (goal.Report-dyn g (b.vtable, b.value)).standing b.value) (λ b. (goal.Report-dyn g (b.vtable, b.value)).stands b.value)
           (plan_of l.scope l.table l.entries) (take l.i l.stripes) l.fn.room.window l.counts
-          (scene (g.V.Vault.view l.fn.vault) l.fn.lines l.fn.reports.items) (scene (g.V.Vault.view l.vault) l.lines l.reports.items);
+          (scene (g.V.Vault.view l.fn.vault) (g.P.Spare.holding l.fn.spare) l.fn.lines l.fn.reports.items) (scene (g.V.Vault.view l.vault) (g.P.Spare.holding l.spare) l.lines l.reports.items);
       room : IsRoomFor l.table l.room;
       as_large : l.room.window.room ≡ l.fn.room.window.room;
       count : l.room.window.count ≡ l.fn.room.window.count;

@@ -34,6 +34,7 @@ returns-clause-checks g c =
       are = checks.looks.are;
       read = read_begun _ _ _ _ _ _ _ begun plan checks.stripes _ _ checks.read;
       levels = checks.looks.levels;
+      spare = checks.looks.spare;
       given = told.given;
       puts = puts_then _ (lines_of table.columns (opening_events plan ++ events_of plan checks.stripes)) (check_text c.and-counts.result.found) _ _ _ told.puts c.end_check.ensures.puts;
       settled = c.end_check.ensures.settled;

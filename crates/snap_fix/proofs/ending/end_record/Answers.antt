@@ -22,9 +22,9 @@ finish_record-requires-after_bounds g c κs within =
 pub returns-in_err-finish-clause-failed : goal.returns-in_err-finish-clause-failed
 returns-in_err-finish-clause-failed g c =
     on_err c.from_residual.result _
-    (ends_not (plan_of c.args.scope c.args.table.now c.args.entries.now) c.args.d c.args.i _ _ _ _ _ _ _ _ _ _ _
+    (ends_not (plan_of c.args.scope c.args.table.now c.args.entries.now) c.args.d c.args.i _ _ _ _ _ _ _ _ c.at-entry.result.listed _ _ _
     (sym (by_entry _ c.at-entry.result c.is_finished.result c.at-entry.ensures c.is_finished.ensures) ∙ c.if-not-is_finished.false)
-    c.in_err-finish.ensures.failed)
+    (ap (λ e. e.listed) c.at-entry.ensures) c.in_err-finish.ensures.failed)
 
 pub returns-clause-ended : goal.returns-clause-ended
 returns-clause-ended g c =

@@ -2,7 +2,7 @@ use Rattle.std.proofs.Common.{refl, sym, subst, arith}
 use Rattle.snap_report.proofs.ToldLemmas.{told_then}
 use Rattle.snap_fix.specs.Counts.{AreCounts}
 use Rattle.snap_fix.specs.Plan.{plan_of}
-use Rattle.snap_fix.proofs.ExaminedLemmas.{examines, events_in_order, have_cells_written}
+use Rattle.snap_fix.proofs.ExaminedLemmas.{asks, examines, events_in_order, have_cells_written}
 use Rattle.snap_fix.proofs.TellingLemmas.{told_as}
 use Rattle.snap_fix.proofs.examining.examine.Goals as goal
 
@@ -17,6 +17,13 @@ returns-clause-examined g c =
     examines plan c.args.stripe c.args.i c.args.room.now _ c.try_row-tried.new.room c.try_row-tried.result.known
     c.requires.can c.requires.room c.try_row-tried.ensures.tried c.mark_cells.new.marks refl c.mark_cells.ensures.marked
     (omega (arith, c.shape-shape.ensures.valid.shape.levels.most))
+
+pub returns-clause-spare : goal.returns-clause-spare
+returns-clause-spare g c =
+    let plan = plan_of c.args.scope c.args.table.now c.args.entries.now in
+    asks plan c.args.stripe c.args.i c.args.room.now _ c.try_row-tried.new.room c.try_row-tried.result.known
+    c.requires.can c.requires.room c.try_row-tried.ensures.tried c.mark_cells.new.marks refl c.mark_cells.ensures.marked
+    (g.P.Spare.holding c.args.spare.now) (g.P.Spare.holding c.mark_cells.new.spare) c.mark_cells.ensures.asks
 
 pub returns-clause-told : goal.returns-clause-told
 returns-clause-told g c =

@@ -1,7 +1,6 @@
-use Rattle.std.proofs.Common.{◌≡◌, true, sym, ◌∙◌}
-use Rattle.disk_model.specs.Folder.{FolderCall, Rename}
+use Rattle.std.proofs.Common.{sym, ◌∙◌}
 use Rattle.disk_model.specs.declared.fault.FileFault.{FileFault}
-use Rattle.snap_fix.specs.FinishSteps.{BreaksBy}
+use Rattle.snap_fix.specs.FinishSteps.{BreaksBy, IsLostCall}
 use Rattle.snap_fix.proofs.FinishStepsLemmas.{lost_renamed, lost_not_renamed}
 use Rattle.snap_fix.proofs.FinishTreeLemmas.{may_lose}
 use Rattle.snap_fix.proofs.GoesOnLemmas.{handed_on}
@@ -15,10 +14,11 @@ returns-in_err-rename-clause-broke g c =
     let old = g.F.Folder.view c.args.folder.now in
     let new = g.F.Folder.view c.rename.new.self in
     let fault = c.in_err-rename.field-0.0 in
-    handed_on c.from_residual.result (λ (f : FileFault). BreaksBy f (λ (call : FolderCall). call ≡ Rename c.args.path.now true) old new) fault c.from_residual.ensures.1
-    (lost_not_renamed fault c.args.path.now c.args.start c.args.state old new c.requires (sym c.stands.ensures ∙ c.if-not-stands.false) c.in_err-rename.ensures.call c.in_err-rename.ensures.missing)
+    handed_on c.from_residual.result (λ (f : FileFault). BreaksBy f (IsLostCall c.args.start c.args.state c.args.path.now) old new) fault c.from_residual.ensures.1
+    (lost_not_renamed fault c.args.path.now c.args.start c.args.state old new (g.F.Folder.well_formed _) c.requires (sym c.stands.ensures ∙ c.if-not-stands.false)
+    c.in_err-rename.ensures.call c.in_err-rename.ensures.missing)
 
 pub returns-clause-finished : goal.returns-clause-finished
 returns-clause-finished g c meta =
-    lost_renamed c.args.path.now meta c.args.start c.args.state (g.F.Folder.view c.args.folder.now) (g.F.Folder.view c.rename.new.self) c.requires (sym c.stands.ensures ∙ c.if-not-stands.false)
-    c.in_ok-rename.ensures.call
+    lost_renamed c.args.path.now meta c.args.start c.args.state (g.F.Folder.view c.args.folder.now) (g.F.Folder.view c.rename.new.self) (g.F.Folder.well_formed _) c.requires
+    (sym c.stands.ensures ∙ c.if-not-stands.false) c.in_ok-rename.ensures.call

@@ -9,23 +9,22 @@ use Rattle.snap_fix.proofs.finishing.finish_whole.Goals as goal
 pub returns-in_err-set_up-clause-broke : goal.returns-in_err-set_up-clause-broke
 returns-in_err-set_up-clause-broke g c =
     let path = c.args.path.now in
-    let place = c.args.start.place in
     let old = g.F.Folder.view c.args.folder.now in
     let new = g.F.Folder.view c.set_up.new.folder in
     let fault = c.in_err-set_up.field-0.0 in
-    handed_on c.from_residual.result (λ (f : FileFault). BreaksBy f (IsWholeCall place path c.args.meta) old new) fault c.from_residual.ensures.1
-    (whole_not_set_up fault path c.args.meta place old new c.in_err-set_up.ensures.broke)
+    handed_on c.from_residual.result (λ (f : FileFault). BreaksBy f (IsWholeCall c.args.listed c.args.start c.args.state path c.args.meta) old new) fault c.from_residual.ensures.1
+    (whole_not_set_up path c.args.listed c.args.meta c.args.start c.args.state fault old new c.in_err-set_up.ensures.broke)
 
 pub returns-in_err-fit_size-clause-broke : goal.returns-in_err-fit_size-clause-broke
 returns-in_err-fit_size-clause-broke g c =
     let path = c.args.path.now in
-    let place = c.args.start.place in
     let old = g.F.Folder.view c.args.folder.now in
     let mid = g.F.Folder.view c.set_up.new.folder in
     let new = g.F.Folder.view c.fit_size.new.folder in
     let fault = c.in_err-fit_size.field-0.0 in
-    handed_on c.from_residual-in_err-fit_size.result (λ (f : FileFault). BreaksBy f (IsWholeCall place path c.args.meta) old new) fault c.from_residual-in_err-fit_size.ensures.1
-    (whole_not_sized fault path c.args.meta place c.args.state.touched old mid new c.in_ok-set_up.ensures.set_up c.in_err-fit_size.ensures.broke)
+    handed_on c.from_residual-in_err-fit_size.result (λ (f : FileFault). BreaksBy f (IsWholeCall c.args.listed c.args.start c.args.state path c.args.meta) old new) fault
+    c.from_residual-in_err-fit_size.ensures.1
+    (whole_not_sized path c.args.listed c.args.meta c.args.start c.args.state fault old mid new c.in_ok-set_up.ensures.set_up c.in_err-fit_size.ensures.broke)
 
 pub returns-then-not-needs_stamp-clause-finished : goal.returns-then-not-needs_stamp-clause-finished
 returns-then-not-needs_stamp-clause-finished g c =
@@ -45,8 +44,10 @@ returns-in_err-stamped-clause-broke g c =
     let new = g.F.Folder.view c.set_stamp.new.self in
     let fault = c.in_err-stamped.field-0.0 in
     let fit = is_fit path c.args.listed c.args.meta c.args.start c.args.state old mid sized c.requires c.in_ok-set_up.ensures.set_up c.in_ok-fit_size.ensures.sized in
-    handed_on c.from_residual-in_err-stamped.result (λ (f : FileFault). BreaksBy f (IsWholeCall c.args.start.place path c.args.meta) old new) fault c.from_residual-in_err-stamped.ensures.1
-    (whole_not_stamped fault path c.args.meta c.args.start c.args.state old sized new fit c.in_err-stamped.ensures.call c.in_err-stamped.ensures.missing)
+    handed_on c.from_residual-in_err-stamped.result (λ (f : FileFault). BreaksBy f (IsWholeCall c.args.listed c.args.start c.args.state path c.args.meta) old new) fault
+    c.from_residual-in_err-stamped.ensures.1
+    (whole_not_stamped fault path c.args.listed c.args.meta c.args.start c.args.state c.is_changed-changed.result old sized new (g.F.Folder.well_formed _) fit c.is_changed-changed.ensures
+    (sym c.needs_stamp.ensures ∙ c.if-not-needs_stamp.false) c.in_err-stamped.ensures.call c.in_err-stamped.ensures.missing)
 
 pub returns-clause-finished : goal.returns-clause-finished
 returns-clause-finished g c =
@@ -56,5 +57,5 @@ returns-clause-finished g c =
     let sized = g.F.Folder.view c.fit_size.new.folder in
     let new = g.F.Folder.view c.set_stamp.new.self in
     let fit = is_fit path c.args.listed c.args.meta c.args.start c.args.state old mid sized c.requires c.in_ok-set_up.ensures.set_up c.in_ok-fit_size.ensures.sized in
-    whole_stamped path c.args.listed c.args.meta c.args.start c.args.state c.is_changed-changed.result c.in_ok-stamped.stamped c.stamped_finish.result old sized new fit c.is_changed-changed.ensures
-    (sym c.needs_stamp.ensures ∙ c.if-not-needs_stamp.false) c.in_ok-stamped.ensures.call c.in_ok-stamped.ensures.kept c.stamped_finish.ensures
+    whole_stamped path c.args.listed c.args.meta c.args.start c.args.state c.is_changed-changed.result c.in_ok-stamped.stamped c.stamped_finish.result old sized new (g.F.Folder.well_formed _) fit
+    c.is_changed-changed.ensures (sym c.needs_stamp.ensures ∙ c.if-not-needs_stamp.false) c.in_ok-stamped.ensures.call c.in_ok-stamped.ensures.kept c.stamped_finish.ensures

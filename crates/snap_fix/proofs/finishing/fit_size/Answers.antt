@@ -1,10 +1,17 @@
-use Rattle.std.proofs.Common.{◌≡◌, refl}
-use Rattle.disk_model.specs.Folder.{FolderCall, SetSize}
+use Rattle.std.proofs.Common.{refl}
+use Rattle.std.proofs.lemmas.Bool.{ne_eqb}
+use Rattle.disk_model.specs.Folder.{SetSize}
+use Rattle.snap_fix.specs.FinishSteps.{IsSizeCall}
 use Rattle.snap_fix.proofs.FinishCallsLemmas.{breaks_one}
+use Rattle.snap_fix.proofs.FinishStepsLemmas.{size_set}
 use Rattle.snap_fix.proofs.finishing.fit_size.Goals as goal
 
 pub returns-clause-broke : goal.returns-clause-broke
 returns-clause-broke g c =
-    let call = SetSize c.args.path.now c.args.size in
-    breaks_one c.set_size.result (λ (made : FolderCall). made ≡ call) call c.args.path.now (g.F.Folder.view c.args.folder.now) (g.F.Folder.view c.set_size.new.self)
-    c.set_size.ensures.call c.set_size.ensures.missing c.requires refl refl
+    breaks_one c.set_size.result (IsSizeCall c.args.path.now c.args.before c.args.size) (SetSize c.args.path.now c.args.size) c.args.path.now (g.F.Folder.view c.args.folder.now)
+    (g.F.Folder.view c.set_size.new.self) (g.F.Folder.well_formed _) c.set_size.ensures.call c.set_size.ensures.missing c.requires refl (ne_eqb c.args.before c.args.size c.if-before-size.false, refl)
+
+pub returns-clause-sized : goal.returns-clause-sized
+returns-clause-sized g c =
+    size_set c.args.path.now c.args.before c.args.size c.set_size.result (g.F.Folder.view c.args.folder.now) (g.F.Folder.view c.set_size.new.self) (g.F.Folder.well_formed _)
+    (ne_eqb c.args.before c.args.size c.if-before-size.false) c.set_size.ensures.call

@@ -30,13 +30,13 @@ loop-i-preserved g c =
     let so_far = c.loop-i.invariant in
     let fixed = c.in_ok-more.ensures.fixed in
     let within : i < length c.args.stripes.now = omega (arith, c.requires.count, c.count-i-end.ensures, c.loop-i-test.true) in
-    let old = fix_scene c.args.starts.now c.args.states.now c.args.written.now (map g.F.Folder.view c.args.folders.now) (g.V.Vault.view c.args.vault.now) c.args.lines.now c.args.reports.now.items in
-    let mid = fix_scene c.loop-i.starts c.loop-i.states c.loop-i.written (map g.F.Folder.view c.loop-i.folders) (g.V.Vault.view c.loop-i.vault) c.loop-i.lines c.loop-i.reports.items in
+    let old = fix_scene c.args.starts.now c.args.states.now c.args.written.now (map g.F.Folder.view c.args.folders.now) (g.V.Vault.view c.args.vault.now) (g.P.Spare.holding c.args.spare.now) c.args.lines.now c.args.reports.now.items in
+    let mid = fix_scene c.loop-i.starts c.loop-i.states c.loop-i.written (map g.F.Folder.view c.loop-i.folders) (g.V.Vault.view c.loop-i.vault) (g.P.Spare.holding c.loop-i.spare) c.loop-i.lines c.loop-i.reports.items in
     let it = c.fix_stripe.new in
-    let new = fix_scene it.starts it.states it.written (map g.F.Folder.view it.folders) (g.V.Vault.view it.vault) it.lines it.reports.items in
+    let new = fix_scene it.starts it.states it.written (map g.F.Folder.view it.folders) (g.V.Vault.view it.vault) (g.P.Spare.holding it.spare) it.lines it.reports.items in
     record {
-      fixed = into_more _ _ _ plan c.args.stripes.now c.requires.distinct i within c.args.room.now.window c.loop-i.totals old mid so_far.fixed fixed.mended
-          c.loop-i.room.window c.in_ok-more.more c.and-totals.result new fixed.number fixed.slots so_far.lanes (λ d. so_far.later i d (omega arith)) (c.and-totals.ensures plan) (fixes_one _ _ _ plan fixed);
+      fixed = into_more _ _ _ plan c.args.stripes.now c.requires.ascending i within c.args.room.now.window c.loop-i.totals old mid so_far.fixed fixed.mended
+          c.loop-i.room.window c.in_ok-more.more c.and-totals.result new fixed.number fixed.slots so_far.lanes (λ d. so_far.later i d (omega arith)) (c.and-totals.ensures plan) (fixes_one _ _ _ plan {old = mid} {new = new} fixed);
       room = fixed.room;
       as_large = fixed.changes.room ∙ so_far.as_large;
       count = fixed.changes.count ∙ so_far.count;
@@ -50,10 +50,10 @@ returns-in_err-more-clause-broke g c =
     let i = c.loop-i.i in
     let so_far = c.loop-i.invariant in
     let within : i < length c.args.stripes.now = omega (arith, c.requires.count, c.count-i-end.ensures, c.loop-i-test.true) in
-    let old = fix_scene c.args.starts.now c.args.states.now c.args.written.now (map g.F.Folder.view c.args.folders.now) (g.V.Vault.view c.args.vault.now) c.args.lines.now c.args.reports.now.items in
-    let mid = fix_scene c.loop-i.starts c.loop-i.states c.loop-i.written (map g.F.Folder.view c.loop-i.folders) (g.V.Vault.view c.loop-i.vault) c.loop-i.lines c.loop-i.reports.items in
+    let old = fix_scene c.args.starts.now c.args.states.now c.args.written.now (map g.F.Folder.view c.args.folders.now) (g.V.Vault.view c.args.vault.now) (g.P.Spare.holding c.args.spare.now) c.args.lines.now c.args.reports.now.items in
+    let mid = fix_scene c.loop-i.starts c.loop-i.states c.loop-i.written (map g.F.Folder.view c.loop-i.folders) (g.V.Vault.view c.loop-i.vault) (g.P.Spare.holding c.loop-i.spare) c.loop-i.lines c.loop-i.reports.items in
     let it = c.fix_stripe.new in
-    let new = fix_scene it.starts it.states it.written (map g.F.Folder.view it.folders) (g.V.Vault.view it.vault) it.lines it.reports.items in
-    handed_on c.from_residual.result (BreaksInto _ _ _ plan c.args.room.now.window old new) c.in_err-more.field-0.0 c.from_residual.ensures.1
-    (into_breaks _ _ _ plan c.args.stripes.now i within c.args.room.now.window c.loop-i.totals old mid c.requires.distinct so_far.fixed _ c.loop-i.room new c.in_err-more.field-0.0
-    c.requires.count c.requires.fits so_far.lanes (λ d. so_far.later i d (omega arith)) c.in_err-more.ensures.broke)
+    let new = fix_scene it.starts it.states it.written (map g.F.Folder.view it.folders) (g.V.Vault.view it.vault) (g.P.Spare.holding it.spare) it.lines it.reports.items in
+    handed_on c.from_residual.result (BreaksInto _ _ _ plan c.args.stripes.now c.args.room.now.window old new) c.in_err-more.field-0.0 c.from_residual.ensures.1
+    (into_breaks _ _ _ plan c.args.stripes.now i within c.args.room.now.window c.loop-i.totals old mid c.requires.ascending so_far.fixed c.loop-i.room new c.in_err-more.field-0.0
+    c.requires.fits so_far.lanes (λ d. so_far.later i d (omega arith)) c.in_err-more.ensures.broke)

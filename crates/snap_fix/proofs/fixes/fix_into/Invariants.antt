@@ -11,8 +11,8 @@ invariant-loop-i g l =
     record {
       fixed : FixesInto g.W.Sink.view (λ b. (goal.Report-dyn g (b.vtable, b.value)).standing b.value) (λ b. (goal.Report-dyn g (b.vtable, b.value)).stands b.value)
           (plan_of l.scope l.table l.entries) (take l.i l.stripes) l.fn.room.window
-          (fix_scene l.fn.starts l.fn.states l.fn.written (map g.F.Folder.view l.fn.folders) (g.V.Vault.view l.fn.vault) l.fn.lines l.fn.reports.items)
-          (fix_scene l.starts l.states l.written (map g.F.Folder.view l.folders) (g.V.Vault.view l.vault) l.lines l.reports.items) l.totals;
+          (fix_scene l.fn.starts l.fn.states l.fn.written (map g.F.Folder.view l.fn.folders) (g.V.Vault.view l.fn.vault) (g.P.Spare.holding l.fn.spare) l.fn.lines l.fn.reports.items)
+          (fix_scene l.starts l.states l.written (map g.F.Folder.view l.folders) (g.V.Vault.view l.vault) (g.P.Spare.holding l.spare) l.lines l.reports.items) l.totals;
       room : IsRoomFor l.table l.room;
       as_large : l.room.window.room ≡ l.fn.room.window.room;
       count : l.room.window.count ≡ l.fn.room.window.count;

@@ -28,14 +28,19 @@ returns-in_err-more-clause-broke g c =
     let plan = plan_for table first in
     let so_far = c.loop-done.invariant in
     let work = c.loop-done.work in
-    let old = fix_scene first.starts c.args.states.now c.args.written.now (map g.F.Folder.view c.args.folders.now) (g.V.Vault.view c.args.vault.now) c.args.lines.now c.args.reports.now.items in
-    let mid = fix_scene work.starts c.loop-done.states c.loop-done.written (map g.F.Folder.view c.loop-done.folders) (g.V.Vault.view c.loop-done.vault) c.loop-done.lines c.loop-done.reports.items in
+    let old = fix_scene first.starts c.args.states.now c.args.written.now (map g.F.Folder.view c.args.folders.now) (g.V.Vault.view c.args.vault.now) (g.P.Spare.holding c.args.spare.now) c.args.lines.now c.args.reports.now.items in
+    let mid = fix_scene work.starts c.loop-done.states c.loop-done.written (map g.F.Folder.view c.loop-done.folders) (g.V.Vault.view c.loop-done.vault) (g.P.Spare.holding c.loop-done.spare) c.loop-done.lines c.loop-done.reports.items in
     let it = c.fix_window.new in
-    let new = fix_scene it.work.starts it.states it.written (map g.F.Folder.view it.folders) (g.V.Vault.view it.vault) it.lines it.reports.items in
+    let new = fix_scene it.work.starts it.states it.written (map g.F.Folder.view it.folders) (g.V.Vault.view it.vault) (g.P.Spare.holding it.spare) it.lines it.reports.items in
     let fault = c.in_err-more.field-0.0 in
-    handed_on c.from_residual.result (BreaksStripes _ _ _ plan old new) fault c.from_residual.ensures.1
-    (stripes_break _ _ _ plan (take c.loop-done.done first.stripes.items) c.loop-done.totals old mid new fault c.requires.fits so_far.fixed
-    (breaks_for table first work so_far.kept _ _ _ mid new fault c.in_err-more.ensures.broke))
+    let window = c.in_err-more.ensures.broke in
+    let done = c.loop-done.done in
+    let count = c.min-count.result in
+    let numbers = take count (drop done work.stripes.items) in
+    handed_on c.from_residual.result (BreaksStripes _ _ _ plan first.stripes.items old new) fault c.from_residual.ensures.1
+    (stripes_break _ _ _ plan numbers work.room.window window.window mid window.mids window.read so_far.fixed.fixes.fits (take done first.stripes.items) c.loop-done.totals old so_far.fixed new fault
+    (breaks_for table first work so_far.kept _ _ _ numbers window.window _ new fault window.breaks) first.stripes.items done count c.requires.ascending refl
+    (items_same table first work so_far.kept done count) c.requires.fits)
 
 pub loop-done-preserved : goal.loop-done-preserved
 loop-done-preserved g c =
@@ -48,11 +53,11 @@ loop-done-preserved g c =
     let count = c.min-count.result in
     let window = c.in_ok-more.ensures.fixed in
     let numbers = take count (drop done work.stripes.items) in
-    let old = fix_scene first.starts c.args.states.now c.args.written.now (map g.F.Folder.view c.args.folders.now) (g.V.Vault.view c.args.vault.now) c.args.lines.now c.args.reports.now.items in
-    let mid = fix_scene work.starts c.loop-done.states c.loop-done.written (map g.F.Folder.view c.loop-done.folders) (g.V.Vault.view c.loop-done.vault) c.loop-done.lines c.loop-done.reports.items in
+    let old = fix_scene first.starts c.args.states.now c.args.written.now (map g.F.Folder.view c.args.folders.now) (g.V.Vault.view c.args.vault.now) (g.P.Spare.holding c.args.spare.now) c.args.lines.now c.args.reports.now.items in
+    let mid = fix_scene work.starts c.loop-done.states c.loop-done.written (map g.F.Folder.view c.loop-done.folders) (g.V.Vault.view c.loop-done.vault) (g.P.Spare.holding c.loop-done.spare) c.loop-done.lines c.loop-done.reports.items in
     let it = c.fix_window.new in
-    let new = fix_scene it.work.starts it.states it.written (map g.F.Folder.view it.folders) (g.V.Vault.view it.vault) it.lines it.reports.items in
-    let more = stripes_more _ _ _ plan numbers work.room.window window.window mid window.mids window.read so_far.fixed.fixes.fits first.stripes.items done count c.requires.distinct
+    let new = fix_scene it.work.starts it.states it.written (map g.F.Folder.view it.folders) (g.V.Vault.view it.vault) (g.P.Spare.holding it.spare) it.lines it.reports.items in
+    let more = stripes_more _ _ _ plan numbers work.room.window window.window mid window.mids window.read so_far.fixed.fixes.fits first.stripes.items done count c.requires.ascending
     (items_same table first work so_far.kept done count) c.loop-done.totals c.in_ok-more.more c.and-totals.result old new so_far.fixed
     (into_for table first work so_far.kept _ _ _ numbers window.window _ new c.in_ok-more.more window.fixes) (c.and-totals.ensures plan) in
     let kept = keeps_fix_then table first work it.work so_far.kept c.in_ok-more.ensures.kept in

@@ -9,8 +9,8 @@ invariant-loop-done g l =
     record {
       fixed : FixesStripes g.W.Sink.view (λ b. (goal.Report-dyn g (b.vtable, b.value)).standing b.value) (λ b. (goal.Report-dyn g (b.vtable, b.value)).stands b.value)
           (plan_for l.table l.fn.work) (take l.done l.fn.work.stripes.items)
-          (fix_scene l.fn.work.starts l.fn.states l.fn.written (map g.F.Folder.view l.fn.folders) (g.V.Vault.view l.fn.vault) l.fn.lines l.fn.reports.items)
-          (fix_scene l.work.starts l.states l.written (map g.F.Folder.view l.folders) (g.V.Vault.view l.vault) l.lines l.reports.items) l.totals;
+          (fix_scene l.fn.work.starts l.fn.states l.fn.written (map g.F.Folder.view l.fn.folders) (g.V.Vault.view l.fn.vault) (g.P.Spare.holding l.fn.spare) l.fn.lines l.fn.reports.items)
+          (fix_scene l.work.starts l.states l.written (map g.F.Folder.view l.folders) (g.V.Vault.view l.vault) (g.P.Spare.holding l.spare) l.lines l.reports.items) l.totals;
       within : l.done ≤ length l.fn.work.stripes.items;
       kept : KeepsFixWork l.table l.fn.work l.work;
       work : IsWorkFor l.table l.work;

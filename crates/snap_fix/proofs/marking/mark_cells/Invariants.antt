@@ -2,6 +2,8 @@ use Rattle.std.proofs.Common.{◌≡◌, ℕ, ◌<◌, ◌≤◌}
 use Rattle.file_table.specs.Cells.{cell_view}
 use Rattle.file_table.specs.Table.{column_at}
 use Rattle.stripe_reader.specs.WindowValue.{slot_at}
+use Rattle.snap_fix.specs.AskedCell.{AsksCells, asks_for, holds_wanted, is_marked_given}
+use Rattle.snap_fix.specs.Facts.{wanted_by}
 use Rattle.snap_fix.specs.Marks.{ChangesStripe, IsMarked, mark_in}
 use Rattle.snap_fix.proofs.marking.mark_cells.Given as goal
 
@@ -12,5 +14,10 @@ invariant-loop-d g l = record {
   marked : (e : ℕ) → e < l.d
       → IsMarked l.searched l.table.shape (cell_view (column_at l.table.columns e) l.stripe)
       (slot_at l.fn.window l.i e) (mark_in l.marks e) (slot_at l.window l.i e);
+  asks : AsksCells l.d
+      (λ e. asks_for l.searched (cell_view (column_at l.table.columns e) l.stripe) (slot_at l.fn.window l.i e))
+      (λ e. holds_wanted (g.P.Spare.holding l.fn.spare) (wanted_by l.table.shape e (cell_view (column_at l.table.columns e) l.stripe)))
+      (λ e. is_marked_given (mark_in l.marks e))
+      (g.P.Spare.holding l.fn.spare) (g.P.Spare.holding l.spare);
   rest : (e : ℕ) → l.d ≤ e → slot_at l.window l.i e ≡ slot_at l.fn.window l.i e;
 }

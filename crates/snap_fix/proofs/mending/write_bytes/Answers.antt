@@ -14,7 +14,7 @@ returns-in_err-write_at-clause-fault g c =
     (λ (fault : FileFault). EndsBy fault (IsBlockCall c.args.start.now.place c.args.path.now c.args.at c.args.bytes.now) c.args.path.now c.args.start.now c.args.state.now old c.set_up.new.start c.set_up.new.state end)
     failed.field-0.0 c.from_residual-in_err-write_at.ensures.1
     (write_ends c.args.path.now c.args.start.now c.args.state.now old c.requires.ready c.set_up.new.start c.set_up.new.state mid c.in_ok-set_up.ensures.set_up
-    c.args.at c.args.bytes.now failed.field-0.0 end failed.ensures.call failed.ensures.missing)
+    c.args.at c.args.bytes.now failed.field-0.0 end (g.F.Folder.well_formed _) failed.ensures.call failed.ensures.missing)
 
 pub returns-clause-written : goal.returns-clause-written
 returns-clause-written g c =
@@ -25,4 +25,4 @@ returns-clause-written g c =
     subst (λ (n : ℕ). WritesBytes c.args.path.now c.args.at c.args.bytes.now c.args.start.now c.args.state.now old c.set_up.new.start (record { lost = state.lost; touched = true; size = n }) end)
     (sym c.max-state.ensures)
     (writes_bytes c.args.path.now c.args.start.now c.args.state.now old c.requires.ready c.set_up.new.start state mid c.in_ok-set_up.ensures.set_up
-    c.args.at c.args.bytes.now end c.in_ok-write_at.ensures.call)
+    c.args.at c.args.bytes.now end (g.F.Folder.well_formed _) c.in_ok-write_at.ensures.call)

@@ -16,12 +16,12 @@ returns-in-Ok g c =
 pub returns-in-Err : goal.returns-in-Err
 returns-in-Err g c =
     let failed = c.in-Err.ensures.failed in
-    let same = ap (λ l. l.out.ghost_name) failed.2 in
+    let same = ap (λ l. l.out.ghost_name) failed.3 in
     let first = c.over-lines.ensures.same_reference in
     with_answer _ _ (task_of c.args.job.now) _ _ _ _ _ _ _ _ _ c.from.ensures refl
     (check_refused _ _ g.W.Sink.view c.args.mode c.args.selection.now (task_of c.args.job.now) c.args.table.now c.requires.command _ _ _ _ _ _ c.over-lines.result c.check.new.lines _ _ c.over-lines.ensures.state (search rules) _ c.in-Err.fault
     (length-map _ _ ∙ c.check.auto.folders ∙ sym (length-map _ _))
     (λ still P was. subst (λ v. P (g.V.Vault.view v)) (sym still.1) was)
-    (λ still. ap (λ l. told_of g.W.Sink.view l) still.2)
-    (λ still. ap (λ r. r.items) still.3)
+    (λ still. ap (λ l. told_of g.W.Sink.view l) still.3)
+    (λ still. ap (λ r. r.items) still.4)
     failed failed.0)

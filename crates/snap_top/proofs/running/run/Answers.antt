@@ -3,6 +3,7 @@ use Rattle.snap_top.proofs.CompleteLemmas.{smooth_is_done}
 use Rattle.snap_top.proofs.MomentLemmas.{every_moment}
 use Rattle.snap_top.proofs.PartLemmas.{syncs_end_in_part}
 use Rattle.snap_top.proofs.RefusalLemmas.{refusal_touches_nothing}
+use Rattle.snap_top.proofs.RestoringLemmas.{fixes_end}
 use Rattle.snap_top.proofs.SilentLemmas.{done_is_silent}
 use Rattle.snap_top.proofs.running.run.Goals as goal
 
@@ -19,7 +20,7 @@ pub returns-clause-sound : goal.returns-clause-sound
 returns-clause-sound g c =
     let ran = c.work-end.ensures in
     let parts = c.a_sync_is_a_part_sync.ensures in
-    every_moment parts.laid parts.copies c.every_moment_is_sound.ensures c.a_layout_keeps_its_stripes.ensures _ _ c.work-end.result.end ran.told (omega arith) ran.ran
+    every_moment parts.laid parts.copies c.every_moment_is_sound.ensures c.a_fix_keeps_what_is_sound.ensures.sound c.a_layout_keeps_its_stripes.ensures _ _ c.work-end.result.end ran.told (omega arith) ran.ran
 
 pub returns-clause-synced : goal.returns-clause-synced
 returns-clause-synced g c =
@@ -27,3 +28,9 @@ returns-clause-synced g c =
     let parts = c.a_sync_is_a_part_sync.ensures in
     syncs_end_in_part parts.laid parts.part parts.full parts.given c.what_is_pending_is_found.ensures.findings c.what_is_pending_is_found.ensures.found c.a_layout_keeps_its_stripes.ensures _ _ c.work-end.result.end ran.told _ (omega arith)
     c.status.ensures ran.ran
+
+pub returns-clause-fixed : goal.returns-clause-fixed
+returns-clause-fixed g c =
+    let ran = c.work-end.ensures in
+    let restores = c.a_fix_restores.ensures in
+    fixes_end restores.restored restores.unrestored restores.lost restores.told restores.known c.a_fix_keeps_what_is_sound.ensures.facts _ _ c.work-end.result.end ran.told _ c.status.ensures ran.ran

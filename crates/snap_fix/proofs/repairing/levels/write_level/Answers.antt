@@ -9,4 +9,4 @@ returns-clause-written g c =
     level_written _ _ _ _ c.args.window.now.block_size c.args.stripe c.args.r _ (row_at c.args.window.now c.args.i) c.sum_row.new.out _ _
     (ap₂ (λ (m n : ℕ). m * n) c.from.ensures c.requires.block) (c.sum_row.auto.out ∙ c.requires.block)
     (c.sum_row.ensures ∙ ap (λ (n : ℕ). level_of c.args.r n (row_at c.args.window.now c.args.i)) c.requires.block)
-    _ c.parity_write.ensures.call.goes_on c.in_ok-parity_write.ensures.written c.parity_write.ensures.changes c.parity_write.ensures.drafts c.tell.ensures
+    c.in_ok-parity_write.ensures.call.goes_on c.in_ok-parity_write.ensures.written c.parity_write.ensures.changes c.parity_write.ensures.drafts c.tell.ensures

@@ -1,0 +1,106 @@
+-- All calls of a fix on a folder, while blocks are written and when files are finished, are those of a fix.
+use Rattle.std.proofs.Common.{◌≡◌, inl, inr, ⊎_elim, ℕ, ◌<◌, ◌&&◌, not, List, length, Bool, true, false, refl, sym, ◌∙◌, subst}
+use Rattle.disk_model.specs.Folder.{FolderView, FolderCall, ListFiles, Look, ReadAt, Make, WriteAt, SetSize, SetStamp, Rename}
+use Rattle.file_table.specs.Table.{record_at}
+use Rattle.stripe_reader.specs.Columns.{folder_at}
+use Rattle.stripe_reader.specs.Starts.{StartsValue, start_in, starts_at}
+use Rattle.stripe_reader.specs.declared.starts.Place.{Place}
+use Rattle.stripe_reader.specs.declared.starts.Place.TheVariants.{Plain, Lost, Nowhere}
+use Rattle.stripe_reader.specs.declared.starts.Start.{Start}
+use Rattle.snap_fix.specs.declared.finishing.Finish.{Finish}
+use Rattle.snap_fix.specs.declared.state.FileState.{FileState}
+use Rattle.snap_fix.specs.Ending.{FinishesColumn, FinishesOne}
+use Rattle.snap_fix.specs.Finishing.{IsFinishCall, IsWholeCall}
+use Rattle.snap_fix.specs.FixCourse.{IsFixCall, MakeFixCalls, WritesFiles, Written}
+use Rattle.snap_fix.specs.Mended.{Mended, has_lost}
+use Rattle.snap_fix.specs.Plan.{FixPlan, entry_at, records_in}
+use Rattle.snap_fix.specs.State.{AnyCall, FolderMakes, KeepsStarts, StaysPlace, record_path, state_in}
+use Rattle.snap_fix.specs.Underway.{IsForRecord, IsMendCall}
+use Rattle.snap_fix.proofs.FolderCallLemmas.{makes_any, makes_any_wider, makes_then}
+
+-- ---- while blocks are written
+
+pub mend_is_fix : (plan : FixPlan) (starts : StartsValue) (d : ℕ) (stripes : List Mended) (call : FolderCall) → IsMendCall plan starts d stripes call → IsFixCall plan starts d stripes call
+mend_is_fix plan starts d stripes ListFiles is = is
+mend_is_fix plan starts d stripes (Look path lost) is = is
+mend_is_fix plan starts d stripes (ReadAt path lost at n) is = is
+mend_is_fix plan starts d stripes (Make path) is = is
+mend_is_fix plan starts d stripes (WriteAt path at bytes) is = is
+mend_is_fix plan starts d stripes (SetSize path size) is = absurd is
+mend_is_fix plan starts d stripes (SetStamp path stamp) is = absurd is
+mend_is_fix plan starts d stripes (Rename path true) is = absurd is
+mend_is_fix plan starts d stripes (Rename path false) is = is
+
+-- ---- when files are finished
+
+-- a file that was nowhere or under the other name was so at first
+was_lost : (before after : Place) → StaysPlace before after → after ≡ Lost → before ≡ Lost
+was_lost before after stays is = ⊎_elim (λ same. sym same ∙ is) (λ both. both.0) stays
+
+was_nowhere : (before after : Place) → StaysPlace before after → after ≡ Nowhere → before ≡ Nowhere
+was_nowhere before after stays is = ⊎_elim (λ same. sym same ∙ is) (λ both. let clash : Plain ≡ Nowhere = sym both.1 ∙ is in cc) stays
+
+both_flags : (selected blocked : Bool) → (selected && not blocked) ≡ true → (selected ≡ true) × (blocked ≡ false)
+both_flags true false is = (refl, refl)
+both_flags true true is = absurd cc
+both_flags false blocked is = absurd cc
+
+module _ (plan : FixPlan) (d : ℕ) (stripes : List Mended) (begun later : StartsValue) (states : List (List FileState)) (stood : KeepsStarts begun later)
+    (lost : (i : ℕ) → i < length (records_in plan.table d) → (state_in states d i).lost ≡ has_lost plan stripes d i) where
+  pub finish_is_fix : (call : FolderCall) → FinishesOne plan d later states call → IsFixCall plan begun d stripes call
+  finish_is_fix call is = by (state_in states d i).lost refl is.is
+    where
+      i : ℕ
+      i = is.i
+
+      start : Start
+      start = start_in (starts_at later.columns d) i
+
+      path : List ℕ
+      path = record_path (records_in plan.table d) i
+
+      for_record : IsForRecord plan d i path
+      for_record =
+          let flags = both_flags (entry_at plan d i).selected (entry_at plan d i).blocked is.finished in
+          record { within = is.within; path_is = refl; selected = flags.0; free = flags.1 }
+
+      fix_call : FolderCall → Type 0
+      fix_call = IsFixCall plan begun d stripes
+
+      by_whole : has_lost plan stripes d i ≡ false → IsWholeCall (entry_at plan d i).listed start (state_in states d i) path (record_at plan.table.columns d i).meta call → fix_call call
+      by_whole whole (inl (place, call_is)) =
+          subst fix_call (sym call_is) (i, for_record, was_lost (start_in (starts_at begun.columns d) i).place start.place (stood d i).1 place)
+      by_whole whole (inr (inl (gone, place, call_is))) =
+          subst fix_call (sym call_is) (i, for_record, was_nowhere (start_in (starts_at begun.columns d) i).place start.place (stood d i).1 place)
+      by_whole whole (inr (inr (inl (size, call_is)))) = subst fix_call (sym call_is) (i, for_record, whole, refl)
+      by_whole whole (inr (inr (inr (stamped, call_is)))) = subst fix_call (sym call_is) (i, for_record, whole, refl)
+
+      by : (b : Bool) → (state_in states d i).lost ≡ b
+          → IsFinishCall b (entry_at plan d i).listed start (state_in states d i) path (record_at plan.table.columns d i).meta call → fix_call call
+      by false is_lost its = by_whole (sym (lost i is.within) ∙ is_lost) its
+      by true is_lost its = subst fix_call (sym its.1) (i, for_record, sym (lost i is.within) ∙ is_lost, tt)
+
+-- ---- of all folders
+
+module _ (plan : FixPlan) (begun : StartsValue) (stripes : List Mended) (firsts news : List FolderView) where
+  -- blocks were written
+  pub fix_calls_of_writing : ((d : ℕ) → d < length plan.table.columns → FolderMakes (AnyCall (IsMendCall plan begun d stripes)) (folder_at firsts d) (folder_at news d))
+      → MakeFixCalls plan begun stripes firsts news
+  fix_calls_of_writing makes d below = makes_any_wider (IsMendCall plan begun d stripes) (IsFixCall plan begun d stripes) (mend_is_fix plan begun d stripes) (makes d below)
+
+  module _ (written : Written) (writes : WritesFiles plan begun stripes firsts written) where
+    -- all blocks were written, and then some files finished
+    pub fix_calls_of : ((d : ℕ) → d < length plan.table.columns
+        → FolderMakes (AnyCall (FinishesOne plan d written.starts written.states)) (folder_at written.folders d) (folder_at news d))
+        → MakeFixCalls plan begun stripes firsts news
+    fix_calls_of finishes d below =
+        makes_then (AnyCall (IsFixCall plan begun d stripes))
+        (makes_any_wider (IsMendCall plan begun d stripes) (IsFixCall plan begun d stripes) (mend_is_fix plan begun d stripes) (makes_any (IsMendCall plan begun d stripes) (writes.makes d below)))
+        (makes_any_wider (FinishesOne plan d written.starts written.states) (IsFixCall plan begun d stripes)
+        (finish_is_fix plan d stripes begun written.starts written.states writes.stood (writes.underway.each d below).lost) (finishes d below))
+
+    -- and then all of them
+    pub fix_calls_of_all : (finishes : List (List Finish)) → ((d : ℕ) → d < length plan.table.columns
+        → FinishesColumn plan written.starts written.states d finishes (folder_at written.folders d) (folder_at news d))
+        → MakeFixCalls plan begun stripes firsts news
+    fix_calls_of_all finishes finished = fix_calls_of (λ d below. makes_any (FinishesOne plan d written.starts written.states) (finished d below).makes)

@@ -1,0 +1,71 @@
+-- Where files stand after some stripes and then others were written, and which calls are made for them.
+use Rattle.std.proofs.Common.{◌≡◌, ◌≢◌, inl, inr, ℕ, List, ◌++◌, true, false, refl, ◌∙◌}
+use Rattle.std.specs.List.{Contains}
+use Rattle.std.proofs.lemmas.List.Elements.{Contains-append_left, Contains-append_right}
+use Rattle.disk_model.specs.Folder.{FolderView, FolderCall, ListFiles, Look, ReadAt, Make, WriteAt, SetSize, SetStamp, Rename}
+use Rattle.stripe_reader.specs.Starts.{StartsValue, start_in, starts_at}
+use Rattle.stripe_reader.specs.declared.starts.Place.{Place}
+use Rattle.stripe_reader.specs.declared.starts.Place.TheVariants.{Plain, Lost, Nowhere}
+use Rattle.snap_fix.specs.Mended.{Mended}
+use Rattle.snap_fix.specs.Plan.{FixPlan}
+use Rattle.snap_fix.specs.State.{AnyCall, WellCall, FolderMakes, KeepsStarts, StaysPlace}
+use Rattle.snap_fix.specs.Underway.{IsForPlace, IsMendCall}
+use Rattle.snap_fix.proofs.FolderCallLemmas.{makes_any, makes_any_wider, makes_then, makes_well_wider}
+
+-- ---- where files stand
+
+place_then : (one two three : Place) → StaysPlace one two → StaysPlace two three → StaysPlace one three
+place_then one two three (inl same) (inl again) = inl (again ∙ same)
+place_then one two three (inl same) (inr (lost, plain)) = inr (cc, plain)
+place_then one two three (inr (lost, plain)) (inl again) = inr (lost, again ∙ plain)
+place_then one two three (inr (lost, plain)) (inr (other, then)) = inr (lost, then)
+
+-- a place that isn't that of a file under PATH was there before
+place_before : (one two place : Place) → place ≢ Plain → StaysPlace one two → two ≡ place → one ≡ place
+place_before one two place other (inl same) is = cc
+place_before one two place other (inr (lost, plain)) is = let clash : place ≡ Plain = cc in absurd (other clash)
+
+pub stood_none : (starts : StartsValue) → KeepsStarts starts starts
+stood_none starts d i = (refl, inl refl)
+
+pub stood_then : (one two three : StartsValue) → KeepsStarts one two → KeepsStarts two three → KeepsStarts one three
+stood_then one two three first next d i = (
+  (next d i).0 ∙ (first d i).0,
+  place_then _ _ _ (first d i).1 (next d i).1,
+)
+
+-- ---- which calls
+
+module _ (plan : FixPlan) (before after : StartsValue) (stood : KeepsStarts before after) (d : ℕ) where
+  for_before : (place : Place) (path : List ℕ) → place ≢ Plain → IsForPlace plan after d place path → IsForPlace plan before d place path
+  for_before place path other (i, is, at) = (i, is, place_before _ (start_in (starts_at after.columns d) i).place place other (stood d i).1 at)
+
+  -- a call by where files stood later is one by where they stood before
+  pub wider : (xs ys : List Mended) → ((mended : Mended) → Contains xs mended → Contains ys mended) → (call : FolderCall) → IsMendCall plan after d xs call → IsMendCall plan before d ys call
+  wider xs ys more ListFiles is = absurd is
+  wider xs ys more (Look path lost) is = tt
+  wider xs ys more (ReadAt path lost at n) is = tt
+  wider xs ys more (Make path) is = for_before Nowhere path (λ (same : Nowhere ≡ Plain). cc) is
+  wider xs ys more (WriteAt path at bytes) is = record { mended = is.mended; is_one = more is.mended is.is_one; writes = is.writes }
+  wider xs ys more (SetSize path size) is = absurd is
+  wider xs ys more (SetStamp path stamp) is = absurd is
+  wider xs ys more (Rename path true) is = absurd is
+  wider xs ys more (Rename path false) is = for_before Lost path (λ (same : Lost ≡ Plain). cc) is
+
+module _ (plan : FixPlan) (before after : StartsValue) (stood : KeepsStarts before after) (d : ℕ) (xs ys : List Mended) where
+  -- none of the calls failed but readings
+  pub well_then : {old mid new : FolderView} → FolderMakes (WellCall (IsMendCall plan before d xs)) old mid → FolderMakes (WellCall (IsMendCall plan after d ys)) mid new
+      → FolderMakes (WellCall (IsMendCall plan before d (xs ++ ys))) old new
+  well_then one two =
+      makes_then (WellCall (IsMendCall plan before d (xs ++ ys)))
+      (makes_well_wider (IsMendCall plan before d xs) (IsMendCall plan before d (xs ++ ys)) (wider plan before before (stood_none before) d xs (xs ++ ys) (Contains-append_left xs ys)) one)
+      (makes_well_wider (IsMendCall plan after d ys) (IsMendCall plan before d (xs ++ ys)) (wider plan before after stood d ys (xs ++ ys) (Contains-append_right xs ys)) two)
+
+  -- one of the later calls may have
+  pub any_then : {old mid new : FolderView} → FolderMakes (WellCall (IsMendCall plan before d xs)) old mid → FolderMakes (AnyCall (IsMendCall plan after d ys)) mid new
+      → FolderMakes (AnyCall (IsMendCall plan before d (xs ++ ys))) old new
+  any_then one two =
+      makes_then (AnyCall (IsMendCall plan before d (xs ++ ys)))
+      (makes_any_wider (IsMendCall plan before d xs) (IsMendCall plan before d (xs ++ ys)) (wider plan before before (stood_none before) d xs (xs ++ ys) (Contains-append_left xs ys))
+      (makes_any (IsMendCall plan before d xs) one))
+      (makes_any_wider (IsMendCall plan after d ys) (IsMendCall plan before d (xs ++ ys)) (wider plan before after stood d ys (xs ++ ys) (Contains-append_right xs ys)) two)

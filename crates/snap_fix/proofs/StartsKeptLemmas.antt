@@ -1,0 +1,127 @@
+-- Where files are looked for while a fix goes on: a place stays, or a file that was renamed back is looked for under its own name.
+use Rattle.std.proofs.Common.{◌≡◌, ◌≢◌, ◌⊎◌, inl, inr, ℕ, ◌<◌, List, [], ◌∷◌, ◌++◌, length, set, Bool, true, false, Contains, refl, sym, ap, ◌∙◌, subst, arith}
+use Rattle.std.proofs.lemmas.Bool.{cases_eq}
+use Rattle.std.proofs.lemmas.List.{get_or-set_same, get_or-set_other}
+use Rattle.std.proofs.lemmas.List.Elements.{Contains-append_left, Contains-push, Contains-push_cases}
+use Rattle.disk_model.specs.Folder.{FolderCall, FolderView, ListFiles, Look, ReadAt, Make, WriteAt, SetSize, SetStamp, Rename}
+use Rattle.stripe_reader.specs.Starts.{StartsValue, no_start, starts_at, start_in}
+use Rattle.stripe_reader.specs.declared.starts.Start.{Start}
+use Rattle.stripe_reader.specs.declared.starts.Place.{Place}
+use Rattle.stripe_reader.specs.declared.starts.Place.TheVariants.{Plain, Lost, Nowhere}
+use Rattle.snap_fix.specs.Facts.{StripeFacts}
+use Rattle.snap_fix.specs.Mended.{Mended}
+use Rattle.snap_fix.specs.Mending.{with_place}
+use Rattle.snap_fix.specs.Plan.{FixPlan}
+use Rattle.snap_fix.specs.State.{AnyCall, WellCall, FolderMakes, StaysPlace, KeepsStarts}
+use Rattle.snap_fix.specs.Underway.{WritesCell, WritesOneOf, IsMendCall, IsForPlace}
+use Rattle.snap_fix.proofs.FolderCallLemmas.{makes_well_wider, makes_any_wider}
+
+-- ---- places
+
+pub stays_then : (before mid after : Place) → StaysPlace before mid → StaysPlace mid after → StaysPlace before after
+stays_then before mid after (inl one) (inl two) = inl (two ∙ one)
+stays_then before mid after (inl one) (inr two) = inr (sym one ∙ two.0, two.1)
+stays_then before mid after (inr one) (inl two) = inr (one.0, two ∙ one.1)
+stays_then before mid after (inr one) (inr two) = absurd (let clash : Plain ≡ Lost = sym one.1 ∙ two.0 in cc)
+
+-- a file that isn't looked for under its own name was not before
+pub stood_before : (before after place : Place) → place ≢ Plain → StaysPlace before after → after ≡ place → before ≡ place
+stood_before before after place apart (inl same) is = sym same ∙ is
+stood_before before after place apart (inr back) is = absurd (apart (sym is ∙ back.1))
+
+-- ---- starts
+
+pub keeps_starts_same : (starts : StartsValue) → KeepsStarts starts starts
+keeps_starts_same starts d i = (refl, inl refl)
+
+pub keeps_starts_then : (before mid after : StartsValue) → KeepsStarts before mid → KeepsStarts mid after → KeepsStarts before after
+keeps_starts_then before mid after one two d i = ((two d i).0 ∙ (one d i).0, stays_then _ _ _ (one d i).1 (two d i).1)
+
+-- one of them with another place
+module _ (starts : StartsValue) (d i : ℕ) (place : Place) (column : d < length starts.columns) (rec : i < length (starts_at starts.columns d))
+    (stays : StaysPlace (start_in (starts_at starts.columns d) i).place place) where
+  abbrev start : Start
+  start = record { place = place; size = (start_in (starts_at starts.columns d) i).size }
+
+  abbrev row : List Start
+  row = set (starts_at starts.columns d) i start
+
+  row_here : starts_at (set starts.columns d row) d ≡ row
+  row_here = get_or-set_same starts.columns d row [] column
+
+  abbrev Kept : ℕ → ℕ → Start → Type 0
+  Kept k j now = (now.size ≡ (start_in (starts_at starts.columns k) j).size) × StaysPlace (start_in (starts_at starts.columns k) j).place now.place
+
+  kept : (k j : ℕ) → (k ≡ d) ⊎ (k ≡ d → ⊥) → (j ≡ i) ⊎ (j ≡ i → ⊥) → Kept k j (start_in (starts_at (set starts.columns d row) k) j)
+  kept k j (inl same) (inl one) =
+      subst (λ (n : ℕ). Kept n j (start_in (starts_at (set starts.columns d row) n) j)) (sym same)
+      (subst (λ (n : ℕ). Kept d n (start_in (starts_at (set starts.columns d row) d) n)) (sym one)
+      (subst (Kept d i) (sym (ap (λ (r : List Start). start_in r i) row_here ∙ get_or-set_same (starts_at starts.columns d) i start no_start rec)) (refl, stays)))
+  kept k j (inl same) (inr other) =
+      subst (λ (n : ℕ). Kept n j (start_in (starts_at (set starts.columns d row) n) j)) (sym same)
+      (subst (Kept d j) (sym (ap (λ (r : List Start). start_in r j) row_here ∙ get_or-set_other (starts_at starts.columns d) i j start no_start other)) (refl, inl refl))
+  kept k j (inr other) side =
+      subst (Kept k j) (sym (ap (λ (r : List Start). start_in r j) (get_or-set_other starts.columns d k row [] other))) (refl, inl refl)
+
+  pub keeps_starts_with : KeepsStarts starts (with_place starts d i place)
+  keeps_starts_with k j = kept k j (cases_eq k d) (cases_eq j i)
+
+-- ---- calls by where files stood
+
+place_before : (plan : FixPlan) (before after : StartsValue) (d : ℕ) (place : Place) → place ≢ Plain → KeepsStarts before after
+    → (path : List ℕ) → IsForPlace plan after d place path → IsForPlace plan before d place path
+place_before plan before after d place apart stood path is = (is.0, is.1, stood_before _ _ place apart (stood d is.0).1 is.2)
+
+nowhere_plain : Nowhere ≢ Plain
+nowhere_plain is = absurd cc
+
+lost_plain : Lost ≢ Plain
+lost_plain is = absurd cc
+
+-- A call by later starts is one by earlier starts, and one for some stripes is one for others, if its write is.
+pub mend_call_wider : (plan : FixPlan) (before after : StartsValue) (d : ℕ) (xs ys : List Mended) → KeepsStarts before after
+    → ((path : List ℕ) (at : ℕ) (bytes : List ℕ) → WritesOneOf plan d xs path at bytes → WritesOneOf plan d ys path at bytes)
+    → (call : FolderCall) → IsMendCall plan after d xs call → IsMendCall plan before d ys call
+mend_call_wider plan before after d xs ys stood wider ListFiles is = is
+mend_call_wider plan before after d xs ys stood wider (Look path lost) is = is
+mend_call_wider plan before after d xs ys stood wider (ReadAt path lost at n) is = is
+mend_call_wider plan before after d xs ys stood wider (Make path) is = place_before plan before after d Nowhere nowhere_plain stood path is
+mend_call_wider plan before after d xs ys stood wider (WriteAt path at bytes) is = wider path at bytes is
+mend_call_wider plan before after d xs ys stood wider (SetSize path size) is = is
+mend_call_wider plan before after d xs ys stood wider (SetStamp path stamp) is = is
+mend_call_wider plan before after d xs ys stood wider (Rename path true) is = is
+mend_call_wider plan before after d xs ys stood wider (Rename path false) is = place_before plan before after d Lost lost_plain stood path is
+
+module _ (plan : FixPlan) (before after : StartsValue) (d : ℕ) (stripes : List Mended) (stood : KeepsStarts before after) where
+  pub mend_call_before : (call : FolderCall) → IsMendCall plan after d stripes call → IsMendCall plan before d stripes call
+  mend_call_before = mend_call_wider plan before after d stripes stripes stood (λ path at bytes one. one)
+
+  pub makes_well_before : (old new : FolderView) → FolderMakes (WellCall (IsMendCall plan after d stripes)) old new → FolderMakes (WellCall (IsMendCall plan before d stripes)) old new
+  makes_well_before old new makes = makes_well_wider (IsMendCall plan after d stripes) (IsMendCall plan before d stripes) mend_call_before makes
+
+  pub makes_any_before : (old new : FolderView) → FolderMakes (AnyCall (IsMendCall plan after d stripes)) old new → FolderMakes (AnyCall (IsMendCall plan before d stripes)) old new
+  makes_any_before old new makes = makes_any_wider (IsMendCall plan after d stripes) (IsMendCall plan before d stripes) mend_call_before makes
+
+-- ---- calls for some stripes, and for more
+
+module _ (plan : FixPlan) (starts : StartsValue) (d : ℕ) (stripes : List Mended) (mended : Mended) where
+  -- a call for some stripes is one for these and more
+  pub mend_call_earlier : (call : FolderCall) → IsMendCall plan starts d stripes call → IsMendCall plan starts d (stripes ++ mended ∷ []) call
+  mend_call_earlier = mend_call_wider plan starts starts d stripes (stripes ++ mended ∷ []) (keeps_starts_same starts)
+      (λ path at bytes one. record { mended = one.mended; is_one = Contains-append_left stripes (mended ∷ []) one.mended one.is_one; writes = one.writes })
+
+  -- and so is one for the last of them, whatever its answers
+  pub mend_call_here : (answers : List Bool) (call : FolderCall) → IsMendCall plan starts d (record { facts = mended.facts; answers = answers } ∷ []) call → IsMendCall plan starts d (stripes ++ mended ∷ []) call
+  mend_call_here answers = mend_call_wider plan starts starts d (answered ∷ []) (stripes ++ mended ∷ []) (keeps_starts_same starts)
+      (λ path at bytes one. record {
+        mended = mended;
+        is_one = Contains-push stripes mended;
+        writes = subst (λ (facts : StripeFacts). WritesCell plan d facts path at bytes) (sym (facts_of one.mended (Contains-push_cases [] answered one.mended one.is_one))) one.writes;
+      })
+    where
+      answered : Mended
+      answered = record { facts = mended.facts; answers = answers }
+
+      facts_of : (it : Mended) → (Contains [] it) ⊎ (answered ≡ it) → mended.facts ≡ it.facts
+      facts_of it (inl none) = absurd (let below = none.1 in omega (arith, below))
+      facts_of it (inr same) = ap (λ (m : Mended). m.facts) same

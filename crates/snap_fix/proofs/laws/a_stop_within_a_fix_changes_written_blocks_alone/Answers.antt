@@ -1,0 +1,23 @@
+use Rattle.disk_model.specs.Tree.{path_of}
+use Rattle.snap_fix.specs.Stopped.{path_at}
+use Rattle.snap_fix.proofs.StoppedLemmas.{bytes_stand, left_alone, listed_in_place, unfinished_alone}
+use Rattle.snap_fix.proofs.laws.a_stop_within_a_fix_changes_written_blocks_alone.Goals as goal
+
+pub returns-clause-bytes : goal.returns-clause-bytes
+returns-clause-bytes c stop i file is within placed =
+    let path = path_at stop i in
+    bytes_stand stop is i within file
+    (c.bytes_that_no_call_touches_stay.ensures.place stop.keeps_stamps path stop.calls stop.first stop.left file)
+    (c.bytes_that_no_call_touches_stay.ensures.lost stop.keeps_stamps path stop.calls stop.first stop.left file) placed
+
+pub returns-clause-not_selected : goal.returns-clause-not_selected
+returns-clause-not_selected c stop i lost is within not_finished =
+    let name = path_of (path_at stop i) lost in
+    c.a_file_that_no_call_names_stays.ensures stop.keeps_stamps stop.calls stop.first stop.left name (left_alone stop is name (unfinished_alone stop is i lost within not_finished)) is.left
+
+pub returns-clause-others : goal.returns-clause-others
+returns-clause-others c stop name is none =
+    c.a_file_that_no_call_names_stays.ensures stop.keeps_stamps stop.calls stop.first stop.left name (left_alone stop is name none) is.left
+
+pub returns-clause-listed : goal.returns-clause-listed
+returns-clause-listed c = listed_in_place

@@ -1,0 +1,74 @@
+-- What a fix leaves of damaged cells, where the folders tell their files.
+use Rattle.std.specs.Prelude.{◌≡◌, ◌⊎◌, ℕ, ◌+◌, ◌<◌, List, length, is_some, Bool, true, false, All, Contains, None, Some, IsTrue}
+use Rattle.disk_model.specs.Folder.{FolderView}
+use Rattle.disk_model.specs.Tree.{Tree, File, file_of, path_of}
+use Rattle.disk_model.specs.declared.meta.Meta.{Meta}
+use Rattle.file_table.specs.Table.{TableValue, record_at}
+use Rattle.file_table.specs.Valid.{IsValid}
+use Rattle.file_table.specs.declared.block.Cell.{Cell}
+use Rattle.parity_writer.specs.Keeps.{HasByte}
+use Rattle.stripe_reader.specs.Reading.{block_length}
+use Rattle.stripe_reader.specs.Starts.{StartsValue}
+use Rattle.snap_fix.specs.declared.finishing.Finish.{Finish}
+use Rattle.snap_fix.specs.Facts.{StripeFacts, damaged_at, gift_of}
+use Rattle.snap_fix.specs.FixCourse.{FixesFiles}
+use Rattle.snap_fix.specs.Fixing.{facts_of}
+use Rattle.snap_fix.specs.Genuine.{IsRestorableStripe}
+use Rattle.snap_fix.specs.Known.{AreFacts}
+use Rattle.snap_fix.specs.Looking.{numbers_of}
+use Rattle.snap_fix.specs.Mended.{AnswersFit, Mended, is_written, known_block}
+use Rattle.snap_fix.specs.Mending.{block_start, cell_path}
+use Rattle.snap_fix.specs.Plan.{FixPlan, cell_at, selects_cell, stripes_of}
+
+-- A fix that ended: it found these facts of the stripes of its plan, and did that to the files.
+pub record HasFixed (plan : FixPlan) (starts : StartsValue) (stripes : List Mended) (finishes : List (List Finish)) (firsts news : List FolderView) : Type 0 where
+  pub valid : IsValid plan.table
+  pub numbers : numbers_of (facts_of stripes) ≡ stripes_of plan
+  pub are : All (AreFacts plan) (facts_of stripes)
+  pub answered : All (AnswersFit plan firsts) stripes
+  pub files : FixesFiles plan starts stripes finishes firsts news
+
+-- a cell of one of the stripes is selected and damaged
+pub record IsDamagedCell (plan : FixPlan) (stripes : List Mended) (mended : Mended) (d : ℕ) (cell : Cell) : Type 0 where
+  pub one : Contains stripes mended
+  pub column : d < length plan.table.columns
+  pub cell_is : cell_at plan mended.facts.stripe d ≡ Some cell
+  pub selected : selects_cell plan mended.facts.stripe d ≡ true
+  pub damaged : damaged_at plan mended.facts d ≡ true
+
+-- no block is known for such a cell of a stripe
+pub record IsUnknownCell (plan : FixPlan) (stripes : List Mended) (stripe d : ℕ) (cell : Cell) : Type 0 where
+  pub mended : Mended
+  pub number : mended.facts.stripe ≡ stripe
+  pub is : IsDamagedCell plan stripes mended d cell
+  pub unknown : is_some (known_block mended.facts d) ≡ false
+
+-- its block can be had: the spare gave it, or its stripe is restorable
+abbrev pub CanBeHad : FixPlan → StripeFacts → (ℕ → Bool) → ℕ → Type 0
+CanBeHad plan facts is_intact d = (is_some (gift_of facts d) ≡ true) ⊎ IsRestorableStripe plan facts is_intact
+
+-- The file of a record stands under PATH, or under PATH`.unrecoverable`, and has these bytes in the place of the block of a cell, at its
+-- real length.
+pub record HoldsCell (table : TableValue) (d : ℕ) (cell : Cell) (lost : Bool) (byte : ℕ → ℕ) (tree : Tree) : Type 0 where
+  pub file : File
+  pub there : file_of tree (path_of (cell_path table d cell) lost) ≡ Some file
+  pub bytes : (p : ℕ) → p < block_length table.shape.block_size (record_at table.columns d cell.rec).meta.size cell.index
+      → HasByte file.bytes (block_start table cell + p) (byte p)
+
+-- Of a cell nothing was written in any of the stripes.
+abbrev pub IsNotWritten : FixPlan → List Mended → ℕ → Cell → Type 0
+IsNotWritten plan stripes d cell = (mended : Mended) → Contains stripes mended → cell_at plan mended.facts.stripe d ≡ Some cell
+    → is_written plan mended d ≡ false
+
+-- a file stands under PATH with the recorded size, and with the recorded stamp where the folder keeps stamps
+pub record StandsRestored (keeps : Bool) (meta : Meta) (path : List ℕ) (tree : Tree) : Type 0 where
+  pub file : File
+  pub there : file_of tree (path_of path false) ≡ Some file
+  pub size : length file.bytes ≡ meta.size
+  pub stamp : IsTrue keeps → file.stamp ≡ meta.stamp
+
+-- a file stands under PATH`.unrecoverable`, and none under PATH
+pub record StandsUnrecoverable (path : List ℕ) (tree : Tree) : Type 0 where
+  pub file : File
+  pub there : file_of tree (path_of path true) ≡ Some file
+  pub none : file_of tree (path_of path false) ≡ None

@@ -1,0 +1,372 @@
+-- A fix that is done restores what can be had of the snapshot, and tells what can't.
+use Rattle.std.proofs.Common.{◌≡◌, ◌↔◌, inr, ⊎_elim, ℕ, ◌<◌, ◌≤◌, List, [], ◌++◌, length, get_or, count_by, AllPairs, Bool, true, false, IsTrue, Option, None, is_some, refl, sym, ap, ◌∙◌, subst, arith}
+use Rattle.std.specs.Prelude.{sum_by, not}
+use Rattle.std.specs.List.{Contains, range_with_len}
+use Rattle.std.proofs.lemmas.Bool.{and_left, cases_lt}
+use Rattle.std.proofs.lemmas.List.{get_or-map, get_or_default, length-map}
+use Rattle.std.proofs.lemmas.List.Elements.{All-contains}
+use Rattle.std.proofs.lemmas.List.FromFn.{get_or-range_with_len, length-range_with_len}
+use Rattle.std.proofs.lemmas.List.Kept.{AllPairs-filter}
+use Rattle.cauchy.specs.Matrix.{byte_of}
+use Rattle.cauchy.specs.Recovery.{AreBytes}
+use Rattle.disk_model.specs.Cause.{RoseBy}
+use Rattle.disk_model.specs.Files.{Files}
+use Rattle.disk_model.specs.Folder.{FolderView}
+use Rattle.disk_model.specs.Vault.{VaultState, Holds, copies_of}
+use Rattle.file_table.specs.Table.{TableValue}
+use Rattle.file_table.specs.Valid.{IsValid}
+use Rattle.file_table.specs.declared.block.Cell.{Cell}
+use Rattle.parity_writer.specs.Parity.{Row}
+use Rattle.parity_writer.specs.Sound.{Snapshot, Sound}
+use Rattle.stripe_reader.specs.Columns.{folder_at}
+use Rattle.stripe_reader.specs.Starts.{StartsValue}
+use Rattle.snap_config.specs.Setup.{SetupValue, setup_value}
+use Rattle.snap_config.specs.declared.options.Command.{Command}
+use Rattle.snap_config.specs.declared.options.Command.TheVariants as commands
+use Rattle.snap_config.specs.declared.options.Options.{Options}
+use Rattle.snap_config.specs.declared.options.Selection.{Selection}
+use Rattle.snap_fix.specs.Counts.{at_most}
+use Rattle.snap_fix.specs.Ending.{Finishes}
+use Rattle.snap_fix.specs.Facts.{StripeFacts, gift_of, is_missing}
+use Rattle.snap_fix.specs.Findings.{is_lost}
+use Rattle.snap_fix.specs.FixCourse.{fix_events}
+use Rattle.snap_fix.specs.Fixing.{facts_of}
+use Rattle.snap_fix.specs.Genuine.{AreGenuine, AreGenuineOf, HasGenuineFacts, IsRestorableStripe, TellsIntactLevels}
+use Rattle.snap_fix.specs.Known.{AreFacts, IsTried}
+use Rattle.snap_fix.specs.Looking.{numbers_of, unread_in}
+use Rattle.snap_fix.specs.Mended.{Mended, has_lost, is_written, known_block, known_by, wrong_in, written_in}
+use Rattle.snap_fix.specs.Plan.{FixPlan, entry_at, is_audit, is_looked_at, is_searched, is_synced, starts_of, stripes_of}
+use Rattle.snap_fix.specs.Restored.{CanBeHad, HasFixed, HoldsCell, IsDamagedCell, IsUnknownCell}
+use Rattle.snap_fix.specs.Underway.{AddsZeros, IsMendedLevel, KeepsLevels}
+use Rattle.snap_report.specs.Answer.{done_answer, status_of as answer_status}
+use Rattle.snap_report.specs.EndLines.{fix_text}
+use Rattle.snap_report.specs.EventLines.{lines_of}
+use Rattle.snap_report.specs.Kind.{is_left}
+use Rattle.snap_report.specs.Telling.{Tells, between}
+use Rattle.snap_report.specs.declared.answer.Answer.{Answer}
+use Rattle.snap_report.specs.declared.answer.Answer.TheVariants as answers
+use Rattle.snap_report.specs.declared.answer.RunFault.TheVariants as runs
+use Rattle.snap_report.specs.declared.events.Event.{Event}
+use Rattle.snap_report.specs.declared.events.Event.TheVariants as events
+use Rattle.snap_sync.specs.Part.{AllTell}
+use Rattle.snap_top.specs.Does.{DoesCommand}
+use Rattle.snap_top.specs.End.{status_of}
+use Rattle.snap_top.specs.Fix.{FixRun, LeavesFixed, MayStandFixed}
+use Rattle.snap_top.specs.Fixing.{FixEnds, FixesBy, fix_of as run_fixed}
+use Rattle.snap_top.specs.Moment.{IsFixOf, TellsAll}
+use Rattle.snap_top.specs.Opening.{asked_by}
+use Rattle.snap_top.specs.Restoring.{EndsFixed, FixesEnd, IsLostCell, Restores, events_in}
+use Rattle.snap_top.specs.Run.{Entry, Exit, IsAnswered, IsRun, Ran}
+use Rattle.snap_top.specs.Task.{Did, Left, stands_after}
+use Rattle.snap_top.specs.Views.{World, world_of}
+use Rattle.snap_top.specs.declared.end.End.{End}
+use Rattle.snap_top.specs.declared.end.End.TheVariants.{Refused, Worked}
+use Rattle.snap_top.specs.declared.end.Ending.TheVariants.{NotLoaded, NoTable, OtherArray, Answered}
+use Rattle.snap_top.proofs.CompleteLemmas.{same_ok}
+use Rattle.snap_top.proofs.OfFixLemmas.{HasFixCourse, all_looked_at, fix_of, genuine_by}
+use Rattle.snap_top.proofs.OfSyncLemmas.{given_files, given_is}
+use Rattle.snap_top.proofs.PartLemmas.{none_found, some_found, too_high}
+use Rattle.snap_top.proofs.SilentLemmas.{load_high, refusal_high}
+
+-- ---- what snap_fix says of a fix that ended
+
+abbrev pub CellsAreRestored : Type 0
+CellsAreRestored = (plan : FixPlan) (starts : StartsValue) (stripes : List Mended) (finishes : Finishes) (firsts news : List FolderView) (mended : Mended) (d : ℕ) (cell : Cell) (snapshot : Row) (is_intact : ℕ → Bool)
+    → HasFixed plan starts stripes finishes firsts news → IsDamagedCell plan stripes mended d cell → HasGenuineFacts plan starts firsts snapshot mended.facts → AreBytes snapshot → TellsIntactLevels plan mended.facts snapshot is_intact
+    → (entry_at plan d cell.rec).blocked ≡ false → IsTrue (folder_at firsts d).tells → CanBeHad plan mended.facts is_intact d
+    → HoldsCell plan.table d cell (has_lost plan stripes d cell.rec) (byte_of snapshot d) (folder_at news d).tree
+
+abbrev pub CellsAreLost : Type 0
+CellsAreLost = (plan : FixPlan) (starts : StartsValue) (stripes : List Mended) (finishes : Finishes) (firsts : List FolderView) (mended : Mended) (d : ℕ) (cell : Cell) (snapshot : Row) (is_intact : ℕ → Bool)
+    → IsDamagedCell plan stripes mended d cell → HasGenuineFacts plan starts firsts snapshot mended.facts → AreBytes snapshot → TellsIntactLevels plan mended.facts snapshot is_intact → (CanBeHad plan mended.facts is_intact d → ⊥)
+    → (is_lost plan mended.facts.stripe (is_missing plan mended.facts d) (is_some mended.facts.row) d ≡ true)
+    × Contains (fix_events plan stripes finishes) (events.Lost mended.facts.stripe d cell.rec cell.index)
+    × (is_written plan mended d ≡ false)
+
+-- a cell without a known block is told to be lost, no other cell is, and a block is known exactly where it can be had
+abbrev pub UnknownAreLost : Type 0
+UnknownAreLost = (plan : FixPlan) (stripes : List Mended) (finishes : Finishes) (mended : Mended) (d : ℕ) (cell : Cell)
+    → IsDamagedCell plan stripes mended d cell → is_audit plan.scope.mode ≡ false → is_some (known_block mended.facts d) ≡ false
+    → (is_lost plan mended.facts.stripe (is_missing plan mended.facts d) (is_some mended.facts.row) d ≡ true)
+    × Contains (fix_events plan stripes finishes) (events.Lost mended.facts.stripe d cell.rec cell.index)
+    × (is_written plan mended d ≡ false)
+
+abbrev pub LostAreUnknown : Type 0
+LostAreUnknown = (plan : FixPlan) (starts : StartsValue) (stripes : List Mended) (finishes : Finishes) (firsts news : List FolderView) (stripe d : ℕ) (cell : Cell)
+    → HasFixed plan starts stripes finishes firsts news → IsTrue (folder_at firsts d).tells → Contains (fix_events plan stripes finishes) (events.Lost stripe d cell.rec cell.index)
+    → IsUnknownCell plan stripes stripe d cell
+
+abbrev pub BlocksAreKnown : Type 0
+BlocksAreKnown = (plan : FixPlan) (starts : StartsValue) (firsts : List FolderView) (snapshot : Row) (facts : StripeFacts) (is_intact : ℕ → Bool) (d : ℕ)
+    → HasGenuineFacts plan starts firsts snapshot facts → AreBytes snapshot → TellsIntactLevels plan facts snapshot is_intact
+    → (is_some (known_block facts d) ≡ true) ↔ CanBeHad plan facts is_intact d
+
+abbrev pub FactsAreGenuine : Type 0
+FactsAreGenuine = (plan : FixPlan) (starts : StartsValue) (firsts : List FolderView) (read : Files) (snapshot : Snapshot) (is_changed : ℕ → ℕ → Bool) (stripes : List StripeFacts) (facts : StripeFacts)
+    → AreGenuineOf plan starts firsts read snapshot is_changed stripes → Contains stripes facts → is_searched plan facts.stripe ≡ true → HasGenuineFacts plan starts firsts (snapshot facts.stripe) facts
+
+-- ---- counts, and facts of one of the stripes
+
+none_left : (n : ℕ) → (at_most n ≡ 0) ↔ (n ≡ 0)
+none_left n = (λ none. omega (arith, none), λ none. omega (arith, none))
+
+contains_facts : (stripes : List Mended) (mended : Mended) → Contains stripes mended → Contains (facts_of stripes) mended.facts
+contains_facts stripes mended one =
+    let facts : Mended → StripeFacts = λ (it : Mended). it.facts in
+    (one.0, omega (arith, length-map stripes facts, one.1), get_or-map facts stripes one.0 mended mended.facts one.1 ∙ ap facts one.2)
+
+-- ---- no stripe is looked at twice
+
+abbrev AreAscending : List ℕ → Type 0
+AreAscending numbers = AllPairs (λ (a b : ℕ). a < b) numbers
+
+range_ascending : (n : ℕ) → AreAscending (range_with_len 0 n)
+range_ascending n i j d less below =
+    let near : j < n = omega (arith, below, length-range_with_len 0 n) in
+    let earlier : i < n = omega (arith, less, near) in
+    let first = get_or-range_with_len 0 n i d earlier in
+    let second = get_or-range_with_len 0 n j d near in
+    omega (arith, first, second, less)
+
+stripes_ascending : (plan : FixPlan) → AreAscending (stripes_of plan)
+stripes_ascending plan = AllPairs-filter (λ (a b : ℕ). a < b) (is_looked_at plan) (range_with_len 0 (length plan.table.infos)) (range_ascending (length plan.table.infos))
+
+number_at : (stripes : List Mended) (mended : Mended) (one : Contains stripes mended) → get_or (numbers_of (facts_of stripes)) one.0 0 ≡ mended.facts.stripe
+unfolding contains_facts
+number_at stripes mended one =
+    let number : StripeFacts → ℕ = λ (facts : StripeFacts). facts.stripe in
+    let at = contains_facts stripes mended one in
+    get_or-map number (facts_of stripes) one.0 mended.facts 0 at.1 ∙ ap number at.2
+
+-- so there is one of each number
+same_mended : (stripes : List Mended) → AreAscending (numbers_of (facts_of stripes)) → (one other : Mended) → Contains stripes one → Contains stripes other → one.facts.stripe ≡ other.facts.stripe → one ≡ other
+same_mended stripes ascending one other first second same =
+    ⊎_elim
+    (λ less. absurd (apart first.0 second.0 one.facts.stripe other.facts.stripe less second.1 (number_at stripes one first) (number_at stripes other second) same))
+    (λ not_less. ⊎_elim
+    (λ less. absurd (apart second.0 first.0 other.facts.stripe one.facts.stripe less first.1 (number_at stripes other second) (number_at stripes one first) (sym same)))
+    (λ not_more.
+    let here : first.0 ≡ second.0 = omega (arith, not_less, not_more) in
+    sym first.2 ∙ get_or_default stripes first.0 one other first.1 ∙ ap (λ (k : ℕ). get_or stripes k other) here ∙ second.2)
+    (cases_lt second.0 first.0))
+    (cases_lt first.0 second.0)
+  where
+    as_many : length (numbers_of (facts_of stripes)) ≡ length stripes
+    as_many = length-map (facts_of stripes) (λ (facts : StripeFacts). facts.stripe) ∙ length-map stripes (λ (it : Mended). it.facts)
+
+    apart : (i j a b : ℕ) → i < j → j < length stripes → get_or (numbers_of (facts_of stripes)) i 0 ≡ a → get_or (numbers_of (facts_of stripes)) j 0 ≡ b → a ≡ b → ⊥
+    apart i j a b less within a_is b_is same_number =
+        let before = ascending i j 0 less (omega (arith, within, as_many)) in
+        omega (arith, before, a_is, b_is, same_number)
+
+-- ---- what is known of a block
+
+-- nothing is known of a pending stripe
+none_known : (plan : FixPlan) (facts : StripeFacts) (d : ℕ) → AreFacts plan facts → is_synced plan facts.stripe ≡ false → is_some (known_block facts d) ≡ false
+none_known plan facts d are pending =
+    let unsearched : is_searched plan facts.stripe ≡ false = and_left (is_synced plan facts.stripe) (not (is_audit plan.scope.mode)) pending in
+    let none : IsTried plan facts false = subst (IsTried plan facts) unsearched are.tried in
+    ap (λ (gift : Option (List ℕ)). is_some (known_by gift facts.row d)) (none.0 d) ∙ ap (λ (row : Option Row). is_some (known_by None row d)) none.2
+
+-- what can't be had by its stripe, and was not given
+not_had : (plan : FixPlan) (facts : StripeFacts) (is_intact : ℕ → Bool) (d : ℕ) → gift_of facts d ≡ None → ¬ (IsRestorableStripe plan facts is_intact) → CanBeHad plan facts is_intact d → ⊥
+not_had plan facts is_intact d none few = ⊎_elim
+    (λ given. let clash : false ≡ true = sym (ap (λ (gift : Option (List ℕ)). is_some gift) none) ∙ given in cc)
+    (λ enough. few enough)
+
+-- a count that rose since the table was loaded rose since the opening
+rose_from : (n held given start last : ℕ) → given ≡ held → given ≤ start → RoseBy n start last → RoseBy n held last
+rose_from n held given start last same later rose = omega (arith, same, later, rose)
+
+-- ---- the output of a fix that is done didn't fail
+
+clean_unfailed : (counted : ℕ) (failed : Bool) → answers.Clean ≡ done_answer counted failed → failed ≡ false
+clean_unfailed counted true is = let clash : answers.Clean ≡ answers.OutputFailed = is in cc
+clean_unfailed counted false is = refl
+
+found_unfailed : (counted : ℕ) (failed : Bool) → answers.Found ≡ done_answer counted failed → failed ≡ false
+found_unfailed counted true is = let clash : answers.Found ≡ answers.OutputFailed = is in cc
+found_unfailed counted false is = refl
+
+module _ (restored : CellsAreRestored) (lost : CellsAreLost) (unknown_lost : UnknownAreLost) (lost_unknown : LostAreUnknown) (known : BlocksAreKnown) (genuine_facts : FactsAreGenuine) (before : Entry) (exit : Exit) (tells : TellsAll before) where
+  module _ (setup : SetupValue) (answer : Answer) (named : Option TableValue) (told : List Event) (ran : IsRun before exit setup (Answered answer named) told) (left : Left)
+      (one : IsAnswered ran.task ran.given (world_of exit.after) left ran.did) (selection : Selection) (command : ran.task.command ≡ commands.Fix selection) (status : ℕ) (status_is : status ≡ answer_status left.answer)
+      (ends : FixEnds selection ran.task one.table one.start (world_of exit.after) left ran.did) (clean : (answer_status left.answer ≡ 0) ↔ (left.counted ≡ 0)) (unfailed : ends.prints.failed ≡ false) where
+    abbrev course_of : HasFixCourse ran.task.command ran.task one.table one.start (world_of exit.after) ran.did
+    course_of = record {
+      selection = selection;
+      command_is = command;
+      failed = false;
+      course = ends.course;
+      behind = [];
+      numbers = all_looked_at (numbers_of (facts_of ends.course.stripes)) (stripes_of ends.course.plan) ends.numbers;
+      calls = ends.vault.mends.calls;
+    }
+
+    abbrev run : FixRun
+    run = run_fixed selection ran.task one.table one.start (world_of exit.after) ends.course.lists ends.course.listed ends.course.plan ends.course.stripes ends.course.readings
+
+    abbrev starts : StartsValue
+    starts = starts_of run.loaded run.lists
+
+    abbrev old : Files
+    old = before.opener.vault.files
+
+    abbrev all : List Event
+    all = events_in run ends.finishes
+
+    is_fix : IsFixOf before exit run
+    is_fix = fix_of before exit tells.tells tells.tells_vault setup (Answered answer named) told ran left one course_of
+
+    -- what it began with is what the opener held
+    given_tells : IsTrue ran.given.vault.tells
+    given_tells = ap (λ (s : VaultState). s.tells) (given_is before exit tells.tells tells.tells_vault setup (Answered answer named) told ran) ∙ tells.tells_vault
+
+    start_tells : IsTrue one.start.vault.tells
+    start_tells = one.reads.vault.calls.goes_on.tells ∙ given_tells
+
+    start_files : one.start.vault.files ≡ old
+    start_files = one.reads.vault.files given_tells ∙ given_files before exit tells.tells tells.tells_vault setup (Answered answer named) told ran
+
+    start_out : one.start.out ≡ before.out
+    start_out = ap (λ (w : World). w.out) one.reads.others ∙ ran.given_out
+
+    fixed : HasFixed run.plan starts run.stripes ends.finishes run.listed run.ended
+    fixed = record {
+      valid = subst IsValid (sym ends.course.plan_is.table_is) one.valid;
+      numbers = ends.numbers;
+      are = ends.course.finds.are;
+      answered = ends.course.finds.answered;
+      files = ends.files;
+    }
+
+    unread_levels : RoseBy (unread_in run.readings) before.opener.vault.faults exit.after.vault.faults
+    unread_levels = rose_from (unread_in run.readings) before.opener.vault.faults ran.given.vault.faults one.start.vault.faults exit.after.vault.faults
+        ran.is_given.state.faults one.reads.vault.calls.goes_on.later ends.vault.unread
+
+    moment : MayStandFixed run old exit.after.vault.files
+    moment = subst (λ (fs : Files). KeepsLevels run.plan.table.shape.block_size (IsMendedLevel run.plan (facts_of run.stripes)) fs exit.after.vault.files) start_files (ends.vault.mends.changes.reads start_tells)
+
+    leaves : Holds (LeavesFixed run) exit.after.vault
+    leaves = subst (λ (did : Did). Holds (stands_after did old) exit.after.vault) ends.course.did_is (ran.ends tells.tells tells.tells_vault)
+
+    zeros : AddsZeros run.plan.table.shape.block_size (IsMendedLevel run.plan (facts_of run.stripes)) old exit.after.vault.files
+    zeros = subst (λ (fs : Files). AddsZeros run.plan.table.shape.block_size (IsMendedLevel run.plan (facts_of run.stripes)) fs exit.after.vault.files) start_files (ends.vault.zeros start_tells)
+
+    -- the folders tell their files also once they were listed
+    listed_tells : (d : ℕ) → d < length run.plan.table.columns → IsTrue (folder_at run.listed d).tells
+    listed_tells d below =
+        let columns : length run.plan.table.columns ≡ length one.table.columns = ap (λ (t : TableValue). length t.columns) ends.course.plan_is.table_is in
+        let within : d < length run.folders = omega (arith, below, columns, one.columns) in
+        let all_tell : AllTell run.folders = subst AllTell (sym is_fix.folders_are) tells.tells_folders in
+        (ends.course.lists_are.each d within).call.called.goes_on.tells ∙ all_tell d within
+
+    -- the text of its last line, by what it counts
+    abbrev blocks : ℕ
+    blocks = at_most (sum_by (written_in run.plan) run.stripes)
+
+    abbrev parities : ℕ
+    parities = at_most (sum_by (wrong_in run.plan) run.stripes)
+
+    last_line : fix_text ends.blocks ends.parities left.counted ≡ fix_text blocks parities (at_most (count_by is_left all))
+    last_line =
+        ap (λ (n : ℕ). fix_text n ends.parities left.counted) ends.blocks_are
+        ∙ ap (λ (n : ℕ). fix_text blocks n left.counted) ends.parities_are
+        ∙ ap (λ (n : ℕ). fix_text blocks parities n) ends.counted_is
+
+    printed : Tells (lines_of run.loaded.columns all ++ fix_text blocks parities (at_most (count_by is_left all))) (between false before.out) (between false exit.after.out)
+    printed =
+        subst (λ (text : List ℕ). Tells (lines_of run.loaded.columns all ++ text) (between false before.out) (between false exit.after.out)) last_line
+        (subst (λ out. Tells (lines_of run.loaded.columns all ++ fix_text ends.blocks ends.parities left.counted) (between false out) (between false exit.after.out)) start_out
+        (subst (λ (failed : Bool). Tells (lines_of run.loaded.columns all ++ fix_text ends.blocks ends.parities left.counted) (between false one.start.out) (between failed exit.after.out)) unfailed ends.prints.told))
+
+    ascending : AreAscending (numbers_of (facts_of run.stripes))
+    ascending = subst AreAscending (sym ends.numbers) (stripes_ascending run.plan)
+
+    restores : (snapshot : Snapshot) (is_changed : ℕ → ℕ → Bool) → Sound run.loaded old snapshot is_changed → AreGenuine run.plan snapshot (facts_of run.stripes) → Restores run ends.finishes snapshot
+    restores snapshot is_changed sound supposed = record {
+      restored = λ mended d cell is_intact it free enough.
+          restored run.plan starts run.stripes ends.finishes run.listed run.ended mended d cell (snapshot mended.facts.stripe) is_intact
+          fixed it.is (facts_at mended d cell is_intact it) it.bytes it.tells free (listed_tells d it.is.column) (inr enough);
+      named = λ mended d cell is_intact it few.
+          let no_gift : gift_of mended.facts d ≡ None
+          = All-contains (λ (facts : StripeFacts). (k : ℕ) → gift_of facts k ≡ None) (facts_of run.stripes) mended.facts ends.course.no_gifts (contains_facts run.stripes mended it.is.one) d in
+          (lost run.plan starts run.stripes ends.finishes run.listed mended d cell (snapshot mended.facts.stripe) is_intact
+          it.is (facts_at mended d cell is_intact it) it.bytes it.tells (not_had run.plan mended.facts is_intact d no_gift few)).1;
+      only = λ mended d cell is_intact it enough told_lost.
+          let other : IsUnknownCell run.plan run.stripes mended.facts.stripe d cell
+          = lost_unknown run.plan starts run.stripes ends.finishes run.listed run.ended mended.facts.stripe d cell fixed (listed_tells d it.is.column) told_lost in
+          let same : other.mended ≡ mended = same_mended run.stripes ascending other.mended mended other.is.one it.is.one other.number in
+          let had : is_some (known_block mended.facts d) ≡ true
+          = (known run.plan starts run.listed (snapshot mended.facts.stripe) mended.facts is_intact d (facts_at mended d cell is_intact it) it.bytes it.tells).1 (inr enough) in
+          let clash : false ≡ true = sym other.unknown ∙ ap (λ (it : Mended). is_some (known_block it.facts d)) same ∙ had in cc;
+    }
+      where
+        genuine : AreGenuineOf run.plan starts run.listed old snapshot is_changed (facts_of run.stripes)
+        genuine = genuine_by (copies_of before.opener.vault) before.opener.vault run snapshot is_changed tells.tells_vault is_fix.over sound supposed
+
+        facts_at : (mended : Mended) (d : ℕ) (cell : Cell) (is_intact : ℕ → Bool) → IsLostCell run snapshot mended d cell is_intact → HasGenuineFacts run.plan starts run.listed (snapshot mended.facts.stripe) mended.facts
+        facts_at mended d cell is_intact it =
+            genuine_facts run.plan starts run.listed old snapshot is_changed (facts_of run.stripes) mended.facts genuine (contains_facts run.stripes mended it.is.one) it.synced
+
+    pending : (mended : Mended) (d : ℕ) (cell : Cell) → IsDamagedCell run.plan run.stripes mended d cell → is_synced run.plan mended.facts.stripe ≡ false
+        → Contains all (events.Lost mended.facts.stripe d cell.rec cell.index)
+    pending mended d cell it unsynced =
+        let are : AreFacts run.plan mended.facts = All-contains (AreFacts run.plan) (facts_of run.stripes) mended.facts fixed.are (contains_facts run.stripes mended it.one) in
+        (unknown_lost run.plan run.stripes ends.finishes mended d cell it (ap is_audit ends.course.plan_is.scope.mode_is) (none_known run.plan mended.facts d are unsynced)).1
+
+    ended_fixed : EndsFixed before exit status
+    ended_fixed = record {
+      run = run;
+      is_fix = is_fix;
+      finishes = ends.finishes;
+      fixed = fixed;
+      unread = ends.course.unread;
+      unread_levels = unread_levels;
+      moment = moment;
+      leaves = leaves;
+      zeros = zeros;
+      printed = printed;
+      clean =
+          let none : (at_most (count_by is_left all) ≡ 0) ↔ (count_by is_left all ≡ 0) = none_left (count_by is_left all) in (
+            λ zero. none.0 (sym ends.counted_is ∙ clean.0 (sym status_is ∙ zero)),
+            λ nothing. status_is ∙ clean.1 (ends.counted_is ∙ none.1 nothing),
+          );
+      pending = pending;
+      restores = restores;
+    }
+
+  -- by the answer
+  by_answer : (setup : SetupValue) (answer : Answer) (named : Option TableValue) (told : List Event) (ran : IsRun before exit setup (Answered answer named) told) (left_answer : Answer) (left_named : Option TableValue) (counted : ℕ)
+      → (let left : Left = record { answer = left_answer; named = left_named; counted = counted; told = told } in
+      (one : IsAnswered ran.task ran.given (world_of exit.after) left ran.did) (selection : Selection) (command : ran.task.command ≡ commands.Fix selection) (status : ℕ) → status ≡ answer_status left_answer → status ≤ 1
+      → FixesBy left_answer selection ran.task one.table one.start (world_of exit.after) left ran.did → EndsFixed before exit status)
+  by_answer setup answer named told ran answers.Clean left_named counted one selection command status is low ends =
+      ended_fixed setup answer named told ran _ one selection command status is ends
+      (λ zero. none_found counted ends.prints.failed ends.prints.answer_is, λ none. refl) (clean_unfailed counted ends.prints.failed ends.prints.answer_is)
+  by_answer setup answer named told ran answers.Found left_named counted one selection command status is low ends =
+      ended_fixed setup answer named told ran _ one selection command status is ends
+      (λ zero. absurd (omega (arith, zero)), λ none. absurd (some_found counted ends.prints.failed ends.prints.answer_is none)) (found_unfailed counted ends.prints.failed ends.prints.answer_is)
+  by_answer setup answer named told ran answers.OutputFailed left_named counted one selection command status is low ends = absurd (omega (arith, is, low))
+  by_answer setup answer named told ran (answers.Zeroed disk rec) left_named counted one selection command status is low ends = absurd (omega (arith, is, low))
+  by_answer setup answer named told ran (answers.Emptied disk) left_named counted one selection command status is low ends = absurd (omega (arith, is, low))
+  by_answer setup answer named told ran (answers.Full blocks files) left_named counted one selection command status is low ends = absurd (omega (arith, is, low))
+  by_answer setup answer named told ran (answers.Broken (runs.Folder disk)) left_named counted one selection command status is low ends = absurd (omega (arith, is, low))
+  by_answer setup answer named told ran (answers.Broken runs.Vault) left_named counted one selection command status is low ends = absurd (omega (arith, is, low))
+  by_answer setup answer named told ran (answers.Broken runs.Memory) left_named counted one selection command status is low ends = absurd (omega (arith, is, low))
+
+-- of each run
+pub fixes_end : CellsAreRestored → CellsAreLost → UnknownAreLost → LostAreUnknown → BlocksAreKnown → FactsAreGenuine → (before : Entry) (exit : Exit) (end : End) (told : List Event) (status : ℕ) → status ≡ status_of end → Ran before exit end told → FixesEnd before exit status
+fixes_end restored lost unknown_lost lost_unknown known genuine_facts before exit (Refused why) told status is ran tells low asked selection words command = absurd (too_high _ status (refusal_high why) is low)
+fixes_end restored lost unknown_lost lost_unknown known genuine_facts before exit (Worked setup (NotLoaded fault)) told status is ran tells low asked selection words command = absurd (too_high _ status (load_high fault) is low)
+fixes_end restored lost unknown_lost lost_unknown known genuine_facts before exit (Worked setup NoTable) told status is ran tells low asked selection words command = absurd (omega (arith, is, low))
+fixes_end restored lost unknown_lost lost_unknown known genuine_facts before exit (Worked setup (OtherArray difference content)) told status is ran tells low asked selection words command = absurd (omega (arith, is, low))
+fixes_end restored lost unknown_lost lost_unknown known genuine_facts before exit (Worked setup (Answered answer named)) told status is ran tells low asked selection words command =
+    let configured = ran.is_given.configured in
+    let left : Left = record { answer = answer; named = named; counted = ran.goes.0; told = told } in
+    let one : IsAnswered ran.task ran.given (world_of exit.after) left ran.did = ran.goes.1 in
+    let same : configured.asked ≡ asked = same_ok (asked_by before.texts) configured.asked asked configured.read words in
+    let command_is : ran.task.command ≡ commands.Fix selection = configured.command_is ∙ ap (λ (a : Options). a.command) same ∙ command in
+    let does : DoesCommand (commands.Fix selection) ran.task one.table one.start (world_of exit.after) left ran.did
+    = subst (λ (c : Command). DoesCommand c ran.task one.table one.start (world_of exit.after) left ran.did) command_is one.does in
+    by_answer restored lost unknown_lost lost_unknown known genuine_facts before exit tells (setup_value setup) answer named told ran answer named ran.goes.0 one selection command_is status is low does

@@ -1,0 +1,89 @@
+-- What a run leaves that was asked to fix an array.
+use Rattle.std.specs.Prelude.{◌≡◌, ◌↔◌, ℕ, ◌<◌, ◌≤◌, List, ◌++◌, length, Bool, true, false, Contains, Ok, count_by, sum_by}
+use Rattle.cauchy.specs.Matrix.{byte_of}
+use Rattle.cauchy.specs.Recovery.{AreBytes}
+use Rattle.disk_model.specs.Cause.{RoseBy}
+use Rattle.disk_model.specs.Vault.{Holds}
+use Rattle.file_table.specs.declared.block.Cell.{Cell}
+use Rattle.parity_writer.specs.Sound.{Snapshot, Sound}
+use Rattle.snap_config.specs.declared.options.Command.TheVariants as commands
+use Rattle.snap_config.specs.declared.options.Options.{Options}
+use Rattle.snap_config.specs.declared.options.Selection.{Selection}
+use Rattle.snap_fix.specs.Counts.{at_most}
+use Rattle.snap_fix.specs.Ending.{Finishes}
+use Rattle.snap_fix.specs.FixCourse.{fix_events}
+use Rattle.snap_fix.specs.Fixing.{facts_of}
+use Rattle.snap_fix.specs.Genuine.{AreGenuine, IsRestorableStripe, TellsIntactLevels}
+use Rattle.snap_fix.specs.Looking.{unread_cells, unread_in}
+use Rattle.snap_fix.specs.Mended.{Mended, has_lost, wrong_in, written_in}
+use Rattle.snap_fix.specs.Plan.{entry_at, is_searched, is_synced, starts_of}
+use Rattle.snap_fix.specs.Restored.{HasFixed, HoldsCell, IsDamagedCell}
+use Rattle.snap_fix.specs.Underway.{AddsZeros, IsMendedLevel}
+use Rattle.snap_report.specs.EndLines.{fix_text}
+use Rattle.snap_report.specs.EventLines.{lines_of}
+use Rattle.snap_report.specs.Kind.{is_left}
+use Rattle.snap_report.specs.Telling.{Tells, between}
+use Rattle.snap_report.specs.declared.events.Event.{Event}
+use Rattle.snap_report.specs.declared.events.Event.TheVariants as events
+use Rattle.stripe_reader.specs.Columns.{folder_at}
+use Rattle.snap_top.specs.Fix.{FixRun, LeavesFixed, MayStandFixed}
+use Rattle.snap_top.specs.Moment.{IsFixOf, TellsAll}
+use Rattle.snap_top.specs.Opening.{asked_by}
+use Rattle.snap_top.specs.Run.{Entry, Exit}
+
+-- all events of a fix
+abbrev pub events_in : FixRun → Finishes → List Event
+events_in run finishes = fix_events run.plan run.stripes finishes
+
+-- A selected damaged cell of a stripe that was synced, and which of its levels that were read whole hold the sums of the snapshot's row,
+-- a row of bytes.
+pub record IsLostCell (run : FixRun) (snapshot : Snapshot) (mended : Mended) (d : ℕ) (cell : Cell) (is_intact : ℕ → Bool) : Type 0 where
+  pub is : IsDamagedCell run.plan run.stripes mended d cell
+  pub synced : is_searched run.plan mended.facts.stripe ≡ true
+  pub bytes : AreBytes (snapshot mended.facts.stripe)
+  pub tells : TellsIntactLevels run.plan mended.facts (snapshot mended.facts.stripe) is_intact
+
+-- Where no hash is met by chance: such a cell of a record that isn't blocked has the snapshot's block, at its real length, where no more
+-- cells of its stripe are damaged than levels are intact. It stands under PATH, or under PATH`.unrecoverable` where its record has a lost
+-- block. Any other such cell is told to be lost, and none of these is.
+pub record Restores (run : FixRun) (finishes : Finishes) (snapshot : Snapshot) : Type 0 where
+  pub restored : (mended : Mended) (d : ℕ) (cell : Cell) (is_intact : ℕ → Bool) → IsLostCell run snapshot mended d cell is_intact
+      → (entry_at run.plan d cell.rec).blocked ≡ false → IsRestorableStripe run.plan mended.facts is_intact
+      → HoldsCell run.plan.table d cell (has_lost run.plan run.stripes d cell.rec) (byte_of (snapshot mended.facts.stripe) d) (folder_at run.ended d).tree
+  pub named : (mended : Mended) (d : ℕ) (cell : Cell) (is_intact : ℕ → Bool) → IsLostCell run snapshot mended d cell is_intact
+      → ¬ (IsRestorableStripe run.plan mended.facts is_intact)
+      → Contains (events_in run finishes) (events.Lost mended.facts.stripe d cell.rec cell.index)
+  pub only : (mended : Mended) (d : ℕ) (cell : Cell) (is_intact : ℕ → Bool) → IsLostCell run snapshot mended d cell is_intact
+      → IsRestorableStripe run.plan mended.facts is_intact
+      → ¬ (Contains (events_in run finishes) (events.Lost mended.facts.stripe d cell.rec cell.index))
+
+-- A fix that is done: it looked at all stripes with something selected, and what it did to the files is what follows of that. What it could
+-- not read was counted as a fault. Its levels hold the sums of the rows that are known, also in each image; its copies and all other bytes
+-- of its levels stay. It printed all lines, and its status is 0 exactly where nothing is left. Each selected damaged cell of a pending
+-- stripe is told to be lost. Where the table that it began with was sound, and no hash is met by chance, it restores the snapshot's blocks.
+pub record EndsFixed (before : Entry) (exit : Exit) (status : ℕ) : Type 0 where
+  pub run : FixRun
+  pub is_fix : IsFixOf before exit run
+  pub finishes : Finishes
+  pub fixed : HasFixed run.plan (starts_of run.loaded run.lists) run.stripes finishes run.listed run.ended
+  pub unread : (d : ℕ) → d < length run.plan.table.columns
+      → RoseBy (unread_cells d (facts_of run.stripes)) (folder_at run.folders d).faults (folder_at run.ended d).faults
+  pub unread_levels : RoseBy (unread_in run.readings) before.opener.vault.faults exit.after.vault.faults
+  pub moment : MayStandFixed run before.opener.vault.files exit.after.vault.files
+  pub leaves : Holds (LeavesFixed run) exit.after.vault
+  pub zeros : AddsZeros run.plan.table.shape.block_size (IsMendedLevel run.plan (facts_of run.stripes)) before.opener.vault.files exit.after.vault.files
+  pub printed : Tells (lines_of run.loaded.columns (events_in run finishes)
+      ++ fix_text (at_most (sum_by (written_in run.plan) run.stripes)) (at_most (sum_by (wrong_in run.plan) run.stripes)) (at_most (count_by is_left (events_in run finishes))))
+      (between false before.out) (between false exit.after.out)
+  pub clean : (status ≡ 0) ↔ (count_by is_left (events_in run finishes) ≡ 0)
+  pub pending : (mended : Mended) (d : ℕ) (cell : Cell) → IsDamagedCell run.plan run.stripes mended d cell
+      → is_synced run.plan mended.facts.stripe ≡ false
+      → Contains (events_in run finishes) (events.Lost mended.facts.stripe d cell.rec cell.index)
+  pub restores : (snapshot : Snapshot) (is_changed : ℕ → ℕ → Bool)
+      → Sound run.loaded before.opener.vault.files snapshot is_changed
+      → AreGenuine run.plan snapshot (facts_of run.stripes) → Restores run finishes snapshot
+
+-- so a fix that was asked for ends with status 0 or 1
+abbrev pub FixesEnd : Entry → Exit → ℕ → Type 0
+FixesEnd before exit status = TellsAll before → status ≤ 1 → (asked : Options) (selection : Selection)
+    → asked_by before.texts ≡ Ok asked → asked.command ≡ commands.Fix selection → EndsFixed before exit status
