@@ -7,47 +7,13 @@ do over the mixed files. Where the real snapraid is found on the PATH, it syncs 
 """
 import os
 import resource
-import shutil
 import subprocess
 import sys
 import tempfile
 import time
 
-TOP = os.path.dirname(os.path.dirname(os.path.abspath(__file__)))
-PROGRAM = os.path.join(TOP, "crates", "snapraid", "out", "snapraid")
-DISKS, LEVELS = 6, 3
-
-
-def make_files(room, name, total, size):
-    """Files of about this size, in folders of a hundred, until there are so many bytes. They have a stamp with nanoseconds."""
-    count = max(1, total // size)
-    block = os.urandom(1 << 20)
-    for number in range(count):
-        folder = os.path.join(room, name, f"d{number % DISKS}", f"part{number // (100 * DISKS):05}")
-        os.makedirs(folder, exist_ok=True)
-        left = size if size > 1 << 20 else 1 + (number * 2654435761) % (2 * size)
-        with open(os.path.join(folder, f"file{number:07}"), "wb") as file:
-            start = (number * 4099) % len(block)
-            while left > 0:
-                piece = block[start:start + left]
-                file.write(piece)
-                left -= len(piece)
-                start = 0
-    return count
-
-
-def configuration(room, name, tool):
-    lines = []
-    for level in range(LEVELS):
-        lines.append(f"{'' if level == 0 else str(level + 1) + '-'}parity {room}/{tool}-{name}.parity{level}")
-    for copy in range(LEVELS + 1):
-        lines.append(f"content {room}/{tool}-{name}.content{copy}")
-    lines += [f"data d{disk} {room}/{name}/d{disk}/" for disk in range(DISKS)]
-    lines.append("blocksize 256")
-    path = f"{room}/{tool}-{name}.conf"
-    with open(path, "w") as file:
-        file.write("\n".join(lines) + "\n")
-    return path
+sys.path.insert(0, os.path.dirname(os.path.abspath(__file__)))
+import arrays  # noqa: E402
 
 
 def run(command):
@@ -69,20 +35,15 @@ def peak(command):
 
 def main():
     total = int(float(sys.argv[1]) * (1 << 30)) if len(sys.argv) > 1 else 2 << 30
-    tools = {"this": [PROGRAM]}
-    real = shutil.which("snapraid")
-    if real is not None and os.path.realpath(real) != os.path.realpath(PROGRAM):
-        # It wants each disk on a device of its own.
-        tools["real"] = [real, "--test-skip-device"]
     with tempfile.TemporaryDirectory(dir="/dev/shm") as room:
-        large = make_files(room, "large", total, 30 << 20)
-        mixed = make_files(room, "mixed", total, 117 << 10)
-        print(f"{DISKS} disks, {LEVELS} levels, blocks of 256 KiB, {large} large and {mixed} mixed files")
+        large = arrays.make_files(room, "large", total, 30 << 20)
+        mixed = arrays.make_files(room, "mixed", total, 117 << 10)
+        print(f"{arrays.DISKS} disks, {arrays.LEVELS} levels, blocks of 256 KiB, {large} large and {mixed} mixed files")
         print("| sync | tool | wall s | processor s | memory MiB |")
         print("|---|---|---|---|---|")
         for name, again in [("large", False), ("mixed", False), ("mixed", True)]:
-            for tool, words in tools.items():
-                command = [*words, "-c", configuration(room, name, tool), "sync"]
+            for tool, words in arrays.tools().items():
+                command = [*words, "-c", arrays.configuration(room, name, tool), "sync"]
                 if again:
                     memory = peak(command)
                     wall, spent = run(command)

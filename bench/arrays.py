@@ -1,0 +1,49 @@
+"""Arrays in memory-backed storage, for the benches that run whole commands."""
+import os
+import shutil
+
+TOP = os.path.dirname(os.path.dirname(os.path.abspath(__file__)))
+PROGRAM = os.path.join(TOP, "crates", "snapraid", "out", "snapraid")
+DISKS, LEVELS = 6, 3
+
+
+def make_files(room, name, total, size):
+    """Files of about this size, in folders of a hundred, until there are so many bytes. They have a stamp with nanoseconds."""
+    count = max(1, total // size)
+    block = os.urandom(1 << 20)
+    for number in range(count):
+        folder = os.path.join(room, name, f"d{number % DISKS}", f"part{number // (100 * DISKS):05}")
+        os.makedirs(folder, exist_ok=True)
+        left = size if size > 1 << 20 else 1 + (number * 2654435761) % (2 * size)
+        with open(os.path.join(folder, f"file{number:07}"), "wb") as file:
+            start = (number * 4099) % len(block)
+            while left > 0:
+                piece = block[start:start + left]
+                file.write(piece)
+                left -= len(piece)
+                start = 0
+    return count
+
+
+def configuration(room, name, tool):
+    lines = []
+    for level in range(LEVELS):
+        lines.append(f"{'' if level == 0 else str(level + 1) + '-'}parity {room}/{tool}-{name}.parity{level}")
+    for copy in range(LEVELS + 1):
+        lines.append(f"content {room}/{tool}-{name}.content{copy}")
+    lines += [f"data d{disk} {room}/{name}/d{disk}/" for disk in range(DISKS)]
+    lines.append("blocksize 256")
+    path = f"{room}/{tool}-{name}.conf"
+    with open(path, "w") as file:
+        file.write("\n".join(lines) + "\n")
+    return path
+
+
+def tools():
+    """This program and, where it is found on the PATH, the real snapraid, each with its first words."""
+    found = {"this": [PROGRAM]}
+    real = shutil.which("snapraid")
+    if real is not None and os.path.realpath(real) != os.path.realpath(PROGRAM):
+        # It wants each disk on a device of its own.
+        found["real"] = [real, "--test-skip-device"]
+    return found
