@@ -4,6 +4,7 @@ pub mod Columns
 pub mod DecodingLemmas
 pub mod Drafts
 pub mod EncodingLemmas
+pub mod Faults
 pub mod FieldLemmas
 pub mod Fields
 pub mod Fitting
@@ -11,6 +12,7 @@ pub mod FlawLemmas
 pub mod FlawStays
 pub mod Fronts
 pub mod Heads
+pub mod LoadCounts
 pub mod LoadFeeds
 pub mod LoadLemmas
 pub mod LoadLoop

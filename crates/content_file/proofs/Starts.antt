@@ -1,5 +1,5 @@
 -- Reading the head, and coming to the digest.
-use Rattle.std.proofs.Common.{◌≡◌, inl, inr, ℕ, true, false, List, ◌++◌, length, Option, None, refl, sym, ap, subst, ◌∙◌, arith}
+use Rattle.std.proofs.Common.{◌≡◌, inl, inr, ℕ, false, List, ◌++◌, length, Option, None, refl, sym, ap, subst, ◌∙◌, arith}
 use Rattle.std.proofs.lemmas.List.{length-append}
 use Rattle.std.proofs.lemmas.List.Elements.{All-nil}
 use Rattle.file_table.specs.Table.{TableValue}
@@ -14,15 +14,15 @@ use Rattle.content_file.specs.Flaw.{Good, ◌>>=◌}
 use Rattle.content_file.specs.Giving.{Refuses}
 use Rattle.content_file.specs.FirstFlaw.{read_head, read_end}
 use Rattle.content_file.specs.ReadingOn.{read_stripes, read_whole}
-use Rattle.content_file.specs.Body.{IsDone, IsReading, GoesOn, StopsAt, IsAtEnd, StartsWith}
+use Rattle.content_file.specs.Body.{IsEnded, IsReading, GoesOn, StopsAt, IsAtEnd, StartsWith}
 use Rattle.content_file.proofs.Fields.{IsBytes}
 use Rattle.content_file.proofs.Whole.{head_takes}
 use Rattle.content_file.proofs.TakenHead.{head_found}
 use Rattle.content_file.proofs.Stays.{with_more}
 use Rattle.content_file.proofs.FlawStays.{head_stays, head_long}
 use Rattle.content_file.proofs.Rests.{ends_then}
-use Rattle.content_file.proofs.StepLemmas.{then_is, then_bad, stays_is, is_length, stripes_end, body_no_records}
-use Rattle.content_file.proofs.Steps.{past_on}
+use Rattle.content_file.proofs.StepLemmas.{then_is, then_bad, stays_is, stripes_end, body_no_records}
+use Rattle.content_file.proofs.Steps.{past_on, length_fits}
 
 -- what a head that was read is
 pub head_read : (bytes : List ℕ) (head : Head) (rest : List ℕ) → IsBytes bytes → read_head bytes ≡ Good (head, rest) → IsHead head
@@ -53,6 +53,7 @@ head_starts bytes head rest built fits read new building =
         lacking = λ some. absurd (omega (arith, some));
         whole = λ _. All-nil (IsWhole head.shape.block_size);
         column = λ either. elim either [ inl named ↦ absurd cc | inr some ↦ absurd (omega (arith, some)) ];
+        some = omega (arith, taken.1.some_column);
         room = omega (arith, taken.1.few_columns);
         read = refl;
         few = λ _. omega arith;
@@ -74,12 +75,12 @@ head_starts bytes head rest built fits read new building =
 pub goes_then : (a b c : Option BodyValue) (x y z : List ℕ) → GoesOn a x b y → GoesOn b y c z → GoesOn a x c z
 goes_then a b c x y z first second = record { goes = λ whole more. first.goes whole more ∙ second.goes whole more; ends = ends_then x y z first.ends second.ends }
 
-pub comes_to_end : (body : BodyValue) (rest : List ℕ) → IsReading body → IsDone body → is_length body.head body.builder.columns ≡ true → IsAtEnd body rest
-comes_to_end body rest reading done fits = record {
-  done = done;
+pub comes_to_end : (body : BodyValue) (rest : List ℕ) → IsReading body → IsEnded body → IsAtEnd body rest
+comes_to_end body rest reading ended = record {
+  ended = ended;
   ends = λ whole.
-      past_on body whole rest done.past
-      ∙ ap (λ (n : ℕ). read_stripes body.head body.builder.columns n body.builder.infos whole rest) done.stripes
-      ∙ stripes_end body.head body.builder.columns body.builder.infos whole rest fits
+      past_on body whole rest ended.done.past
+      ∙ ap (λ (n : ℕ). read_stripes body.head body.builder.columns n body.builder.infos whole rest) ended.done.stripes
+      ∙ stripes_end body.head body.builder.columns body.builder.infos whole rest (length_fits body reading ended.fits)
       ∙ ap (λ s. read_end whole rest >>= λ digest. Good (let t : TableValue = record { shape = s; columns = body.builder.columns; infos = body.builder.infos } in t)) (sym reading.shape);
 }

@@ -46,7 +46,7 @@ same_count : (columns : List Column) (column : Column) → 0 < length columns �
 same_count columns column some = omega (arith, some, length-append (front_of columns) (column ∷ []), length-take (length columns - 1) columns)
 
 -- all records before the newest, and that
-records_end : (columns : List Column) → 0 < length columns → 0 < length (last_column columns).records
+pub records_end : (columns : List Column) → 0 < length columns → 0 < length (last_column columns).records
     → records_of columns ≡ (records_of (front_of columns) ++ front_of (last_column columns).records) ++ newest_record columns ∷ []
 records_end columns some some_record =
     let records = (last_column columns).records in
@@ -126,6 +126,7 @@ block_reading old block reading some building =
       lacking = λ more. record { column = some_column; some = some_record; lacking = omega (arith, longer, size, lacks.lacking, more) };
       whole = λ none. all_whole built building some_column some_record (omega (arith, longer, size, lacks.lacking, none, some));
       column = λ _. some_column;
+      some = omega (arith, same_count columns column lacks.column, reading.some);
       room = omega (arith, same_count columns column lacks.column, reading.room);
       read = reading.read ∙ sym (count-with_block columns block lacks.column lacks.some);
       few = reading.few;
@@ -208,6 +209,7 @@ count_steps old bytes count rest reading none named read =
         lacking = reading.lacking;
         whole = reading.whole;
         column = λ _. reading.column (inl named);
+        some = reading.some;
         room = reading.room;
         read = reading.read;
         few = λ _. omega (arith, room, reading.read);
@@ -274,6 +276,7 @@ record_reading old path meta blocks reading named some due building =
       lacking = λ more. record { column = some_column; some = some_record; lacking = omega (arith, none, size) };
       whole = λ no_blocks. all_whole built building some_column some_record (omega (arith, none, size, no_blocks));
       column = λ _. some_column;
+      some = omega (arith, same_count columns grown column, reading.some);
       room = omega (arith, same_count columns grown column, reading.room);
       read = omega (arith, reading.read, count-with_record columns path meta column);
       few = λ is. omega (arith, reading.few named, some);
@@ -338,6 +341,7 @@ name_reading old name reading none some building =
       lacking = λ more. absurd (omega (arith, none, more));
       whole = λ _. All-same (IsWhole old.builder.shape.block_size) _ _ same (reading.whole none);
       column = λ _. omega (arith, longer);
+      some = omega (arith, longer);
       room = omega (arith, longer, reading.room, some);
       read = reading.read ∙ sym (ap length same);
       few = λ is. absurd cc;
@@ -409,6 +413,7 @@ stripe_steps old bytes info rest built reading past some fits read push building
         lacking = λ more. absurd (omega (arith, past.blocks, more));
         whole = reading.whole;
         column = reading.column;
+        some = reading.some;
         room = reading.room;
         read = reading.read;
         few = reading.few;

@@ -173,12 +173,12 @@ other_passes : (a b : Bool) → (a || b) ≡ true → a ≡ false → b ≡ true
 other_passes true b e f = absurd cc
 other_passes false b e f = e
 
-record InfoTaken (columns : List Column) (infos : List Info) (bytes : List ℕ) (info : Info) (rest : List ℕ) : Type 0 where
-  takes : Takes bytes (info_bytes info) rest
-  is : IsInfo info
-  hashed : info.mark ≡ Synced → IsHashedAt columns (length infos)
+pub record InfoTaken (columns : List Column) (infos : List Info) (bytes : List ℕ) (info : Info) (rest : List ℕ) : Type 0 where
+  pub takes : Takes bytes (info_bytes info) rest
+  pub is : IsInfo info
+  pub hashed : info.mark ≡ Synced → IsHashedAt columns (length infos)
 
-info_taken : (columns : List Column) (infos : List Info) (bytes : List ℕ) (info : Info) (rest : List ℕ) → IsBytes bytes → read_info columns infos bytes ≡ Good (info, rest) → InfoTaken columns infos bytes info rest
+pub info_taken : (columns : List Column) (infos : List Info) (bytes : List ℕ) (info : Info) (rest : List ℕ) → IsBytes bytes → read_info columns infos bytes ≡ Good (info, rest) → InfoTaken columns infos bytes info rest
 unfolding read_info
 info_taken columns infos bytes info rest fits e =
     good_then _ _ _ e (λ code e0 r0. good_then _ _ _ r0 (λ unchecked e1 r1. good_then _ _ _ r1 (λ check e2 r2. good_then _ _ _ r2 (λ last e3 r3.

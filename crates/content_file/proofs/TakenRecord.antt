@@ -48,13 +48,13 @@ hash_taken (suc zero ∷ bytes) hash rest fits e = good_then _ _ _ e (λ digest 
 hash_taken (suc (suc flag) ∷ bytes) hash rest fits e = not_bad _ _ _ e
 
 -- a block was read, in a column with these before
-record BlockTaken (the_length : ℕ) (blocks : List Block) (bytes : List ℕ) (block : Block) (rest : List ℕ) : Type 0 where
-  takes : Takes bytes (block_bytes block) rest
-  digest : HasDigest block
-  below : block.position < the_length
-  unused : ¬ (Contains (positions_of blocks) block.position)
+pub record BlockTaken (the_length : ℕ) (blocks : List Block) (bytes : List ℕ) (block : Block) (rest : List ℕ) : Type 0 where
+  pub takes : Takes bytes (block_bytes block) rest
+  pub digest : HasDigest block
+  pub below : block.position < the_length
+  pub unused : ¬ (Contains (positions_of blocks) block.position)
 
-block_taken : (the_length : ℕ) (blocks : List Block) (bytes : List ℕ) (block : Block) (rest : List ℕ) → IsBytes bytes → read_block the_length blocks bytes ≡ Good (block, rest) → BlockTaken the_length blocks bytes block rest
+pub block_taken : (the_length : ℕ) (blocks : List Block) (bytes : List ℕ) (block : Block) (rest : List ℕ) → IsBytes bytes → read_block the_length blocks bytes ≡ Good (block, rest) → BlockTaken the_length blocks bytes block rest
 unfolding read_block
 block_taken the_length blocks bytes block rest fits e =
     good_then _ _ _ e (λ position e0 r0. good_then _ _ _ r0 (λ free e1 r1. good_then _ _ _ r1 (λ hash e2 r2.
@@ -95,13 +95,13 @@ blocks_step the_length name records path meta total before bytes block rest lt i
 
 -- ---- a record
 
-record PathTaken (name : List ℕ) (records : List Record) (bytes path rest : List ℕ) : Type 0 where
-  takes : Takes bytes (long_text path) rest
-  allowed : IsRecordPath path
-  greatest : IsGreatest (column_of name records) path
-  not_nested : ¬ (IsNested (column_of name records) path)
+pub record PathTaken (name : List ℕ) (records : List Record) (bytes path rest : List ℕ) : Type 0 where
+  pub takes : Takes bytes (long_text path) rest
+  pub allowed : IsRecordPath path
+  pub greatest : IsGreatest (column_of name records) path
+  pub not_nested : ¬ (IsNested (column_of name records) path)
 
-path_taken : (name : List ℕ) (records : List Record) (bytes path rest : List ℕ) → IsBytes bytes → read_path records bytes ≡ Good (path, rest) → PathTaken name records bytes path rest
+pub path_taken : (name : List ℕ) (records : List Record) (bytes path rest : List ℕ) → IsBytes bytes → read_path records bytes ≡ Good (path, rest) → PathTaken name records bytes path rest
 unfolding read_path
 path_taken name records bytes path rest fits e =
     good_then _ _ _ e (λ text e0 r0. good_then _ _ _ r0 (λ allowed e1 r1. good_then _ _ _ r1 (λ greater e2 r2.
@@ -114,12 +114,12 @@ path_taken name records bytes path rest fits e =
     } in
     subst (λ (x : List ℕ × List ℕ). PathTaken name records bytes x.0 x.1) last.1 here)))
 
-record SizeTaken (block_size : ℕ) (records : List Record) (bytes : List ℕ) (size : ℕ) (rest : List ℕ) : Type 0 where
-  takes : Takes bytes (to_le_bytes w64 size) rest
-  fits : size < 2 ^ 64
-  room : blocks_due block_size records + block_count block_size size ≤ most_blocks
+pub record SizeTaken (block_size : ℕ) (records : List Record) (bytes : List ℕ) (size : ℕ) (rest : List ℕ) : Type 0 where
+  pub takes : Takes bytes (to_le_bytes w64 size) rest
+  pub fits : size < 2 ^ 64
+  pub room : blocks_due block_size records + block_count block_size size ≤ most_blocks
 
-size_taken : (block_size : ℕ) (records : List Record) (bytes : List ℕ) (size : ℕ) (rest : List ℕ) → IsBytes bytes → read_size block_size records bytes ≡ Good (size, rest) → SizeTaken block_size records bytes size rest
+pub size_taken : (block_size : ℕ) (records : List Record) (bytes : List ℕ) (size : ℕ) (rest : List ℕ) → IsBytes bytes → read_size block_size records bytes ≡ Good (size, rest) → SizeTaken block_size records bytes size rest
 unfolding read_size
 size_taken block_size records bytes size rest fits e =
     good_then _ _ _ e (λ field e0 r0.

@@ -2,7 +2,7 @@
 use Rattle.std.specs.Prelude.{◌≡◌, ◌⊎◌, ℕ, ◌+◌, ◌<◌, ◌≤◌, List, [], ◌++◌, length, drop, true, false, Option, None, Some, Result, Ok, Err, All}
 use Rattle.file_table.specs.Table.{TableValue, block_count, records_of}
 use Rattle.file_table.specs.Valid.{IsWhole, most_columns, most_records}
-use Rattle.file_table.specs.Building.{BuildingValue, IsBuilding, last_column, newest_record, with_column}
+use Rattle.file_table.specs.Building.{BuildingValue, IsBuilding, IsLength, last_column, newest_record, with_column}
 use Rattle.content_file.specs.ReadingOn.{BodyValue}
 use Rattle.content_file.specs.declared.fault.Refusal.{Refusal}
 use Rattle.content_file.specs.declared.fault.Refusal.TheVariants as refusals
@@ -28,6 +28,11 @@ pub record IsDone (body : BodyValue) : Type 0 where
   pub past : IsPastColumns body
   pub stripes : body.stripes ≡ 0
 
+-- all was read but the digest, and the length is right
+pub record IsEnded (body : BodyValue) : Type 0 where
+  pub done : IsDone body
+  pub fits : IsLength body.builder
+
 -- what is still to come fits what was read
 pub record IsReading (body : BodyValue) : Type 0 where
   pub building : IsBuilding body.builder
@@ -36,6 +41,7 @@ pub record IsReading (body : BodyValue) : Type 0 where
   pub lacking : 0 < body.blocks → LacksThese body.builder body.blocks
   pub whole : body.blocks ≡ 0 → All (IsWhole body.builder.shape.block_size) (records_of body.builder.columns)
   pub column : (body.named ≡ true) ⊎ (0 < body.records) → 0 < length body.builder.columns
+  pub some : 0 < length body.builder.columns + body.columns
   pub room : length body.builder.columns + body.columns ≤ most_columns
   pub read : body.read ≡ length (records_of body.builder.columns)
   pub few : body.named ≡ false → body.read + body.records ≤ most_records
@@ -76,7 +82,7 @@ table_of building = record { shape = building.shape; columns = building.columns;
 
 -- only the digest is still to come
 pub record IsAtEnd (body : BodyValue) (rest : List ℕ) : Type 0 where
-  pub done : IsDone body
+  pub ended : IsEnded body
   pub ends : (whole : List ℕ) → read_body body whole rest ≡ (read_end whole rest >>= λ digest. Good (table_of body.builder))
 
 -- reading came to the digest, or stopped before

@@ -1,6 +1,6 @@
 -- What loading from the content copies gives, and why.
-use Rattle.std.specs.Prelude.{◌≡◌, ◌⊎◌, ℕ, ◌<◌, ◌≤◌, List, ◌∷◌, ◌++◌, length, true, false, IsTrue, Option, None, Some}
-use Rattle.std.specs.List.{AllByRecursion}
+use Rattle.std.specs.Prelude.{◌≡◌, ◌≢◌, ◌⊎◌, ℕ, ◌+◌, ◌/◌, ◌<◌, ◌≤◌, ◌==◌, List, ◌∷◌, ◌++◌, length, Bool, true, false, IsTrue, Option, None, Some}
+use Rattle.std.specs.List.{AllByRecursion, count_by}
 use Rattle.disk_model.specs.Cause.{Rose, Grows}
 use Rattle.disk_model.specs.Calls.{MakesOnly}
 use Rattle.disk_model.specs.Files.{Stays, content_of}
@@ -61,6 +61,42 @@ pub record IsDamaged (v : VaultView) (copy : ℕ) : Type 0 where
 -- a copy is absent, or damaged
 abbrev pub IsUseless : VaultView → ℕ → Type 0
 IsUseless v copy = (content_of v.files copy ≡ None) ⊎ IsDamaged v copy
+
+-- ---- how often a copy is read
+
+-- whether a call reads a piece of this copy
+abbrev pub is_piece_of : ℕ → VaultCall → Bool
+is_piece_of copy (ContentRead k at n) = k == copy
+is_piece_of copy _ = false
+
+-- how many of these calls read a piece of this copy
+abbrev pub pieces_of : ℕ → List VaultDone → ℕ
+pieces_of copy done = count_by (λ (d : VaultDone). is_piece_of copy d.call) done
+
+-- of the calls since, at most so many read a piece of this copy, and none a piece of another
+pub record ReadsPieces (copy most : ℕ) (old new : VaultView) : Type 0 where
+  pub done : List VaultDone
+  pub grown : Grows old.tells_calls old.calls new.tells_calls new.calls done
+  pub others : (k : ℕ) → k ≢ copy → pieces_of k done ≡ 0
+  pub few : pieces_of copy done ≤ most
+
+-- a copy of so many bytes is read in so many pieces at most
+abbrev pub most_pieces : ℕ → ℕ
+most_pieces size = size / most_read + 1
+
+-- of the calls since, no more read a piece of this copy than its bytes ask for, and none a piece of another
+pub record ReadsCopyOnce (copy : ℕ) (old new : VaultView) : Type 0 where
+  pub done : List VaultDone
+  pub grown : Grows old.tells_calls old.calls new.tells_calls new.calls done
+  pub others : (k : ℕ) → k ≢ copy → pieces_of k done ≡ 0
+  pub few : IsTrue old.tells → (bytes : List ℕ) → content_of old.files copy ≡ Some bytes → pieces_of copy done ≤ most_pieces (length bytes)
+
+-- of the calls since, no more read a piece of any of the first copies than its bytes ask for, and none a piece of another
+pub record ReadsOnce (copies : ℕ) (old new : VaultView) : Type 0 where
+  pub done : List VaultDone
+  pub grown : Grows old.tells_calls old.calls new.tells_calls new.calls done
+  pub others : (k : ℕ) → copies ≤ k → pieces_of k done ≡ 0
+  pub few : IsTrue old.tells → (k : ℕ) (bytes : List ℕ) → content_of old.files k ≡ Some bytes → pieces_of k done ≤ most_pieces (length bytes)
 
 -- ---- one copy
 

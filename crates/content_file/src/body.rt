@@ -2,14 +2,14 @@
 ghost use Rattle.std.specs.Prelude.{◌≡◌, ◌<◌, ◌≤◌, length, IfOk, IfErr, OnErr, IsTrue, ◌↔◌, true, false, Option, None, Some};
 ghost use Rattle.content_file.specs.FirstFlaw.{read_head};
 ghost use Rattle.content_file.specs.Giving.{Refuses};
-ghost use Rattle.content_file.specs.Body.{IsPastColumns, IsDone, GoesOn, StepsTo, StopsAt, ReadsAll, StartsWith, table_of};
+ghost use Rattle.content_file.specs.Body.{IsPastColumns, IsDone, IsEnded, GoesOn, StepsTo, StopsAt, ReadsAll, StartsWith, table_of};
 ghost use Rattle.file_table.specs.Valid.{IsValid};
 
 use crate::DecodeFault;
 use crate::checked::{block_of, blocks_for, count_of, file_of, info_of, name_of};
-use crate::fault::Refusal;
+use crate::fault::{Refusal, out_of_memory};
 use crate::head::{Head, head_of};
-use file_table::{Builder, Table};
+use file_table::{BuildFault, Builder, Table};
 use std::alloc::Global;
 use std::marker::Model;
 
@@ -92,6 +92,7 @@ impl Body {
 
     /// The table of all that was read.
     pub(crate) fn finish(self) -> Result<Table, DecodeFault>
+        requires ended { IsEnded self }
         ensures ok { IfOk result (λ table. table ≡ table_of self.builder) }
         ensures valid { IfOk result IsValid }
         ensures memory { IfErr result (λ fault. fault ≡ DecodeFault.Memory) }
@@ -99,7 +100,9 @@ impl Body {
         let Body { builder, .. } = self;
         match builder.finish() {
             Ok(table) => Ok(table),
-            Err(_) => Err(DecodeFault::Memory),
+            Err(BuildFault::Memory) => Err(DecodeFault::Memory),
+            // All that it would refuse was asked before.
+            Err(_) => unreachable!(),
         }
     }
 
@@ -143,11 +146,13 @@ impl Body {
         ensures same { OnErr result (self.new ≡ self.old) }
     {
         let (block, rest) = block_of(&self.builder, bytes)?;
-        let Ok(()) = self.builder.push_block(block.position, block.hash) else {
-            return Err(Refusal::Memory);
-        };
-        self.blocks -= 1;
-        Ok(rest)
+        match self.builder.push_block(block.position, block.hash) {
+            Ok(()) => {
+                self.blocks -= 1;
+                Ok(rest)
+            }
+            Err(fault) => Err(out_of_memory(fault)),
+        }
     }
 
     fn read_count<'a>(&mut self, bytes: &'a [u8]) -> Result<&'a [u8], Refusal<'a>>
@@ -173,13 +178,15 @@ impl Body {
     {
         let (path, meta, rest) = file_of(alloc, &self.builder, bytes)?;
         let blocks = blocks_for(self.head.shape.block_size, meta.size);
-        let Ok(()) = self.builder.push_record(path, meta) else {
-            return Err(Refusal::Memory);
-        };
-        self.records -= 1;
-        self.read += 1;
-        self.blocks = blocks;
-        Ok(rest)
+        match self.builder.push_record(path, meta) {
+            Ok(()) => {
+                self.records -= 1;
+                self.read += 1;
+                self.blocks = blocks;
+                Ok(rest)
+            }
+            Err(fault) => Err(out_of_memory(fault)),
+        }
     }
 
     fn read_name<'a>(&mut self, alloc: Global, bytes: &'a [u8]) -> Result<&'a [u8], Refusal<'a>>
@@ -208,10 +215,12 @@ impl Body {
             return Err(Refusal::Length);
         }
         let (info, rest) = info_of(&self.builder, bytes)?;
-        let Ok(()) = self.builder.push_info(info) else {
-            return Err(Refusal::Memory);
-        };
-        self.stripes -= 1;
-        Ok(rest)
+        match self.builder.push_info(info) {
+            Ok(()) => {
+                self.stripes -= 1;
+                Ok(rest)
+            }
+            Err(fault) => Err(out_of_memory(fault)),
+        }
     }
 }

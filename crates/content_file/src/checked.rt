@@ -2,7 +2,7 @@
 ghost use Rattle.std.specs.Prelude.{◌≡◌, ◌<◌, ◌≤◌, ◌==◌, ◌||◌, not, [], length, IfOk, IfErr, OnOk, OnErr, Some, All};
 ghost use Rattle.file_table.specs.Table.{records_of, column_blocks, block_count};
 ghost use Rattle.file_table.specs.Valid.{IsWhole, most_columns};
-ghost use Rattle.file_table.specs.Building.{IsBuilding, last_column};
+ghost use Rattle.file_table.specs.Building.{IsBuilding, LacksBlock, last_column};
 ghost use Rattle.content_file.specs.Body.{ReadsName};
 ghost use Rattle.content_file.specs.Fault.{path_flaw};
 ghost use Rattle.content_file.specs.FirstFlaw.{read_name, read_count, read_path, read_size, read_block, read_info};
@@ -12,8 +12,8 @@ ghost use Rattle.content_file.specs.ReadingOn.{read_file};
 ghost use Rattle.content_file.specs.Tests.{is_pending, is_hashed};
 
 use crate::Flaw;
-use crate::fault::Refusal;
 use crate::fault::Refusal::Flawed;
+use crate::fault::{Refusal, out_of_memory};
 use crate::reader::{
     byte_of, hash_of, info_from, long_text_of, short_text_of, stamp_of, u32_of, u64_of,
 };
@@ -46,6 +46,7 @@ pub(crate) fn name_of<'a>(
 ) -> Result<&'a [u8], Refusal<'a>>
     requires before_infos { builder.old.infos ≡ [] }
     requires room { length builder.old.columns < most_columns }
+    requires whole { ¬ (LacksBlock builder.old) }
     requires building { IsBuilding builder.old }
     ensures ok { IfOk result (λ rest. ReadsName builder.old bytes.now builder.new rest.now) }
     ensures building { IsBuilding builder.new }
@@ -57,7 +58,7 @@ pub(crate) fn name_of<'a>(
     match builder.push_disk(name) {
         Ok(()) => Ok(rest),
         Err(BuildFault::Name) => Err(Flawed(Flaw::Name, bytes)),
-        Err(_) => Err(Refusal::Memory),
+        Err(fault) => Err(out_of_memory(fault)),
     }
 }
 

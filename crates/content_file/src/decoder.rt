@@ -1,7 +1,7 @@
 // A content file that comes in pieces.
 ghost use Rattle.std.specs.Prelude.{◌≡◌, ◌+◌, ◌<◌, ◌≤◌, ℕ, List, [], ◌++◌, length, drop, take, All, OnOk, OnErr, IfOk, IfErr, IfSome, IsSome, IsTrue, ◌↔◌, None, Some, Ok, Err};
 ghost use Rattle.file_table.specs.Valid.{IsValid};
-ghost use Rattle.content_file.specs.Body.{GoesOn};
+ghost use Rattle.content_file.specs.Body.{GoesOn, IsEnded};
 ghost use Rattle.content_file.specs.Decoding.{Decodes, Feeds, IsHolding, HasFed, IsFaultOf, IsPlace, MayGoOn, IsCut, ReadsFields, ReadsWhole, refusal_of, fault_in};
 
 use crate::body::Body;
@@ -132,6 +132,7 @@ impl Decoder {
         ensures holds { (fed : List ℕ) → IsHolding self.old fed → IsHolding self.new fed }
         ensures reads { (fed : List ℕ) → IsHolding self.old fed → ReadsWhole self.new fed result }
         ensures some { OnOk result (IsSome self.new.body) }
+        ensures ended { OnOk result (IfSome self.new.body IsEnded) }
         ensures same { refusal_of self.new ≡ refusal_of self.old }
     {
         self.read_fields()?;
@@ -146,6 +147,7 @@ impl Decoder {
         ensures holds { (fed : List ℕ) → IsHolding self.old fed → IsHolding self.new fed }
         ensures reads { (fed : List ℕ) → IsHolding self.old fed → ReadsFields self.new fed result }
         ensures some { OnOk result (IsSome self.new.body) }
+        ensures ended { OnOk result (IfSome self.new.body IsEnded) }
         ensures same { refusal_of self.new ≡ refusal_of self.old }
     {
         let alloc = *self.held.allocator();

@@ -3,8 +3,10 @@ ghost use Rattle.std.specs.Prelude.{◌≡◌};
 ghost use Rattle.content_file.specs.FlawText.{printed_flaw};
 ghost use Rattle.content_file.specs.declared.fault.DecodeFault.TheVariants.{Memory};
 ghost use Rattle.content_file.specs.declared.fault.Refusal.TheVariants as refusals;
+ghost use Rattle.file_table.specs.declared.fault.BuildFault.TheVariants as builds;
 
 use disk_model::NoMemory;
+use file_table::BuildFault;
 use std::alloc::AllocError;
 
 /// What is wrong with a field of a content file.
@@ -100,5 +102,16 @@ impl<'a> From<NoMemory> for Refusal<'a> {
 
     fn from(_fault: NoMemory) -> Refusal<'a> {
         Refusal::Memory
+    }
+}
+
+/// Why no field was read, where the builder was asked before: it refuses nothing more but for want of memory.
+pub(crate) fn out_of_memory<'a>(fault: BuildFault) -> Refusal<'a>
+    requires { fault ≡ builds.Memory }
+    ensures { result ≡ refusals.Memory }
+{
+    match fault {
+        BuildFault::Memory => Refusal::Memory,
+        _ => unreachable!(),
     }
 }

@@ -1,11 +1,11 @@
 -- What the code of the builder reads and tests, in the words of its contracts.
-use Rattle.std.proofs.Common.{◌≡◌, ◌≢◌, ℕ, ◌+◌, ◌-◌, ◌<◌, ◌≤◌, List, [], ◌∷◌, ◌++◌, length, get_or, set, sym, ap, ◌∙◌, subst, arith, Bool, length-append}
+use Rattle.std.proofs.Common.{◌≡◌, ◌≢◌, ◌↔◌, ℕ, ◌+◌, ◌-◌, ◌<◌, ◌≤◌, List, [], ◌∷◌, ◌++◌, length, get_or, set, sym, ap, ◌∙◌, subst, arith, Bool, true, false, not, IsTrue, refl, length-append}
 use Rattle.std.specs.List.{All}
 use Rattle.std.proofs.lemmas.List.{get_or_default, set-get_or}
 use Rattle.disk_model.specs.declared.meta.Meta.{Meta}
 use Rattle.file_table.specs.declared.block.Block.{Block}
 use Rattle.file_table.specs.Table.{Record, Column, block_count, records_of, column_blocks, blocks_of, blocks_due, no_column, no_record}
-use Rattle.file_table.specs.Valid.{IsColumn, IsWhole, most_blocks}
+use Rattle.file_table.specs.Valid.{IsColumn, IsHashedAt, IsWhole, most_blocks}
 use Rattle.file_table.specs.Building.{BuildingValue, Uses, last_column, last_record, with_last_column, with_record, with_block, records_with_block}
 use Rattle.file_table.specs.Counted.{IsCounted}
 use Rattle.file_table.proofs.ListFacts.{split_last, set_last}
@@ -80,18 +80,21 @@ pub record_there : (columns : List Column) → 0 < length (last_column columns).
 record_there columns has = omega (arith, has, records_in_all columns (column_there columns has))
 
 -- whether a position is marked as the last column's
-module _ (built : BuildingValue) (used : List ℕ) (unhashed : List Bool) (records due lacking end : ℕ) (is : IsCounted built used unhashed records due lacking end) (position mark : ℕ) (below : position < built.length) (read : mark ≡ get_or used position mark) (some : 0 < length built.columns) where
-  mark_is : get_or used position 0 ≡ mark
-  mark_is = let there : position < length used = omega (arith, is.users.long) in get_or_default used position 0 mark there ∙ sym read
-
+module _ (built : BuildingValue) (used : ℕ → ℕ) (unhashed : ℕ → Bool) (records due lacking end : ℕ) (is : IsCounted built used unhashed records due lacking end) (position mark : ℕ) (below : position < built.length) (read : mark ≡ used position) (some : 0 < length built.columns) where
   pub marked : mark ≡ length built.columns → Uses (last_column built.columns) position
-  marked same = is.users.here position some (mark_is ∙ same)
+  marked same = is.users.here position some (sym read ∙ same)
 
   pub unmarked : mark ≢ length built.columns → ¬ (Uses (last_column built.columns) position)
-  unmarked other uses = other (sym mark_is ∙ is.users.nowhere_else position some below uses)
+  unmarked other uses = other (read ∙ is.users.nowhere_else position some below uses)
+
+-- whether each block of a stripe has its hash
+pub decides_hashed : (built : BuildingValue) (used : ℕ → ℕ) (unhashed : ℕ → Bool) (records due lacking end : ℕ) → IsCounted built used unhashed records due lacking end
+    → (stripe : ℕ) (lacks : Bool) → stripe < built.length → lacks ≡ unhashed stripe → IsTrue (not lacks) ↔ IsHashedAt built.columns stripe
+decides_hashed built used unhashed records due lacking end is stripe true below read = (λ (no : false ≡ true). absurd (cc), λ hashed. absurd (is.hashes.lacks stripe (sym read) hashed))
+decides_hashed built used unhashed records due lacking end is stripe false below read = (λ yes. is.hashes.has stripe below (sym read), λ hashed. refl)
 
 -- the last column has room for a block
-pub block_room : (built : BuildingValue) (used : List ℕ) (unhashed : List Bool) (records due lacking end : ℕ) (column : Column) → IsCounted built used unhashed records due lacking end → 0 < lacking → 0 < length (last_column built.columns).records
+pub block_room : (built : BuildingValue) (used : ℕ → ℕ) (unhashed : ℕ → Bool) (records due lacking end : ℕ) (column : Column) → IsCounted built used unhashed records due lacking end → 0 < lacking → 0 < length (last_column built.columns).records
     → column ≡ last_column built.columns → length (column_blocks column) < most_blocks
 block_room built used unhashed records due lacking end column is more has last =
     let some : 0 < length built.columns = column_there built.columns has in

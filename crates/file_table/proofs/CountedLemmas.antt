@@ -1,7 +1,7 @@
 -- Each call of the builder keeps what is pushed well formed, and counted.
-use Rattle.std.proofs.Common.{◌≡◌, ◌⊎◌, inl, inr, ℕ, ◌+◌, ◌-◌, ◌<◌, ◌≤◌, max, List, [], ◌∷◌, ◌++◌, length, get_or, set, take, refl, sym, ap, ◌∙◌, subst, arith, Bool, true, false, is_some, replicate}
+use Rattle.std.proofs.Common.{◌≡◌, ◌≢◌, ◌⊎◌, inl, inr, ℕ, ◌+◌, ◌-◌, ◌<◌, ◌≤◌, max, List, [], ◌∷◌, ◌++◌, length, take, refl, sym, ap, ◌∙◌, subst, arith, Bool, true, false, is_some}
 use Rattle.std.specs.List.{All}
-use Rattle.std.proofs.lemmas.List.{length_push, length-replicate, get_or-replicate, get_or_past, get_or_push, get_or_append_left}
+use Rattle.std.proofs.lemmas.List.{length_push, get_or_push, get_or_append_left}
 use Rattle.std.proofs.lemmas.List.Elements.{All-nil, All-push}
 use Rattle.std.proofs.Math.Nat.{zero-div, zero-mod}
 use Rattle.std.proofs.lemmas.Bool.{cases_lt}
@@ -25,7 +25,7 @@ no_infos : (columns : List Column) (infos : List Info) → infos ≡ [] → AreI
 no_infos columns infos none = subst (AreInfos columns) (sym none) (record { each = All-nil IsInfo; hashed = λ stripe below is. absurd (omega arith) })
 
 -- a column more
-pub counted-column : (old : BuildingValue) (used : List ℕ) (unhashed : List Bool) (records due end : ℕ) (name : List ℕ) → old.infos ≡ [] → IsNewName old.columns name
+pub counted-column : (old : BuildingValue) (used : ℕ → ℕ) (unhashed : ℕ → Bool) (records due end : ℕ) (name : List ℕ) → old.infos ≡ [] → IsNewName old.columns name
     → IsCounted old used unhashed records due 0 end → IsCounted (record old { columns = with_column old.columns name }) used unhashed records due 0 end
 counted-column old used unhashed records due end name none new is =
     let bs : ℕ = old.shape.block_size in
@@ -50,7 +50,7 @@ counted-column old used unhashed records due end name none new is =
     }
 
 -- a record more, without blocks
-pub counted-record : (old : BuildingValue) (used : List ℕ) (unhashed : List Bool) (records due end : ℕ) (path : List ℕ) (meta : Meta) → old.infos ≡ [] → 0 < length old.columns
+pub counted-record : (old : BuildingValue) (used : ℕ → ℕ) (unhashed : ℕ → Bool) (records due end : ℕ) (path : List ℕ) (meta : Meta) → old.infos ≡ [] → 0 < length old.columns
     → IsRecordPath path → IsMeta meta → IsGreatest (last_column old.columns) path → ¬ (IsNested (last_column old.columns) path) → HasRoom old meta.size
     → IsCounted old used unhashed records due 0 end
     → IsCounted (record old { columns = with_record old.columns path meta }) used unhashed (records + 1) (due + block_count old.shape.block_size meta.size) (block_count old.shape.block_size meta.size) end
@@ -87,13 +87,15 @@ counted-record old used unhashed records due end path meta none some path_is met
     }
 
 -- a block more of the last record
-pub counted-block : (old : BuildingValue) (used : List ℕ) (unhashed : List Bool) (records due lacking end : ℕ) (block : Block) (lacks : Bool) → old.infos ≡ [] → 0 < length (last_column old.columns).records
+pub counted-block : (old : BuildingValue) (used new_used : ℕ → ℕ) (unhashed new_unhashed : ℕ → Bool) (records due lacking end : ℕ) (block : Block) (lacks : Bool) → old.infos ≡ [] → 0 < length (last_column old.columns).records
     → HasDigest block → 0 < lacking → block.position < old.length → ¬ (Uses (last_column old.columns) block.position)
-    → (lacks ≡ true → (get_or unhashed block.position false ≡ true) ⊎ (is_some block.hash ≡ false))
-    → (lacks ≡ false → (get_or unhashed block.position false ≡ false) × (is_some block.hash ≡ true))
+    → (lacks ≡ true → (unhashed block.position ≡ true) ⊎ (is_some block.hash ≡ false))
+    → (lacks ≡ false → (unhashed block.position ≡ false) × (is_some block.hash ≡ true))
+    → new_used block.position ≡ length old.columns → ((position : ℕ) → position ≢ block.position → new_used position ≡ used position)
+    → new_unhashed block.position ≡ lacks → ((position : ℕ) → position ≢ block.position → new_unhashed position ≡ unhashed position)
     → IsCounted old used unhashed records due lacking end
-    → IsCounted (record old { columns = with_block old.columns block }) (set used block.position (length old.columns)) (set unhashed block.position lacks) records due (lacking - 1) (max end (block.position + 1))
-counted-block old used unhashed records due lacking end block lacks none has digest more below unused when unless is =
+    → IsCounted (record old { columns = with_block old.columns block }) new_used new_unhashed records due (lacking - 1) (max end (block.position + 1))
+counted-block old used new_used unhashed new_unhashed records due lacking end block lacks none has digest more below unused when unless user_here other_users lacks_here other_lacks is =
     let bs : ℕ = old.shape.block_size in
     let some : 0 < length old.columns = columns_there old.columns has in
     let rs : records_of (with_block old.columns block) ≡ records_with_block (records_of old.columns) block = records_of-with_block old.columns block some has in
@@ -115,8 +117,8 @@ counted-block old used unhashed records due lacking end block lacks none has dig
         few_infos = is.building.few_infos;
         infos = no_infos (with_block old.columns block) old.infos none;
       };
-      users = AreUsers-block old.columns old.length used block some has below is.users;
-      hashes = AreLacking-block old.columns (with_block old.columns block) old.length unhashed block lacks blocks below when unless is.hashes;
+      users = AreUsers-block old.columns old.length used new_used block some has below user_here other_users is.users;
+      hashes = AreLacking-block old.columns (with_block old.columns block) old.length unhashed new_unhashed block lacks blocks below when unless lacks_here other_lacks is.hashes;
       record_count = is.record_count ∙ sym same_long ∙ ap length (sym rs);
       due_count = is.due_count ∙ sym same_due ∙ ap (blocks_due bs) (sym rs);
       last_lacks = subst (Lacks bs (lacking - 1)) (sym rs) left;
@@ -131,7 +133,7 @@ counted-block old used unhashed records due lacking end block lacks none has dig
     records_there columns first held = subst (λ (l : List Record). 0 < length l) (sym (records_of-last columns first held)) (omega (arith, length_push (records_of (take (length columns - 1) columns) ++ take (length (last_column columns).records - 1) (last_column columns).records) (last_record (last_column columns).records)))
 
 -- an information more
-pub counted-info : (old : BuildingValue) (used : List ℕ) (unhashed : List Bool) (records due lacking end : ℕ) (info : Info) → length old.infos < old.length → IsInfo info
+pub counted-info : (old : BuildingValue) (used : ℕ → ℕ) (unhashed : ℕ → Bool) (records due lacking end : ℕ) (info : Info) → length old.infos < old.length → IsInfo info
     → (info.mark ≡ Synced → IsHashedAt old.columns (length old.infos))
     → IsCounted old used unhashed records due lacking end → IsCounted (record old { infos = old.infos ++ info ∷ [] }) used unhashed records due lacking end
 counted-info old used unhashed records due lacking end info room info_is hashed is =
@@ -161,9 +163,31 @@ counted-info old used unhashed records due lacking end info room info_is hashed 
       end_is = is.end_is;
     }
 
+-- what is counted of each stripe, told otherwise
+pub counted-same : (built : BuildingValue) (used more : ℕ → ℕ) (unhashed others : ℕ → Bool) (records due lacking end : ℕ)
+    → ((position : ℕ) → more position ≡ used position) → ((position : ℕ) → others position ≡ unhashed position)
+    → IsCounted built used unhashed records due lacking end → IsCounted built more others records due lacking end
+counted-same built used more unhashed others records due lacking end same_users same_lacks is = record {
+  building = is.building;
+  users = record {
+    within = λ position. omega (arith, same_users position, is.users.within position);
+    here = λ position some at. is.users.here position some (sym (same_users position) ∙ at);
+    nowhere_else = λ position some below uses. same_users position ∙ is.users.nowhere_else position some below uses;
+  };
+  hashes = record {
+    lacks = λ stripe at. is.hashes.lacks stripe (sym (same_lacks stripe) ∙ at);
+    has = λ stripe below at. is.hashes.has stripe below (sym (same_lacks stripe) ∙ at);
+  };
+  record_count = is.record_count;
+  due_count = is.due_count;
+  last_lacks = is.last_lacks;
+  end_is = is.end_is;
+}
+
 -- nothing is there yet
-pub counted-start : (shape : Shape) (the_length : ℕ) → IsShape shape → the_length ≤ most_blocks → IsCounted (new_building shape the_length) (replicate the_length 0) (replicate the_length false) 0 0 0 0
-counted-start shape the_length shape_is short = record {
+pub counted-start : (shape : Shape) (the_length : ℕ) (used : ℕ → ℕ) (unhashed : ℕ → Bool) → IsShape shape → the_length ≤ most_blocks
+    → ((position : ℕ) → used position ≡ 0) → ((position : ℕ) → unhashed position ≡ false) → IsCounted (new_building shape the_length) used unhashed 0 0 0 0
+counted-start shape the_length used unhashed shape_is short unused none_lack = record {
   building = record {
     shape = shape_is;
     short = short;
@@ -174,14 +198,12 @@ counted-start shape the_length shape_is short = record {
     infos = no_infos [] [] refl;
   };
   users = record {
-    long = length-replicate the_length 0;
-    within = λ position. omega (arith, at_zeros the_length position);
+    within = λ position. omega (arith, unused position);
     here = λ position some is. absurd (omega arith);
     nowhere_else = λ position some below uses. absurd (omega arith);
   };
   hashes = record {
-    long = length-replicate the_length false;
-    lacks = λ stripe is. absurd (at_falses the_length stripe is);
+    lacks = λ stripe is. absurd (differ (unhashed stripe) (none_lack stripe) is);
     has = λ stripe below is k d within. absurd (omega arith);
   };
   record_count = refl;
@@ -190,28 +212,14 @@ counted-start shape the_length shape_is short = record {
   end_is = refl;
 }
   where
-    at_zeros : (n position : ℕ) → let zeros : List ℕ = replicate n 0 in let none : ℕ = 0 in get_or zeros position none ≡ none
-    at_zeros n position =
-        elim (cases_lt position n) [
-          | inl below ↦ get_or-replicate n position 0 0 below
-          | inr past ↦ let zeros : List ℕ = replicate n 0 in let short : length zeros ≤ position = omega (arith, length-replicate {A = ℕ} n 0) in get_or_past zeros position 0 short
-        ]
-
     differ : (b : Bool) → b ≡ false → b ≡ true → ⊥
     differ b off on = cc
-
-    at_falses : (n stripe : ℕ) → get_or (replicate n false) stripe false ≡ true → ⊥
-    at_falses n stripe is =
-        elim (cases_lt stripe n) [
-          | inl below ↦ differ _ (get_or-replicate n stripe false false below) is
-          | inr past ↦ let short : length (replicate n false) ≤ stripe = omega (arith, length-replicate n false) in differ _ (get_or_past (replicate n false) stripe false short) is
-        ]
 
     no_blocks : (block_size : ℕ) → 0 < block_size → block_count block_size 0 ≡ 0
     no_blocks block_size positive = rw (zero-div block_size, zero-mod block_size) refl
 
 -- a table of all that was pushed is valid, and its blocks are as many as were due
-pub finished : (old : BuildingValue) (used : List ℕ) (unhashed : List Bool) (records due end : ℕ) → IsCounted old used unhashed records due 0 end → 0 < length old.columns → length old.infos ≡ old.length → old.length ≡ end
+pub finished : (old : BuildingValue) (used : ℕ → ℕ) (unhashed : ℕ → Bool) (records due end : ℕ) → IsCounted old used unhashed records due 0 end → 0 < length old.columns → length old.infos ≡ old.length → old.length ≡ end
     → IsValid (record { shape = old.shape; columns = old.columns; infos = old.infos }) × (due ≡ length (blocks_of old.columns))
 finished old used unhashed records due end is some all at_end =
     let bs : ℕ = old.shape.block_size in

@@ -1,6 +1,6 @@
 -- What may stand in a table is pushed part by part: each part is refused only where memory runs out.
-use Rattle.std.proofs.Common.{◌≡◌, ℕ, ◌+◌, ◌-◌, ◌<◌, ◌≤◌, List, [], ◌∷◌, ◌++◌, length, get_or, take, drop, All, sym, ap, subst, ◌∙◌, append_assoc, arith, IsTrue, refl}
-use Rattle.std.proofs.lemmas.List.{append-nil, length-append, get_or_append_left, take-append-drop, take_more, length-take-le}
+use Rattle.std.proofs.Common.{◌≡◌, ℕ, ◌+◌, ◌<◌, ◌≤◌, List, [], ◌∷◌, ◌++◌, length, get_or, take, drop, All, sym, ap, subst, ◌∙◌, append_assoc, arith, IsTrue}
+use Rattle.std.proofs.lemmas.List.{length-append, get_or_append_left, take-append-drop, take_more, length-take-le}
 use Rattle.std.proofs.lemmas.Grind.{flat_map-append}
 use Rattle.std.proofs.lemmas.List.Elements.{All-append, All-same, All-head, All-nil, All-cons}
 use Rattle.file_table.proofs.BuildingLemmas.{records_of-with_column}
@@ -8,13 +8,12 @@ use Rattle.file_table.specs.declared.block.Block.{Block}
 use Rattle.file_table.specs.declared.fault.BuildFault.{BuildFault}
 use Rattle.file_table.specs.declared.fault.BuildFault.TheVariants.{Range, Repeated, Blocks, Memory}
 use Rattle.file_table.specs.declared.info.Info.{Info}
-use Rattle.file_table.specs.declared.info.Mark.TheVariants.{Synced}
-use Rattle.file_table.specs.Table.{Record, Column, no_record, records_of, block_count, info_at, no_info}
+use Rattle.file_table.specs.Table.{Record, Column, records_of, block_count, no_info}
 use Rattle.disk_model.specs.declared.meta.Meta.{Meta}
 use Rattle.file_table.specs.Valid.{IsWhole, AreInfos, IsInfo}
 use Rattle.file_table.specs.Building.{BuildingValue, LacksBlock, Uses, PushesDisk, PushesRecord, last_column, last_record, newest_record, with_column, with_record, with_block, is_block_fault}
 use Rattle.file_table.specs.Pushing.{with_more_blocks, with_blocks, with_records, with_columns, TakesBlocks, TakesRecords, TakesThese, TakesColumns, MayStand, AreWhole, LacksBlocks}
-use Rattle.file_table.proofs.PushingLemmas.{record_of, takes_blocks, takes_records, record_takes, disk_takes, with_blocks-more, with_blocks-record, with_records-more, with_records-column, newest-with_record, records_of-with_records, last_record-with_blocks, some_record_of-with_blocks}
+use Rattle.file_table.proofs.PushingLemmas.{record_of, takes_blocks, takes_records, disk_takes, with_blocks-more, with_blocks-record, with_records-more, with_records-column, newest-with_record, records_of-with_records, last_record-with_blocks, some_record_of-with_blocks}
 use Rattle.file_table.proofs.PrefixLemmas.{All-left, All-right, blocks_front, records_front, columns_front}
 use Rattle.file_table.proofs.RefusedLemmas.{block_refused}
 

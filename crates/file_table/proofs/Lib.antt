@@ -5,8 +5,10 @@ pub mod BuildingLemmas
 pub mod ColumnLemmas
 pub mod CountLemmas
 pub mod MarkLemmas
+pub mod StripesLemmas
 pub mod FindLemmas
 pub mod NestedLemmas
+pub mod PartingLemmas
 pub mod CountedLemmas
 pub mod CallLemmas
 pub mod CellLemmas

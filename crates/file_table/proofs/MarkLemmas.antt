@@ -1,7 +1,7 @@
 -- What is marked of each stripe goes on with each column, record and block.
-use Rattle.std.proofs.Common.{◌≡◌, ◌≢◌, ◌⊎◌, inl, inr, ℕ, ◌+◌, ◌<◌, List, [], ◌∷◌, ◌++◌, length, get_or, set, refl, sym, ap, ◌∙◌, subst, arith, Bool, true, false, IsSome, is_some, append-nil}
+use Rattle.std.proofs.Common.{◌≡◌, ◌≢◌, ◌⊎◌, inl, inr, ℕ, ◌+◌, ◌<◌, List, [], ◌∷◌, ◌++◌, length, refl, sym, ap, ◌∙◌, subst, arith, Bool, true, false, IsSome, is_some, append-nil}
 use Rattle.std.specs.List.{All, Contains}
-use Rattle.std.proofs.lemmas.List.{map_push, length_push, length-set, get_or-set_same, get_or-set_other, get_or_push, take_at}
+use Rattle.std.proofs.lemmas.List.{map_push, length_push, get_or_push, take_at}
 use Rattle.std.proofs.lemmas.List.Elements.{All-push, All-take, All-same, Contains-append_left, Contains-push, Contains-push_cases}
 use Rattle.std.proofs.lemmas.Bool.Decides.{eqb_tells}
 use Rattle.disk_model.specs.declared.meta.Meta.{Meta}
@@ -17,13 +17,12 @@ eq_or_not : (a b : ℕ) → (a ≡ b) ⊎ (a ≢ b)
 eq_or_not a b = elim (eqb_tells a b) [ inl same ↦ inl same.1 | inr other ↦ inr other.1 ]
 
 -- nothing is used by a new column
-pub AreUsers-column : (columns : List Column) (the_length : ℕ) (used : List ℕ) (name : List ℕ) → AreUsers columns the_length used → AreUsers (with_column columns name) the_length used
+pub AreUsers-column : (columns : List Column) (the_length : ℕ) (used : ℕ → ℕ) (name : List ℕ) → AreUsers columns the_length used → AreUsers (with_column columns name) the_length used
 AreUsers-column columns the_length used name are =
     let column : Column = record { name = name; records = [] } in
     let long : length (with_column columns name) ≡ length columns + 1 = length_push columns column in
     let last : last_column (with_column columns name) ≡ column = last_of_push columns column no_column in
     record {
-      long = are.long;
       within = λ position. omega (arith, are.within position);
       here = λ position some is. absurd (omega (arith, are.within position));
       nowhere_else = λ position some below uses.
@@ -32,7 +31,7 @@ AreUsers-column columns the_length used name are =
     }
 
 -- the positions of the last column stay with one more record
-pub AreUsers-record : (columns : List Column) (the_length : ℕ) (used : List ℕ) (path : List ℕ) (meta : Meta) → 0 < length columns → AreUsers columns the_length used → AreUsers (with_record columns path meta) the_length used
+pub AreUsers-record : (columns : List Column) (the_length : ℕ) (used : ℕ → ℕ) (path : List ℕ) (meta : Meta) → 0 < length columns → AreUsers columns the_length used → AreUsers (with_record columns path meta) the_length used
 AreUsers-record columns the_length used path meta some are =
     let kept : Record = record { path = path; meta = meta; blocks = [] } in
     let column : Column = record { name = (last_column columns).name; records = (last_column columns).records ++ kept ∷ [] } in
@@ -41,17 +40,16 @@ AreUsers-record columns the_length used path meta some are =
     let same : column_blocks (last_column (with_record columns path meta)) ≡ column_blocks (last_column columns) =
     ap column_blocks last ∙ blocks_in-push (last_column columns).records kept ∙ append-nil (column_blocks (last_column columns)) in
     record {
-      long = are.long;
       within = λ position. omega (arith, are.within position);
       here = λ position has is. subst (λ (bs : List Block). Contains (positions_of bs) position) (sym same) (are.here position some (omega arith));
       nowhere_else = λ position has below uses. are.nowhere_else position some below (subst (λ (bs : List Block). Contains (positions_of bs) position) same uses) ∙ sym long;
     }
 
 -- the position of a new block is marked as the last column's
-pub AreUsers-block : (columns : List Column) (the_length : ℕ) (used : List ℕ) (block : Block) → 0 < length columns → 0 < length (last_column columns).records → block.position < the_length
-    → AreUsers columns the_length used → AreUsers (with_block columns block) the_length (set used block.position (length columns))
-AreUsers-block columns the_length used block some has below are =
-    let new : List ℕ = set used block.position (length columns) in
+pub AreUsers-block : (columns : List Column) (the_length : ℕ) (used new : ℕ → ℕ) (block : Block) → 0 < length columns → 0 < length (last_column columns).records → block.position < the_length
+    → new block.position ≡ length columns → ((position : ℕ) → position ≢ block.position → new position ≡ used position)
+    → AreUsers columns the_length used → AreUsers (with_block columns block) the_length new
+AreUsers-block columns the_length used new block some has below set_here other are =
     let column : Column = last_column (with_block columns block) in
     let long : length (with_block columns block) ≡ length columns = length-with_last columns _ some in
     let old : List ℕ = positions_of (column_blocks (last_column columns)) in
@@ -59,13 +57,8 @@ AreUsers-block columns the_length used block some has below are =
     ap (λ (c : Column). positions_of (column_blocks c)) (last_column-with_last columns _)
     ∙ ap positions_of (blocks_in-with_block (last_column columns).records block has)
     ∙ map_push (λ (b : Block). b.position) (column_blocks (last_column columns)) block in
-    let there : block.position < length used = omega (arith, are.long) in
-    let same : (position : ℕ) → position ≡ block.position → get_or new position 0 ≡ length columns =
-    λ position is. ap (λ (p : ℕ). get_or new p 0) is ∙ get_or-set_same used block.position (length columns) 0 there in
-    let other : (position : ℕ) → position ≢ block.position → get_or new position 0 ≡ get_or used position 0 =
-    λ position is. get_or-set_other used block.position position (length columns) 0 is in
+    let same : (position : ℕ) → position ≡ block.position → new position ≡ length columns = λ position is. ap new is ∙ set_here in
     record {
-      long = length-set used block.position (length columns) ∙ are.long;
       within = λ position. elim (eq_or_not position block.position) [
         | inl is ↦ omega (arith, same position is)
         | inr is ↦ omega (arith, other position is, are.within position)
@@ -93,26 +86,21 @@ All-end P xs y all =
     subst P (get_or_push xs y y (length xs) refl) (all (length xs) y (omega arith))
 
 -- hashes stay as they are with a column or a record
-pub AreLacking-same : (columns more : List Column) (the_length : ℕ) (unhashed : List Bool) → blocks_of more ≡ blocks_of columns → AreLacking columns the_length unhashed → AreLacking more the_length unhashed
+pub AreLacking-same : (columns more : List Column) (the_length : ℕ) (unhashed : ℕ → Bool) → blocks_of more ≡ blocks_of columns → AreLacking columns the_length unhashed → AreLacking more the_length unhashed
 AreLacking-same columns more the_length unhashed same are = record {
-  long = are.long;
   lacks = λ stripe is hashed. are.lacks stripe is (subst (All (λ (b : Block). b.position ≡ stripe → IsSome b.hash)) same hashed);
   has = λ stripe below is. subst (All (λ (b : Block). b.position ≡ stripe → IsSome b.hash)) (sym same) (are.has stripe below is);
 }
 
 -- a stripe lacks a hash where it did before, and at a block without one
-pub AreLacking-block : (columns more : List Column) (the_length : ℕ) (unhashed : List Bool) (block : Block) (lacks : Bool)
+pub AreLacking-block : (columns more : List Column) (the_length : ℕ) (unhashed new : ℕ → Bool) (block : Block) (lacks : Bool)
     → blocks_of more ≡ blocks_of columns ++ block ∷ [] → block.position < the_length
-    → (lacks ≡ true → (get_or unhashed block.position false ≡ true) ⊎ (is_some block.hash ≡ false))
-    → (lacks ≡ false → (get_or unhashed block.position false ≡ false) × (is_some block.hash ≡ true))
-    → AreLacking columns the_length unhashed → AreLacking more the_length (set unhashed block.position lacks)
-AreLacking-block columns more the_length unhashed block lacks grows below when unless are =
-    let new : List Bool = set unhashed block.position lacks in
-    let there : block.position < length unhashed = omega (arith, are.long) in
-    let same : (stripe : ℕ) → stripe ≡ block.position → get_or new stripe false ≡ lacks =
-    λ stripe is. ap (λ (p : ℕ). get_or new p false) is ∙ get_or-set_same unhashed block.position lacks false there in
-    let other : (stripe : ℕ) → stripe ≢ block.position → get_or new stripe false ≡ get_or unhashed stripe false =
-    λ stripe is. get_or-set_other unhashed block.position stripe lacks false is in
+    → (lacks ≡ true → (unhashed block.position ≡ true) ⊎ (is_some block.hash ≡ false))
+    → (lacks ≡ false → (unhashed block.position ≡ false) × (is_some block.hash ≡ true))
+    → new block.position ≡ lacks → ((stripe : ℕ) → stripe ≢ block.position → new stripe ≡ unhashed stripe)
+    → AreLacking columns the_length unhashed → AreLacking more the_length new
+AreLacking-block columns more the_length unhashed new block lacks grows below when unless set_here other are =
+    let same : (stripe : ℕ) → stripe ≡ block.position → new stripe ≡ lacks = λ stripe is. ap new is ∙ set_here in
     let hashed : (stripe : ℕ) → IsHashedAt more stripe → All (λ (b : Block). b.position ≡ stripe → IsSome b.hash) (blocks_of columns ++ block ∷ []) =
     λ stripe all. subst (All (λ (b : Block). b.position ≡ stripe → IsSome b.hash)) grows all in
     let before : (stripe : ℕ) → IsHashedAt more stripe → IsHashedAt columns stripe =
@@ -122,7 +110,6 @@ AreLacking-block columns more the_length unhashed block lacks grows below when u
     let after : (stripe : ℕ) → IsHashedAt columns stripe → (block.position ≡ stripe → IsSome block.hash) → IsHashedAt more stripe =
     λ stripe all one. subst (All (λ (b : Block). b.position ≡ stripe → IsSome b.hash)) (sym grows) (All-push (λ (b : Block). b.position ≡ stripe → IsSome b.hash) (blocks_of columns) block all one) in
     record {
-      long = length-set unhashed block.position lacks ∙ are.long;
       lacks = λ stripe is all. elim (eq_or_not stripe block.position) [
         | inl equal ↦
             let all_here : IsHashedAt more block.position = subst (IsHashedAt more) equal all in
@@ -135,7 +122,7 @@ AreLacking-block columns more the_length unhashed block lacks grows below when u
       has = λ stripe inside is. elim (eq_or_not stripe block.position) [
         | inl equal ↦
             let both = unless (sym (same stripe equal) ∙ is) in
-            after stripe (are.has stripe inside (ap (λ (p : ℕ). get_or unhashed p false) equal ∙ both.0)) (λ _. both.1)
+            after stripe (are.has stripe inside (ap unhashed equal ∙ both.0)) (λ _. both.1)
         | inr not ↦ after stripe (are.has stripe inside (sym (other stripe not) ∙ is)) (λ at. absurd (not (sym at)))
       ];
     }

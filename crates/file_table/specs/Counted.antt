@@ -1,11 +1,11 @@
 -- What is counted of a table while it is built.
-use Rattle.std.specs.Prelude.{◌≡◌, ℕ, ◌+◌, List, length, Bool}
+use Rattle.std.specs.Prelude.{◌≡◌, ℕ, ◌+◌, length, Bool}
 use Rattle.file_table.specs.Table.{block_count, records_of, blocks_of, positions_of, blocks_due, end_of}
 use Rattle.file_table.specs.Building.{BuildingValue, IsBuilding, last_record}
 use Rattle.file_table.specs.Marks.{AreUsers, AreLacking}
 
 -- what was pushed is well formed, and these are its users, stripes without hashes, records, blocks due, blocks that the last record lacks, and end
-pub record IsCounted (built : BuildingValue) (used : List ℕ) (unhashed : List Bool) (records due lacking end : ℕ) : Type 0 where
+pub record IsCounted (built : BuildingValue) (used : ℕ → ℕ) (unhashed : ℕ → Bool) (records due lacking end : ℕ) : Type 0 where
   pub building : IsBuilding built
   pub users : AreUsers built.columns built.length used
   pub hashes : AreLacking built.columns built.length unhashed

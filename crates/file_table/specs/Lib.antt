@@ -1,6 +1,7 @@
 pub mod Table
 pub mod Valid
 pub mod Building
+pub mod Parting
 pub mod Disk
 pub mod Kept
 pub mod Cells
@@ -8,5 +9,6 @@ pub mod Closing
 pub mod Pushing
 pub mod Index
 pub mod Marks
+pub mod Stripes
 pub mod Counted
 pub mod Builder

@@ -13,6 +13,7 @@ use crate::count::blocks_for;
 use crate::disk::Disk;
 use crate::limits::{MOST_COLUMNS, MOST_RECORDS};
 use crate::name::has_name;
+use crate::stripes::{Stripe, Stripes};
 use crate::{Block, BuildFault, Info, Mark, Shape, Table};
 use block_hash::Digest16;
 use disk_model::{Meta, NoMemory, Path, Text, is_name};
@@ -26,10 +27,7 @@ pub struct Builder {
     length: u32,
     disks: Vec<Disk>,
     infos: Vec<Info>,
-    // For each stripe the number, from 1, of the last column that has a block there; 0 where none has.
-    used: Vec<u8>,
-    // For each stripe whether a block there lacks its hash.
-    unhashed: Vec<bool>,
+    stripes: Stripes,
     // How many records all columns have, and how many blocks their sizes ask for.
     records: u32,
     due: u32,
@@ -60,14 +58,12 @@ impl Builder {
         ensures ok { IfOk result (λ made. made ≡ new_building shape length) }
         ensures building { IfOk result IsBuilding }
     {
-        let stripes = length as usize;
         Ok(Builder {
             shape,
             length,
             disks: Vec::new(alloc),
             infos: Vec::new(alloc),
-            used: vec![in alloc; 0; stripes]?,
-            unhashed: vec![in alloc; false; stripes]?,
+            stripes: Stripes::new(alloc),
             records: 0,
             due: 0,
             lacking: 0,
@@ -173,13 +169,16 @@ impl Builder {
         if let Some(fault) = self.position_fault(position) {
             return Err(fault);
         }
-        let at = position as usize;
+        self.stripes.make_room(position)?;
         let column = self.disks.len();
-        let unhashed = self.unhashed[at] || hash.is_none();
+        let unhashed = self.stripes.at(position).unhashed || hash.is_none();
         let block = Block::new(position, hash);
         self.disks[column - 1].push_block(block)?;
-        self.used[at] = column as u8;
-        self.unhashed[at] = unhashed;
+        let stripe = Stripe {
+            column: column as u8,
+            unhashed,
+        };
+        self.stripes.set(position, stripe);
         self.end = self.end.max(position + 1);
         self.lacking -= 1;
         Ok(())

@@ -8,6 +8,7 @@ ghost use Rattle.file_table.specs.Cells.{IsCellOf};
 ghost use Rattle.file_table.specs.Disk.{no_file};
 ghost use Rattle.file_table.specs.Valid.{most_records, most_blocks, ComesBefore};
 ghost use Rattle.file_table.specs.Building.{records_with_block, IsGreatest, IsNested};
+ghost use Rattle.file_table.specs.Parting.{IsParting};
 ghost use Rattle.file_table.specs.declared.disk.File.{File};
 ghost use Rattle.file_table.specs.declared.block.Block.{Block};
 
@@ -188,19 +189,36 @@ impl Disk {
         }
     }
 
-    /// Whether the path of a record is a directory of this path.
+    /// Whether the path of a record is a directory of this path, which is greater than all of them. Such a record's
+    /// path ends where that of the last record and this path part, so one search tells.
     pub fn has_directory_of(&self, path: &Path) -> bool
-        requires { AllPairs ComesBefore self.now.records }
+        requires order { AllPairs ComesBefore self.now.records }
+        requires greatest { IsGreatest self.now path.now }
         ensures { IsTrue result ↔ IsNested self.now path.now }
     {
+        let Some(last) = self.files.last() else {
+            return false;
+        };
         let bytes = path.as_str().as_bytes();
-        for end in 0..bytes.len() {
-            if bytes[end] == SLASH && self.find(&bytes[..end]).is_some() {
-                return true;
-            }
+        let end = common_prefix(last.path.as_str().as_bytes(), bytes);
+        if end == bytes.len() || bytes[end] != SLASH {
+            return false;
         }
-        false
+        self.find(&bytes[..end]).is_some()
     }
+}
+
+// How many bytes two paths begin with together.
+fn common_prefix(one: &[u8], other: &[u8]) -> usize
+    ensures { IsParting one.now other.now result }
+{
+    let shorter = one.len().min(other.len());
+    for place in 0..shorter {
+        if one[place] != other[place] {
+            return place;
+        }
+    }
+    shorter
 }
 
 // Where a path stands among those of files in order, or where it would.

@@ -23,6 +23,7 @@ pub mod laws;
 pub mod limits;
 mod name;
 mod shape;
+mod stripes;
 mod table;
 
 pub use block::{Block, Cell};

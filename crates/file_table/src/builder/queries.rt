@@ -47,7 +47,7 @@ impl Builder {
         if position >= self.length {
             return Some(BuildFault::Range);
         }
-        if usize::from(self.used[position as usize]) == self.disks.len() {
+        if usize::from(self.stripes.at(position).column) == self.disks.len() {
             return Some(BuildFault::Repeated);
         }
         None
@@ -65,6 +65,6 @@ impl Builder {
         requires { length self.now.infos < self.now.length }
         ensures { IsTrue result ↔ IsHashedAt self.now.columns (length self.now.infos) }
     {
-        !self.unhashed[self.infos.len()]
+        !self.stripes.at(self.infos.len() as u32).unhashed
     }
 }

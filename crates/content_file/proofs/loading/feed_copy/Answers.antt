@@ -1,6 +1,9 @@
-use Rattle.std.proofs.Common.{◌∙◌}
+use Rattle.std.proofs.Common.{◌≡◌, ◌∙◌, ◌-◌, min, arith}
 use Rattle.disk_model.proofs.VaultLemmas.{on_any}
-use Rattle.content_file.proofs.LoadFeeds.{FeedsPiece, fails_last, reads_then, reads_one, read_piece, asked_few, piece_reads, piece_quiet, feeds_more, never_short}
+use Rattle.content_file.proofs.LoadFeeds.{FeedsPiece, fails_last, reads_none, reads_then, reads_one, read_piece, asked_few, piece_reads, piece_quiet, feeds_more, never_short}
+use Rattle.content_file.specs.Load.{most_read}
+use Rattle.content_file.proofs.LoadLemmas.{none_failed_yet}
+use Rattle.content_file.proofs.LoadCounts.{counts_none, counts_more, piece_more}
 use Rattle.content_file.proofs.loading.feed_copy.Given as given
 use Rattle.content_file.proofs.loading.feed_copy.Goals as goal
 use Rattle.content_file.proofs.loading.feed_copy.Goals.{After-feed}
@@ -10,7 +13,7 @@ piece : (g : given.Over) (c : After-feed g)
     → FeedsPiece c.args.copy c.args.size (g.V.Vault.view c.args.vault.now) (g.V.Vault.view c.loop-at.vault) (g.V.Vault.view c.content_read.new.self) c.loop-at.decoder c.feed.new.self c.loop-at.at c.min-want.result
     c.in_ok-count.count c.loop-at.buffer c.content_read.new.out
 piece g c = record {
-  one = c.loop-at.invariant;
+  one = c.loop-at.invariant.0;
   more = c.loop-at-test.true;
   room = c.loop-at.auto.buffer ∙ c.requires.buffer;
   want_is = c.min-want.ensures;
@@ -20,8 +23,29 @@ piece g c = record {
   feeds = c.feed.ensures.fed;
 }
 
+pub loop-at-init : goal.loop-at-init
+loop-at-init g c =
+    let v = g.V.Vault.view c.args.vault.now in (
+      record { reads = reads_none c.args.copy v; none_failed = none_failed_yet v; fed = λ told bytes held same. c.requires.fresh },
+      counts_none c.args.copy c.args.size v,
+    )
+
 pub loop-at-preserved : goal.loop-at-preserved
-loop-at-preserved g c = feeds_more _ _ _ _ _ _ _ _ _ _ _ _ (piece g (goal.at.loop-at-preserved g c).After-feed) c.if-count-want.false
+loop-at-preserved g c =
+    let fed = piece g (goal.at.loop-at-preserved g c).After-feed in
+    let want_is : c.min-want.result ≡ min most_read (c.args.size - c.loop-at.at) = omega (arith, fed.want_is, fed.room) in (
+      feeds_more _ _ _ _ _ _ _ _ _ _ _ _ fed c.if-count-want.false,
+      counts_more c.args.copy c.args.size _ _ _ c.loop-at.at _ _ c.loop-at.invariant.1 c.loop-at-test.true c.in_ok-count.ensures.call.called.goes_on c.min-want.result c.in_ok-count.count want_is c.if-count-want.false,
+    )
+
+pub returns-clause-pieces : goal.returns-clause-pieces
+returns-clause-pieces g c = c.loop-at.invariant.1.reads
+
+pub returns-then-count-want-clause-pieces : goal.returns-then-count-want-clause-pieces
+returns-then-count-want-clause-pieces g c = piece_more c.args.copy c.args.size _ _ _ c.loop-at.at _ _ c.loop-at.invariant.1 c.loop-at-test.true c.in_ok-count.ensures.call.called.goes_on
+
+pub returns-in_err-count-clause-pieces : goal.returns-in_err-count-clause-pieces
+returns-in_err-count-clause-pieces g c = piece_more c.args.copy c.args.size _ _ _ c.loop-at.at _ _ c.loop-at.invariant.1 c.loop-at-test.true c.in_err-count.ensures.call.called.goes_on
 
 pub returns-then-count-want-clause-reads : goal.returns-then-count-want-clause-reads
 returns-then-count-want-clause-reads g c = piece_reads _ _ _ _ _ _ _ _ _ _ _ _ (piece g (goal.at.returns-then-count-want-clause-reads g c).After-feed)
@@ -35,9 +59,9 @@ returns-then-count-want-clause-fed g c = never_short _ _ _ _ _ _ _ _ _ _ _ _ (pi
 pub returns-in_err-count-clause-reads : goal.returns-in_err-count-clause-reads
 returns-in_err-count-clause-reads g c =
     let few = asked_few c.loop-at.buffer c.min-want.result (c.loop-at.auto.buffer ∙ c.requires.buffer) in
-    reads_then c.args.copy _ (g.V.Vault.view c.loop-at.vault) _ c.loop-at.invariant.reads (reads_one c.args.copy _ _ _ _ (read_piece c.args.copy c.loop-at.at _ few) c.in_err-count.ensures.call)
+    reads_then c.args.copy _ (g.V.Vault.view c.loop-at.vault) _ c.loop-at.invariant.0.reads (reads_one c.args.copy _ _ _ _ (read_piece c.args.copy c.loop-at.at _ few) c.in_err-count.ensures.call)
 
 pub returns-in_err-count-clause-failed : goal.returns-in_err-count-clause-failed
 returns-in_err-count-clause-failed g c =
     let few = asked_few c.loop-at.buffer c.min-want.result (c.loop-at.auto.buffer ∙ c.requires.buffer) in
-    on_any c.from_residual.result (fails_last c.args.copy _ c.in_err-count.field-0.0 _ (g.V.Vault.view c.loop-at.vault) _ c.requires.copy (read_piece c.args.copy c.loop-at.at _ few) c.loop-at.invariant.reads c.in_err-count.ensures.call)
+    on_any c.from_residual.result (fails_last c.args.copy _ c.in_err-count.field-0.0 _ (g.V.Vault.view c.loop-at.vault) _ c.requires.copy (read_piece c.args.copy c.loop-at.at _ few) c.loop-at.invariant.0.reads c.in_err-count.ensures.call)

@@ -3,7 +3,7 @@ use Rattle.content_file.specs.ReadingOn.{BodyValue}
 use Rattle.content_file.specs.BodyState.{body_of}
 use Rattle.content_file.specs.Body.{IsDone, IsAtEnd, StopsAt}
 use Rattle.content_file.specs.declared.fault.Refusal.TheVariants as refusals
-use Rattle.content_file.proofs.Steps.{length_stop, length_fits, length_differs}
+use Rattle.content_file.proofs.Steps.{length_stop, length_differs}
 use Rattle.content_file.proofs.Starts.{goes_then, comes_to_end}
 use Rattle.content_file.proofs.body.Body.read.Goals as goal
 
@@ -23,4 +23,4 @@ returns-clause-stops c =
     let body = body_of c.self.inside in
     let done : IsDone body = subst IsDone (sym c.self.view_is) (c.is_done.ensures.0 c.loop-alloc-test.false) in
     subst (λ (v : BodyValue). IsAtEnd v c.loop-alloc.rest.now) c.self.view_is
-    (comes_to_end body c.loop-alloc.rest.now c.self.invariant done (length_fits body c.self.invariant (c.length_fits.ensures.0 c.if-not-length_fits.false)))
+    (comes_to_end body c.loop-alloc.rest.now c.self.invariant (record { done = done; fits = c.length_fits.ensures.0 c.if-not-length_fits.false }))

@@ -1,7 +1,9 @@
 use Rattle.std.proofs.Common.{◌≡◌, ◌⊎◌, ℕ, arith, ◌+◌, ◌-◌, ◌≤◌, List, ◌++◌, length, take, drop, refl, sym, ap, subst, ◌∙◌}
-use Rattle.std.specs.Prelude.{IsSome}
+use Rattle.std.specs.Prelude.{IsSome, Result, OnOk, IfSome}
 use Rattle.sha2.specs.Hashers.{Holds256}
-use Rattle.content_file.specs.Body.{GoesOn}
+use Rattle.content_file.specs.Body.{GoesOn, IsEnded}
+use Rattle.content_file.specs.declared.fault.DecodeFault.{DecodeFault}
+use Rattle.content_file.proofs.Faults.{ended_told}
 use Rattle.content_file.specs.Decoding.{IsHolding, ReadsFields, StopsOn}
 use Rattle.content_file.proofs.DecodingLemmas.{read_on_holding, held_is, stops_told}
 use Rattle.content_file.proofs.decoder.Decoder.read_fields.Goals as goal
@@ -23,3 +25,7 @@ returns-clause-reads c = λ fed is.
     let holding : IsHolding new fed = read_on_holding old new fed rest is goes long left hashed refl in
     subst (ReadsFields new fed) (sym c.told-answer.ensures)
     (stops_told new fed c.read_on.result.1 holding (subst (λ (b : List ℕ). StopsOn place b c.read_on.result.1) (sym (held_is items rest c.drop_front.new.bytes.items goes.ends left)) c.read_on.ensures.stops))
+
+pub returns-clause-ended : goal.returns-clause-ended
+returns-clause-ended c =
+    subst (λ (r : Result Unit DecodeFault). OnOk r (IfSome c.read_on.new.place IsEnded)) (sym c.told-answer.ensures) (ended_told c.read_on.new.place c.read_on.result.0.now c.args.self.now.fed c.read_on.result.1 c.read_on.ensures.stops)

@@ -4,8 +4,8 @@ use Rattle.file_table.specs.Building.{BuildingValue, IsGreatest, IsNested, last_
 use Rattle.file_table.proofs.CallLemmas.{read_last, read_column}
 use Rattle.file_table.proofs.builder.Builder.path_fault.Goals as goal
 
-pub has_directory_of-requires : goal.has_directory_of-requires
-has_directory_of-requires c =
+pub has_directory_of-requires-clause-order : goal.has_directory_of-requires-clause-order
+has_directory_of-requires-clause-order c =
     let b = c.self.inside in
     let columns = b.disks.items in
     let some : 0 < length columns = subst (λ (v : BuildingValue). 0 < length v.columns) (sym c.self.view_is) c.requires in

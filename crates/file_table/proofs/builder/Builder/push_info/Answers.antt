@@ -3,6 +3,7 @@ use Rattle.std.proofs.lemmas.Grind.{common_steps}
 use Rattle.file_table.specs.declared.info.Mark.TheVariants.{Synced}
 use Rattle.file_table.specs.Valid.{IsInfo, IsHashedAt}
 use Rattle.file_table.specs.Builder.{building_of}
+use Rattle.file_table.specs.Stripes.{users_of, lacking_of}
 use Rattle.file_table.specs.Building.{BuildingValue}
 use Rattle.file_table.proofs.CountedLemmas.{counted-info}
 use Rattle.file_table.proofs.builder.Builder.push_info.Goals.{else-eq-via-then-eq+else-not-next_has_hashes, else-eq-via-else-eq}
@@ -17,7 +18,7 @@ invariant_of-self-2 c =
       | else-eq-via-then-eq+else-not-next_has_hashes w ↦ λ synced. subst (λ (v : BuildingValue). IsHashedAt v.columns (length v.infos)) (sym c.self.view_is) (w.if-not-next_has_hashes.ensures.0 refl)
       | else-eq-via-else-eq w ↦ λ synced. grind (arith, common_steps)
     ] in
-    rw c.in_ok-push.ensures.items (counted-info (building_of b) b.used.items b.unhashed.items b.records b.due b.lacking b.end c.args.info room info hashed c.self.invariant)
+    rw c.in_ok-push.ensures.items (counted-info (building_of b) (users_of b.stripes) (lacking_of b.stripes) b.records b.due b.lacking b.end c.args.info room info hashed c.self.invariant)
 
 pub returns-clause-building : goal.returns-clause-building
 returns-clause-building c = (invariant_of-self-2 c).building

@@ -1,35 +1,36 @@
-use Rattle.std.proofs.Common.{◌≡◌, ◌∙◌, ℕ, get_or, take, subst, sym, arith, inl, inr, true, false, refl, Some}
-use Rattle.std.proofs.lemmas.Bool.Decides.{eqb_tells}
+use Rattle.std.proofs.Common.{◌≡◌, ◌∙◌, ◌<◌, ℕ, List, length, get_or, take, subst, sym, ap, arith, true, false}
 use Rattle.file_table.specs.Table.{HasPath}
 use Rattle.file_table.specs.Building.{IsNested}
-use Rattle.file_table.proofs.NestedLemmas.{nested_found, not_nested, some_and_none}
+use Rattle.file_table.proofs.NestedLemmas.{nested_found}
+use Rattle.file_table.proofs.PartingLemmas.{no_directory, found_where_nested, parts_of_files}
 use Rattle.file_table.proofs.disk.Disk.has_directory_of.Goals as goal
-use Rattle.file_table.proofs.disk.Disk.has_directory_of.Goals.{else-bytes-end-eq-SLASH-via-then-bytes-end-eq-SLASH+else-is_some, else-bytes-end-eq-SLASH-via-else-bytes-end-eq-SLASH}
+use Rattle.file_table.proofs.disk.Disk.has_directory_of.Goals.{then-end-bytes-via-then-end-bytes, then-end-bytes-via-else-end-bytes+then-bytes-end-ne-SLASH}
 
-pub returns-then-is_some : goal.returns-then-is_some
-returns-then-is_some c =
-    let nested = nested_found c.args.self.now c.as_bytes-bytes.result.now c.loop-end.end c.find.result c.loop-end-test.true c.if-bytes-end-eq-SLASH.true c.find.ensures.found (sym c.is_some.ensures ∙ c.if-is_some.true) in
-    (λ _. subst (IsNested c.args.self.now) (c.as_bytes-bytes.ensures.value ∙ c.as_str.ensures.value) nested, λ _. refl)
+pub returns-then-end-bytes : goal.returns-then-end-bytes
+returns-then-end-bytes c =
+    let column = c.args.self.now in
+    let path : List ℕ = c.args.path.now in
+    let end : ℕ = c.common_prefix-end.result in
+    let is_path : c.as_bytes-bytes.result.now ≡ path = c.as_bytes-bytes.ensures.value ∙ c.as_str.ensures.value in
+    let last = parts_of_files c.self.inside column c.deref.result.now c.in-Some.last.now c.as_bytes.result.now c.as_bytes-bytes.result.now path end c.self.view_is c.deref.ensures.value c.in-Some.ensures.value
+    (c.as_bytes.ensures.value ∙ c.as_str-2.ensures.value) is_path c.common_prefix-end.ensures in
+    let none = no_directory column path end c.requires.order (c.requires.greatest last.0) last.1 (λ below slash i held. elim c.then-end-bytes.branch [
+      | then-end-bytes-via-then-end-bytes w ↦ omega (arith, w.if-end-bytes.true, ap length is_path)
+      | then-end-bytes-via-else-end-bytes+then-bytes-end-ne-SLASH w ↦ w.if-bytes-end-ne-SLASH.true (subst (λ (bytes : List ℕ). get_or bytes end 0 ≡ 47) (sym is_path) slash)
+    ]) in
+    (λ (is : false ≡ true). absurd (cc), λ nested. absurd (none nested))
 
 pub returns : goal.returns
 returns c =
-    let none = not_nested c.args.self.now c.as_bytes-bytes.result.now (λ k i below slash at. c.loop-end.invariant k i (omega arith) slash at) in (
-      λ (is : false ≡ true). absurd (cc),
-      λ nested. absurd (none (subst (IsNested c.args.self.now) (sym (c.as_bytes-bytes.ensures.value ∙ c.as_str.ensures.value)) nested)),
+    let column = c.args.self.now in
+    let path : List ℕ = c.args.path.now in
+    let bytes : List ℕ = c.as_bytes-bytes.result.now in
+    let end : ℕ = c.common_prefix-end.result in
+    let is_path : bytes ≡ path = c.as_bytes-bytes.ensures.value ∙ c.as_str.ensures.value in
+    let last = parts_of_files c.self.inside column c.deref.result.now c.in-Some.last.now c.as_bytes.result.now bytes path end c.self.view_is c.deref.ensures.value c.in-Some.ensures.value
+    (c.as_bytes.ensures.value ∙ c.as_str-2.ensures.value) is_path c.common_prefix-end.ensures in
+    let below : end < length bytes = omega (arith, c.common_prefix-end.ensures.within_other, c.if-end-bytes.false) in (
+      λ some. subst (IsNested column) is_path (nested_found column bytes end c.find.result below c.if-bytes-end-ne-SLASH.false c.find.ensures.found (sym c.is_some.ensures ∙ some)),
+      λ nested. c.is_some.ensures ∙ found_where_nested column path end c.find.result c.requires.order (c.requires.greatest last.0) last.1
+          (λ i held. c.find.ensures.only i (subst (λ (bs : List ℕ). HasPath column i (take end bs)) (sym is_path) held)) nested,
     )
-
-pub loop-end-preserved : goal.loop-end-preserved
-loop-end-preserved c = λ k i below slash at.
-    elim (eqb_tells k c.loop-end.end) [
-      | inr other ↦ c.loop-end.invariant k i (omega (arith, other.1)) slash at
-      | inl same ↦
-          let bytes = c.as_bytes-bytes.result.now in
-          let here : HasPath c.args.self.now i (take c.loop-end.end bytes) = subst (λ (n : ℕ). HasPath c.args.self.now i (take n bytes)) same.1 at in
-          let byte : get_or bytes c.loop-end.end 0 ≡ 47 = subst (λ (n : ℕ). get_or bytes n 0 ≡ 47) same.1 slash in
-          elim c.else-bytes-end-eq-SLASH.branch [
-            | else-bytes-end-eq-SLASH-via-then-bytes-end-eq-SLASH+else-is_some w ↦
-                let found : w.find.result ≡ Some i = w.find.ensures.only i here in
-                some_and_none w.find.result i found (sym w.is_some.ensures ∙ w.if-is_some.false)
-            | else-bytes-end-eq-SLASH-via-else-bytes-end-eq-SLASH w ↦ w.if-bytes-end-eq-SLASH.false byte
-          ]
-    ]

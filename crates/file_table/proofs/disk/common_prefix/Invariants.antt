@@ -1,0 +1,6 @@
+use Rattle.std.proofs.Common.{◌≡◌, ℕ, ◌<◌, get_or}
+use Rattle.file_table.proofs.disk.common_prefix.Given as goal
+
+-- so far the bytes are the same
+abbrev pub invariant-loop-place : goal.invariant-loop-place
+invariant-loop-place l = (k : ℕ) → k < l.place → get_or l.one k 0 ≡ get_or l.other k 0
