@@ -20,7 +20,7 @@ pub fn a_table_of_the_kept_files_is_laid_out_as_it_is()
         refusal force_zero force_empty table (all_sorted table kept) ≡ None }
 {}
 
-/// The records of a layout are just the kept files. So the layout of a layout of the same files is that layout.
+/// The records of a layout are just the kept files.
 pub fn a_layout_is_of_the_kept_files()
     ensures { (table : TableValue) (kept : List (List ListedFile)) →
         length kept ≡ length table.columns → HoldsJust (layout table kept) kept }
@@ -32,6 +32,20 @@ pub fn a_layout_is_valid()
         IsValid table → AreKept table kept →
         refusal force_zero force_empty table (all_sorted table kept) ≡ None →
         IsValid (layout table kept) }
+{}
+
+/// Laid out again over the same kept files, a layout that was not refused is the same table. It is not refused either,
+/// whatever is forced.
+pub fn a_layout_is_laid_out_as_it_is()
+    ensures same { (force_zero force_empty : Bool) (table : TableValue) (kept : List (List ListedFile)) →
+        IsValid table → AreKept table kept →
+        refusal force_zero force_empty table (all_sorted table kept) ≡ None →
+        layout (layout table kept) kept ≡ layout table kept }
+    ensures unrefused { (force_zero force_empty : Bool) (table : TableValue) (kept : List (List ListedFile)) →
+        IsValid table → AreKept table kept →
+        refusal force_zero force_empty table (all_sorted table kept) ≡ None →
+        (zero_forced empty_forced : Bool) →
+        refusal zero_forced empty_forced (layout table kept) (all_sorted (layout table kept) kept) ≡ None }
 {}
 
 /// What a layout calls synced was so, with blocks of the same lengths and hashes.

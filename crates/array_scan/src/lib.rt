@@ -4,8 +4,8 @@
 //! moved or new (`sorting.rt`, `specs/Fates.antt`). Blocks of unchanged and moved files stay where they are, and the
 //! others take the lowest free positions (`placing.rt`, `specs/Laying.antt`). `listings` asks each folder once.
 //! Proved: `lay_out` gives that table, and refuses exactly what `specs/Refusals.antt` says, in that order; `laws.rt`:
-//! the layout of a table whose records are just the kept files is that table, and a layout is valid, so that its builder
-//! refuses it for memory alone.
+//! the layout of a table whose records are just the kept files is that table, and so is that of a layout over the same
+//! files. A layout is valid, so that its builder refuses it for memory alone.
 //! Not here: what the files hold.
 #![tactic(auto)]
 

@@ -7,6 +7,7 @@ use std::test::Fail;
 
 mod answers;
 mod lines;
+mod pages;
 mod reports;
 mod texts;
 

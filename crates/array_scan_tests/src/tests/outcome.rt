@@ -49,13 +49,14 @@ fn push_column(text: &mut String, alloc: Global, table: &Table, d: u32) -> Resul
     Ok(())
 }
 
-// Paths with their positions, column by column.
+// Paths with their positions, column by column, and the length.
 fn text_of(alloc: Global, plan: &Plan) -> Result<String, Fail> {
     let mut text = String::new(alloc);
     for d in 0..plan.table.disks() {
         push_column(&mut text, alloc, &plan.table, d)?;
     }
-    text.push_str("pending")?;
+    let length = plan.table.length();
+    text.push_str(format!(in alloc; "length {length}; pending")?.as_str())?;
     Ok(text)
 }
 

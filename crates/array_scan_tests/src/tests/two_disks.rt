@@ -6,13 +6,14 @@ ghost use Rattle.array_scan.specs.Kept.{lists_of};
 use crate::tests::array::{
     File, SHAPE, folder_of, large_file, listed_files, no_files, path, setup, setup_of_two,
 };
-use crate::tests::outcome::{PLAIN, lay, outcome_of};
+use crate::tests::outcome::{EMPTY, PLAIN, lay, outcome_of};
 use crate::tests::synced::SYNCED;
 use array_scan::{Listing, ScanFault, listings};
 use block_hash::Digest16;
 use disk_memory::MemFolder;
 use disk_model::{FileInfo, Folder, Meta, Stamp, Text};
 use file_table::{Builder, Table};
+use snap_config::SyncWay;
 use std::alloc::Global;
 use std::test::Fail;
 
@@ -91,28 +92,40 @@ fn is_laid_over_two(
     alloc: Global,
     first: &[File],
     second: &[File],
+    way: SyncWay,
     want: &str,
 ) -> Result<bool, Fail> {
     let setup = setup_of_two(alloc)?;
     let old = two_files(alloc)?;
-    let outcome = lay(
-        alloc,
-        &old,
-        two_lists(alloc, first, second)?,
-        &setup,
-        &PLAIN,
-    );
+    let outcome = lay(alloc, &old, two_lists(alloc, first, second)?, &setup, &way);
     Ok(outcome_of(alloc, &outcome)?.as_str() == want)
 }
 
 #[test]
 fn two_disks_are_laid_out_in_one_call(rt: HostRuntime) -> Result<(), Fail> {
     let alloc = rt.alloc();
-    assert!(rt; is_laid_over_two(alloc, &ONE, &ONE, "a 0; a 0; pending")?);
-    assert!(rt; is_laid_over_two(alloc, &ONE, &TWO, "a 0; a 0; b 1; pending 1")?);
-    assert!(rt; is_laid_over_two(alloc, &TWO, &TWO, "a 0; b 1; a 0; b 1; pending 1")?);
-    assert!(rt; is_laid_over_two(alloc, &ONE, &NONE, "Emptied { disk: 1 }")?);
-    assert!(rt; is_laid_over_two(alloc, &NONE, &NONE, "Emptied { disk: 0 }")?);
+    assert!(rt; is_laid_over_two(alloc, &ONE, &ONE, PLAIN, "a 0; a 0; length 1; pending")?);
+    assert!(rt;
+        is_laid_over_two(
+            alloc,
+            &ONE,
+            &TWO,
+            PLAIN,
+            "a 0; a 0; b 1; length 2; pending 1"
+        )?
+    );
+    assert!(rt;
+        is_laid_over_two(
+            alloc,
+            &TWO,
+            &TWO,
+            PLAIN,
+            "a 0; b 1; a 0; b 1; length 2; pending 1"
+        )?
+    );
+    assert!(rt; is_laid_over_two(alloc, &ONE, &NONE, PLAIN, "Emptied { disk: 1 }")?);
+    assert!(rt; is_laid_over_two(alloc, &ONE, &NONE, EMPTY, "a 0; length 1; pending 0")?);
+    assert!(rt; is_laid_over_two(alloc, &NONE, &NONE, PLAIN, "Emptied { disk: 0 }")?);
     Ok(())
 }
 

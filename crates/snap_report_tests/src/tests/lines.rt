@@ -2,7 +2,7 @@
 use crate::tests::table_of;
 use block_hash::Digest16;
 use disk_memory::MemSink;
-use disk_model::{Failed, Meta, Sink, Stamp};
+use disk_model::{Meta, Sink, Stamp};
 use snap_report::events::Event;
 use snap_report::{Lines, Piece, Report, tell, tell_all};
 use std::str;
@@ -141,52 +141,6 @@ fn each_kind_has_its_line(rt: HostRuntime) -> Result<(), Fail> {
     tell_all(&mut reports, &mut lines, &table, &EVERY_KIND);
     assert!(rt; !lines.failed());
     assert_eq!(rt; str::from_utf8(out.bytes())?, THEIR_LINES);
-    Ok(())
-}
-
-const RESTORED: Event = Event::Restored { disk: 0, rec: 0 };
-
-// Counts writes and bytes.
-#[derive(Drop)]
-struct Counting {
-    writes: u64,
-    bytes: u64,
-}
-
-impl Sink for Counting {
-    ghost use Rattle.disk_model.specs.Sink.{quiet_sink};
-
-    ghost view = { λ _. quiet_sink 0 };
-
-    fn faults(&self) -> u64 {
-        0
-    }
-
-    fn write(&mut self, bytes: &[u8]) -> Result<(), Failed> {
-        self.writes = self.writes.saturating_add(1);
-        self.bytes = self.bytes.saturating_add(bytes.len() as u64);
-        Ok(())
-    }
-}
-
-// The longest path of a record, each byte of it printed as four: the line is handed on in full pages.
-#[test]
-fn the_longest_line_is_handed_on_in_pages(rt: HostRuntime) -> Result<(), Fail> {
-    let alloc = rt.alloc();
-    let path = "\\".repeat(alloc, 4082)?;
-    let table = table_of(alloc, path.as_str())?;
-    assert!(rt; table.disks() == 1);
-    assert!(rt; table.records(0) == 1);
-    let mut reports: Vec<Box<dyn Report>> = Vec::new(alloc);
-    let mut out = Counting {
-        writes: 0,
-        bytes: 0,
-    };
-    let mut lines = Lines::over(&mut out);
-    tell(&mut reports, &mut lines, &table, &RESTORED);
-    assert!(rt; !lines.failed());
-    assert_eq!(rt; out.bytes, 9 + 3 + 4 * 4082 + 1);
-    assert_eq!(rt; out.writes, 4);
     Ok(())
 }
 
