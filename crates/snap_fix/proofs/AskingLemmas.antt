@@ -111,14 +111,6 @@ pub block_as : (asked held given asked_is held_is given_is : Bool) (old new : Sp
 block_as asked held given asked_is held_is given_is old new one two three asks =
     subst (λ (a : Bool). AsksBlock a held_is given_is old new) one (subst (λ (h : Bool). AsksBlock asked h given_is old new) two (subst (λ (b : Bool). AsksBlock asked held b old new) three asks))
 
-pub cells_none : (asked held given : ℕ → Bool) (spare : SpareView) → AsksCells 0 asked held given spare spare
-cells_none asked held given spare = record {
-  later = omega arith;
-  same = refl;
-  gave = λ tells d below. absurd (omega (arith, below));
-  withheld = λ tells. omega arith;
-}
-
 module _ (asked held given after : ℕ → Bool) (n : ℕ) (old mid new : SpareView) (same : (d : ℕ) → d < n → after d ≡ given d)
     (so_far : AsksCells n asked held given old mid) (one : AsksBlock (asked n) (held n) (after n) mid new) where
   abbrev is_kept : (ℕ → Bool) → ℕ → Bool

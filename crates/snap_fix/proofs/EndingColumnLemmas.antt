@@ -1,7 +1,9 @@
 -- The files of a column at the end of a fix, record by record.
-use Rattle.std.proofs.Common.{◌≡◌, ◌≢◌, inl, inr, ℕ, ◌+◌, ◌<◌, ◌≤◌, List, [], ◌∷◌, ◌++◌, length, Bool, true, false, IsTrue, refl, sym, ap, ◌∙◌, subst, arith}
+use Rattle.std.proofs.Common.{◌≡◌, ◌≢◌, inl, inr, ℕ, ◌+◌, ◌<◌, ◌≤◌, List, [], ◌∷◌, ◌++◌, length, Bool, true, false, IsTrue, if◌then◌else◌, refl, sym, ap, ap₂, ◌∙◌, subst, arith}
+use Rattle.std.specs.List.{range_with_len, flat_map}
 use Rattle.std.proofs.lemmas.Bool.{cases_lt}
 use Rattle.std.proofs.lemmas.List.{append-nil, ext_get_or, length-append}
+use Rattle.array_scan.proofs.PlacingLemmas.{flat_range_more}
 use Rattle.disk_model.specs.Folder.{FolderView, FolderCall}
 use Rattle.disk_model.specs.Sink.{SinkView}
 use Rattle.disk_model.specs.Tree.{Tree, file_of, path_of}
@@ -17,10 +19,11 @@ use Rattle.snap_fix.specs.declared.finishing.Finish.{Finish}
 use Rattle.snap_fix.specs.declared.finishing.Finish.TheVariants.{Kept}
 use Rattle.snap_fix.specs.declared.state.FileState.{FileState}
 use Rattle.snap_fix.specs.Counts.{AreCounts}
-use Rattle.snap_fix.specs.Ending.{CanFinishFile, FinishesFile, HoldsEnd, IsDone, StandsEnd, column_news, finish_at, is_finished, news_of, record_news, state_at, states_at}
+use Rattle.snap_fix.specs.Ending.{CanFinishFile, FinishesFile, HoldsEnd, IsDone, StandsEnd, column_news, finish_at, is_finished, news_of, record_calls, record_news, state_at, states_at}
 use Rattle.snap_fix.specs.EndingSteps.{CanEndColumn, CanEndRecord, EndsColumn, EndsNotColumn, EndsNotRecord, EndsRecord, FinishesThis, column_outside}
-use Rattle.snap_fix.specs.Finishing.{FitsTree, HoldsFinished, IsFinishCall, SameNames, StandsWhole, bytes_now, finish_of}
+use Rattle.snap_fix.specs.Finishing.{FitsTree, HoldsFinished, IsFinishCall, SameNames, StandsWhole, bytes_now, finish_calls, finish_of}
 use Rattle.snap_fix.specs.Mending.{StatesFit}
+use Rattle.snap_fix.specs.Order.{FolderWrites}
 use Rattle.snap_fix.specs.Plan.{FixPlan, entry_at, records_in}
 use Rattle.snap_fix.specs.State.{AnyCall, WellCall, FolderMakes, OthersStay, no_state, record_path, state_in}
 use Rattle.snap_fix.proofs.EndingFilesLemmas.{fits_stays, free_stays, holds_on, holds_since, names_stay, whole_on, whole_since}
@@ -28,6 +31,7 @@ use Rattle.snap_fix.proofs.EndingTellLemmas.{events_after, events_split, finish_
 use Rattle.snap_fix.proofs.EndingWantedLemmas.{all_wanted, first_news, wanted_from}
 use Rattle.snap_fix.proofs.FolderCallLemmas.{makes_any_wider, makes_none, makes_then, makes_well_wider}
 use Rattle.snap_fix.proofs.GoesOnLemmas.{breaks_then}
+use Rattle.snap_fix.proofs.OrderLemmas.{writes_none, writes_then}
 use Rattle.snap_fix.proofs.RecordPathsLemmas.{ArePaths, names_distinct}
 use Rattle.snap_fix.proofs.TellingLemmas.{Joins, Tells, events_to, tells_as, tells_more, tells_nothing, told_as}
 
@@ -40,6 +44,10 @@ module _ (plan : FixPlan) (d : ℕ) (first : StartsValue) (firsts : List (List F
 
   abbrev path_at : ℕ → List ℕ
   path_at i = record_path (records_in plan.table d) i
+
+  -- the calls that finish so many records
+  abbrev calls_to : ℕ → List FolderCall
+  calls_to n = flat_map (record_calls plan d starts_of states_of) (range_with_len 0 n)
 
   -- The first records of the column were finished that were to be, and the others can be.
   pub record EndedTo (n : ℕ) (starts : StartsValue) (states : List (List FileState)) (now : FolderView) : Type 0 where
@@ -59,6 +67,7 @@ module _ (plan : FixPlan) (d : ℕ) (first : StartsValue) (firsts : List (List F
         → StandsEnd plan d starts_of folder.keeps_stamps i folder.tree now.tree
     pub others : IsTrue folder.tells → (name : List ℕ) → ((i : ℕ) (lost : Bool) → i < n → is_finished plan d i ≡ true → name ≢ path_of (path_at i) lost)
         → file_of now.tree name ≡ file_of folder.tree name
+    pub wrote : IsTrue folder.tells → FolderWrites (calls_to n) folder now
     pub can : IsTrue folder.tells → (i : ℕ) → n ≤ i → i < length (records_in plan.table d) → is_finished plan d i ≡ true
         → CanFinishFile plan d starts_of states_of i now.tree
 
@@ -83,6 +92,7 @@ module _ (plan : FixPlan) (d : ℕ) (first : StartsValue) (firsts : List (List F
     holds = λ told i below finished. absurd (omega (arith, below));
     whole = λ told i below finished lost. absurd (omega (arith, below));
     others = λ told name apart. refl;
+    wrote = λ told. writes_none folder;
     can = λ told i from below finished. can.can.each told i below finished;
   }
 
@@ -99,6 +109,14 @@ module _ (plan : FixPlan) (d : ℕ) (first : StartsValue) (firsts : List (List F
 
     same_state : state_in states d n ≡ state_at states_of n
     same_state = so_far.later_states n (omega arith)
+
+    -- its calls are those by its first start and state
+    abbrev calls_by : Start → FileState → List FolderCall
+    calls_by start state =
+        if is_finished plan d n then finish_calls state.lost (entry_at plan d n).listed start state (path_at n) (record_at plan.table.columns d n).meta else []
+
+    same_calls : record_calls plan d (starts_at starts.columns d) (states_at states d) n ≡ record_calls plan d starts_of states_of n
+    same_calls = ap₂ calls_by same_start same_state
 
     -- the next record can be finished
     pub can_next : CanEndColumn plan d first firsts folder → CanEndRecord plan d n starts states mid
@@ -261,6 +279,10 @@ module _ (plan : FixPlan) (d : ℕ) (first : StartsValue) (firsts : List (List F
         others = λ told name apart.
             one.others (tells_mid told) name (λ finished lost. apart n lost (omega arith) finished)
             ∙ so_far.others told name (λ i lost below finished. apart i lost (omega (arith, below)) finished);
+        wrote = λ told.
+            subst (λ (calls : List FolderCall). FolderWrites calls folder new) (flat_range_more (record_calls plan d starts_of states_of) n)
+            (writes_then (calls_to n) (record_calls plan d starts_of states_of n) (so_far.wrote told)
+            (subst (λ (calls : List FolderCall). FolderWrites calls mid new) same_calls (one.wrote (tells_mid told))));
         can = λ told i from below finished.
             let it = so_far.can told i (omega (arith, from)) below finished in
             let other : i ≢ n = (λ (same : i ≡ n). omega (arith, same, from)) in
@@ -331,6 +353,7 @@ module _ (plan : FixPlan) (d : ℕ) (first : StartsValue) (firsts : List (List F
           holds = λ told i below. ended.holds told i (omega (arith, below, all));
           whole = λ told i below. ended.whole told i (omega (arith, below, all));
           others = λ told name apart. ended.others told name (λ i lost below. apart i lost (omega (arith, below, all)));
+          wrote = λ told. subst (λ (m : ℕ). FolderWrites (calls_to m) folder now) all (ended.wrote told);
         };
         told = as_all.told;
         counts_are = as_all.counts_are;

@@ -18,16 +18,22 @@ use Rattle.snap_fix.specs.declared.state.FileState.{FileState}
 use Rattle.snap_fix.specs.Counts.{AreCounts}
 use Rattle.snap_fix.specs.Ending.{finish_news, is_finished, news_of, states_at}
 use Rattle.snap_fix.specs.EndingSteps.{CanEndRecord, EndsNotRecord, EndsRecord, FinishesThis, column_outside}
-use Rattle.snap_fix.specs.Finishing.{CanFinish, FinishesNot, FinishesRecord, FitsTree, IsFinishCall, finish_of}
+use Rattle.snap_fix.specs.Finishing.{CanFinish, FinishesNot, FinishesRecord, FitsTree, IsFinishCall, finish_calls, finish_of}
+use Rattle.snap_fix.specs.Order.{FolderWrites}
 use Rattle.snap_fix.specs.Plan.{FixPlan, entry_at, records_in}
 use Rattle.snap_fix.specs.State.{WellCall, record_path, state_in}
 use Rattle.snap_fix.proofs.FolderCallLemmas.{makes_any_wider, makes_none, makes_well_wider}
+use Rattle.snap_fix.proofs.OrderLemmas.{writes_none}
 use Rattle.snap_fix.proofs.TellingLemmas.{told_as}
 
 module _ (plan : FixPlan) (d i : ℕ) (starts : StartsValue) (states : List (List FileState)) (folder : FolderView) where
   abbrev pub CallBy : Option Meta → FolderCall → Type 0
   CallBy listed call = IsFinishCall (state_in states d i).lost listed (start_in (starts_at starts.columns d) i) (state_in states d i)
       (record_path (records_in plan.table d) i) (record_at plan.table.columns d i).meta call
+
+  abbrev calls_by : Option Meta → List FolderCall
+  calls_by listed = finish_calls (state_in states d i).lost listed (start_in (starts_at starts.columns d) i) (state_in states d i)
+      (record_path (records_in plan.table d) i) (record_at plan.table.columns d i).meta
 
   -- its calls are those of a record that is finished
   call_of : (listed : Option Meta) → is_finished plan d i ≡ true → listed ≡ (entry_at plan d i).listed → (call : FolderCall) → CallBy listed call
@@ -73,6 +79,9 @@ module _ (plan : FixPlan) (d i : ℕ) (starts : StartsValue) (states : List (Lis
       holds = λ tells is. does.holds tells;
       whole = λ tells is. does.whole tells;
       others = λ tells name apart. does.others tells name (apart finished);
+      wrote = λ tells.
+          subst (λ (b : Bool). FolderWrites (if b then calls_by (entry_at plan d i).listed else []) folder folder_new) (sym finished)
+          (subst (λ (l : Option Meta). FolderWrites (calls_by l) folder folder_new) same (does.wrote tells));
       told = told_as view standing stands plan.table.columns (news_of plan d i finish) (finish_news d i finish) lines lines_new reports reports_new news told;
       counts_are = subst (λ (events : List Event). AreCounts events counts) (sym news) counted;
     }
@@ -94,6 +103,7 @@ module _ (plan : FixPlan) (d i : ℕ) (starts : StartsValue) (states : List (Lis
       holds = λ tells is. absurd (clash is);
       whole = λ tells is. absurd (clash is);
       others = λ tells name apart. refl;
+      wrote = λ tells. subst (λ (b : Bool). FolderWrites (if b then calls_by (entry_at plan d i).listed else []) folder folder) (sym kept) (writes_none folder);
       told = told_as view standing stands plan.table.columns (news_of plan d i Kept) [] lines lines reports reports news (told_nothing view standing stands plan.table.columns lines reports);
       counts_are = subst (λ (events : List Event). AreCounts events counts) (sym news) counted;
     }

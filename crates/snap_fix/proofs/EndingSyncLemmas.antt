@@ -2,14 +2,17 @@
 use Rattle.std.proofs.Common.{◌≡◌, inl, inr, ℕ, ◌+◌, ◌<◌, ◌||◌, Bool, true, false, List, [], ◌∷◌, ◌++◌, length, get_or, IsTrue, Result, Ok, Err, IfErr, refl, sym, ap, ◌∙◌, subst, arith, append_assoc}
 use Rattle.std.specs.List.{range_with_len, flat_map, list_any}
 use Rattle.std.proofs.lemmas.Bool.{cases_lt}
+use Rattle.std.proofs.lemmas.List.{map-append}
 use Rattle.array_scan.proofs.PlacingLemmas.{flat_range_more}
 use Rattle.disk_model.specs.Files.{Files, Stays, parity_of}
 use Rattle.disk_model.specs.Ran.{vault_done, log_of}
-use Rattle.disk_model.specs.Vault.{VaultView, VaultCall, VaultDone, ChangesBy, DraftsStay, IsWellFormed, state_of}
+use Rattle.disk_model.specs.Vault.{VaultView, VaultCall, VaultDone, GoesOn, ChangesBy, DraftsStay, IsWellFormed, state_of}
 use Rattle.disk_model.proofs.RanLemmas.{ran_none, ran_all_then}
 use Rattle.disk_model.proofs.VaultLemmas.{no_calls, calls_then, changes_start, stays_then}
-use Rattle.snap_fix.specs.Breaking.{broke_parity}
-use Rattle.snap_fix.specs.Ending.{IsSettled, Syncs, SyncsNot, SyncsWritten, sync_call, sync_if}
+use Rattle.snap_fix.specs.Breaking.{MakesPartOf, broke_parity}
+use Rattle.snap_fix.specs.Ending.{IsSettled, Syncs, SyncsNot, sync_call, sync_if, written_syncs}
+use Rattle.snap_fix.specs.Underway.{done_well}
+use Rattle.snap_fix.proofs.BreakingLemmas.{flat_split, part_more, part_then}
 
 -- what holds whichever fault it was
 pub on_err : {T E : Type 0} (result : Result T E) (P : Type 0) → P → IfErr result (λ fault. P)
@@ -82,12 +85,6 @@ synced_more written level is old mid new here formed so_far one settled = record
   ];
 }
 
-pub synced_all : (written : List Bool) (level : ℕ) (old new : VaultView) → level ≡ length written → SyncedTo written level old new → SyncsWritten written old new
-synced_all written level old new all so_far = record {
-  syncs = subst (λ (n : ℕ). Syncs (flat_map (sync_call written) (range_with_len 0 n)) old new) all so_far.syncs;
-  settled = λ l within was. so_far.settled l (omega (arith, within, all)) was;
-}
-
 -- ---- a call that failed
 
 any_later : (front back : List VaultDone) → IsTrue (list_any broke_parity back) → IsTrue (list_any broke_parity (front ++ back))
@@ -98,8 +95,37 @@ any_later (done ∷ front) back one = or_right (broke_parity done) (list_any bro
     or_right true b is = cc
     or_right false b is = is
 
-pub synced_not : (written : List Bool) (level : ℕ) (old mid new : VaultView) → SyncedTo written level old mid → SyncsNot mid new → SyncsNot old new
-synced_not written level old mid new so_far broke = record {
+-- just these calls were made
+pub syncs_go_on : (calls : List VaultCall) (old new : VaultView) → Syncs calls old new → GoesOn old new (done_well calls)
+syncs_go_on calls old new syncs = record {
+  later = syncs.ran.later;
+  levels = syncs.some.goes_on.levels;
+  copies = syncs.some.goes_on.copies;
+  tells = syncs.some.goes_on.tells;
+  calls = syncs.ran.grown;
+}
+
+-- the first ones of all syncs, and a part of those of the next level
+syncs_part : (written : List Bool) (level : ℕ) (old mid new : VaultView) → level < length written → Syncs (flat_map (sync_call written) (range_with_len 0 level)) old mid
+    → MakesPartOf (done_well (sync_call written level)) mid new → MakesPartOf (done_well (written_syncs written)) old new
+syncs_part written level old mid new below synced part =
+    let front : List VaultCall = flat_map (sync_call written) (range_with_len 0 level) in
+    let next : List VaultCall = sync_call written level in
+    let split = flat_split (sync_call written) (level + 1) (length written) (omega (arith, below)) in
+    let whole : written_syncs written ≡ front ++ (next ++ split.0) =
+    split.1 ∙ ap (λ (calls : List VaultCall). calls ++ split.0) (sym (flat_range_more (sync_call written) level)) ∙ append_assoc front next split.0 in
+    subst (λ (calls : List VaultCall). MakesPartOf (done_well calls) old new) (sym whole)
+    (subst (λ (calls : List VaultDone). MakesPartOf calls old new) (sym (well_then front (next ++ split.0)))
+    (part_then (done_well front) (done_well (next ++ split.0)) old mid new (syncs_go_on front old mid synced)
+    (subst (λ (calls : List VaultDone). MakesPartOf calls mid new) (sym (well_then next split.0)) (part_more (done_well next) (done_well split.0) mid new part))))
+  where
+    well_then : (one two : List VaultCall) → done_well (one ++ two) ≡ done_well one ++ done_well two
+    well_then one two = map-append (λ (call : VaultCall). vault_done call false) one two
+
+pub synced_not : (written : List Bool) (level : ℕ) (is : Bool) (old mid new : VaultView) → is ≡ get_or written level false → level < length written → SyncedTo written level old mid
+    → SyncsNot (sync_if is level) mid new → SyncsNot (written_syncs written) old new
+synced_not written level is old mid new here below so_far broke = record {
+  ran = syncs_part written level old mid new below so_far.syncs (subst (λ (b : Bool). MakesPartOf (done_well (sync_if b level)) mid new) here broke.ran);
   rose = (let more = so_far.syncs.ran.later in let rose = broke.rose in omega arith);
   call = λ tells.
       let told : IsTrue mid.tells_calls = broke.calls.goes_on.calls.told tells in

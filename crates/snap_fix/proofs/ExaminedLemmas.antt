@@ -1,5 +1,5 @@
 -- The facts of a stripe that was examined, and its events.
-use Rattle.std.proofs.Common.{◌≡◌, Vec, Global, ℕ, ◌<◌, ◌≤◌, List, [], ◌∷◌, ◌++◌, length, take, Bool, true, false, Option, None, Some, refl, sym, ap, ◌∙◌, subst, append_assoc}
+use Rattle.std.proofs.Common.{◌≡◌, Vec, Global, ℕ, ◌≤◌, List, [], ◌∷◌, ◌++◌, length, take, Bool, true, false, Option, None, Some, refl, sym, ap, ◌∙◌, subst, append_assoc}
 use Rattle.std.specs.Prelude.{is_some, slice_index_or}
 use Rattle.std.specs.Vec.{with_items}
 use Rattle.std.proofs.lemmas.List.{length-map, with_items_is}
@@ -41,14 +41,6 @@ changes_then i old mid new one two = record {
   count = two.count ∙ one.count;
   lanes = two.lanes ∙ one.lanes;
   others = λ k d other. two.others k d other ∙ one.others k d other;
-}
-
-pub still_fits : (plan : FixPlan) (stripe i : ℕ) (old new : WindowValue) → ChangesStripe i old new → CanExamine plan stripe i old → CanExamine plan stripe i new
-still_fits plan stripe i old new changes can = record {
-  entries = can.entries;
-  fits = record { lanes = changes.lanes ∙ can.fits.lanes; block_size = changes.block_size ∙ can.fits.block_size };
-  within = can.within;
-  number = subst (λ (count : ℕ). i < count) (sym changes.count) can.number;
 }
 
 -- ---- a missing cell is one

@@ -12,7 +12,7 @@ use Rattle.stripe_reader.specs.declared.starts.Start.{Start}
 use Rattle.snap_fix.specs.declared.finishing.Finish.{Finish}
 use Rattle.snap_fix.specs.declared.finishing.Finish.TheVariants.{Kept, Renamed, Gone}
 use Rattle.snap_fix.specs.declared.state.FileState.{FileState}
-use Rattle.snap_fix.specs.Finishing.{CanFinish, FinishesNot, FinishesRecord, IsFinishCall, IsWholeCall, finish_of, is_changed, is_stamped, lost_finish, same_stamp, stamped_finish, whole_finish}
+use Rattle.snap_fix.specs.Finishing.{CanFinish, FinishesNot, FinishesRecord, IsFinishCall, IsWholeCall, finish_calls, finish_of, is_changed, is_stamped, lost_finish, same_stamp, stamped_finish, whole_finish}
 use Rattle.snap_fix.specs.FinishSteps.{BreaksBy, FinishesBy, IsReady}
 use Rattle.snap_fix.specs.State.{WellCall, AnyCall, FolderMakes, stands, state_in}
 use Rattle.snap_fix.proofs.FinishWholeLemmas.{stands_whole}
@@ -115,10 +115,11 @@ module _ (table : TableValue) (d i : ℕ) (listed : Option Meta) (starts : Start
 
     -- it was finished
     pub is_finished : (finish : Finish) (new : FolderView)
-        → FinishesBy (finish_of meta listed start state folder.keeps_stamps) finish (IsFinishCall state.lost listed start state path meta) meta start state path folder new
+        → FinishesBy (finish_of meta listed start state folder.keeps_stamps) finish (IsFinishCall state.lost listed start state path meta)
+        (finish_calls state.lost listed start state path meta) meta start state path folder new
         → FinishesRecord table d i listed finish starts states folder starts states new
     is_finished finish new by =
-        let it = there (λ p m s t. FinishesBy (finish_of m listed s t folder.keeps_stamps) finish (IsFinishCall t.lost listed s t p m) m s t p folder new) by in
+        let it = there (λ p m s t. FinishesBy (finish_of m listed s t folder.keeps_stamps) finish (IsFinishCall t.lost listed s t p m) (finish_calls t.lost listed s t p m) m s t p folder new) by in
         record {
           is = inl it.is;
           starts_fit = can.starts_fit;
@@ -129,6 +130,7 @@ module _ (table : TableValue) (d i : ℕ) (listed : Option Meta) (starts : Start
           holds = it.holds;
           whole = λ told kept. stands_whole path_there listed meta_there start_there state_there folder.tree new.tree (can.fits told) folder.keeps_stamps finish kept it.is (it.holds told);
           others = it.others;
+          wrote = λ told. it.wrote;
         }
 
     -- it was gone
@@ -147,6 +149,7 @@ module _ (table : TableValue) (d i : ℕ) (listed : Option Meta) (starts : Start
           holds = λ told. absurd (not_told told);
           whole = λ told kept. absurd (not_told told);
           others = λ told. absurd (not_told told);
+          wrote = λ told. absurd (not_told told);
         }
 
     -- a call of it failed

@@ -1,5 +1,6 @@
 -- What each step of a finish does to its folder: by its calls, and by what they make of the files.
-use Rattle.std.proofs.Common.{◌≡◌, ◌≢◌, ◌⊎◌, inl, inr, ℕ, ◌==◌, List, Bool, true, false, not, ◌||◌, cond, Option, None, Result, IfOk, IfErr, Err, IsTrue, refl, sym, ◌∙◌, ap, ap₂, subst}
+use Rattle.std.proofs.Common.{◌≡◌, ◌≢◌, ◌⊎◌, inl, inr, ℕ, ◌==◌, List, [], ◌∷◌, ◌++◌, if◌then◌else◌, Bool, true, false, not, ◌||◌, cond, Option, None, Result, IfOk, IfErr, Err, IsTrue, refl, sym, ◌∙◌, ap, ap₂, subst}
+use Rattle.std.proofs.lemmas.List.{append-nil}
 use Rattle.disk_model.specs.Bytes.{resized}
 use Rattle.disk_model.specs.Folder.{FolderView, FolderCall, IsFolder, Make, Rename, SetSize, SetStamp, MissingExactly, file_failed}
 use Rattle.disk_model.specs.Tree.{Tree, file_of, path_of}
@@ -14,16 +15,27 @@ use Rattle.stripe_reader.specs.declared.starts.Place.TheVariants.{Plain, Lost, N
 use Rattle.snap_fix.specs.declared.finishing.Finish.{Finish}
 use Rattle.snap_fix.specs.declared.finishing.Finish.TheVariants.{Kept, Renamed}
 use Rattle.snap_fix.specs.declared.state.FileState.{FileState}
-use Rattle.snap_fix.specs.Finishing.{HoldsFinished, IsFinishCall, IsWholeCall, bytes_now, finish_of, is_changed, is_stamped, lost_after, lost_finish, same_stamp, stamped_finish, whole_finish}
+use Rattle.snap_fix.specs.Finishing.{HoldsFinished, IsFinishCall, IsWholeCall, bytes_now, finish_calls, finish_of, is_changed, is_stamped, lost_after, lost_calls, lost_finish, same_stamp, size_calls, stamped_finish, whole_calls, whole_finish}
 use Rattle.snap_fix.specs.FinishSteps.{BreaksBy, FinishesBy, FitsSize, IsLostCall, IsPlaced, IsPutCall, IsReady, IsSizeCall, SetsUp, SizesBy, Stands}
 use Rattle.snap_fix.specs.Mending.{BreaksOff}
+use Rattle.snap_fix.specs.Order.{FolderWrites, put_calls, set_up_calls}
 use Rattle.snap_fix.specs.State.{WellCall, FolderMakes, stands}
 use Rattle.snap_fix.proofs.FinishCallsLemmas.{breaks_one, breaks_then, breaks_wider, when_ok}
-use Rattle.snap_fix.proofs.FolderCallLemmas.{makes_then, makes_well_wider, makes_well_write, others_same}
+use Rattle.snap_fix.proofs.FolderCallLemmas.{makes_none, makes_then, makes_well_wider, makes_well_write, others_same}
 use Rattle.snap_fix.proofs.GoesOnLemmas.{breaks_off}
-use Rattle.snap_fix.proofs.FinishTreeLemmas.{holds_stamped, same_names, some_is_some, stands_lost, stands_made, stands_moved, stands_sized, stands_stamped}
+use Rattle.snap_fix.proofs.OrderLemmas.{writes_none, writes_one, writes_then}
+use Rattle.snap_fix.proofs.FinishTreeLemmas.{holds_stamped, same_names, some_is_some, stands_lost, stands_made, stands_moved, stands_sized, stands_stamped, stands_there}
 
 -- ---- a file is put under its path
+
+-- it stands there
+pub sets_up_nothing : (path : List ℕ) (place : Place) (touched : Bool) (old : FolderView) → IsPlaced path place touched old → stands place touched ≡ true → SetsUp path place touched old old
+sets_up_nothing path place touched old placed standing = record {
+  makes = makes_none (WellCall (IsPutCall place touched path)) old;
+  stays = λ there told. refl;
+  stand = λ told. stands_there path place touched old.tree (placed.tree told) standing;
+  wrote = subst (λ (b : Bool). FolderWrites (if b then [] else set_up_calls place path) old old) (sym standing) (writes_none old);
+}
 
 -- it is renamed back
 pub sets_up_back : {T : Type 0} (path : List ℕ) (place : Place) (touched : Bool) (result : Result T FileFault) (old new : FolderView) → IsFolder new → IsPlaced path place touched old
@@ -35,6 +47,7 @@ sets_up_back path place touched result old new formed placed lost wrote = when_o
       makes = makes_well_write (IsPutCall Lost touched path) formed made (refl, inl (refl, refl));
       stays = λ standing. absurd (let clash : false ≡ true = standing in cc);
       stand = λ told. stands_moved path touched old.tree new.tree (placed_lost.tree told) (made.does refl told);
+      wrote = writes_one (Rename path false) refl made;
     } in subst (λ (p : Place). SetsUp path p touched old new) (sym lost) sets)
 
 pub breaks_back : {T : Type 0} (path : List ℕ) (place : Place) (touched : Bool) (result : Result T FileFault) (old new : FolderView) → IsFolder new → IsPlaced path place touched old
@@ -60,6 +73,7 @@ sets_up_new path place touched old new formed placed absent either wrote =
       makes = makes_well_write (IsPutCall Nowhere touched path) formed wrote (is.1, inr (refl, refl));
       stays = λ standing. absurd (let clash : true ≡ false = sym standing ∙ is.1 in cc);
       stand = λ told. let made = wrote.does refl told in stands_made path touched made.0 old.tree new.tree (placed_nowhere.tree told) is.1 made.1;
+      wrote = subst (λ (b : Bool). FolderWrites (if b then [] else Make path ∷ []) old new) (sym is.1) (writes_one (Make path) refl wrote);
     } in subst (λ (p : Place). SetsUp path p touched old new) (sym is.0) sets
 
 pub breaks_new : (path : List ℕ) (place : Place) (touched : Bool) (old new : FolderView) → IsFolder new → stands place touched ≡ false → (place ≡ Plain) ⊎ (place ≡ Nowhere)
@@ -69,6 +83,15 @@ breaks_new path place touched old new formed absent either wrote =
 
 -- ---- its size is set
 
+-- it has it
+pub size_kept : (path : List ℕ) (before size : ℕ) (old : FolderView) → (before == size) ≡ true → FitsSize path before size old old
+size_kept path before size old same = record {
+  makes = makes_none (WellCall (IsSizeCall path before size)) old;
+  tree = λ told. subst (λ (b : Bool). SizesBy b path size old.tree old.tree) (sym same) refl;
+  wrote = subst (λ (b : Bool). FolderWrites (if b then [] else SetSize path size ∷ []) old old) (sym same) (writes_none old);
+}
+
+-- it differs
 pub size_set : {T : Type 0} (path : List ℕ) (before size : ℕ) (result : Result T FileFault) (old new : FolderView) → IsFolder new → (before == size) ≡ false
     → IsFolderWrite (SetSize path size) (file_failed result) old new → IfOk result (λ _. FitsSize path before size old new)
 size_set path before size result old new formed other wrote = when_ok result (FitsSize path before size old new) (λ well.
@@ -76,6 +99,7 @@ size_set path before size result old new formed other wrote = when_ok result (Fi
     record {
       makes = makes_well_write (IsSizeCall path before size) formed made (other, refl);
       tree = λ told. subst (λ (b : Bool). SizesBy b path size old.tree new.tree) (sym other) (made.does refl told);
+      wrote = subst (λ (b : Bool). FolderWrites (if b then [] else SetSize path size ∷ []) old new) (sym other) (writes_one (SetSize path size) refl made);
     })
 
 -- ---- the calls of a whole file
@@ -114,6 +138,7 @@ pub record IsFit (path : List ℕ) (listed : Option Meta) (meta : Meta) (start :
   pub stand : IsTrue old.tells
       → Stands path (resized (bytes_now old.tree path) meta.size) (lost_after start.place (file_of old.tree (path_of path true))) old.tree new.tree
   pub stays : is_changed meta start state ≡ false → IsTrue old.tells → new.tree ≡ old.tree
+  pub wrote : FolderWrites (put_calls start.place state.touched path ++ size_calls state.size meta.size path) old new
 
 pub unchanged : (touched standing same : Bool) → (touched || not standing || not same) ≡ false → (touched ≡ false) × (standing ≡ true) × (same ≡ true)
 unchanged false true true none = (refl, refl, refl)
@@ -137,6 +162,7 @@ is_fit path listed meta start state old mid new ready sets fits = record {
   stays = λ none told.
       let is = unchanged state.touched (stands start.place state.touched) (state.size == meta.size) none in
       size_stays (state.size == meta.size) path meta.size mid.tree new.tree is.2 (fits.tree (sets.makes.goes_on.tells ∙ told)) ∙ sets.stays is.1 told;
+  wrote = writes_then (put_calls start.place state.touched path) (size_calls state.size meta.size path) sets.wrote fits.wrote;
 }
 
 -- a file stands there whose stamp can be set
@@ -166,6 +192,13 @@ whole_not_stamped fault path listed meta start state changed old mid new formed 
 
 -- ---- it is finished
 
+-- its calls, by whether its stamp is set
+stamped_calls : (path : List ℕ) (listed : Option Meta) (meta : Meta) (start : Start) (state : FileState) (set : Bool) (old new : FolderView) → is_stamped meta listed start state ≡ set
+    → FolderWrites ((put_calls start.place state.touched path ++ size_calls state.size meta.size path) ++ (if set then SetStamp path meta.stamp ∷ [] else [])) old new
+    → FolderWrites (whole_calls listed start state path meta) old new
+stamped_calls path listed meta start state set old new is wrote =
+    subst (λ (b : Bool). FolderWrites ((put_calls start.place state.touched path ++ size_calls state.size meta.size path) ++ (if b then SetStamp path meta.stamp ∷ [] else [])) old new) (sym is) wrote
+
 or_left : (a b : Bool) → (a || b) ≡ false → a ≡ false
 or_left true b none = none
 or_left false b none = refl
@@ -173,7 +206,7 @@ or_left false b none = refl
 -- nothing is left to be done
 pub whole_kept : (path : List ℕ) (listed : Option Meta) (meta : Meta) (start : Start) (state : FileState) (changed : Bool) (old new : FolderView) → IsFit path listed meta start state old new
     → changed ≡ is_changed meta start state → (changed || not (same_stamp meta.stamp listed)) ≡ false
-    → FinishesBy (whole_finish meta listed start state old.keeps_stamps) Kept (IsWholeCall listed start state path meta) meta start state path old new
+    → FinishesBy (whole_finish meta listed start state old.keeps_stamps) Kept (IsWholeCall listed start state path meta) (whole_calls listed start state path meta) meta start state path old new
 whole_kept path listed meta start state changed old new fit changed_is none =
     let same = not (same_stamp meta.stamp listed) in
     let needless : (is_changed meta start state || same) ≡ false = ap (λ (b : Bool). b || same) (sym changed_is) ∙ none in
@@ -183,13 +216,15 @@ whole_kept path listed meta start state changed old new fit changed_is none =
       makes = fit.makes;
       holds = λ told. same_names path old.tree new.tree (stays told);
       others = λ told. others_same path old.tree new.tree (stays told);
+      wrote = stamped_calls path listed meta start state false old new needless
+          (subst (λ (calls : List FolderCall). FolderWrites calls old new) (sym (append-nil (put_calls start.place state.touched path ++ size_calls state.size meta.size path))) fit.wrote);
     }
 
 -- its stamp is set, where stamps are kept
 pub whole_stamped : (path : List ℕ) (listed : Option Meta) (meta : Meta) (start : Start) (state : FileState) (changed stamped : Bool) (finish : Finish) (old mid new : FolderView) → IsFolder new
     → IsFit path listed meta start state old mid → changed ≡ is_changed meta start state → (changed || not (same_stamp meta.stamp listed)) ≡ true
     → IsFolderWrite (SetStamp path meta.stamp) false mid new → stamped ≡ mid.keeps_stamps → finish ≡ stamped_finish changed stamped
-    → FinishesBy (whole_finish meta listed start state old.keeps_stamps) finish (IsWholeCall listed start state path meta) meta start state path old new
+    → FinishesBy (whole_finish meta listed start state old.keeps_stamps) finish (IsWholeCall listed start state path meta) (whole_calls listed start state path meta) meta start state path old new
 whole_stamped path listed meta start state changed stamped finish old mid new formed fit changed_is needed wrote stamped_is finish_is =
     let change = is_changed meta start state in
     let keeps = old.keeps_stamps in
@@ -211,13 +246,15 @@ whole_stamped path listed meta start state changed stamped finish old mid new fo
           subst (λ (f : Finish). HoldsFinished f keeps meta start state (bytes_now old.tree path) path old.tree new.tree) (sym is)
           (holds_stamped change keeps meta start state (bytes_now old.tree path) path old.tree new.tree (both told).0 (unkept told));
       others = λ told. (both told).1;
+      wrote = stamped_calls path listed meta start state true old new due
+          (writes_then (put_calls start.place state.touched path ++ size_calls state.size meta.size path) (SetStamp path meta.stamp ∷ []) fit.wrote (writes_one (SetStamp path meta.stamp) refl wrote));
     }
 
 -- ---- a file with a lost block
 
 pub lost_renamed : (path : List ℕ) (meta : Meta) (start : Start) (state : FileState) (old new : FolderView) → IsFolder new → IsPlaced path start.place state.touched old
     → stands start.place state.touched ≡ true → IsFolderWrite (Rename path true) false old new
-    → FinishesBy (lost_finish start state) Renamed (IsLostCall start state path) meta start state path old new
+    → FinishesBy (lost_finish start state) Renamed (IsLostCall start state path) (lost_calls start state path) meta start state path old new
 lost_renamed path meta start state old new formed placed standing wrote =
     let both = λ (told : IsTrue old.tells). stands_lost path old.tree new.tree ((placed.tree told).plain standing) (wrote.does refl told) in
     record {
@@ -225,7 +262,19 @@ lost_renamed path meta start state old new formed placed standing wrote =
       makes = makes_well_write (IsLostCall start state path) formed wrote (standing, refl);
       holds = λ told. (both told).0;
       others = λ told. (both told).1;
+      wrote = subst (λ (b : Bool). FolderWrites (if b then Rename path true ∷ [] else []) old new) (sym standing) (writes_one (Rename path true) refl wrote);
     }
+
+-- it does not stand under its path
+pub lost_kept : (path : List ℕ) (meta : Meta) (start : Start) (state : FileState) (old : FolderView) → stands start.place state.touched ≡ false
+    → FinishesBy (lost_finish start state) Kept (IsLostCall start state path) (lost_calls start state path) meta start state path old old
+lost_kept path meta start state old absent = record {
+  is = sym (ap (λ (b : Bool). cond b Renamed Kept) absent);
+  makes = makes_none (WellCall (IsLostCall start state path)) old;
+  holds = λ told. same_names path old.tree old.tree refl;
+  others = λ told. others_same path old.tree old.tree refl;
+  wrote = subst (λ (b : Bool). FolderWrites (if b then Rename path true ∷ [] else []) old old) (sym absent) (writes_none old);
+}
 
 pub lost_not_renamed : (fault : FileFault) (path : List ℕ) (start : Start) (state : FileState) (old new : FolderView) → IsFolder new → IsPlaced path start.place state.touched old
     → stands start.place state.touched ≡ true → IsFolderWrite (Rename path true) (file_failed {T = Unit {0}} (Err fault)) old new → MissingExactly {T = Unit {0}} (Err fault) old (path_of path false)
@@ -237,8 +286,10 @@ lost_not_renamed fault path start state old new formed placed standing wrote mis
 -- ---- a file with or without one
 
 pub file_finished : (result : Result Finish FileFault) (lost : Bool) (path : List ℕ) (listed : Option Meta) (meta : Meta) (start : Start) (state : FileState) (old new : FolderView) → state.lost ≡ lost
-    → IfOk result (λ finish. FinishesBy (cond lost (lost_finish start state) (whole_finish meta listed start state old.keeps_stamps)) finish (IsFinishCall lost listed start state path meta) meta start state path old new)
-    → IfOk result (λ finish. FinishesBy (finish_of meta listed start state old.keeps_stamps) finish (IsFinishCall state.lost listed start state path meta) meta start state path old new)
+    → IfOk result (λ finish. FinishesBy (cond lost (lost_finish start state) (whole_finish meta listed start state old.keeps_stamps)) finish (IsFinishCall lost listed start state path meta)
+    (finish_calls lost listed start state path meta) meta start state path old new)
+    → IfOk result (λ finish. FinishesBy (finish_of meta listed start state old.keeps_stamps) finish (IsFinishCall state.lost listed start state path meta)
+    (finish_calls state.lost listed start state path meta) meta start state path old new)
 file_finished result lost path listed meta start state old new is done =
     subst (λ (l : Bool). IfOk result (λ (finish : Finish). FinishesBy (cond l (lost_finish start state) (whole_finish meta listed start state old.keeps_stamps)) finish
-    (IsFinishCall l listed start state path meta) meta start state path old new)) (sym is) done
+    (IsFinishCall l listed start state path meta) (finish_calls l listed start state path meta) meta start state path old new)) (sym is) done

@@ -11,7 +11,7 @@ use Rattle.array_scan.proofs.ApartLemmas.{AllPairs-across}
 use Rattle.disk_model.specs.Cause.{RoseBy}
 use Rattle.disk_model.specs.Folder.{FolderView}
 use Rattle.disk_model.specs.Sink.{SinkView}
-use Rattle.disk_model.specs.Vault.{VaultView, GoesOn}
+use Rattle.disk_model.specs.Vault.{VaultView, VaultDone, GoesOn}
 use Rattle.parity_writer.specs.LevelReading.{LevelReading, has_failed}
 use Rattle.snap_report.specs.Answer.{is_parity_io}
 use Rattle.snap_report.specs.Report.{ReportView}
@@ -21,6 +21,7 @@ use Rattle.stripe_reader.specs.Columns.{folder_at}
 use Rattle.snap_fix.specs.declared.fixing.Totals.{Totals}
 use Rattle.snap_fix.specs.declared.room.Room.{Room}
 use Rattle.snap_fix.specs.Asking.{AsksSpare}
+use Rattle.snap_fix.specs.Breaking.{MakesPartOf}
 use Rattle.snap_fix.specs.Facts.{StripeFacts}
 use Rattle.snap_fix.specs.FixRun.{AreAscending, FixesAll, HoldAllWrong}
 use Rattle.snap_fix.specs.Fixing.{AreTotals, FixScene, FixesStripe, MendsVault, SceneFits, Writes, facts_of, was_written}
@@ -32,6 +33,7 @@ use Rattle.snap_fix.specs.Spare.{SpareView}
 use Rattle.snap_fix.specs.State.{WellCall}
 use Rattle.snap_fix.specs.Underway.{AddsZeros, AreUnderway, HoldsWrong, IsMendCall, IsMendedLevel, mend_calls, stripe_calls}
 use Rattle.snap_fix.proofs.AskedLemmas.{asks_none, asks_then}
+use Rattle.snap_fix.proofs.BreakingLemmas.{part_then}
 use Rattle.snap_fix.proofs.FixCountLemmas.{count_append, parity_io_in_stripe}
 use Rattle.snap_fix.proofs.FolderCallLemmas.{makes_none}
 use Rattle.snap_fix.proofs.KeptStartsLemmas.{stood_none, stood_then, well_then}
@@ -141,6 +143,15 @@ writes_then plan xs ys old mid new (length_one, one) (length_two, two) = (length
     ]
 
 -- ---- all of it
+
+-- so much was made of the calls of some stripes, after those of others
+pub part_of_stripes : (plan : FixPlan) (xs ys : List Mended) (firsts more : List (List LevelReading)) (old mid new : VaultView)
+    → AreAllLevelsOf plan.table.shape.block_size old (facts_of xs) firsts → GoesOn old mid (mend_calls plan (facts_of xs) firsts) → MakesPartOf (mend_calls plan (facts_of ys) more) mid new
+    → MakesPartOf (mend_calls plan (facts_of (xs ++ ys)) (firsts ++ more)) old new
+part_of_stripes plan xs ys firsts more old mid new read ran part =
+    subst (λ (stripes : List StripeFacts). MakesPartOf (mend_calls plan stripes (firsts ++ more)) old new) (sym (facts_append xs ys))
+    (subst (λ (calls : List VaultDone). MakesPartOf calls old new) (sym (mend_calls_append plan plan.table.shape.block_size old (facts_of xs) (facts_of ys) firsts more read))
+    (part_then (mend_calls plan (facts_of xs) firsts) (mend_calls plan (facts_of ys) more) old mid new ran part))
 
 module _ {W R : Type 0} (view : W → SinkView) (standing : R → ReportView) (stands : R → List Event → Type 0) (plan : FixPlan) where
   pub fixes_none : (totals : Totals) (s : FixScene W R) → SceneFits plan s → AreTotals plan [] totals → FixesAll view standing stands plan [] s s totals

@@ -5,7 +5,7 @@ use Rattle.std.proofs.lemmas.List.{append-nil}
 use Rattle.disk_model.specs.Cause.{RoseBy}
 use Rattle.disk_model.specs.Folder.{FolderView}
 use Rattle.disk_model.specs.Sink.{SinkView}
-use Rattle.disk_model.specs.Vault.{VaultView, IsWellFormed}
+use Rattle.disk_model.specs.Vault.{VaultView, VaultCall, IsWellFormed}
 use Rattle.file_table.specs.Table.{TableValue}
 use Rattle.file_table.specs.Valid.{IsValid}
 use Rattle.file_table.proofs.PrefixLemmas.{AllPairs-left}
@@ -35,9 +35,10 @@ use Rattle.snap_fix.specs.Beginning.{Begins}
 use Rattle.snap_fix.specs.Checking.{plan_for}
 use Rattle.snap_fix.specs.Counts.{AreCounts}
 use Rattle.snap_fix.specs.Course.{IsPlan, Outside, outside}
-use Rattle.snap_fix.specs.Ending.{FinishesAll, FinishesNotAll, FinishesOne, SyncsNot, SyncsWritten, all_finish_news}
+use Rattle.snap_fix.specs.Breaking.{MakesPartOf}
+use Rattle.snap_fix.specs.Ending.{FinishesAll, FinishesNotAll, FinishesOne, SyncsNot, SyncsWritten, all_finish_news, written_syncs}
 use Rattle.snap_fix.specs.Findings.{opening_events}
-use Rattle.snap_fix.specs.FixCourse.{FixBreaks, FixFinds, Fixes, WritesFiles, Written, fix_events}
+use Rattle.snap_fix.specs.FixCourse.{FixBreaks, FixFinds, Fixes, WritesFiles, Written, fix_calls, fix_events, mend_syncs}
 use Rattle.snap_fix.specs.FixRun.{AreAscending, BreaksStripes, FixesStripes, HasBroken}
 use Rattle.snap_fix.specs.Fixing.{AreReadThen, FixScene, facts_of, fix_scene, was_written}
 use Rattle.snap_fix.specs.Known.{AreFacts}
@@ -47,14 +48,15 @@ use Rattle.snap_fix.specs.Plan.{FixPlan, starts_of, stripes_of}
 use Rattle.snap_fix.specs.Repairing.{outside as files_outside}
 use Rattle.snap_fix.specs.Spare.{SpareView}
 use Rattle.snap_fix.specs.State.{AnyCall, WellCall, first_states}
-use Rattle.snap_fix.specs.Underway.{AreFixable, AreUnderway, IsMendCall}
+use Rattle.snap_fix.specs.Underway.{AreFixable, AreUnderway, IsMendCall, done_well, mend_calls}
+use Rattle.snap_fix.proofs.BreakingLemmas.{part_all, part_more, part_then}
 use Rattle.snap_fix.proofs.FixCallLemmas.{fix_calls_of, fix_calls_of_writing}
 use Rattle.snap_fix.proofs.FixCountLemmas.{count_append}
 use Rattle.snap_fix.proofs.FixEventLemmas.{io_no_file, none_finishing, none_finishing_first, none_opening, parity_io_no_file}
 use Rattle.snap_fix.proofs.FixFilesLemmas.{fixes_files, planned, planned_done}
 use Rattle.snap_fix.proofs.FixIntoLemmas.{folder_gained, vault_gained}
 use Rattle.snap_fix.proofs.FixStartLemmas.{begun_underway, stripes_ascending, underway_begun}
-use Rattle.snap_fix.proofs.FixVaultLemmas.{fixes_vault, flag_is, mends_synced, rose_on}
+use Rattle.snap_fix.proofs.FixVaultLemmas.{fixes_ran, fixes_vault, flag_is, mends_synced, rose_on, syncs_are}
 use Rattle.snap_fix.proofs.FolderCallLemmas.{makes_any, makes_none}
 use Rattle.snap_fix.proofs.PresentLemmas.{StartsFitFolders, present_at_first, starts_fit_first}
 
@@ -152,6 +154,7 @@ module _ {W R : Type 0} (view : W → SinkView) (standing : R → ReportView) (s
           unread = broke.unread;
           unread_cells_of = λ d within. rose_listed d _ _ within (broke.unread_cells_of d within);
           spare = broke.spare;
+          ran = part_more (mend_calls plan (facts_of broke.stripes) broke.readings) (done_well (mend_syncs plan broke.stripes)) old.vault vault_mid broke.ran;
           vault = broke.vault;
           first = opening ++ broke.first;
           files = inl (record { rest = broke.rest; events = in_stripes opening (all_mended_events plan broke.stripes) broke.first broke.rest broke.events; makes = broke.makes });
@@ -197,9 +200,26 @@ module _ {W R : Type 0} (view : W → SinkView) (standing : R → ReportView) (s
           → RoseBy n (folder_at old.folders d).faults now
       rose_through d n now within rose later = rose_listed d n now within (rose_on n (folder_at mids d).faults (folder_at folders_mid d).faults now rose later)
 
+      -- the levels that are synced are those that were written
+      module _ (levels : List Bool) (levels_are : levels ≡ written_mid) (written_are : length written ≡ table.shape.levels)
+          (none_written : (r : ℕ) → r < length written → get_or written r false ≡ false) where
+        as_many_levels : length levels ≡ table.shape.levels
+        as_many_levels = ap length levels_are ∙ fixed.fixes.written.0 ∙ written_are
+
+        flags_are : (r : ℕ) → r < table.shape.levels → get_or levels r false ≡ was_written plan stripes r
+        flags_are r below =
+            let within : r < length written = omega (arith, below, written_are) in
+            ap (λ (all : List Bool). get_or all r false) levels_are ∙ flag_is plan stripes written written_mid fixed.fixes.written r within (none_written r within)
+
+        synced_part : MakesPartOf (done_well (written_syncs levels)) vault_mid vault_new → MakesPartOf (fix_calls plan stripes readings) old.vault vault_new
+        synced_part part = subst (λ (calls : List VaultCall). MakesPartOf (mend_calls plan (facts_of stripes) readings ++ done_well calls) old.vault vault_new)
+            (syncs_are plan stripes levels as_many_levels flags_are)
+            (part_then (mend_calls plan (facts_of stripes) readings) (done_well (written_syncs levels)) old.vault vault_mid vault_new fixed.fixes.ran part)
+
       -- a sync of a level failed
-      pub sync_broke : SyncsNot vault_mid vault_new → FixBreaks view standing stands mode selection names table old (outside folders_mid vault_new spare_mid lines_mid reports_mid) Vault
-      sync_broke not_synced =
+      pub sync_broke : (levels : List Bool) → levels ≡ written_mid → length written ≡ table.shape.levels → ((r : ℕ) → r < length written → get_or written r false ≡ false)
+          → SyncsNot (written_syncs levels) vault_mid vault_new → FixBreaks view standing stands mode selection names table old (outside folders_mid vault_new spare_mid lines_mid reports_mid) Vault
+      sync_broke levels levels_are written_are none_written not_synced =
           let sum = count_append is_parity_io opening mended in
           let none = none_opening is_parity_io parity_io_no_file plan in
           let before = fixed.fixes.parity_io in
@@ -220,6 +240,7 @@ module _ {W R : Type 0} (view : W → SinkView) (standing : R → ReportView) (s
             unread = rose_on (unread_in readings) old.vault.faults vault_mid.faults vault_new.faults fixed.fixes.unread not_synced.calls.goes_on.later;
             unread_cells_of = λ d within. rose_listed d _ _ within (fixed.unread d within);
             spare = fixed.fixes.spare;
+            ran = synced_part levels levels_are written_are none_written not_synced.ran;
             vault = mends_synced plan (facts_of stripes) old.vault vault_mid vault_new fixed.fixes.vault not_synced.calls not_synced.drafts not_synced.changes;
             first = opening ++ mended;
             files = inr (
@@ -252,11 +273,12 @@ module _ {W R : Type 0} (view : W → SinkView) (standing : R → ReportView) (s
             (told_then view standing stands table.columns mended news opened_lines lines_mid lines_end opened_reports reports_mid reports_new fixed.fixes.told told)
 
         -- a folder failed while files were finished
-        pub finish_broke : (disk : ℕ) (plan_then : FixPlan) → plan_then ≡ plan
+        pub finish_broke : levels ≡ written_mid → length written ≡ table.shape.levels → ((r : ℕ) → r < length written → get_or written r false ≡ false)
+            → (disk : ℕ) (plan_then : FixPlan) → plan_then ≡ plan
             → FinishesNotAll view standing stands plan_then (files_outside starts_mid states_mid folders_mid lines_mid reports_mid)
             (files_outside starts_new states_new folders_new lines_end reports_new) disk
             → FixBreaks view standing stands mode selection names table old (outside folders_new vault_new spare_mid lines_end reports_new) (Folder disk)
-        finish_broke disk plan_then same broke_then =
+        finish_broke levels_are written_are none_written disk plan_then same broke_then =
             let broke = subst (λ (p : FixPlan). FinishesNotAll view standing stands p (files_outside starts_mid states_mid folders_mid lines_mid reports_mid)
             (files_outside starts_new states_new folders_new lines_end reports_new) disk) same broke_then in
             let sum = count_append (is_io_of disk) opening (mended ++ broke.first) in
@@ -280,6 +302,9 @@ module _ {W R : Type 0} (view : W → SinkView) (standing : R → ReportView) (s
               unread = rose_on (unread_in readings) old.vault.faults vault_mid.faults vault_new.faults fixed.fixes.unread synced.syncs.some.goes_on.later;
               unread_cells_of = λ d within. rose_through d _ _ within (fixed.unread d within) (broke.makes d within).goes_on.later;
               spare = fixed.fixes.spare;
+              ran = part_all (fix_calls plan stripes readings) old.vault vault_new
+                  (fixes_ran plan stripes readings old.vault vault_mid vault_new levels (as_many_levels levels levels_are written_are none_written)
+                  (flags_are levels levels_are written_are none_written) synced fixed.fixes.ran);
               vault = mends_synced plan (facts_of stripes) old.vault vault_mid vault_new fixed.fixes.vault synced.syncs.some synced.syncs.drafts synced.syncs.changes;
               first = opening ++ (mended ++ broke.first);
               files = inr (
@@ -324,11 +349,8 @@ module _ {W R : Type 0} (view : W → SinkView) (standing : R → ReportView) (s
             let finish_news = all_finish_news plan finished.finishes in
             let told = told_with finish_news finished.told in
             let counted = and_all opening (mended ++ finish_news) opening_counted (and_news mended finish_news fixed.fixes.totals_are.counts finished.counts_are) in
-            let long : length levels ≡ table.shape.levels = ap length levels_are ∙ fixed.fixes.written.0 ∙ written_are in
-            let flags : (r : ℕ) → r < table.shape.levels → get_or levels r false ≡ was_written plan stripes r =
-            λ r below.
-            let within : r < length written = omega (arith, below, written_are) in
-            ap (λ (all : List Bool). get_or all r false) levels_are ∙ flag_is plan stripes written written_mid fixed.fixes.written r within (none_written r within) in
+            let long = as_many_levels levels levels_are written_are none_written in
+            let flags = flags_are levels levels_are written_are none_written in
             record {
               lists = begun.lists;
               mids = mids;

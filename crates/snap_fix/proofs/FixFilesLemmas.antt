@@ -1,5 +1,5 @@
 -- What a fix did to the files: all blocks were written, and then files were finished.
-use Rattle.std.proofs.Common.{◌≡◌, inl, ℕ, ◌<◌, List, length, map, ap, ◌∙◌, arith}
+use Rattle.std.proofs.Common.{◌≡◌, inl, ℕ, ◌<◌, List, [], length, map, IsTrue, sym, ap, ◌∙◌, subst, arith}
 use Rattle.std.specs.List.{range_with_len}
 use Rattle.std.proofs.lemmas.List.FromFn.{get_or-map-range_with_len}
 use Rattle.disk_model.specs.Folder.{FolderView}
@@ -9,12 +9,14 @@ use Rattle.stripe_reader.specs.Starts.{StartsValue, start_in, starts_at}
 use Rattle.snap_fix.specs.declared.finishing.Finish.{Finish}
 use Rattle.snap_fix.specs.declared.finishing.Finish.TheVariants.{Kept}
 use Rattle.snap_fix.specs.declared.state.FileState.{FileState}
-use Rattle.snap_fix.specs.Ending.{AreDone, FinishesColumn, finish_at, state_at, states_at}
+use Rattle.snap_fix.specs.Ending.{AreDone, FinishesColumn, column_calls, finish_at, state_at, states_at}
 use Rattle.snap_fix.specs.Finishing.{finish_of}
 use Rattle.snap_fix.specs.FixCourse.{FixesFiles, Written, WritesFiles}
 use Rattle.snap_fix.specs.Mended.{Mended}
 use Rattle.snap_fix.specs.Plan.{FixPlan, entry_at, records_in}
+use Rattle.snap_fix.specs.StripeOrder.{writes_after}
 use Rattle.snap_fix.proofs.FixCallLemmas.{fix_calls_of_all}
+use Rattle.snap_fix.proofs.OrderLemmas.{writes_then}
 
 -- ---- what is to be done to each file
 
@@ -48,4 +50,8 @@ fixes_files plan starts stripes firsts news written finishes writes folders fini
   folders = folders;
   calls = fix_calls_of_all plan starts stripes firsts news written writes finishes finished;
   finished = finished;
+  ordered = λ d below told.
+      let column = writes.underway.each d below in
+      writes_then (writes_after plan d (folder_at firsts d).tree [] stripes) (column_calls plan d (starts_at written.starts.columns d) (states_at written.states d))
+      (column.ordered told) ((finished d below).wrote (subst IsTrue (sym column.calls.goes_on.tells) told));
 }

@@ -2,10 +2,10 @@
 use Rattle.std.proofs.Common.{◌≡◌, ℕ, ◌+◌, ◌<◌, ◌≤◌, List, [], ◌∷◌, length, map, take, get_or, Bool, IsTrue, refl, sym, ap, ◌∙◌, subst, arith, cond}
 use Rattle.std.specs.List.{count_by}
 use Rattle.std.proofs.Math.ListN.{get_or-map as get_or-map-at}
-use Rattle.std.proofs.lemmas.List.{length-map, get_or-map, ext_get_or, get_or-take, length-take-le}
+use Rattle.std.proofs.lemmas.List.{append-nil, length-map, get_or-map, ext_get_or, get_or-take, length-take-le}
 use Rattle.std.proofs.lemmas.List.Sums.{sum_by-take-le}
 use Rattle.disk_model.specs.Cause.{RoseBy}
-use Rattle.disk_model.specs.Folder.{FolderView}
+use Rattle.disk_model.specs.Folder.{FolderView, FolderCall}
 use Rattle.disk_model.specs.Tree.{Tree}
 use Rattle.file_table.specs.declared.shape.Shape.{Shape}
 use Rattle.stripe_reader.specs.Column.{IsReadingOf, ReadsColumn, no_task}
@@ -22,12 +22,15 @@ use Rattle.snap_fix.specs.Fixing.{IsCellRead, facts_of}
 use Rattle.snap_fix.specs.Looking.{facts_at, no_facts, slots_of, unread_cells}
 use Rattle.snap_fix.specs.Marks.{slots_at}
 use Rattle.snap_fix.specs.Mended.{Mended, column_writes}
+use Rattle.snap_fix.specs.Order.{FolderWrites}
 use Rattle.snap_fix.specs.Plan.{FixPlan, records_in}
 use Rattle.snap_fix.specs.State.{WellCall, FolderMakes, HoldsColumn}
+use Rattle.snap_fix.specs.StripeOrder.{writes_after}
 use Rattle.snap_fix.specs.Underway.{AreUnderway, FixUnderway, IsMendCall}
 use Rattle.stripe_reader.specs.Starts.{starts_at}
 use Rattle.snap_fix.proofs.FixCountLemmas.{count_cons, failed_in, slot_unread, unread_slots}
 use Rattle.snap_fix.proofs.FolderCallLemmas.{calls_then, makes_column_reading, makes_some}
+use Rattle.snap_fix.proofs.OrderLemmas.{column_read, writes_then}
 
 -- ---- the calls of a reading
 
@@ -63,6 +66,10 @@ module _ (plan : FixPlan) (starts : StartsValue) (numbers : List ℕ) (before wi
           sizes = its.sizes;
           wrote = its.wrote;
           touched = its.touched;
+          ordered = λ told.
+              let writes : List FolderCall = writes_after plan d first.tree [] stripes in
+              subst (λ (calls : List FolderCall). FolderWrites calls first (folder_at mids d)) (append-nil writes)
+              (writes_then writes [] (its.ordered told) (column_read _ _ (read.each d (near d below)).folder));
         };
   }
 

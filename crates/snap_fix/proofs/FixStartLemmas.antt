@@ -29,6 +29,7 @@ use Rattle.snap_fix.specs.Place.{found_in, is_blocked, start_of}
 use Rattle.snap_fix.specs.Plan.{FixPlan, column_entries, column_starts, entries_of, entry_at, entry_in, entry_of, is_looked_at, no_entry, plan_of, records_in, starts_of, stripes_of}
 use Rattle.snap_fix.specs.State.{HoldsColumn, first_state, first_states, no_state, record_path}
 use Rattle.snap_fix.specs.Underway.{AreFixable, AreUnderway}
+use Rattle.snap_fix.proofs.OrderLemmas.{writes_none}
 use Rattle.snap_fix.proofs.CourseLemmas.{starts_fit}
 use Rattle.snap_fix.proofs.FixTreeLemmas.{found_tree, free_of, untouched}
 use Rattle.snap_fix.proofs.FolderCallLemmas.{some_none}
@@ -171,6 +172,7 @@ module _ (selection : Selection) (names : List (List ℕ)) (table : TableValue) 
           ap (λ (state : FileState). state.size) (state_begun table lists d within i below) ∙ sym (ap (λ (start : Start). start.size) (start_begun table lists d within i below));
       wrote = λ i below some. let clash : false ≡ true = some in absurd cc;
       touched = λ told i below. ap (λ (state : FileState). state.touched) (state_begun table lists d within i below);
+      ordered = λ told. writes_none (folder_at mids d);
     };
   }
 

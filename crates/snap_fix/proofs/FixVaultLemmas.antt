@@ -6,15 +6,16 @@ use Rattle.disk_model.specs.Files.{Files, Stays, parity_of}
 use Rattle.disk_model.specs.Vault.{VaultView, VaultCall, VaultDone, GoesOn, SomeCalls, ChangesBy, DraftsStay, IsWellFormed}
 use Rattle.disk_model.proofs.VaultLemmas.{calls_then, then_stays}
 use Rattle.parity_writer.specs.LevelReading.{LevelReading}
-use Rattle.snap_fix.specs.Ending.{IsSettled, Syncs, SyncsWritten, sync_call, sync_if, written_syncs}
+use Rattle.snap_fix.specs.Ending.{IsSettled, SyncsWritten, sync_call, sync_if, written_syncs}
 use Rattle.snap_fix.specs.Facts.{StripeFacts}
-use Rattle.snap_fix.specs.FixCourse.{FixesVault, mend_syncs}
+use Rattle.snap_fix.specs.FixCourse.{FixesVault, fix_calls, mend_syncs}
 use Rattle.snap_fix.specs.FixRun.{HoldAllWrong}
 use Rattle.snap_fix.specs.Fixing.{MendsVault, Writes, facts_of, was_written}
 use Rattle.snap_fix.specs.Looking.{unread_in}
 use Rattle.snap_fix.specs.Mended.{Mended}
 use Rattle.snap_fix.specs.Plan.{FixPlan}
 use Rattle.snap_fix.specs.Underway.{AddsZeros, HoldsWrong, IsMendedLevel, KeepsLevels, done_well, mend_calls}
+use Rattle.snap_fix.proofs.EndingSyncLemmas.{syncs_go_on}
 
 -- ---- what stays of what was done
 
@@ -69,22 +70,12 @@ flag_is plan stripes before after writes r within none =
     by (inl is) = let clash : false ≡ true = sym none ∙ is in absurd cc
     by (inr was) = was
 
-syncs_are : (plan : FixPlan) (stripes : List Mended) (levels : List Bool) → length levels ≡ plan.table.shape.levels
+pub syncs_are : (plan : FixPlan) (stripes : List Mended) (levels : List Bool) → length levels ≡ plan.table.shape.levels
     → ((r : ℕ) → r < plan.table.shape.levels → get_or levels r false ≡ was_written plan stripes r) → written_syncs levels ≡ mend_syncs plan stripes
 syncs_are plan stripes levels long flags =
     ap (λ (n : ℕ). flat_map (sync_call levels) (range_with_len 0 n)) long
     ∙ same_over (sync_call levels) (λ (r : ℕ). sync_if (was_written plan stripes r) r) 0 plan.table.shape.levels
     (λ r below. ap (λ (written : Bool). sync_if written r) (flags r (omega (arith, below))))
-
--- just these calls were made
-syncs_go_on : (calls : List VaultCall) (old new : VaultView) → Syncs calls old new → GoesOn old new (done_well calls)
-syncs_go_on calls old new syncs = record {
-  later = syncs.ran.later;
-  levels = syncs.some.goes_on.levels;
-  copies = syncs.some.goes_on.copies;
-  tells = syncs.some.goes_on.tells;
-  calls = syncs.ran.grown;
-}
 
 -- and these after others
 calls_on : (old mid new : VaultView) (one two : List VaultDone) → GoesOn old mid one → GoesOn mid new two → GoesOn old new (one ++ two)
@@ -107,13 +98,17 @@ module _ (plan : FixPlan) (stripes : List Mended) (readings : List (List LevelRe
   abbrev facts : List StripeFacts
   facts = facts_of stripes
 
+  -- all calls were made
+  pub fixes_ran : GoesOn old mid (mend_calls plan facts readings) → GoesOn old new (fix_calls plan stripes readings)
+  fixes_ran ran = subst (λ (calls : List VaultCall). GoesOn old new (mend_calls plan facts readings ++ done_well calls)) (syncs_are plan stripes levels long flags)
+      (calls_on old mid new (mend_calls plan facts readings) (done_well (written_syncs levels)) ran (syncs_go_on (written_syncs levels) mid new synced.syncs))
+
   -- The levels that were written anew are synced.
   pub fixes_vault : IsWellFormed new → GoesOn old mid (mend_calls plan facts readings) → RoseBy (unread_in readings) old.faults mid.faults → MendsVault plan facts old mid
       → (IsTrue old.tells → AddsZeros plan.table.shape.block_size (IsMendedLevel plan facts) old.files mid.files) → HoldAllWrong plan facts mid
       → FixesVault plan stripes readings old new
   fixes_vault formed ran unread mends zeros holds = record {
-    ran = subst (λ (calls : List VaultCall). GoesOn old new (mend_calls plan facts readings ++ done_well calls)) (syncs_are plan stripes levels long flags)
-        (calls_on old mid new (mend_calls plan facts readings) (done_well (written_syncs levels)) ran (syncs_go_on (written_syncs levels) mid new synced.syncs));
+    ran = fixes_ran ran;
     unread = rose_on (unread_in readings) old.faults mid.faults new.faults unread synced.syncs.some.goes_on.later;
     mends = mends_synced plan facts old mid new mends synced.syncs.some synced.syncs.drafts synced.syncs.changes;
     zeros = λ told. subst (AddsZeros plan.table.shape.block_size (IsMendedLevel plan facts) old.files) (sym (synced.syncs.changes.reads (mends.calls.goes_on.tells ∙ told))) (zeros told);

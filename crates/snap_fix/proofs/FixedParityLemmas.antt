@@ -126,6 +126,7 @@ module _ {W R : Type 0} (view : W → SinkView) (standing : R → ReportView) (s
         call = mends.call;
         calls = mends.calls;
         drafts = mends.drafts;
+        ran = mends.ran facts shown;
         first = events.0;
         rest = events.1;
         events = events.2;

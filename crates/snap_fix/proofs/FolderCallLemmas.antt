@@ -1,14 +1,14 @@
 -- Calls of a folder, one after another, and the two names of a record that they touch.
-use Rattle.std.proofs.Common.{◌≡◌, Bool, true, false, List, [], ◌∷◌, ◌++◌, All, IsTrue, refl, sym, ap, ◌∙◌, subst, arith, Option, None, Some, ℕ, get_or, if◌then◌else◌}
+use Rattle.std.proofs.Common.{◌≡◌, Bool, true, false, List, [], ◌∷◌, ◌++◌, All, refl, sym, ap, ◌∙◌, subst, arith, Option, None, Some, ℕ, get_or, if◌then◌else◌}
 use Rattle.std.proofs.lemmas.List.{append-nil}
 use Rattle.std.proofs.lemmas.List.Elements.{All-append, All-cons, All-nil}
 use Rattle.std.specs.FinMap as map
-use Rattle.disk_model.specs.Folder.{FolderView, FolderCall, FolderDone, FolderGoesOn, Look, ReadAt, IsFolder, IsFolderReading, TreeStays, SomeFolderCalls}
+use Rattle.disk_model.specs.Folder.{FolderView, FolderCall, FolderDone, FolderGoesOn, Look, ReadAt, IsFolder, TreeStays, SomeFolderCalls}
 use Rattle.disk_model.specs.Stopped.{MayBeLeft}
-use Rattle.disk_model.specs.Tree.{Tree, File, IsTree, file_of, path_of}
+use Rattle.disk_model.specs.Tree.{Tree, File, file_of, path_of}
 use Rattle.disk_model.specs.Writing.{ChangesFile, IsFolderWrite, made, or_added, moved, renamed}
 use Rattle.disk_model.specs.declared.meta.Stamp.{Stamp}
-use Rattle.disk_model.proofs.AnsweredLemmas.{write_is_left, reading_is_left, left_then, left_later, left_is_tree}
+use Rattle.disk_model.proofs.AnsweredLemmas.{write_is_left, left_then, left_later, left_is_tree}
 use Rattle.disk_model.proofs.TreeLemmas.{set_other, gone_other, own_name}
 use Rattle.snap_report.specs.Answer.{broke_folder, is_reading}
 use Rattle.stripe_reader.specs.Column.{ReadsBy}
@@ -36,14 +36,6 @@ makes_write P {call = call} {failed = failed} {old = old} {new = new} formed wro
   left = λ told tree. write_is_left call failed old new told formed wrote;
 }
 
-pub makes_read : (P : FolderDone → Type 0) {call : FolderCall} {failed : Bool} {old new : FolderView} → IsFolder new → IsFolderReading call failed old new → P (record { call = call; failed = failed }) → FolderMakes P old new
-makes_read P {call = call} {failed = failed} {old = old} {new = new} formed read is = record {
-  done = record { call = call; failed = failed } ∷ [];
-  each = All-cons P _ [] is (All-nil P);
-  goes_on = read.called.goes_on;
-  left = λ told tree. reading_is_left call failed old new told formed read;
-}
-
 pub makes_then : (P : FolderDone → Type 0) {old mid new : FolderView} → FolderMakes P old mid → FolderMakes P mid new → FolderMakes P old new
 makes_then P {old = old} {mid = mid} {new = new} one two = record {
   done = one.done ++ two.done;
@@ -57,10 +49,6 @@ makes_then P {old = old} {mid = mid} {new = new} one two = record {
 
 pub makes_wider : (P Q : FolderDone → Type 0) {old new : FolderView} → ((done : FolderDone) → P done → Q done) → FolderMakes P old new → FolderMakes Q old new
 makes_wider P Q wider one = record { done = one.done; each = λ k d within. wider (get_or one.done k d) (one.each k d within); goes_on = one.goes_on; left = one.left }
-
--- a tree that is told stays one
-pub makes_tree : (P : FolderDone → Type 0) {old new : FolderView} → FolderMakes P old new → IsTrue old.tells → IsTree old.tree → IsTree new.tree
-makes_tree P {old = old} {new = new} one told is = left_is_tree old.keeps_stamps one.done old.tree new.tree is (one.left told is)
 
 pub makes_some : (P : FolderDone → Type 0) {old new : FolderView} → FolderMakes P old new → SomeFolderCalls old new
 makes_some P one = record { done = one.done; goes_on = one.goes_on }

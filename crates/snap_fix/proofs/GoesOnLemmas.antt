@@ -1,5 +1,5 @@
 -- What each call of a mended record makes of its folder, and what comes of several.
-use Rattle.std.proofs.Common.{append_assoc, ◌||◌, ◌≡◌, inl, inr, ℕ, ◌+◌, max, List, [], ◌∷◌, ◌++◌, length, Bool, true, false, IsTrue, Result, Ok, Err, refl, sym, ◌∙◌, ap, subst, arith}
+use Rattle.std.proofs.Common.{append_assoc, ◌||◌, ◌≡◌, inl, inr, ℕ, ◌+◌, max, List, [], ◌∷◌, ◌++◌, length, Bool, true, false, IsTrue, if◌then◌else◌, Result, Ok, Err, refl, sym, ◌∙◌, ap, subst, arith}
 use Rattle.std.proofs.lemmas.List.{append-nil}
 use Rattle.std.specs.Prelude.{IfErr}
 use Rattle.std.specs.Result.{IsErrAnd}
@@ -16,9 +16,11 @@ use Rattle.stripe_reader.specs.declared.starts.Place.{Place}
 use Rattle.stripe_reader.specs.declared.starts.Place.TheVariants.{Lost, Nowhere}
 use Rattle.snap_fix.specs.declared.state.FileState.{FileState}
 use Rattle.snap_fix.specs.Mending.{IsSetUpCall, IsBlockCall, CanSetUp, GoesOnBy, SetsUp, WritesBytes, BreaksOff, EndsBy}
+use Rattle.snap_fix.specs.Order.{FolderWrites, put_calls, set_up_calls}
 use Rattle.snap_fix.specs.State.{AnyCall, WellCall, Write, FolderMakes, HoldsRecord, StaysPlace, stands}
-use Rattle.snap_fix.proofs.FolderCallLemmas.{makes_none, makes_then, makes_well_write, makes_any_write, makes_any, makes_well_wider, makes_any_wider, others_same, others_then, others_changed, others_made, others_renamed}
+use Rattle.snap_fix.proofs.FolderCallLemmas.{makes_none, makes_then, makes_well_write, makes_any_write, makes_any, makes_well_wider, others_same, others_then, others_changed, others_made, others_renamed}
 use Rattle.snap_fix.proofs.MendedRecordLemmas.{plain_start, touched_state, written_state, lost_there, plain_there, renamed_back, made_anew, written_more}
+use Rattle.snap_fix.proofs.OrderLemmas.{writes_none, writes_one, writes_then}
 
 -- the fault of a call that is handed on
 pub handed_on : {T E : Type 0} (result : Result T E) (Q : E → Type 0) (fault : E) → IsErrAnd result (λ e. e ≡ fault) → Q fault → IfErr result Q
@@ -44,7 +46,11 @@ module _ (path : List ℕ) (start : Start) (state : FileState) (old : FolderView
   }
 
   pub sets_up_nothing : stands start.place state.touched ≡ true → SetsUp path start state old start state old
-  sets_up_nothing stand = record { goes_on = goes_nowhere (IsSetUpCall start.place path); there = λ told. stand }
+  sets_up_nothing stand = record {
+    goes_on = goes_nowhere (IsSetUpCall start.place path);
+    there = λ told. stand;
+    wrote = subst (λ (standing : Bool). FolderWrites (if standing then [] else set_up_calls start.place path) old old) (sym stand) (writes_none old);
+  }
 
   -- renamed back
   pub sets_up_renamed : (new : FolderView) → IsFolder new → start.place ≡ Lost → IsFolderWrite (Rename path false) false old new
@@ -62,6 +68,7 @@ module _ (path : List ℕ) (start : Start) (state : FileState) (old : FolderView
       others = λ told. others_renamed path old.tree new.tree (call.does refl told);
     };
     there = λ told. refl;
+    wrote = subst (λ (place : Place). FolderWrites (put_calls place state.touched path) old new) (sym lost) (writes_one (Rename path false) refl call);
   }
 
   -- made
@@ -80,6 +87,8 @@ module _ (path : List ℕ) (start : Start) (state : FileState) (old : FolderView
       others = λ told. let made = call.does refl told in others_made path made.0 old.tree new.tree made.1;
     };
     there = λ told. ap (λ (place : Place). stands place true) nowhere;
+    wrote = subst (λ (place : Place). FolderWrites (put_calls place state.touched path) old new) (sym nowhere)
+        (subst (λ (touched : Bool). FolderWrites (put_calls Nowhere touched path) old new) (sym untouched) (writes_one (Make path) refl call));
   }
 
   -- nothing is known of the files
@@ -136,23 +145,6 @@ breaks_then P old mid new makes broke = record {
         or_right true b is = cc
         or_right false b is = is
 
-pub ends_wider : (P Q : FolderCall → Type 0) (fault : FileFault) (path : List ℕ) (start : Start) (state : FileState) (old : FolderView) (start_new : Start) (state_new : FileState) (new : FolderView)
-    → ((call : FolderCall) → P call → Q call) → EndsBy fault P path start state old start_new state_new new → EndsBy fault Q path start state old start_new state_new new
-ends_wider P Q Failed path start state old start_new state_new new wider ends = record { rose = ends.rose; call = ends.call; makes = makes_any_wider P Q wider ends.makes }
-ends_wider P Q Missing path start state old start_new state_new new wider ends = record {
-  untold = ends.untold;
-  goes_on = let goes = ends.goes_on in record {
-    makes = makes_well_wider P Q wider goes.makes;
-    same_size = goes.same_size;
-    stood = goes.stood;
-    size = goes.size;
-    same_lost = goes.same_lost;
-    stays_touched = goes.stays_touched;
-    holds = goes.holds;
-    others = goes.others;
-  };
-}
-
 -- ---- the answers of the two functions
 
 module _ (path : List ℕ) (start : Start) (state : FileState) (old : FolderView) (can : CanSetUp path start state old) where
@@ -203,6 +195,7 @@ module _ (path : List ℕ) (start : Start) (state : FileState) (old : FolderView
         others = λ told. others_then path old.tree mid.tree new.tree (set.goes_on.others told) (others_changed path _ mid.tree new.tree (call.does refl (told_then told)));
       };
       touched = refl;
+      wrote = writes_then (put_calls start.place state.touched path) (WriteAt path at bytes ∷ []) set.wrote (writes_one (WriteAt path at bytes) refl call);
     }
 
     -- the file was gone, or the write failed

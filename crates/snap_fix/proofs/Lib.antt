@@ -11,6 +11,8 @@ pub mod CheckLemmas
 pub mod SearchChoices
 pub mod SearchBlocks
 pub mod SearchRight
+pub mod SharingLemmas
+pub mod JudgingLemmas
 pub mod SearchAccepted
 pub mod SearchLemmas
 pub mod SearchExamples
@@ -41,7 +43,6 @@ pub mod KnowLemmas
 pub mod ShownLemmas
 pub mod KnowRemainders
 pub mod KnowFilled
-pub mod MarkLemmas
 pub mod AskingLemmas
 pub mod FixedParityLemmas
 pub mod FixedVaultLemmas
@@ -92,3 +93,7 @@ pub mod RestoredEvents
 pub mod RestoredRest
 pub mod FoundLemmas
 pub mod ModeLemmas
+mod ByModeLemmas
+mod OrderLemmas
+mod StripeOrderLemmas
+mod BreakingLemmas

@@ -143,6 +143,7 @@ module _ (table : TableValue) (d : ℕ) (cell : Cell) (bytes : List ℕ) (starts
             touched = λ is. written.touched;
             stays_touched = goes_on.stays_touched;
             there = λ told. refl;
+            wrote = λ is. written.wrote;
             makes = goes_on.makes;
             holds = λ first writes same free tree held told.
                 let here : IsTrue folder.tells = subst IsTrue same told in
@@ -171,6 +172,7 @@ module _ (table : TableValue) (d : ℕ) (cell : Cell) (bytes : List ℕ) (starts
             touched = λ is. absurd cc;
             stays_touched = finds.goes_on.stays_touched;
             there = λ told. absurd (clash told);
+            wrote = λ is. absurd (let none : false ≡ true = is in cc);
             makes = finds.goes_on.makes;
             holds = λ first writes same free tree held told. absurd (clash (subst IsTrue same told));
           }

@@ -1,11 +1,13 @@
 -- The wrong levels of a stripe, written one after another.
-use Rattle.std.proofs.Common.{◌≡◌, inl, inr, ℕ, ◌+◌, ◌*◌, ◌<◌, ◌≤◌, List, [], ◌∷◌, ◌++◌, length, get_or, Bool, true, false, if◌then◌else◌, IsTrue, Option, None, Some, refl, sym, ◌∙◌, ap, ap₂, subst, arith}
+use Rattle.std.proofs.Common.{◌≡◌, inl, inr, ℕ, ◌+◌, ◌*◌, ◌<◌, ◌≤◌, List, [], ◌∷◌, ◌++◌, length, get_or, Bool, true, false, if◌then◌else◌, IsTrue, Option, None, Some, refl, sym, ◌∙◌, ap, ap₂, subst, append_assoc, arith}
 use Rattle.std.specs.List.{range_with_len, count_by, flat_map}
 use Rattle.std.specs.Prelude.{◌&&◌}
 use Rattle.std.proofs.lemmas.Bool.{cases_eq, cases_lt}
 use Rattle.std.proofs.lemmas.Grind.{flat_map-append}
 use Rattle.std.proofs.lemmas.List.{append-nil, get_or_past, map-append}
+use Rattle.array_scan.proofs.PlacingLemmas.{flat_range_more}
 use Rattle.cauchy.specs.Matrix.{parity_of as level_of}
+use Rattle.disk_model.specs.Cause.{Rose}
 use Rattle.disk_model.specs.Bytes.{put}
 use Rattle.disk_model.specs.Files.{Files, parity_of, with_parity, TearsParity}
 use Rattle.disk_model.specs.Ran.{vault_done}
@@ -25,16 +27,19 @@ use Rattle.snap_report.specs.Report.{ReportView}
 use Rattle.snap_report.specs.Told.{Told}
 use Rattle.snap_report.specs.declared.events.Event.{Event}
 use Rattle.snap_report.specs.declared.events.Event.TheVariants.{FixedParity}
+use Rattle.snap_report.specs.declared.pages.Lines.{Lines}
 use Rattle.snap_report.proofs.ToldLemmas.{told_then, told_nothing}
 use Rattle.stripe_reader.specs.WindowValue.{WindowValue}
+use Rattle.snap_fix.specs.Breaking.{MakesPartOf}
 use Rattle.snap_fix.specs.Facts.{StripeFacts}
 use Rattle.snap_fix.specs.Findings.{is_wrong, is_wrong_by}
 use Rattle.snap_fix.specs.Marks.{row_if}
 use Rattle.snap_fix.specs.Mended.{is_wrong_level, level_news}
 use Rattle.snap_fix.specs.Plan.{FixPlan, selects_level}
-use Rattle.snap_fix.specs.Repairing.{LevelsOutside, ShowsLevels, MendsLevels, MendsNotLevels}
+use Rattle.snap_fix.specs.Repairing.{LevelsOutside, ShowsLevels, MendsLevels, MendsNotLevels, levels_outside}
 use Rattle.snap_fix.specs.RepairSteps.{WritesLevel, WritesNotLevel}
-use Rattle.snap_fix.specs.Underway.{AddsZeros, KeepsLevels, IsMendedLevel, HoldsWrong, done_well, level_write, wrong_write}
+use Rattle.snap_fix.specs.Underway.{AddsZeros, KeepsLevels, IsMendedLevel, HoldsWrong, done_well, level_write, wrong_write, wrong_writes}
+use Rattle.snap_fix.proofs.BreakingLemmas.{flat_split, part_fails}
 use Rattle.snap_fix.proofs.LookingLemmas.{vault_goes_on}
 use Rattle.snap_fix.proofs.SelectLemmas.{range_more}
 use Rattle.snap_fix.proofs.StripeLemmas.{level_of_first, levels_as_many}
@@ -63,7 +68,7 @@ module _ {W R : Type 0} (view : W → SinkView) (standing : R → ReportView) (s
       ap₂ (λ (n : ℕ) (xs : List ℕ). put (parity_of old.vault.files r) n xs) at_is bytes_are in
       record {
         calls = one_call old.vault new.vault _ goes_on;
-        ran = ran_write r at bytes (stripe * size) (level_of r size row) old.vault new.vault at_is bytes_are goes_on;
+        ran = ran_write r at bytes (stripe * size) (level_of r size row) false old.vault new.vault at_is bytes_are goes_on;
         drafts = drafts;
         changes = torn_there changes;
         put = λ tells.
@@ -73,6 +78,23 @@ module _ {W R : Type 0} (view : W → SinkView) (standing : R → ReportView) (s
             (written_level size r stripe row (parity_of old.vault.files r));
         told = told;
       }
+
+-- a write that failed
+module _ {W R : Type 0} (view : W → SinkView) (standing : R → ReportView) (stands : R → List Event → Type 0) (columns : List Column)
+    (size stripe r at : ℕ) (row : Row) (bytes : List ℕ) (old new : VaultView) (lines : Lines W) (reports : List R) (at_is : at ≡ stripe * size) (long : length bytes ≡ size) where
+  pub level_not_written : bytes ≡ level_of r size row → Rose old.faults new.faults
+      → GoesOn old new (record { call = ParityWrite r at bytes; failed = true } ∷ [])
+      → ChangesBy (TearsParity r at (length bytes)) old new → DraftsStay old new
+      → WritesNotLevel view standing stands columns size stripe r row (levels_outside old lines reports) (levels_outside new lines reports)
+  level_not_written bytes_are rose goes_on changes drafts = record {
+    rose = rose;
+    call = λ tells. record { gained = _; now_is = goes_on.calls.more tells; one = cc };
+    calls = one_call old new _ goes_on;
+    ran = ran_write r at bytes (stripe * size) (level_of r size row) true old new at_is bytes_are goes_on;
+    drafts = drafts;
+    changes = torn_there view standing stands columns size stripe r at row bytes (levels_outside old lines reports) (levels_outside new lines reports) at_is long changes;
+    told = told_nothing view standing stands columns lines reports;
+  }
 
 -- ---- what is wrong
 
@@ -158,6 +180,18 @@ module _ {W R : Type 0} (view : W → SinkView) (standing : R → ReportView) (s
   one_written : (r : ℕ) (row : Row) → facts.row ≡ Some row → is_wrong_level plan facts r ≡ true → wrong_write plan facts facts.row r ≡ level_write plan facts row r ∷ []
   one_written r row is wrong =
       ap (λ (of : Option Row). wrong_write plan facts of r) is ∙ ap (λ (b : Bool). if b then level_write plan facts row r ∷ [] else []) wrong
+
+  -- the write of one more wrong level failed
+  pub levels_not : (r : ℕ) (row : Row) (old mid new : VaultView) → is_wrong_level plan facts r ≡ true → facts.row ≡ Some row → r < length facts.levels
+      → GoesOn old mid (done_well (writes_to r)) → GoesOn mid new (vault_done (level_write plan facts row r) true ∷ []) → MakesPartOf (done_well (wrong_writes plan facts)) old new
+  levels_not r row old mid new wrong row_is below so_far fails =
+      let call : VaultCall = level_write plan facts row r in
+      let split = flat_split (wrong_write plan facts facts.row) (r + 1) (length facts.levels) (omega (arith, below)) in
+      let here : writes_to (r + 1) ≡ writes_to r ++ call ∷ [] =
+      sym (flat_range_more (wrong_write plan facts facts.row) r) ∙ ap (λ (more : List VaultCall). writes_to r ++ more) (one_written r row row_is wrong) in
+      let whole : wrong_writes plan facts ≡ writes_to r ++ call ∷ split.0 =
+      split.1 ∙ ap (λ (calls : List VaultCall). calls ++ split.0) here ∙ append_assoc (writes_to r) (call ∷ []) split.0 in
+      subst (λ (calls : List VaultCall). MakesPartOf (done_well calls) old new) (sym whole) (part_fails (writes_to r) split.0 call old mid new so_far fails)
 
   pub levels_none : (s : LevelsOutside W R) → LevelsSoFar 0 0 s s
   levels_none s = record {
@@ -268,7 +302,7 @@ module _ {W R : Type 0} (view : W → SinkView) (standing : R → ReportView) (s
       → (r count : ℕ) (old mid new : LevelsOutside W R) → r < levels.count → levels.count ≤ length levels.levels
       → is_wrong plan stripe (level_at levels r) (row_if known window i) r ≡ true
       → SomeCalls old.vault mid.vault → DraftsStay old.vault mid.vault
-      → WritesNotLevel view standing stands plan.table.columns size stripe r mid new
+      → WritesNotLevel view standing stands plan.table.columns size stripe r (row_at window i) mid new
       → ((facts : StripeFacts) → ShowsLevels facts stripe i window levels known → LevelsSoFar view standing stands plan facts r count old mid)
       → MendsNotLevels view standing stands plan stripe i window levels known old new
   mends_not stripe i window levels known size size_is r count old mid new below room wrong calls drafts fails so_far = record {
@@ -276,6 +310,12 @@ module _ {W R : Type 0} (view : W → SinkView) (standing : R → ReportView) (s
     call = λ tells. gained_later calls.goes_on.calls (fails.call tells) (fails.calls.goes_on.calls.told tells);
     calls = calls_then old.vault mid.vault new.vault calls fails.calls;
     drafts = drafts_then old.vault mid.vault new.vault calls.goes_on.tells drafts fails.drafts;
+    ran = λ facts shows.
+        levels_not view standing stands plan facts r (row_at window i) old.vault mid.vault new.vault (wrong_shown plan facts stripe i r window levels known shows below ∙ wrong)
+        (shows.row ∙ ap (λ (k : Bool). row_if k window i) (known_where_wrong plan stripe i r (level_at levels r) known window wrong))
+        (omega (arith, below, many facts shows)) (so_far facts shows).ran
+        (subst (λ (n : ℕ). GoesOn mid.vault new.vault (vault_done (ParityWrite r (facts.stripe * n) (level_of r n (row_at window i))) true ∷ [])) size_is
+        (subst (λ (s : ℕ). GoesOn mid.vault new.vault (vault_done (ParityWrite r (s * size) (level_of r size (row_at window i))) true ∷ [])) (sym shows.stripe_is) fails.ran));
     events = λ facts shows.
         let split = events_split (level_news plan facts) r (length facts.levels) (omega (arith, below, many facts shows)) in (
           events_to (level_news plan facts) r,

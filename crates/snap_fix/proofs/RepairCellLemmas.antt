@@ -26,12 +26,15 @@ use Rattle.snap_fix.specs.Mended.{Mended, known_block, block_or_none, is_repaire
 use Rattle.snap_fix.specs.Mending.{StatesFit, IsBlockCall, CanWrite, block_start, cell_path, mended_writes, with_state}
 use Rattle.snap_fix.specs.Plan.{FixPlan, cell_at, entry_at, records_in, has_selected, is_in_scope, selects_cell}
 use Rattle.snap_fix.specs.RepairSteps.{ColumnOutside, IsMendedAs, CanMendColumn, MendsColumn, MendsNotColumn, WritesBlockOf, WritesNotBlockOf, is_repaired_by, is_lost_by}
+use Rattle.snap_fix.specs.Order.{FolderWrites, block_calls}
 use Rattle.snap_fix.specs.State.{WellCall, Write, HoldsTold, FolderMakes, KeepsStarts, has_some, size_after, state_in}
+use Rattle.snap_fix.specs.StripeOrder.{stripe_writes}
 use Rattle.snap_fix.specs.Underway.{IsForRecord, IsMendCall, IsColumnUnderway, ShowsFacts, is_damaged_mark, is_given_mark}
 use Rattle.snap_fix.proofs.FolderCallLemmas.{makes_none, makes_some, makes_well_wider, makes_any_wider, some_none}
 use Rattle.snap_fix.proofs.MendedFactsLemmas.{and_parts, block_known, repaired_shown, lost_shown, writes_same, writes_more, loses_by}
 use Rattle.snap_fix.proofs.RepairLemmas.{RecordGoesOn, record_still, column_lost, underway_more, state_same, state_other, row_same, states_fit-with, starts_fit-with}
 use Rattle.snap_fix.proofs.StartsKeptLemmas.{keeps_starts_same, keeps_starts_with}
+use Rattle.snap_fix.proofs.StripeOrderLemmas.{cell_written, nothing_written}
 use Rattle.snap_fix.proofs.TellingLemmas.{told_as}
 use Rattle.snap_fix.proofs.WritesLemmas.{writes_in-none, writes_in-other, writes_in-here}
 use Rattle.snap_fix.proofs.RepairMarkLemmas.{and_false, or_true, or_swap, both, not_blocked, not_lost_by}
@@ -102,7 +105,8 @@ module _ {W R : Type 0} (view : W → SinkView) (standing : R → ReportView) (s
           (λ k within. record_still plan d k mended old.folder.tells old.starts old.starts old.states old.states
           (sym (ap (λ (b : Bool). (state_in old.states d k).lost || b) (loses_then false lost_not mended shown k ∙ and_false (is_of k (cell_at plan mended.facts.stripe d)))
           ∙ or-false (state_in old.states d k).lost))
-          refl refl refl (writes_in-none plan mended d k (not_written mended shown)));
+          refl refl refl (writes_in-none plan mended d k (not_written mended shown)))
+          (λ told. nothing_written plan d first.tree stripes mended old.folder (not_written mended shown));
     }
 
     -- or it is lost
@@ -141,7 +145,9 @@ module _ {W R : Type 0} (view : W → SinkView) (standing : R → ReportView) (s
           (ap (λ (s : StartsValue). (start_in (starts_at s.columns d) k).size) same_starts)
           (ap (λ (s : List (List FileState)). (state_in s d k).size) states_are ∙ still (λ (s : FileState). s.size) refl k (cases_eq cell.rec k))
           (ap (λ (s : List (List FileState)). (state_in s d k).touched) states_are ∙ still (λ (s : FileState). s.touched) refl k (cases_eq cell.rec k))
-          (writes_in-none plan mended d k (not_written mended shown)));
+          (writes_in-none plan mended d k (not_written mended shown)))
+          (λ told. subst (FolderWrites (stripe_writes plan d first.tree stripes mended) old.folder) (sym same_folder)
+          (nothing_written plan d first.tree stripes mended old.folder (not_written mended shown)));
     }
       where
         state : FileState
@@ -390,5 +396,13 @@ module _ {W R : Type 0} (view : W → SinkView) (standing : R → ReportView) (s
               (subst (λ (ws : List (List Write)). HoldsTold (records_in plan.table d) (starts_at new.starts.columns d) (get_or new.states d []) ws first new.folder)
               (sym (writes_are mended shown stripes))
               (writes.holds first (column_writes plan stripes d records) (sym tells) (λ told. fixable.free told cell.rec rec is_free) fixable.is_tree before.holds))
-              (λ k within. goes_on mended shown k within (cases_eq cell.rec k));
+              (λ k within. goes_on mended shown k within (cases_eq cell.rec k))
+              (λ told.
+              let first_told : IsTrue first.tells = subst IsTrue tells told in
+              let did : writes.written ≡ true = writes.there told in
+              cell_written plan d first.tree stripes mended cell old.folder new.folder (start_in (starts_at old.starts.columns d) cell.rec) (state_in old.states d cell.rec)
+              (get_or (column_writes plan stripes d records) cell.rec []) old.folder.tree
+              (written_is mended shown ∙ did) (cell_of mended.facts shown.stripe_is) ((before.holds first_told).each cell.rec rec) (before.touched first_told cell.rec rec)
+              (subst (λ (bs : List ℕ). FolderWrites (block_calls place (state_in old.states d cell.rec).touched (cell_path plan.table d cell) (block_start plan.table cell) bs) old.folder new.folder)
+              (bytes_are ∙ block_of mended.facts shown.stripe_is shown.shows) (writes.wrote did)));
         }

@@ -4,7 +4,7 @@ use Rattle.std.specs.Prelude.{◌||◌}
 use Rattle.std.proofs.Math.Bool.{or-false}
 use Rattle.std.proofs.lemmas.Bool.{cases_eq}
 use Rattle.std.proofs.lemmas.List.{length-set, get_or-set_same, get_or-set_other}
-use Rattle.disk_model.specs.Folder.{FolderView, SomeFolderCalls}
+use Rattle.disk_model.specs.Folder.{FolderView, FolderCall, SomeFolderCalls}
 use Rattle.disk_model.specs.Tree.{Tree}
 use Rattle.file_table.specs.Table.{Record}
 use Rattle.stripe_reader.specs.Starts.{StartsValue, StartsFit, no_start, starts_at, start_in}
@@ -14,11 +14,15 @@ use Rattle.snap_fix.specs.declared.state.FileState.{FileState}
 use Rattle.snap_fix.specs.Facts.{StripeFacts}
 use Rattle.snap_fix.specs.Mended.{Mended, loses, column_writes, writes_in, writes_of}
 use Rattle.snap_fix.specs.Mending.{StatesFit, with_place, with_state}
+use Rattle.snap_fix.specs.Order.{FolderWrites}
 use Rattle.snap_fix.specs.Plan.{FixPlan, records_in}
 use Rattle.snap_fix.specs.State.{Write, HoldsBy, HoldsRecord, HoldsColumn, HoldsTold, has_some, size_after, record_path, state_in, no_state}
+use Rattle.snap_fix.specs.StripeOrder.{stripe_writes, writes_after}
 use Rattle.snap_fix.specs.Underway.{IsColumnUnderway}
 use Rattle.snap_fix.proofs.FolderCallLemmas.{calls_then}
 use Rattle.snap_fix.proofs.MendedFactsLemmas.{lost_push}
+use Rattle.snap_fix.proofs.OrderLemmas.{writes_then}
+use Rattle.snap_fix.proofs.StripeOrderLemmas.{writes_after-push}
 use Rattle.snap_fix.proofs.WritesLemmas.{size_after-append, has_some-append, writes_of-push}
 
 -- facts of which no answers are known
@@ -42,6 +46,7 @@ underway_same plan d stripes first now later starts starts_new states states_new
       ∙ ap (λ (s : List Start). size_after (start_in s i).size (writes_of plan stripes d i)) (sym starts_same);
   wrote = λ i within some. ap (λ (s : List FileState). (slice_index_or s i no_state).touched) states_same ∙ before.wrote i within some;
   touched = λ told i within. ap (λ (s : List FileState). (slice_index_or s i no_state).touched) states_same ∙ before.touched told i within;
+  ordered = λ told. subst (FolderWrites (writes_after plan d first.tree [] stripes) first) (sym same) (before.ordered told);
 }
   where
     records : List Record
@@ -85,8 +90,9 @@ pub underway_more : (plan : FixPlan) (d : ℕ) (stripes : List Mended) (mended :
     → HoldsTold (records_in plan.table d) (starts_at starts_new.columns d) (get_or states_new d [])
     (column_writes plan (stripes ++ mended ∷ []) d (length (records_in plan.table d))) first later
     → ((i : ℕ) → i < length (records_in plan.table d) → RecordGoesOn plan d i mended now.tells starts starts_new states states_new)
+    → (IsTrue now.tells → FolderWrites (stripe_writes plan d first.tree stripes mended) now later)
     → IsColumnUnderway plan d (stripes ++ mended ∷ []) first later starts_new states_new
-underway_more plan d stripes mended first now later starts starts_new states states_new before calls holds each = record {
+underway_more plan d stripes mended first now later starts starts_new states states_new before calls holds each wrote = record {
   calls = calls_then before.calls calls;
   holds = holds;
   lost = λ i within. (each i within).lost ∙ ap (λ (b : Bool). b || loses plan d i mended) (before.lost i within) ∙ sym (lost_push plan stripes mended d i);
@@ -100,6 +106,9 @@ underway_more plan d stripes mended first now later starts starts_new states sta
   ];
   touched = λ told i within. (each i within).touched (subst IsTrue (sym before.calls.goes_on.tells) told)
       ∙ ap (λ (b : Bool). b || has_some (writes_in plan d i mended)) (before.touched told i within) ∙ sym (some_is i);
+  ordered = λ told. subst (λ (calls : List FolderCall). FolderWrites calls first later) (sym (writes_after-push plan d first.tree mended [] stripes))
+      (writes_then (writes_after plan d first.tree [] stripes) (stripe_writes plan d first.tree stripes mended) (before.ordered told)
+      (wrote (subst IsTrue (sym before.calls.goes_on.tells) told)));
 }
   where
     some_is : (i : ℕ) → has_some (writes_of plan (stripes ++ mended ∷ []) d i) ≡ (has_some (writes_of plan stripes d i) || has_some (writes_in plan d i mended))

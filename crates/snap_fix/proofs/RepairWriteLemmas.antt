@@ -49,6 +49,7 @@ module _ {W R : Type 0} (view : W → SinkView) (standing : R → ReportView) (s
     states_are = mends.states_are;
     stood = mends.stood;
     there = λ tells. refl;
+    wrote = λ yes. mends.wrote is;
     size = mends.size ∙ ap (λ (b : Bool). size_after (state_in states d cell.rec).size (if b then record { at = block_start table cell; bytes = bytes } ∷ [] else [])) is;
     touched = λ yes. mends.touched is;
     stays_touched = mends.stays_touched;
@@ -79,6 +80,7 @@ module _ {W R : Type 0} (view : W → SinkView) (standing : R → ReportView) (s
         ∙ state_twice states d cell.rec mends.state (record mends.state { lost = true }) long;
     stood = mends.stood;
     there = λ tells. sym is ∙ mends.there tells;
+    wrote = λ yes. absurd (let clash : false ≡ true = yes in cc);
     size = mends.size ∙ ap (λ (b : Bool). size_after (state_in states d cell.rec).size (if b then record { at = block_start table cell; bytes = bytes } ∷ [] else [])) is;
     touched = λ yes. absurd (let clash : false ≡ true = yes in cc);
     stays_touched = mends.stays_touched;

@@ -4,18 +4,17 @@ use Rattle.std.specs.Prelude.{not, IfSome}
 use Rattle.std.specs.List.{Contains}
 use Rattle.std.proofs.lemmas.Bool.{and_parts, cases_lt, false≢true}
 use Rattle.std.proofs.lemmas.List.{get_or_past}
-use Rattle.std.proofs.lemmas.List.Elements.{All-cons, All-contains}
+use Rattle.std.proofs.lemmas.List.Elements.{All-contains}
 use Rattle.std.proofs.lemmas.Slice.Eq.{bytes_eq-Decides}
 use Rattle.cauchy.specs.Field.{product, sum_below}
 use Rattle.cauchy.specs.Matrix.{byte_of, entry_of, parity_byte, parity_of as level_of}
 use Rattle.disk_model.specs.Bytes.{read_from}
 use Rattle.disk_model.specs.Files.{Files, parity_of}
 use Rattle.disk_model.specs.Folder.{FolderView}
-use Rattle.disk_model.specs.Vault.{VaultView}
 use Rattle.file_table.specs.Table.{TableValue, info_at}
 use Rattle.file_table.specs.declared.info.Mark.{Mark}
 use Rattle.file_table.specs.declared.info.Mark.TheVariants.{Pending, Synced}
-use Rattle.parity_writer.specs.LevelReading.{LevelReading, IsReadingOf, kept_level}
+use Rattle.parity_writer.specs.LevelReading.{LevelReading, kept_level}
 use Rattle.parity_writer.specs.LevelsValue.{LevelValue, no_level}
 use Rattle.parity_writer.specs.Parity.{HasLevel, Row}
 use Rattle.parity_writer.specs.Sound.{IsSynced, Snapshot, Sound}
@@ -30,9 +29,8 @@ use Rattle.stripe_reader.specs.Starts.{StartsValue}
 use Rattle.snap_fix.specs.Facts.{StripeFacts, slot_of}
 use Rattle.snap_fix.specs.Findings.{is_wrong_by}
 use Rattle.snap_fix.specs.Fixing.{IsPresent}
-use Rattle.snap_fix.specs.Genuine.{AreGenuineOf, AreLevelsIn, HasGenuineFacts, IsLevelOf, IsGenuine, IsSameRow}
+use Rattle.snap_fix.specs.Genuine.{AreGenuineOf, HasGenuineFacts, IsLevelOf, IsGenuine, IsSameRow}
 use Rattle.snap_fix.specs.Known.{AreFacts, IsTried}
-use Rattle.snap_fix.specs.Looking.{AreAllLevelsOf}
 use Rattle.snap_fix.specs.Mended.{is_wrong_level}
 use Rattle.snap_fix.specs.Plan.{FixPlan, is_marked_synced, is_searched, selects_level}
 use Rattle.snap_fix.specs.Underway.{HoldsWrong, IsMendedLevel, KeepsLevels}
@@ -140,21 +138,6 @@ mended_level plan starts firsts snapshot facts left r nothing has holds wrong =
     (row_same plan starts firsts snapshot facts has nothing known.0 known.1) (holds r known.0 wrong known.1)
 
 -- ---- stripes that were looked at where the vault was sound
-
-read_of : (size : ℕ) (v : VaultView) (stripe level : ℕ) (reading : LevelReading) → IsTrue v.tells → IsReadingOf v size stripe level reading
-    → IfSome reading (λ (bytes : List ℕ). bytes ≡ read_from (parity_of v.files level) (stripe * size) size)
-read_of _ v stripe _ None tells is = tt
-read_of _ v stripe _ (Some bytes) tells is = is.1 tells
-
--- levels that were read of a vault that tells its files were read of these
-pub levels_of_files : (size : ℕ) (v : VaultView) (stripes : List StripeFacts) (readings : List (List LevelReading)) → IsTrue v.tells
-    → AreAllLevelsOf size v stripes readings → AreLevelsIn size v.files stripes
-levels_of_files size v [] readings tells are = λ k other within. absurd (omega (arith, within))
-levels_of_files size v (facts ∷ stripes) [] tells are = absurd are
-levels_of_files size v (facts ∷ stripes) (of ∷ readings) tells are =
-    All-cons (λ (it : StripeFacts). (r : ℕ) → r < length it.levels → IsLevelOf size it.stripe r v.files (get_or it.levels r no_level)) facts stripes
-    (λ r below. record { reading = get_or of r None; is_kept = are.0.are_kept r below; is_of = read_of size v facts.stripe r (get_or of r None) tells (are.0.are_of r below) })
-    (levels_of_files size v stripes readings tells are.1)
 
 module _ (plan : FixPlan) (starts : StartsValue) (firsts : List FolderView) (read : Files) (snapshot : Snapshot)
     (is_changed : ℕ → ℕ → Bool) (stripes : List StripeFacts) (are : AreGenuineOf plan starts firsts read snapshot is_changed stripes)

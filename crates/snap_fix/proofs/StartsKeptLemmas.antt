@@ -1,19 +1,17 @@
 -- Where files are looked for while a fix goes on: a place stays, or a file that was renamed back is looked for under its own name.
-use Rattle.std.proofs.Common.{◌≡◌, ◌≢◌, ◌⊎◌, inl, inr, ℕ, ◌<◌, List, [], ◌∷◌, ◌++◌, length, set, Bool, true, false, Contains, refl, sym, ap, ◌∙◌, subst, arith}
+use Rattle.std.proofs.Common.{◌≡◌, ◌≢◌, ◌⊎◌, inl, inr, ℕ, ◌<◌, List, [], length, set, true, false, refl, sym, ap, ◌∙◌, subst}
 use Rattle.std.proofs.lemmas.Bool.{cases_eq}
 use Rattle.std.proofs.lemmas.List.{get_or-set_same, get_or-set_other}
-use Rattle.std.proofs.lemmas.List.Elements.{Contains-append_left, Contains-push, Contains-push_cases}
 use Rattle.disk_model.specs.Folder.{FolderCall, FolderView, ListFiles, Look, ReadAt, Make, WriteAt, SetSize, SetStamp, Rename}
 use Rattle.stripe_reader.specs.Starts.{StartsValue, no_start, starts_at, start_in}
 use Rattle.stripe_reader.specs.declared.starts.Start.{Start}
 use Rattle.stripe_reader.specs.declared.starts.Place.{Place}
 use Rattle.stripe_reader.specs.declared.starts.Place.TheVariants.{Plain, Lost, Nowhere}
-use Rattle.snap_fix.specs.Facts.{StripeFacts}
 use Rattle.snap_fix.specs.Mended.{Mended}
 use Rattle.snap_fix.specs.Mending.{with_place}
 use Rattle.snap_fix.specs.Plan.{FixPlan}
 use Rattle.snap_fix.specs.State.{AnyCall, WellCall, FolderMakes, StaysPlace, KeepsStarts}
-use Rattle.snap_fix.specs.Underway.{WritesCell, WritesOneOf, IsMendCall, IsForPlace}
+use Rattle.snap_fix.specs.Underway.{WritesOneOf, IsMendCall, IsForPlace}
 use Rattle.snap_fix.proofs.FolderCallLemmas.{makes_well_wider, makes_any_wider}
 
 -- ---- places
@@ -101,27 +99,3 @@ module _ (plan : FixPlan) (before after : StartsValue) (d : ℕ) (stripes : List
 
   pub makes_any_before : (old new : FolderView) → FolderMakes (AnyCall (IsMendCall plan after d stripes)) old new → FolderMakes (AnyCall (IsMendCall plan before d stripes)) old new
   makes_any_before old new makes = makes_any_wider (IsMendCall plan after d stripes) (IsMendCall plan before d stripes) mend_call_before makes
-
--- ---- calls for some stripes, and for more
-
-module _ (plan : FixPlan) (starts : StartsValue) (d : ℕ) (stripes : List Mended) (mended : Mended) where
-  -- a call for some stripes is one for these and more
-  pub mend_call_earlier : (call : FolderCall) → IsMendCall plan starts d stripes call → IsMendCall plan starts d (stripes ++ mended ∷ []) call
-  mend_call_earlier = mend_call_wider plan starts starts d stripes (stripes ++ mended ∷ []) (keeps_starts_same starts)
-      (λ path at bytes one. record { mended = one.mended; is_one = Contains-append_left stripes (mended ∷ []) one.mended one.is_one; writes = one.writes })
-
-  -- and so is one for the last of them, whatever its answers
-  pub mend_call_here : (answers : List Bool) (call : FolderCall) → IsMendCall plan starts d (record { facts = mended.facts; answers = answers } ∷ []) call → IsMendCall plan starts d (stripes ++ mended ∷ []) call
-  mend_call_here answers = mend_call_wider plan starts starts d (answered ∷ []) (stripes ++ mended ∷ []) (keeps_starts_same starts)
-      (λ path at bytes one. record {
-        mended = mended;
-        is_one = Contains-push stripes mended;
-        writes = subst (λ (facts : StripeFacts). WritesCell plan d facts path at bytes) (sym (facts_of one.mended (Contains-push_cases [] answered one.mended one.is_one))) one.writes;
-      })
-    where
-      answered : Mended
-      answered = record { facts = mended.facts; answers = answers }
-
-      facts_of : (it : Mended) → (Contains [] it) ⊎ (answered ≡ it) → mended.facts ≡ it.facts
-      facts_of it (inl none) = absurd (let below = none.1 in omega (arith, below))
-      facts_of it (inr same) = ap (λ (m : Mended). m.facts) same

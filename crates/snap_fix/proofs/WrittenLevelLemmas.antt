@@ -1,5 +1,5 @@
 -- One write of a level of a stripe: what it leaves of the level, what it keeps and what it adds.
-use Rattle.std.proofs.Common.{◌≡◌, ◌≢◌, ◌⊎◌, inl, inr, ℕ, ◌+◌, ◌-◌, ◌*◌, ◌<◌, ◌≤◌, List, [], ◌∷◌, ◌++◌, length, take, drop, replicate, get_or, set, false, refl, sym, ◌∙◌, ap, subst, arith, length-append}
+use Rattle.std.proofs.Common.{◌≡◌, ◌≢◌, ◌⊎◌, inl, inr, ℕ, ◌+◌, ◌-◌, ◌*◌, ◌<◌, ◌≤◌, List, [], ◌∷◌, ◌++◌, length, take, drop, replicate, get_or, set, Bool, refl, sym, ◌∙◌, ap, subst, arith, length-append}
 use Rattle.std.proofs.lemmas.Bool.{cases_eq, cases_lt}
 use Rattle.std.proofs.lemmas.List.{append-nil, get_or_append_left, get_or-append_right, get_or-set_same, length-take, length-replicate, set_past}
 use Rattle.cauchy.specs.Matrix.{parity_of as level_of}
@@ -11,7 +11,7 @@ use Rattle.parity_writer.specs.Keeps.{HasByte, KeepsAt, IsOutside}
 use Rattle.parity_writer.specs.Parity.{Row, HasLevel}
 use Rattle.parity_writer.proofs.KeepsLemmas.{other_level, tear_keeps}
 use Rattle.parity_writer.proofs.SumLemmas.{length-level, byte_of_level}
-use Rattle.snap_fix.specs.Underway.{AddsZeros, KeepsLevels, done_well}
+use Rattle.snap_fix.specs.Underway.{AddsZeros, KeepsLevels}
 
 -- ---- what is put
 
@@ -60,11 +60,11 @@ ran_nothing v = record {
 }
 
 -- the one call for a level, by what is written of it
-pub ran_write : (r at : ℕ) (bytes : List ℕ) (place : ℕ) (level : List ℕ) (old new : VaultView) → at ≡ place → bytes ≡ level
-    → GoesOn old new (record { call = ParityWrite r at bytes; failed = false } ∷ []) → GoesOn old new (done_well (ParityWrite r place level ∷ []))
-ran_write r at bytes place level old new at_is bytes_are ran =
-    subst (λ (n : ℕ). GoesOn old new (record { call = ParityWrite r n level; failed = false } ∷ [])) at_is
-    (subst (λ (xs : List ℕ). GoesOn old new (record { call = ParityWrite r at xs; failed = false } ∷ [])) bytes_are ran)
+pub ran_write : (r at : ℕ) (bytes : List ℕ) (place : ℕ) (level : List ℕ) (failed : Bool) (old new : VaultView) → at ≡ place → bytes ≡ level
+    → GoesOn old new (record { call = ParityWrite r at bytes; failed = failed } ∷ []) → GoesOn old new (record { call = ParityWrite r place level; failed = failed } ∷ [])
+ran_write r at bytes place level failed old new at_is bytes_are ran =
+    subst (λ (n : ℕ). GoesOn old new (record { call = ParityWrite r n level; failed = failed } ∷ [])) at_is
+    (subst (λ (xs : List ℕ). GoesOn old new (record { call = ParityWrite r at xs; failed = failed } ∷ [])) bytes_are ran)
 
 -- ---- a level after a write to it
 

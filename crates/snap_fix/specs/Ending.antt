@@ -10,7 +10,7 @@ use Rattle.disk_model.specs.Tree.{Tree, file_of, path_of}
 use Rattle.disk_model.specs.Vault.{VaultView, VaultCall, ParitySync, SomeCalls, ChangesBy, DraftsStay, Holds, state_of}
 use Rattle.file_table.specs.Table.{record_at}
 use Rattle.snap_report.specs.Answer.{Gained, broke_folder}
-use Rattle.snap_fix.specs.Breaking.{broke_parity}
+use Rattle.snap_fix.specs.Breaking.{MakesPartOf, broke_parity}
 use Rattle.snap_report.specs.Report.{ReportView}
 use Rattle.snap_report.specs.Told.{Told}
 use Rattle.snap_report.specs.declared.events.Event.{Event}
@@ -23,11 +23,13 @@ use Rattle.snap_fix.specs.declared.finishing.Finish.{Finish}
 use Rattle.snap_fix.specs.declared.finishing.Finish.TheVariants.{Kept, Restored, Unstamped, Renamed, Gone}
 use Rattle.snap_fix.specs.declared.state.FileState.{FileState}
 use Rattle.snap_fix.specs.Counts.{AreCounts}
-use Rattle.snap_fix.specs.Finishing.{FitsTree, HoldsFinished, StandsWhole, IsFinishCall, bytes_now, finish_of}
+use Rattle.snap_fix.specs.Finishing.{FitsTree, HoldsFinished, StandsWhole, IsFinishCall, bytes_now, finish_calls, finish_of}
 use Rattle.snap_fix.specs.Mending.{StatesFit, IsFree}
+use Rattle.snap_fix.specs.Order.{FolderWrites}
 use Rattle.snap_fix.specs.Plan.{FixPlan, EntriesFit, entry_at, records_in}
 use Rattle.snap_fix.specs.Repairing.{FilesOutside}
 use Rattle.snap_fix.specs.State.{AnyCall, WellCall, FolderMakes, no_state, record_path}
+use Rattle.snap_fix.specs.Underway.{done_well}
 
 -- ---- levels
 
@@ -57,11 +59,12 @@ pub record SyncsWritten (written : List Bool) (old new : VaultView) : Type 0 whe
   pub syncs : Syncs (written_syncs written) old new
   pub settled : (level : ℕ) → level < length written → get_or written level false ≡ true → IsSettled level old new
 
--- a call of the vault failed that reads no parity, and its count rose
-pub record SyncsNot (old new : VaultView) : Type 0 where
+-- A sync of a level failed, and the count of faults rose: of these calls the first ones were made, and that one.
+pub record SyncsNot (syncs : List VaultCall) (old new : VaultView) : Type 0 where
   pub rose : Rose old.faults new.faults
   pub call : IsTrue new.tells_calls → Gained broke_parity old.calls new.calls
   pub calls : SomeCalls old new
+  pub ran : MakesPartOf (done_well syncs) old new
   pub drafts : DraftsStay old new
   pub changes : ChangesBy Stays old new
 
@@ -122,6 +125,16 @@ abbrev pub IsCallOf : FixPlan → ℕ → List Start → List FileState → ℕ 
 IsCallOf plan d starts states i call = IsFinishCall (state_at states i).lost (entry_at plan d i).listed (start_in starts i) (state_at states i)
     (record_path (records_in plan.table d) i) (record_at plan.table.columns d i).meta call
 
+-- the calls that finish a record, and all records of the column, in order
+abbrev pub record_calls : FixPlan → ℕ → List Start → List FileState → ℕ → List FolderCall
+record_calls plan d starts states i =
+    if is_finished plan d i
+    then finish_calls (state_at states i).lost (entry_at plan d i).listed (start_in starts i) (state_at states i)
+    (record_path (records_in plan.table d) i) (record_at plan.table.columns d i).meta else []
+
+abbrev pub column_calls : FixPlan → ℕ → List Start → List FileState → List FolderCall
+column_calls plan d starts states = flat_map (record_calls plan d starts states) (range_with_len 0 (length (records_in plan.table d)))
+
 -- one that finishes some record of the column
 pub record FinishesFile (plan : FixPlan) (d : ℕ) (starts : List Start) (states : List FileState) (call : FolderCall) : Type 0 where
   pub i : ℕ
@@ -179,6 +192,7 @@ pub record FinishesFiles (plan : FixPlan) (d : ℕ) (starts : List Start) (state
       → StandsEnd plan d starts folder.keeps_stamps i folder.tree folder_new.tree
   pub others : IsTrue folder.tells → (name : List ℕ) → ((i : ℕ) (lost : Bool) → i < length (records_in plan.table d) → is_finished plan d i ≡ true
       → name ≢ path_of (record_path (records_in plan.table d) i) lost) → file_of folder_new.tree name ≡ file_of folder.tree name
+  pub wrote : IsTrue folder.tells → FolderWrites (column_calls plan d starts states) folder folder_new
 
 -- the same by the starts and the states of all columns
 abbrev pub FinishesOne : FixPlan → ℕ → StartsValue → List (List FileState) → FolderCall → Type 0

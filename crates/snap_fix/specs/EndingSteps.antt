@@ -18,8 +18,9 @@ use Rattle.snap_fix.specs.declared.finishing.Finish.{Finish}
 use Rattle.snap_fix.specs.declared.finishing.Finish.TheVariants.{Kept, Restored, Unstamped, Renamed, Gone}
 use Rattle.snap_fix.specs.declared.state.FileState.{FileState}
 use Rattle.snap_fix.specs.Counts.{AreCounts}
-use Rattle.snap_fix.specs.Ending.{CanFinishFile, CanFinishColumn, FinishesFiles, FinishesFile, HoldsEnd, StandsEnd, IsCallOf, IsDone, column_news, finish_at, is_finished, news_of, stamp_news, states_at}
+use Rattle.snap_fix.specs.Ending.{CanFinishFile, CanFinishColumn, FinishesFiles, FinishesFile, HoldsEnd, StandsEnd, IsCallOf, IsDone, column_news, finish_at, is_finished, news_of, record_calls, stamp_news, states_at}
 use Rattle.snap_fix.specs.Mending.{StatesFit}
+use Rattle.snap_fix.specs.Order.{FolderWrites}
 use Rattle.snap_fix.specs.Plan.{FixPlan, EntriesFit, records_in}
 use Rattle.snap_fix.specs.State.{AnyCall, WellCall, FolderMakes, record_path, state_in}
 
@@ -82,6 +83,7 @@ pub record EndsRecord {W R : Type 0} (view : W → SinkView) (standing : R → R
   pub others : IsTrue old.folder.tells → (name : List ℕ)
       → (is_finished plan d i ≡ true → (lost : Bool) → name ≢ path_of (record_path (records_in plan.table d) i) lost)
       → file_of new.folder.tree name ≡ file_of old.folder.tree name
+  pub wrote : IsTrue old.folder.tells → FolderWrites (record_calls plan d (starts_at old.starts.columns d) (states_at old.states d) i) old.folder new.folder
   pub told : Told view standing stands plan.table.columns (news_of plan d i finish) old.lines new.lines old.reports new.reports
   pub counts_are : AreCounts (news_of plan d i finish) counts
 

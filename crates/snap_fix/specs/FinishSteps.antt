@@ -13,8 +13,9 @@ use Rattle.stripe_reader.specs.declared.starts.Place.{Place}
 use Rattle.stripe_reader.specs.declared.starts.Place.TheVariants.{Lost, Nowhere}
 use Rattle.snap_fix.specs.declared.finishing.Finish.{Finish}
 use Rattle.snap_fix.specs.declared.state.FileState.{FileState}
-use Rattle.snap_fix.specs.Finishing.{FitsTree, HoldsFinished, bytes_now, lost_after}
+use Rattle.snap_fix.specs.Finishing.{FitsTree, HoldsFinished, bytes_now, lost_after, size_calls}
 use Rattle.snap_fix.specs.Mending.{BreaksOff, IsFree, IsSetUpCall}
+use Rattle.snap_fix.specs.Order.{FolderWrites, put_calls}
 use Rattle.snap_fix.specs.State.{WellCall, FolderMakes, OthersStay, stands}
 
 -- ---- what a step begins with
@@ -81,6 +82,7 @@ pub record SetsUp (path : List ℕ) (place : Place) (touched : Bool) (old new : 
   pub stays : stands place touched ≡ true → TreeStays old new
   pub stand : IsTrue old.tells
       → Stands path (bytes_now old.tree path) (lost_after place (file_of old.tree (path_of path true))) old.tree new.tree
+  pub wrote : FolderWrites (put_calls place touched path) old new
 
 -- the file has this size: it had it, or it was set
 abbrev pub SizesBy : Bool → List ℕ → ℕ → Tree → Tree → Type 0
@@ -90,12 +92,14 @@ SizesBy false path size old new = ChangesFile path (Resizes size) old new
 pub record FitsSize (path : List ℕ) (before size : ℕ) (old new : FolderView) : Type 0 where
   pub makes : FolderMakes (WellCall (IsSizeCall path before size)) old new
   pub tree : TreeBy (SizesBy (before == size) path size) old new
+  pub wrote : FolderWrites (size_calls before size path) old new
 
--- the file is finished as it was to be, by such calls
-pub record FinishesBy (wanted finish : Finish) (P : FolderCall → Type 0) (meta : Meta) (start : Start) (state : FileState)
+-- the file is finished as it was to be, by such calls, of which those that write are just these
+pub record FinishesBy (wanted finish : Finish) (P : FolderCall → Type 0) (calls : List FolderCall) (meta : Meta) (start : Start) (state : FileState)
     (path : List ℕ) (old new : FolderView) : Type 0 where
   pub is : finish ≡ wanted
   pub makes : FolderMakes (WellCall P) old new
   pub holds : IsTrue old.tells
       → HoldsFinished finish old.keeps_stamps meta start state (bytes_now old.tree path) path old.tree new.tree
   pub others : IsTrue old.tells → OthersStay path old.tree new.tree
+  pub wrote : FolderWrites calls old new

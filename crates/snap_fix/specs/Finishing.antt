@@ -1,5 +1,5 @@
 -- The files of the selected records are finished, once all blocks are written.
-use Rattle.std.specs.Prelude.{◌≡◌, ◌≢◌, ◌⊎◌, ℕ, ◌<◌, ◌==◌, ◌&&◌, ◌||◌, not, List, length, Bool, true, false, if◌then◌else◌, Option, None, Some, IsTrue}
+use Rattle.std.specs.Prelude.{◌≡◌, ◌≢◌, ◌⊎◌, ℕ, ◌<◌, ◌==◌, ◌&&◌, ◌||◌, not, List, [], ◌∷◌, ◌++◌, length, Bool, true, false, if◌then◌else◌, Option, None, Some, IsTrue}
 use Rattle.std.specs.Ordering.{int_eq}
 use Rattle.disk_model.specs.Bytes.{resized}
 use Rattle.disk_model.specs.Cause.{Rose}
@@ -17,6 +17,7 @@ use Rattle.snap_fix.specs.declared.finishing.Finish.{Finish}
 use Rattle.snap_fix.specs.declared.finishing.Finish.TheVariants.{Kept, Restored, Unstamped, Renamed, Gone}
 use Rattle.snap_fix.specs.declared.state.FileState.{FileState}
 use Rattle.snap_fix.specs.Mending.{StatesFit, IsFree}
+use Rattle.snap_fix.specs.Order.{FolderWrites, put_calls}
 use Rattle.snap_fix.specs.Plan.{records_in}
 pub use Rattle.snap_fix.specs.State.{OthersStay, stands}
 use Rattle.snap_fix.specs.State.{AnyCall, WellCall, FolderMakes, bytes_placed, record_path, state_in}
@@ -62,6 +63,25 @@ IsWholeCall listed start state path meta call =
 abbrev pub IsFinishCall : Bool → Option Meta → Start → FileState → List ℕ → Meta → FolderCall → Type 0
 IsFinishCall false listed start state path meta call = IsWholeCall listed start state path meta call
 IsFinishCall true listed start state path meta call = (stands start.place state.touched ≡ true) × (call ≡ Rename path true)
+
+-- ---- in which order
+
+-- the size is set where it differs
+abbrev pub size_calls : ℕ → ℕ → List ℕ → List FolderCall
+size_calls before size path = if before == size then [] else SetSize path size ∷ []
+
+-- A file without a lost block is put under PATH, then its size is set, then its stamp, each where it is due. One with a lost block is renamed,
+-- if it stands under PATH.
+abbrev pub whole_calls : Option Meta → Start → FileState → List ℕ → Meta → List FolderCall
+whole_calls listed start state path meta =
+    (put_calls start.place state.touched path ++ size_calls state.size meta.size path)
+    ++ (if is_stamped meta listed start state then SetStamp path meta.stamp ∷ [] else [])
+
+abbrev pub lost_calls : Start → FileState → List ℕ → List FolderCall
+lost_calls start state path = if stands start.place state.touched then Rename path true ∷ [] else []
+
+abbrev pub finish_calls : Bool → Option Meta → Start → FileState → List ℕ → Meta → List FolderCall
+finish_calls lost listed start state path meta = if lost then lost_calls start state path else whole_calls listed start state path meta
 
 -- ---- what the folder holds then
 
@@ -138,6 +158,8 @@ pub record FinishesRecord (table : TableValue) (d i : ℕ) (listed : Option Meta
   pub whole : IsTrue folder.tells → (state_in states d i).lost ≡ false → StandsWhole folder.keeps_stamps (record_at table.columns d i).meta (start_in (starts_at starts.columns d) i).place
       (bytes_now folder.tree (record_path (records_in table d) i)) (record_path (records_in table d) i) folder.tree folder_new.tree
   pub others : IsTrue folder.tells → OthersStay (record_path (records_in table d) i) folder.tree folder_new.tree
+  pub wrote : IsTrue folder.tells → FolderWrites (finish_calls (state_in states d i).lost listed (start_in (starts_at starts.columns d) i) (state_in states d i)
+      (record_path (records_in table d) i) (record_at table.columns d i).meta) folder folder_new
 
 -- one of its calls failed
 pub record FinishesNot (table : TableValue) (d i : ℕ) (listed : Option Meta) (starts : StartsValue) (states : List (List FileState)) (folder folder_new : FolderView) : Type 0 where

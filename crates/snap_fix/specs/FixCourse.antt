@@ -6,6 +6,7 @@ use Rattle.array_scan.specs.Listings.{ListsAll}
 use Rattle.disk_model.specs.Cause.{RoseBy}
 use Rattle.disk_model.specs.Folder.{FolderView, FolderCall, ListFiles, Look, ReadAt, Make, WriteAt, SetSize, SetStamp, Rename}
 use Rattle.disk_model.specs.Sink.{SinkView}
+use Rattle.disk_model.specs.Tree.{Tree}
 use Rattle.disk_model.specs.Vault.{VaultView, VaultCall, VaultDone, GoesOn}
 use Rattle.disk_model.specs.declared.meta.Meta.{Meta}
 use Rattle.file_table.specs.Table.{TableValue, record_at}
@@ -22,7 +23,7 @@ use Rattle.snap_report.specs.Told.{Told}
 use Rattle.snap_report.specs.declared.answer.RunFault.{RunFault}
 use Rattle.snap_report.specs.declared.events.Event.{Event}
 use Rattle.stripe_reader.specs.Columns.{folder_at}
-use Rattle.stripe_reader.specs.Starts.{StartsValue}
+use Rattle.stripe_reader.specs.Starts.{StartsValue, starts_at}
 use Rattle.stripe_reader.specs.declared.starts.Place.TheVariants.{Lost, Nowhere}
 use Rattle.snap_fix.specs.declared.checks.FixEnd.{FixEnd}
 use Rattle.snap_fix.specs.declared.finishing.Finish.{Finish}
@@ -30,17 +31,20 @@ use Rattle.snap_fix.specs.declared.scope.Mode.{Mode}
 use Rattle.snap_fix.specs.declared.state.FileState.{FileState}
 use Rattle.snap_fix.specs.Asking.{AsksSpare}
 use Rattle.snap_fix.specs.Beginning.{BeginsNot}
+use Rattle.snap_fix.specs.Breaking.{MakesPartOf}
 use Rattle.snap_fix.specs.Counts.{at_most}
 use Rattle.snap_fix.specs.Course.{IsPlan, Outside}
-use Rattle.snap_fix.specs.Ending.{AreDone, FinishesColumn, FinishesOne, IsSettled, all_finish_news, sync_if}
+use Rattle.snap_fix.specs.Ending.{AreDone, FinishesColumn, FinishesOne, IsSettled, all_finish_news, column_calls, states_at, sync_if}
 use Rattle.snap_fix.specs.Findings.{opening_events}
 use Rattle.snap_fix.specs.FixRun.{HasBroken, HoldAllWrong}
 use Rattle.snap_fix.specs.Fixing.{ArePresent, MendsVault, facts_of, was_written}
 use Rattle.snap_fix.specs.Known.{AreFacts}
 use Rattle.snap_fix.specs.Looking.{AreAllLevelsOf, numbers_of, unread_cells, unread_in}
 use Rattle.snap_fix.specs.Mended.{AnswersFit, Mended, has_lost, all_mended_events, written_in, wrong_in}
+use Rattle.snap_fix.specs.Order.{FolderWrites}
 use Rattle.snap_fix.specs.Plan.{FixPlan, records_in, starts_of, stripes_of}
 use Rattle.snap_fix.specs.State.{AnyCall, WellCall, FolderMakes, KeepsStarts}
+use Rattle.snap_fix.specs.StripeOrder.{writes_after}
 use Rattle.snap_fix.specs.Underway.{AddsZeros, AreUnderway, IsForPlace, IsForRecord, IsMendCall, IsMendedLevel, WritesOneOf, done_well, mend_calls}
 
 -- the folders of all columns that have records are open
@@ -114,7 +118,14 @@ pub record WritesFiles (plan : FixPlan) (starts : StartsValue) (stripes : List M
   pub makes : (d : ℕ) → d < length plan.table.columns
       → FolderMakes (WellCall (IsMendCall plan starts d stripes)) (folder_at firsts d) (folder_at written.folders d)
 
--- What a fix did to the files: all blocks were written, and then the selected records that aren't blocked were finished.
+-- The calls of a folder that write: stripe after stripe each known block of a damaged cell is written, by where files stood at first; and
+-- when all are, record after record is finished.
+abbrev pub fix_folder_calls : FixPlan → ℕ → Tree → List Mended → Written → List FolderCall
+fix_folder_calls plan d first stripes written =
+    writes_after plan d first [] stripes ++ column_calls plan d (starts_at written.starts.columns d) (states_at written.states d)
+
+-- What a fix did to the files: all blocks were written, and then the selected records that aren't blocked were finished. Just these calls
+-- that write were made of a folder that tells its files, in this order.
 pub record FixesFiles (plan : FixPlan) (starts : StartsValue) (stripes : List Mended) (finishes : List (List Finish)) (firsts news : List FolderView) : Type 0 where
   pub written : Written
   pub writes : WritesFiles plan starts stripes firsts written
@@ -122,6 +133,8 @@ pub record FixesFiles (plan : FixPlan) (starts : StartsValue) (stripes : List Me
   pub calls : MakeFixCalls plan starts stripes firsts news
   pub finished : (d : ℕ) → d < length plan.table.columns
       → FinishesColumn plan written.starts written.states d finishes (folder_at written.folders d) (folder_at news d)
+  pub ordered : (d : ℕ) → d < length plan.table.columns → IsTrue (folder_at firsts d).tells
+      → FolderWrites (fix_folder_calls plan d (folder_at firsts d).tree stripes written) (folder_at firsts d) (folder_at news d)
 
 -- A fix: each folder was listed once; then, stripe by stripe, the cells and levels with something selected were read, and what is
 -- damaged and known was written; then the levels that were written were synced, and the files of the selected records finished. Just
@@ -175,7 +188,8 @@ pub record BreaksFinishing (plan : FixPlan) (starts : StartsValue) (stripes : Li
       → FolderMakes (AnyCall (FinishesOne plan d written.starts written.states)) (folder_at written.folders d) (folder_at news d)
 
 -- A fix that broke off after the folders were listed: an object failed otherwise than in the readings that were told. These first stripes
--- were looked at, and all of them before files were finished.
+-- were looked at, and all of them before files were finished. The vault got a part of the calls of a fix of these stripes: the first ones, or
+-- those and one that failed.
 pub record FixBreaks {W R : Type 0} (view : W → SinkView) (standing : R → ReportView) (stands : R → List Event → Type 0)
     (mode : Mode) (selection : Selection) (names : List (List ℕ)) (table : TableValue) (old new : Outside W R) (fault : RunFault) : Type 0 where
   pub lists : List (List ListedFile)
@@ -193,6 +207,7 @@ pub record FixBreaks {W R : Type 0} (view : W → SinkView) (standing : R → Re
   pub unread_cells_of : (d : ℕ) → d < length plan.table.columns
       → RoseBy (unread_cells d (facts_of stripes)) (folder_at old.folders d).faults (folder_at new.folders d).faults
   pub spare : AsksSpare plan (facts_of stripes) old.spare new.spare
+  pub ran : MakesPartOf (fix_calls plan stripes readings) old.vault new.vault
   pub vault : MendsVault plan (facts_of stripes) old.vault new.vault
   pub first : List Event
   pub files : BreaksWriting plan (starts_of table lists) stripes first mids new.folders

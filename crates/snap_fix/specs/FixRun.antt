@@ -7,7 +7,7 @@ use Rattle.disk_model.specs.Vault.{VaultView, GoesOn, Reads}
 use Rattle.parity_writer.specs.LevelReading.{LevelReading}
 use Rattle.file_table.specs.Table.{TableValue}
 use Rattle.snap_report.specs.Answer.{Gained, broke_folder, is_io_of, is_parity_io}
-use Rattle.snap_fix.specs.Breaking.{broke_parity}
+use Rattle.snap_fix.specs.Breaking.{MakesPartOf, broke_parity}
 use Rattle.snap_report.specs.Report.{ReportView}
 use Rattle.snap_report.specs.Told.{Told}
 use Rattle.snap_report.specs.declared.answer.RunFault.{RunFault}
@@ -134,6 +134,7 @@ pub record BreaksStripes {W R : Type 0} (view : W → SinkView) (standing : R �
       → AreReadThen plan old.starts firsts stripes
   pub readings : List (List LevelReading)
   pub read : AreAllLevelsOf plan.table.shape.block_size old.vault (facts_of stripes) readings
+  pub ran : MakesPartOf (mend_calls plan (facts_of stripes) readings) old.vault new.vault
   pub unread : RoseBy (unread_in readings) old.vault.faults new.vault.faults
   pub unread_cells_of : (d : ℕ) → d < length plan.table.columns
       → RoseBy (unread_cells d (facts_of stripes)) (folder_at old.folders d).faults (folder_at new.folders d).faults
@@ -163,6 +164,7 @@ pub record BreaksInto {W R : Type 0} (view : W → SinkView) (standing : R → R
   pub answered : All (AnswersFit plan old.folders) stripes
   pub readings : List (List LevelReading)
   pub read : AreAllLevelsOf plan.table.shape.block_size old.vault (facts_of stripes) readings
+  pub ran : MakesPartOf (mend_calls plan (facts_of stripes) readings) old.vault new.vault
   pub unread : RoseBy (unread_in readings) old.vault.faults new.vault.faults
   pub spare : AsksSpare plan (facts_of stripes) old.spare new.spare
   pub vault : MendsVault plan (facts_of stripes) old.vault new.vault

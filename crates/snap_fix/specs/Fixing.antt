@@ -8,7 +8,7 @@ use Rattle.disk_model.specs.Vault.{VaultView, GoesOn, SomeCalls, ChangesBy, Draf
 use Rattle.file_table.specs.declared.shape.Shape.{Shape}
 use Rattle.parity_writer.specs.LevelReading.{LevelReading, has_failed}
 use Rattle.snap_report.specs.Answer.{Gained, broke_folder}
-use Rattle.snap_fix.specs.Breaking.{broke_parity}
+use Rattle.snap_fix.specs.Breaking.{MakesPartOf, broke_parity}
 use Rattle.snap_report.specs.Report.{ReportView}
 use Rattle.snap_report.specs.Told.{Told}
 use Rattle.snap_report.specs.declared.answer.RunFault.{RunFault}
@@ -211,6 +211,7 @@ pub record BreaksStripe {W R : Type 0} (view : W → SinkView) (standing : R →
   pub folders : length new.folders ≡ length old.folders
   pub answered : AnswersFit plan old.folders mended
   pub read : LevelsWereRead plan mended.facts old.vault new.vault
+  pub ran : MakesPartOf (stripe_calls plan mended.facts read.readings) old.vault new.vault
   pub spare : AsksSpare plan (mended.facts ∷ []) old.spare new.spare
   pub vault : MendsVault plan (mended.facts ∷ []) old.vault new.vault
   pub makes : (d : ℕ) → d < length plan.table.columns → FolderMakes (AnyCall (IsMendCall plan old.starts d (mended ∷ []))) (folder_at old.folders d) (folder_at new.folders d)

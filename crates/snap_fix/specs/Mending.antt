@@ -14,6 +14,7 @@ use Rattle.stripe_reader.specs.declared.starts.Start.{Start}
 use Rattle.stripe_reader.specs.declared.starts.Place.{Place}
 use Rattle.stripe_reader.specs.declared.starts.Place.TheVariants.{Lost, Nowhere}
 use Rattle.snap_fix.specs.declared.state.FileState.{FileState}
+use Rattle.snap_fix.specs.Order.{FolderWrites, block_calls, put_calls}
 use Rattle.snap_fix.specs.Plan.{records_in}
 use Rattle.snap_fix.specs.State.{AnyCall, WellCall, Write, HoldsRecord, HoldsColumn, HoldsTold, FolderMakes, OthersStay, StaysPlace, record_path, size_after, state_in, stands}
 
@@ -90,6 +91,7 @@ pub record SetsUp (path : List ℕ) (start : Start) (state : FileState) (folder 
     (start_new : Start) (state_new : FileState) (folder_new : FolderView) : Type 0 where
   pub goes_on : GoesOnBy (IsSetUpCall start.place path) [] path start state folder start_new state_new folder_new
   pub there : IsTrue folder.tells → stands start_new.place state_new.touched ≡ true
+  pub wrote : FolderWrites (put_calls start.place state.touched path) folder folder_new
 
 -- Bytes were written to its file.
 pub record WritesBytes (path : List ℕ) (at : ℕ) (bytes : List ℕ) (start : Start) (state : FileState) (folder : FolderView)
@@ -97,6 +99,7 @@ pub record WritesBytes (path : List ℕ) (at : ℕ) (bytes : List ℕ) (start : 
   pub goes_on : GoesOnBy (IsBlockCall start.place path at bytes) (record { at = at; bytes = bytes } ∷ []) path
       start state folder start_new state_new folder_new
   pub touched : state_new.touched ≡ true
+  pub wrote : FolderWrites (block_calls start.place state.touched path at bytes) folder folder_new
 
 -- such calls were made, and the last of them failed
 pub record BreaksOff (P : FolderCall → Type 0) (folder folder_new : FolderView) : Type 0 where
@@ -151,6 +154,7 @@ pub record MendsCell (table : TableValue) (d : ℕ) (cell : Cell) (bytes : List 
   pub touched : written ≡ true → state.touched ≡ true
   pub stays_touched : (state_in states d cell.rec).touched ≡ true → state.touched ≡ true
   pub there : IsTrue folder.tells → written ≡ true
+  pub wrote : written ≡ true → FolderWrites (block_calls (start_in (starts_at starts.columns d) cell.rec).place (state_in states d cell.rec).touched (cell_path table d cell) (block_start table cell) bytes) folder folder_new
   pub makes : FolderMakes (WellCall (IsBlockCall (start_in (starts_at starts.columns d) cell.rec).place (cell_path table d cell) (block_start table cell) bytes)) folder folder_new
   pub holds : (first : FolderView) (writes : List (List Write)) → first.tells ≡ folder.tells → (IsTrue first.tells → IsFree first.tree (cell_path table d cell)) → (IsTrue first.tells → IsTree first.tree)
       → HoldsTold (records_in table d) (starts_at starts.columns d) (get_or states d []) writes first folder

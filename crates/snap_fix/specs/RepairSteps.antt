@@ -5,6 +5,7 @@ use Rattle.disk_model.specs.Cause.{Rose}
 use Rattle.disk_model.specs.Bytes.{put}
 use Rattle.disk_model.specs.Files.{Files, parity_of, with_parity, TearsParity}
 use Rattle.disk_model.specs.Folder.{FolderView}
+use Rattle.disk_model.specs.Ran.{vault_done}
 use Rattle.disk_model.specs.Sink.{SinkView}
 use Rattle.disk_model.specs.Tree.{IsTree}
 use Rattle.disk_model.specs.Vault.{GoesOn, ParityWrite, SomeCalls, ChangesBy, DraftsStay, Reads}
@@ -30,6 +31,7 @@ use Rattle.snap_fix.specs.Findings.{is_lost}
 use Rattle.snap_fix.specs.Marks.{is_marked_missing}
 use Rattle.snap_fix.specs.Mended.{Mended, answer_of, cell_news, is_repaired, is_written, is_blocked_cell, mended_event}
 use Rattle.snap_fix.specs.Mending.{StatesFit, IsFree, IsBlockCall, block_start, cell_path, mended_writes, with_place, with_state}
+use Rattle.snap_fix.specs.Order.{FolderWrites, block_calls}
 use Rattle.snap_fix.specs.Plan.{FixPlan, cell_at, records_in, selects_cell}
 use Rattle.snap_fix.specs.Repairing.{LevelsOutside}
 use Rattle.snap_fix.specs.State.{AnyCall, WellCall, Write, HoldsTold, FolderMakes, KeepsStarts, StaysPlace, size_after, state_in}
@@ -128,6 +130,8 @@ pub record WritesBlockOf {W R : Type 0} (view : W → SinkView) (standing : R �
   pub starts_are : new.starts ≡ with_place old.starts d cell.rec place
   pub stood : StaysPlace (start_in (starts_at old.starts.columns d) cell.rec).place place
   pub there : IsTrue old.folder.tells → written ≡ true
+  pub wrote : written ≡ true → FolderWrites (block_calls (start_in (starts_at old.starts.columns d) cell.rec).place (state_in old.states d cell.rec).touched
+      (cell_path table d cell) (block_start table cell) bytes) old.folder new.folder
   pub size : state.size ≡ size_after (state_in old.states d cell.rec).size (if written then record { at = block_start table cell; bytes = bytes } ∷ [] else [])
   pub touched : written ≡ true → state.touched ≡ true
   pub stays_touched : (state_in old.states d cell.rec).touched ≡ true → state.touched ≡ true
@@ -167,10 +171,11 @@ pub record WritesLevel {W R : Type 0} (view : W → SinkView) (standing : R → 
 
 -- The call failed, and nothing was told.
 pub record WritesNotLevel {W R : Type 0} (view : W → SinkView) (standing : R → ReportView) (stands : R → List Event → Type 0)
-    (columns : List Column) (block_size stripe r : ℕ) (old new : LevelsOutside W R) : Type 0 where
+    (columns : List Column) (block_size stripe r : ℕ) (row : Row) (old new : LevelsOutside W R) : Type 0 where
   pub rose : Rose old.vault.faults new.vault.faults
   pub call : IsTrue new.vault.tells_calls → Gained broke_parity old.vault.calls new.vault.calls
   pub calls : SomeCalls old.vault new.vault
+  pub ran : GoesOn old.vault new.vault (vault_done (ParityWrite r (stripe * block_size) (level_of r block_size row)) true ∷ [])
   pub drafts : DraftsStay old.vault new.vault
   pub changes : ChangesBy (TearsParity r (stripe * block_size) block_size) old.vault new.vault
   pub told : Told view standing stands columns [] old.lines new.lines old.reports new.reports

@@ -26,8 +26,10 @@ use Rattle.snap_fix.specs.Facts.{StripeFacts, gift_of, damaged_at}
 use Rattle.snap_fix.specs.Marks.{mark_in, row_if}
 use Rattle.snap_fix.specs.Mended.{Mended, is_repaired, is_wrong_level, known_block, block_or_none, has_lost, column_writes, writes_of}
 use Rattle.snap_fix.specs.Mending.{IsFree, block_start}
+use Rattle.snap_fix.specs.Order.{FolderWrites}
 use Rattle.snap_fix.specs.Plan.{FixPlan, cell_at, entry_at, records_in}
 use Rattle.snap_fix.specs.State.{HoldsTold, has_some, record_path, size_after, state_in}
+use Rattle.snap_fix.specs.StripeOrder.{writes_after}
 
 -- ---- what a fix stands on
 
@@ -86,7 +88,8 @@ IsMendCall plan starts d stripes (Rename path false) = IsForPlace plan starts d 
 -- ---- how far it is
 
 -- A column, since its folder was listed: some calls were made, the files hold what was written to them, and the states say which
--- have a lost block. Where the folder tells its files, just those were touched to which something was written.
+-- have a lost block. Where the folder tells its files, just those were touched to which something was written, and the calls that write
+-- came stripe after stripe.
 pub record IsColumnUnderway (plan : FixPlan) (d : ℕ) (stripes : List Mended) (first now : FolderView) (starts : StartsValue)
     (states : List (List FileState)) : Type 0 where
   pub calls : SomeFolderCalls first now
@@ -97,6 +100,7 @@ pub record IsColumnUnderway (plan : FixPlan) (d : ℕ) (stripes : List Mended) (
       → (state_in states d i).size ≡ size_after (start_in (starts_at starts.columns d) i).size (writes_of plan stripes d i)
   pub wrote : (i : ℕ) → i < length (records_in plan.table d) → has_some (writes_of plan stripes d i) ≡ true → (state_in states d i).touched ≡ true
   pub touched : IsTrue first.tells → (i : ℕ) → i < length (records_in plan.table d) → (state_in states d i).touched ≡ has_some (writes_of plan stripes d i)
+  pub ordered : IsTrue first.tells → FolderWrites (writes_after plan d first.tree [] stripes) first now
 
 pub record AreUnderway (plan : FixPlan) (stripes : List Mended) (firsts nows : List FolderView) (starts : StartsValue)
     (states : List (List FileState)) : Type 0 where

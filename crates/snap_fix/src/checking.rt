@@ -22,7 +22,8 @@ use std::thread::Threads;
 use stripe_reader::read_window;
 
 // Looks at the stripes of the window, which was read for them.
-fn look_into<V: Vault, P: Spare, W: Sink>(
+fn look_into<R: Threads + Sync, V: Vault, P: Spare, W: Sink>(
+    rt: &R,
     scope: Scope,
     table: &Table,
     entries: &Entries,
@@ -47,6 +48,7 @@ fn look_into<V: Vault, P: Spare, W: Sink>(
     let mut counts = Counts::NONE;
     for i in 0..room.window.count() {
         let examined = examine(
+            rt,
             scope,
             table,
             entries,
@@ -101,6 +103,7 @@ fn check_window<R: Threads + Sync, F: Folder, V: Vault, P: Spare, W: Sink>(
         &mut room.window,
     );
     look_into(
+        rt,
         work.scope,
         table,
         &work.entries,

@@ -32,7 +32,7 @@ pub struct FixEnd {
 
 /// Tells what is damaged, and writes nothing. It fails only by a folder that can't be listed, and for want of memory, before
 /// parity is read.
-pub fn check<R: Threads + Sync, F: Folder, V: Vault, P: Spare, W: Sink>(
+pub(crate) fn check<R: Threads + Sync, F: Folder, V: Vault, P: Spare, W: Sink>(
     rt: &R,
     alloc: Global,
     mode: Mode,

@@ -5,7 +5,7 @@ ghost use Rattle.file_table.specs.Table.{column_at};
 ghost use Rattle.snap_report.specs.Told.{Told};
 ghost use Rattle.snap_fix.specs.Counts.{AreCounts};
 ghost use Rattle.snap_fix.specs.Ending.{CanFinishAll, FinishesAll, FinishesNotAll, SyncsWritten, SyncsNot, Syncs, IsSettled};
-ghost use Rattle.snap_fix.specs.Ending.{finish_news, sync_if};
+ghost use Rattle.snap_fix.specs.Ending.{finish_news, sync_if, written_syncs};
 ghost use Rattle.snap_fix.specs.EndingSteps.{CanEndRecord, EndsRecord, EndsNotRecord, CanEndColumn, EndsColumn, EndsNotColumn};
 ghost use Rattle.snap_fix.specs.EndingSteps.{column_outside, done_news, unstamped_news};
 ghost use Rattle.snap_fix.specs.Plan.{EntriesFit, plan_of};
@@ -28,7 +28,7 @@ fn sync_level<V: Vault>(written: bool, level: u32, vault: &mut V) -> Result<(), 
     requires { level < (V.view vault.old).levels }
     ensures synced { IfOk result (λ _. Syncs (sync_if written level) (V.view vault.old) (V.view vault.new)) }
     ensures settled { IfOk result (λ _. written ≡ true → IsSettled level (V.view vault.old) (V.view vault.new)) }
-    ensures failed { IfErr result (λ _. SyncsNot (V.view vault.old) (V.view vault.new)) }
+    ensures failed { IfErr result (λ _. SyncsNot (sync_if written level) (V.view vault.old) (V.view vault.new)) }
 {
     if written {
         vault.parity_sync(level)
@@ -41,7 +41,7 @@ fn sync_level<V: Vault>(written: bool, level: u32, vault: &mut V) -> Result<(), 
 pub(crate) fn sync_levels<V: Vault>(written: &[bool], vault: &mut V) -> Result<(), Failed>
     requires { length written.now ≡ (V.view vault.old).levels }
     ensures synced { IfOk result (λ _. SyncsWritten written.now (V.view vault.old) (V.view vault.new)) }
-    ensures failed { IfErr result (λ _. SyncsNot (V.view vault.old) (V.view vault.new)) }
+    ensures failed { IfErr result (λ _. SyncsNot (written_syncs written.now) (V.view vault.old) (V.view vault.new)) }
 {
     for level in 0..vault.levels() {
         sync_level(written[level as usize], level, vault)?;

@@ -1,13 +1,14 @@
 // A stripe of a window that was read: what is found in it, and its row, where it is known.
-ghost use Rattle.std.specs.Prelude.{◌≡◌, ◌≤◌, [], ◌∷◌, length};
+ghost use Rattle.std.specs.Prelude.{◌≡◌, ◌≤◌, [], ◌∷◌, length, true};
 ghost use Rattle.parity_writer.specs.LevelReading.{ReadsLevels};
 ghost use Rattle.snap_report.specs.Told.{Told};
 ghost use Rattle.snap_fix.specs.Asking.{AsksSpare};
 ghost use Rattle.snap_fix.specs.Counts.{AreCounts};
 ghost use Rattle.snap_fix.specs.Examining.{Examines, ReadsTried, facts_examined};
 ghost use Rattle.snap_fix.specs.Findings.{stripe_events};
+ghost use Rattle.snap_fix.specs.Judging.{TellsWrong};
 ghost use Rattle.snap_fix.specs.Knowing.{HaveCells};
-ghost use Rattle.snap_fix.specs.Marks.{CanExamine};
+ghost use Rattle.snap_fix.specs.Marks.{CanExamine, row_if};
 ghost use Rattle.snap_fix.specs.Plan.{plan_of, is_searched as is_searched_at};
 ghost use Rattle.snap_fix.specs.Room.{IsRoomFor};
 ghost use Rattle.snap_fix.specs.Spare.{IsSpareFor};
@@ -15,6 +16,7 @@ ghost use Rattle.snap_fix.specs.Trying.{Tries, tried_events};
 
 use crate::counts::Counts;
 use crate::entry::Entries;
+use crate::judging::judge_levels;
 use crate::knowing::know_row;
 use crate::marking::mark_cells;
 use crate::room::Room;
@@ -26,11 +28,13 @@ use disk_model::{Sink, Vault};
 use file_table::Table;
 use parity_writer::{Levels, read_levels};
 use snap_report::{Lines, Report};
+use std::thread::Threads;
 
-/// Whether the row is known, and how much was found.
+/// Whether the row is known, which of the selected levels are wrong, where they were read, and how much was found.
 #[derive(Clone, Copy)]
 pub(crate) struct Examined {
     pub known: bool,
+    pub wrong: [bool; 6],
     pub counts: Counts,
 }
 
@@ -51,7 +55,8 @@ fn read_all<V: Vault>(table: &Table, stripe: u32, vault: &mut V, levels: &mut Le
 
 // Looks at the levels of a stripe whose cells were marked, and searches for its missing blocks by them, where a recovery of
 // these is tried.
-fn try_row<V: Vault, W: Sink>(
+fn try_row<R: Threads + Sync, V: Vault, W: Sink>(
+    rt: &R,
     scope: Scope,
     table: &Table,
     entries: &Entries,
@@ -72,18 +77,23 @@ fn try_row<V: Vault, W: Sink>(
     ensures told { Told W.view standing stands table.now.columns
         (tried_events (plan_of scope table.now entries.now) stripe i room.new result.known)
         lines.old lines.new reports.old.items reports.new.items }
+    ensures wrong { is_searched_at (plan_of scope table.now entries.now) stripe ≡ true →
+        TellsWrong (plan_of scope table.now entries.now) stripe room.new.levels (row_if result.known room.new.window i) result.wrong }
     ensures counts { AreCounts (tried_events (plan_of scope table.now entries.now) stripe i room.new result.known)
         result.counts }
 {
     if !is_searched(scope, table, entries, stripe) {
+        let wrong = [false; 6];
         return Examined {
             known: false,
+            wrong,
             counts: Counts::NONE,
         };
     }
     read_all(table, stripe, vault, &mut room.levels);
     let unread = tell_unread_levels(scope, table, entries, stripe, &room.levels, lines, reports);
     let known = know_row(
+        rt,
         scope,
         table,
         entries,
@@ -95,7 +105,8 @@ fn try_row<V: Vault, W: Sink>(
         &mut room.remainders,
         &mut room.blocks,
     );
-    let wrong = tell_wrong_levels(
+    let wrong = judge_levels(
+        rt,
         scope,
         table,
         entries,
@@ -104,19 +115,20 @@ fn try_row<V: Vault, W: Sink>(
         &room.window,
         known,
         &room.levels,
-        &mut room.block,
-        lines,
-        reports,
+        &mut room.remainders,
     );
+    let told = tell_wrong_levels(table, stripe, &wrong, lines, reports);
     Examined {
         known,
-        counts: unread.and(wrong),
+        wrong,
+        counts: unread.and(told),
     }
 }
 
 /// Tells what is found in a stripe of the window. Its levels are read, and its missing blocks searched for, where it is
 /// synced and parity is looked at; then the window has its row, if that is known.
-pub(crate) fn examine<V: Vault, P: Spare, W: Sink>(
+pub(crate) fn examine<R: Threads + Sync, V: Vault, P: Spare, W: Sink>(
+    rt: &R,
     scope: Scope,
     table: &Table,
     entries: &Entries,
@@ -142,6 +154,8 @@ pub(crate) fn examine<V: Vault, P: Spare, W: Sink>(
         (stripe_events (plan_of scope table.now entries.now)
         (facts_examined (plan_of scope table.now entries.now) stripe i room.old room.new result.known))
         lines.old lines.new reports.old.items reports.new.items }
+    ensures wrong { is_searched_at (plan_of scope table.now entries.now) stripe ≡ true →
+        TellsWrong (plan_of scope table.now entries.now) stripe room.new.levels (row_if result.known room.new.window i) result.wrong }
     ensures counts { AreCounts (stripe_events (plan_of scope table.now entries.now)
         (facts_examined (plan_of scope table.now entries.now) stripe i room.old room.new result.known)) result.counts }
 {
@@ -170,7 +184,7 @@ pub(crate) fn examine<V: Vault, P: Spare, W: Sink>(
         &mut room.block,
     );
     let tried = try_row(
-        scope, table, entries, stripe, i, room, vault, lines, reports,
+        rt, scope, table, entries, stripe, i, room, vault, lines, reports,
     );
     let lost = tell_lost(
         scope,
@@ -182,8 +196,10 @@ pub(crate) fn examine<V: Vault, P: Spare, W: Sink>(
         lines,
         reports,
     );
+    let wrong = tried.wrong;
     Examined {
         known: tried.known,
+        wrong,
         counts: unsynced.and(cells.and(tried.counts.and(lost))),
     }
 }

@@ -4,6 +4,7 @@ ghost use Rattle.disk_model.specs.Tree.{file_of};
 ghost use Rattle.disk_model.specs.declared.meta.Meta.{Meta};
 ghost use Rattle.snap_fix.specs.Finishing.{CanFinish, FinishesRecord, FinishesNot};
 ghost use Rattle.snap_fix.specs.Finishing.{IsWholeCall, IsFinishCall, finish_of, lost_finish, whole_finish};
+ghost use Rattle.snap_fix.specs.Finishing.{finish_calls, lost_calls, whole_calls};
 ghost use Rattle.snap_fix.specs.Finishing.{same_stamp as same_stamp_by};
 ghost use Rattle.snap_fix.specs.Finishing.{is_changed as is_changed_by, stamped_finish as stamped_finish_by};
 ghost use Rattle.snap_fix.specs.FinishSteps.{IsPlaced, IsReady};
@@ -112,7 +113,7 @@ fn finish_whole<F: Folder>(
     requires { IsReady path.now listed meta start state (F.view folder.old) }
     ensures finished { IfOk result (λ finish. FinishesBy
         (whole_finish meta listed start state (F.view folder.old).keeps_stamps) finish
-        (IsWholeCall listed start state path.now meta) meta start state path.now
+        (IsWholeCall listed start state path.now meta) (whole_calls listed start state path.now meta) meta start state path.now
         (F.view folder.old) (F.view folder.new)) }
     ensures broke { IfErr result (λ fault. BreaksBy fault (IsWholeCall listed start state path.now meta)
         (F.view folder.old) (F.view folder.new)) }
@@ -154,7 +155,7 @@ fn finish_lost<F: Folder>(
 ) -> Result<Finish, FileFault>
     requires { IsPlaced path.now start.place state.touched (F.view folder.old) }
     ensures finished { (meta : Meta) → IfOk result (λ finish. FinishesBy (lost_finish start state)
-        finish (IsLostCall start state path.now) meta start state path.now
+        finish (IsLostCall start state path.now) (lost_calls start state path.now) meta start state path.now
         (F.view folder.old) (F.view folder.new)) }
     ensures broke { IfErr result (λ fault. BreaksBy fault (IsLostCall start state path.now)
         (F.view folder.old) (F.view folder.new)) }
@@ -178,7 +179,8 @@ fn finish_file<F: Folder>(
     requires { IsReady path.now listed meta start state (F.view folder.old) }
     ensures finished { IfOk result (λ finish. FinishesBy
         (finish_of meta listed start state (F.view folder.old).keeps_stamps) finish
-        (IsFinishCall state.lost listed start state path.now meta) meta start state path.now
+        (IsFinishCall state.lost listed start state path.now meta) (finish_calls state.lost listed start state path.now meta)
+        meta start state path.now
         (F.view folder.old) (F.view folder.new)) }
     ensures broke { IfErr result (λ fault. BreaksBy fault
         (IsFinishCall state.lost listed start state path.now meta) (F.view folder.old) (F.view folder.new)) }

@@ -44,7 +44,8 @@ impl Totals {
 }
 
 // Looks at the stripes of the window, which was read for them, and writes what is damaged.
-fn fix_into<F: Folder, V: Vault, P: Spare, W: Sink>(
+fn fix_into<R: Threads + Sync, F: Folder, V: Vault, P: Spare, W: Sink>(
+    rt: &R,
     scope: Scope,
     table: &Table,
     entries: &Entries,
@@ -79,6 +80,7 @@ fn fix_into<F: Folder, V: Vault, P: Spare, W: Sink>(
     let mut totals = Totals::NONE;
     for i in 0..room.window.count() {
         let more = fix_stripe(
+            rt,
             scope,
             table,
             entries,
@@ -143,6 +145,7 @@ fn fix_window<R: Threads + Sync, F: Folder, V: Vault, P: Spare, W: Sink>(
         &mut room.window,
     );
     fix_into(
+        rt,
         work.scope,
         table,
         &work.entries,

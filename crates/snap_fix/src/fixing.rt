@@ -3,7 +3,8 @@ ghost use Rattle.std.specs.Prelude.{◌≡◌, IfOk, IfErr, length, map, true};
 ghost use Rattle.snap_fix.specs.Facts.{StripeFacts};
 ghost use Rattle.snap_fix.specs.Fixing.{FixesStripe, BreaksStripe, SceneFits, fix_scene};
 ghost use Rattle.snap_fix.specs.FixSteps.{MendsNotParity, MendsParity, ShowsTried};
-ghost use Rattle.snap_fix.specs.Marks.{CanExamine};
+ghost use Rattle.snap_fix.specs.Judging.{TellsWrong};
+ghost use Rattle.snap_fix.specs.Marks.{CanExamine, row_if};
 ghost use Rattle.snap_fix.specs.Plan.{plan_of, is_searched as is_searched_at};
 ghost use Rattle.snap_fix.specs.Repairing.{CanMendLevels, levels_outside};
 ghost use Rattle.snap_fix.specs.Room.{IsRoomFor};
@@ -22,6 +23,7 @@ use disk_model::{Failed, Folder, Sink, Vault};
 use file_table::Table;
 use parity_writer::Levels;
 use snap_report::{Lines, Report, RunFault};
+use std::thread::Threads;
 use stripe_reader::{Starts, Window};
 
 /// How much was found, and how many blocks of files and of levels were written anew. Each number stays at the greatest u64.
@@ -43,6 +45,7 @@ fn mend_parity<V: Vault, W: Sink>(
     window: &Window,
     known: bool,
     levels: &Levels,
+    wrong: &[bool; 6],
     block: &mut [u8],
     written: &mut [bool],
     vault: &mut V,
@@ -52,6 +55,8 @@ fn mend_parity<V: Vault, W: Sink>(
     requires can { CanExamine (plan_of scope table.now entries.now) stripe i window.now }
     requires mend { is_searched_at (plan_of scope table.now entries.now) stripe ≡ true
         → CanMendLevels (plan_of scope table.now entries.now) levels.now block.old (V.view vault.old) }
+    requires wrong { is_searched_at (plan_of scope table.now entries.now) stripe ≡ true
+        → TellsWrong (plan_of scope table.now entries.now) stripe levels.now (row_if known window.now i) wrong.now }
     requires written { length written.old ≡ table.now.shape.levels }
     ensures block { length block.new ≡ length block.old }
     ensures mended { IfOk result (λ count. (facts : StripeFacts)
@@ -69,13 +74,14 @@ fn mend_parity<V: Vault, W: Sink>(
         return Ok(0);
     }
     mend_levels(
-        scope, table, entries, stripe, i, window, known, levels, block, vault, lines, reports,
-        written,
+        scope, table, entries, stripe, i, window, known, levels, wrong, block, vault, lines,
+        reports, written,
     )
 }
 
 /// Looks at a stripe of the window, and writes its damaged blocks and its wrong levels anew.
-pub(crate) fn fix_stripe<F: Folder, V: Vault, P: Spare, W: Sink>(
+pub(crate) fn fix_stripe<R: Threads + Sync, F: Folder, V: Vault, P: Spare, W: Sink>(
+    rt: &R,
     scope: Scope,
     table: &Table,
     entries: &Entries,
@@ -104,7 +110,7 @@ pub(crate) fn fix_stripe<F: Folder, V: Vault, P: Spare, W: Sink>(
         (fix_scene starts.new states.new written.new (map F.view folders.new) (V.view vault.new) (P.holding spare.new) lines.new reports.new.items)) }
 {
     let examined = examine(
-        scope, table, entries, stripe, i, room, vault, spare, lines, reports,
+        rt, scope, table, entries, stripe, i, room, vault, spare, lines, reports,
     );
     let repaired = match mend_files(
         scope,
@@ -133,6 +139,7 @@ pub(crate) fn fix_stripe<F: Folder, V: Vault, P: Spare, W: Sink>(
         &room.window,
         examined.known,
         &room.levels,
+        &examined.wrong,
         &mut room.block,
         written,
         vault,

@@ -1,7 +1,6 @@
 // The row of a stripe, as far as it can be known: by its cells, by the spare, and by its levels.
 ghost use Rattle.std.specs.Prelude.{◌≡◌, ℕ, ◌*◌, ◌<◌, ◌≤◌, All, MatchOption, is_some, length};
-ghost use Rattle.std.specs.Prelude.{slice_index, slice_set, take, true, false};
-ghost use Rattle.gf256.specs.Field.{field_sum};
+ghost use Rattle.std.specs.Prelude.{slice_set, take, true, false};
 ghost use Rattle.file_table.specs.Cells.{cell_view};
 ghost use Rattle.file_table.specs.Table.{column_at, info_at};
 ghost use Rattle.file_table.specs.declared.info.Mark.TheVariants.{Synced};
@@ -9,10 +8,10 @@ ghost use Rattle.file_table.specs.Valid.{IsValid};
 ghost use Rattle.parity_writer.specs.WindowRow.{row_at};
 ghost use Rattle.stripe_reader.specs.WindowValue.{slot_at};
 ghost use Rattle.snap_fix.specs.Facts.{wanted_by};
-ghost use Rattle.snap_fix.specs.Known.{AreRemainders, IsKnown};
+ghost use Rattle.snap_fix.specs.Known.{IsKnown};
 ghost use Rattle.snap_fix.specs.Restorable.{filled};
-ghost use Rattle.snap_fix.specs.Known.{is_whole as is_whole_by, whole_levels as whole_levels_of};
-ghost use Rattle.snap_fix.specs.Knowing.{HaveCells, IsRemainder, KeepsOtherColumns};
+ghost use Rattle.snap_fix.specs.Known.{whole_levels as whole_levels_of};
+ghost use Rattle.snap_fix.specs.Knowing.{HaveCells, KeepsOtherColumns};
 ghost use Rattle.snap_fix.specs.MarkedCell.{ChangesSlot};
 ghost use Rattle.snap_fix.specs.Marks.{CanExamine, ChangesStripe};
 ghost use Rattle.snap_fix.specs.Marks.{wanted_marked, row_if, mark_in, is_marked_missing};
@@ -20,13 +19,15 @@ ghost use Rattle.snap_fix.specs.Plan.{plan_of, is_synced};
 
 use crate::entry::Entries;
 use crate::marking::{CellMark, cell_hash, cell_length};
+use crate::remainders::{fill_remainders, is_whole};
 use crate::scope::Scope;
 use crate::search::{Wanted, search};
 use arrayvec::ArrayVec;
 use block_hash::Digest16;
 use file_table::Table;
+use parity_writer::Levels;
 use parity_writer::laws::a_put_block_stands_in_its_row;
-use parity_writer::{LevelRead, Levels, sum_row};
+use std::thread::Threads;
 use stripe_reader::Window;
 
 impl Default for Wanted {
@@ -45,13 +46,6 @@ fn is_missing(mark: CellMark) -> bool
     ensures { result ≡ is_marked_missing mark }
 {
     mark == CellMark::Missing
-}
-
-// Whether a level was read whole.
-fn is_whole(state: LevelRead) -> bool
-    ensures { result ≡ is_whole_by state }
-{
-    state == LevelRead::Bytes
 }
 
 // The block of the cell of a column, as it is searched for. In a synced stripe each block has its
@@ -135,67 +129,6 @@ fn whole_levels(levels: &Levels, count: u32) -> ArrayVec<u32, 6>
     whole
 }
 
-// Adds a block to another one, byte by byte.
-fn add_block(block: &[u8], out: &mut [u8])
-    requires { length block.now ≡ length out.old }
-    ensures size { length out.new ≡ length out.old }
-    ensures bytes { (p : ℕ) → p < length block.now →
-        slice_index out.new p ≡ field_sum (slice_index block.now p) (slice_index out.old p) }
-{
-    for p in 0..block.len() {
-        out[p] = block[p] ^ out[p];
-    }
-}
-
-// What is left of a level, less the sum of the row of a stripe of the window.
-fn fill_remainder(window: &Window, i: u32, r: u32, level: &[u8], out: &mut [u8])
-    requires stripe { i < window.now.count }
-    requires columns { length window.now.lanes ≤ 251 }
-    requires level { r < 6 }
-    requires block { length level.now ≡ window.now.block_size }
-    requires size { length out.old ≡ window.now.block_size }
-    ensures size { length out.new ≡ length out.old }
-    ensures value { IsRemainder r (row_at window.now i) level.now out.new }
-{
-    sum_row(window, i, r, out);
-    add_block(level, out);
-}
-
-// What is left of the levels that were read whole, of so many.
-fn fill_remainders(
-    window: &Window,
-    i: u32,
-    levels: &Levels,
-    count: u32,
-    size: usize,
-    remainders: &mut [u8],
-)
-    requires stripe { i < window.now.count }
-    requires columns { length window.now.lanes ≤ 251 }
-    requires count { count ≡ levels.now.count }
-    requires room { count ≤ length levels.now.levels }
-    requires most { count ≤ 6 }
-    requires window { size ≡ window.now.block_size }
-    requires levels { size ≡ levels.now.block_size }
-    requires most_size { size ≤ 4194304 }
-    requires remainders { length remainders.old ≡ 6 * size }
-    ensures { AreRemainders size (row_at window.now i) (take levels.now.count levels.now.levels)
-        remainders.new }
-{
-    for r in 0..count {
-        if is_whole(levels.state(r)) {
-            let start = r as usize * size;
-            fill_remainder(
-                window,
-                i,
-                r,
-                levels.block(r),
-                &mut remainders[start..start + size],
-            );
-        }
-    }
-}
-
 // Puts the bytes of a block into a column of a stripe of the window.
 fn put_block(window: &mut Window, i: u32, d: u32, bytes: &[u8])
     requires stripe { i < window.old.count }
@@ -234,7 +167,8 @@ fn put_found(window: &mut Window, i: u32, size: usize, wanted: &[Wanted], blocks
 /// Puts the missing blocks of a synced stripe into the window where they are found by the levels that
 /// were read whole, and answers whether the row is known then. The slots of missing cells are empty at
 /// entry.
-pub(crate) fn know_row(
+pub(crate) fn know_row<R: Threads + Sync>(
+    rt: &R,
     scope: Scope,
     table: &Table,
     entries: &Entries,
@@ -274,8 +208,8 @@ pub(crate) fn know_row(
     }
     let size = shape.block_size as usize;
     let whole = whole_levels(levels, shape.levels);
-    fill_remainders(window, i, levels, shape.levels, size, remainders);
-    if !search(shape, &wanted, &whole, remainders, blocks) {
+    fill_remainders(rt, window, i, levels, shape.levels, size, remainders);
+    if !search(rt, shape, &wanted, &whole, remainders, blocks) {
         return false;
     }
     put_found(window, i, size, &wanted, &blocks[..wanted.len() * size]);

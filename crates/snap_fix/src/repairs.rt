@@ -59,7 +59,7 @@ fn states_before(alloc: Global, starts: &Starts) -> Result<States, NoMemory>
 
 /// Writes what is damaged and known anew, and tells it. It fails by a folder that can't be listed or written, by parity that can't be
 /// written, and for want of memory, before parity is read or anything written. What was written before a failure stays.
-pub fn fix<R: Threads + Sync, F: Folder, V: Vault, P: Spare, W: Sink>(
+pub(crate) fn fix<R: Threads + Sync, F: Folder, V: Vault, P: Spare, W: Sink>(
     rt: &R,
     alloc: Global,
     selection: &Selection,

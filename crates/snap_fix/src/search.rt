@@ -3,16 +3,22 @@
 ghost use Rattle.std.specs.Prelude.{◌≡◌, ◌↔◌, ℕ, ◌+◌, ◌*◌, ◌<◌, ◌≤◌, [], ◌∷◌, ◌++◌, length};
 ghost use Rattle.std.specs.Prelude.{EachIndex, IsTrue, false, slice_index};
 ghost use Rattle.std.specs.List.{All};
+ghost use Rattle.std.specs.Thread.{IsSync};
 ghost use Rattle.cauchy.specs.System.{AreDistinctBelow, IsChoice};
 ghost use Rattle.snap_fix.specs.Search.{choices_after, columns_of, found_in, given};
 ghost use Rattle.snap_fix.specs.Search.{AreRightBlocks, Finds, FindsAmong, FindsNone, HasRoom};
 ghost use Rattle.snap_fix.specs.Search.{IsAcceptable, IsAccepted, IsRightBlock, NoneAcceptable};
+ghost use Rattle.snap_fix.specs.Sharing.{HaveBlocks};
 
 use arrayvec::ArrayVec;
 use block_hash::{Digest16, digest};
 use cauchy::laws::one_solution;
 use cauchy::solve;
 use file_table::Shape;
+use std::thread::{Threads, join};
+
+/// The least size of a block whose work takes longer than the start of a thread.
+pub(crate) const THREAD_BYTES: u32 = 65_536;
 
 /// A block that is searched for.
 #[derive(Clone, Copy, Debug, PartialEq, Eq)]
@@ -36,11 +42,15 @@ fn columns(wanted: &[Wanted]) -> ArrayVec<u32, 6>
     columns
 }
 
-// Whether each byte is zero.
-fn are_zeros(bytes: &[u8]) -> bool
+/// Whether each byte is zero. All are looked at, many at once.
+pub(crate) fn are_zeros(bytes: &[u8]) -> bool
     ensures { IsTrue result ↔ EachIndex bytes.now (λ i. slice_index bytes.now i ≡ 0) }
 {
-    bytes.iter().all(|byte| *byte == 0)
+    let mut all = 0;
+    for i in 0..bytes.len() {
+        all |= bytes[i];
+    }
+    all == 0
 }
 
 // Whether a block has its recorded hash, and zeros behind its real length.
@@ -53,11 +63,9 @@ fn is_right(shape: Shape, wanted: Wanted, block: &[u8]) -> bool
     digest(shape.kind, &shape.seed, &block[..real]) == wanted.hash && are_zeros(&block[real..])
 }
 
-// Whether each of the blocks, which stand end to end, is right.
-fn are_right(shape: Shape, wanted: &[Wanted], blocks: &[u8]) -> bool
-    requires block { shape.block_size ≤ 4194304 }
-    requires lengths { All (λ one. one.length ≤ shape.block_size) wanted.now }
-    requires size { length blocks.now ≡ length wanted.now * shape.block_size }
+// Whether each of the blocks, which stand end to end, is right. They are hashed one after another.
+fn are_right_in_turn(shape: Shape, wanted: &[Wanted], blocks: &[u8]) -> bool
+    requires { HaveBlocks shape wanted.now blocks.now }
     ensures { IsTrue result ↔ AreRightBlocks shape wanted.now blocks.now }
 {
     let size = shape.block_size as usize;
@@ -68,6 +76,50 @@ fn are_right(shape: Shape, wanted: &[Wanted], blocks: &[u8]) -> bool
         }
     }
     true
+}
+
+// The same, where large blocks are hashed side by side.
+#[cycle(halves)]
+fn are_right<R: Threads + Sync>(rt: &R, shape: Shape, wanted: &[Wanted], blocks: &[u8]) -> bool
+    requires { HaveBlocks shape wanted.now blocks.now }
+    ensures { IsTrue result ↔ AreRightBlocks shape wanted.now blocks.now }
+{
+    if wanted.len() < 2 || shape.block_size < THREAD_BYTES {
+        return are_right_in_turn(shape, wanted, blocks);
+    }
+    let half = wanted.len() / 2;
+    let (near, far) = wanted.split_at(half);
+    let (near_blocks, far_blocks) = blocks.split_at(half * shape.block_size as usize);
+    are_both_right(rt, shape, near, near_blocks, far, far_blocks)
+}
+
+// Whether the blocks of both halves are.
+#[cycle(halves)]
+fn are_both_right<R: Threads + Sync>(
+    rt: &R,
+    shape: Shape,
+    near: &[Wanted],
+    near_blocks: &[u8],
+    far: &[Wanted],
+    far_blocks: &[u8],
+) -> bool
+    requires some_near { 0 < length near.now }
+    requires some_far { 0 < length far.now }
+    requires near { HaveBlocks shape near.now near_blocks.now }
+    requires far { HaveBlocks shape far.now far_blocks.now }
+    ensures { IsTrue result
+        ↔ AreRightBlocks shape near.now near_blocks.now × AreRightBlocks shape far.now far_blocks.now }
+{
+    let one = || -> bool
+        requires { IsSync R.row × HaveBlocks shape near.now near_blocks.now }
+        ensures { IsTrue result ↔ AreRightBlocks shape near.entry.now near_blocks.entry.now }
+    { are_right(rt, shape, near, near_blocks) };
+    let other = || -> bool
+        requires { IsSync R.row × HaveBlocks shape far.now far_blocks.now }
+        ensures { IsTrue result ↔ AreRightBlocks shape far.entry.now far_blocks.entry.now }
+    { are_right(rt, shape, far, far_blocks) };
+    let (is_near, is_far) = join(rt, one, other);
+    is_near && is_far
 }
 
 // Puts the remainders of the chosen levels end to end.
@@ -87,7 +139,8 @@ fn copy_chosen(shape: Shape, remainders: &[u8], choice: &[u32], out: &mut [u8])
 }
 
 // The blocks that follow from a choice of levels, where they are right.
-fn try_choice(
+fn try_choice<R: Threads + Sync>(
+    rt: &R,
     shape: Shape,
     wanted: &[Wanted],
     remainders: &[u8],
@@ -108,7 +161,7 @@ fn try_choice(
     let blocks = &mut work[..wanted.len() * size];
     copy_chosen(shape, remainders, choice, blocks);
     solve(&columns(wanted), choice, size, blocks);
-    are_right(shape, wanted, blocks)
+    are_right(rt, shape, wanted, blocks)
 }
 
 // The chosen levels and one more.
@@ -125,7 +178,8 @@ fn with_level(chosen: &[u32], level: u32) -> ArrayVec<u32, 6>
 }
 
 // Tries the choices that begin with the chosen levels and go on with some of `levels`, in order.
-fn search_from(
+fn search_from<R: Threads + Sync>(
+    rt: &R,
     shape: Shape,
     wanted: &[Wanted],
     chosen: &[u32],
@@ -146,19 +200,20 @@ fn search_from(
         NoneAcceptable shape wanted.now remainders.now (choices_after chosen.now m levels.now) }
 {
     if chosen.len() == wanted.len() {
-        return try_choice(shape, wanted, remainders, chosen, work);
+        return try_choice(rt, shape, wanted, remainders, chosen, work);
     }
     let Some((first, rest)) = levels.split_first() else {
         return false;
     };
     let longer = with_level(chosen, *first);
-    search_from(shape, wanted, &longer, rest, remainders, work)
-        || search_from(shape, wanted, chosen, rest, remainders, work)
+    search_from(rt, shape, wanted, &longer, rest, remainders, work)
+        || search_from(rt, shape, wanted, chosen, rest, remainders, work)
 }
 
 /// Searches for blocks among the choices of as many levels, in lexicographic order. Where it finds them, they stand at
-/// the beginning of `work`. No memory is taken.
-pub(crate) fn search(
+/// the beginning of `work`. Large blocks are hashed by a thread each. No memory is taken.
+pub(crate) fn search<R: Threads + Sync>(
+    rt: &R,
     shape: Shape,
     wanted: &[Wanted],
     levels: &[u32],
@@ -176,5 +231,5 @@ pub(crate) fn search(
     if wanted.len() > levels.len() {
         return false;
     }
-    search_from(shape, wanted, &[], levels, remainders, work)
+    search_from(rt, shape, wanted, &[], levels, remainders, work)
 }

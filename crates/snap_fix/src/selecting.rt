@@ -174,8 +174,13 @@ pub(crate) fn has_selected_cell(scope: Scope, table: &Table, entries: &Entries, 
     false
 }
 
-// Whether a stripe has a selected level.
-fn has_selected_level(scope: Scope, table: &Table, entries: &Entries, stripe: u32) -> bool
+/// Whether a stripe has a selected level.
+pub(crate) fn has_selected_level(
+    scope: Scope,
+    table: &Table,
+    entries: &Entries,
+    stripe: u32,
+) -> bool
     requires { stripe < length table.now.infos }
     ensures { result ≡ has_selected_level (plan_of scope table.now entries.now) stripe }
 {

@@ -16,7 +16,7 @@ use crate::entry::{Entries, Entry};
 pub(crate) use cells::{tell_cells, tell_lost, tell_unsynced};
 use disk_model::Sink;
 use file_table::Table;
-pub(crate) use levels::{is_wrong, tell_unread_levels, tell_wrong_levels};
+pub(crate) use levels::{tell_unread_levels, tell_wrong_levels};
 pub(crate) use opening::tell_opening;
 use snap_report::events::Event;
 use snap_report::{Lines, Report, tell};

@@ -13,7 +13,8 @@ use Rattle.snap_config.specs.declared.options.Command.{Command}
 use Rattle.snap_config.specs.declared.options.Selection.{Selection}
 use Rattle.snap_fix.specs.Asking.{AsksSpare, is_held}
 use Rattle.snap_fix.specs.Beginning.{BeginsNot}
-use Rattle.snap_fix.specs.Course.{Checks, check_events, outside}
+use Rattle.snap_fix.specs.ByMode.{AreOpenFor, Repairs, RepairsNot}
+use Rattle.snap_fix.specs.Course.{Checks, Outside as OutsideOf, check_events, outside}
 use Rattle.snap_fix.specs.Facts.{StripeFacts, gift_of}
 use Rattle.parity_writer.specs.LevelReading.{LevelReading, IsReadingOf}
 use Rattle.snap_fix.specs.Looking.{AreAllLevelsOf, AreRead, LevelsAreRead}
@@ -165,6 +166,28 @@ as_command : (mode : Mode) (selection : Selection) (task : Task) (table : TableV
 as_command modes.Check selection task table before after left did command does = subst (λ (c : Command). DoesCommand c task table before after left did) (sym command) does
 as_command modes.Audit selection task table before after left did command does = subst (λ (c : Command). DoesCommand c task table before after left did) (sym command) does
 as_command modes.Fix selection task table before after left did command does = absurd command
+
+-- ---- by its mode
+
+-- a check needs no open folders
+pub none_open : (mode : Mode) (selection : Selection) (task : Task) (table : TableValue) (folders : List FolderView) → checks_as mode selection task.command → AreOpenFor mode table folders
+none_open modes.Check selection task table folders command = tt
+none_open modes.Audit selection task table folders command = tt
+none_open modes.Fix selection task table folders command = absurd command
+
+module _ {W R : Type 0} (view : W → SinkView) (standing : R → ReportView) (stands : R → List Event → Type 0) where
+  -- what is repaired in the mode of a check is checked
+  pub checks_by : (mode : Mode) (selection : Selection) (task : Task) → checks_as mode selection task.command → (names : List (List ℕ)) (table : TableValue) (old new : OutsideOf W R) (end : FixEnd)
+      → Repairs view standing stands mode selection names table old new end → Checks view standing stands mode selection names table old new end
+  checks_by modes.Check selection task command names table old new end repairs = repairs
+  checks_by modes.Audit selection task command names table old new end repairs = repairs
+  checks_by modes.Fix selection task command names table old new end repairs = absurd command
+
+  pub begins_not_by : (mode : Mode) (selection : Selection) (task : Task) → checks_as mode selection task.command → (names : List (List ℕ)) (table : TableValue) (old new : OutsideOf W R) (untouched : Type 0) (fault : RunFault)
+      → RepairsNot view standing stands mode selection names table old new untouched fault → BeginsNot old.folders new.folders fault × untouched
+  begins_not_by modes.Check selection task command names table old new untouched fault why = why
+  begins_not_by modes.Audit selection task command names table old new untouched fault why = why
+  begins_not_by modes.Fix selection task command names table old new untouched fault why = absurd command
 
 -- ---- the whole
 

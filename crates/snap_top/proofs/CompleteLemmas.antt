@@ -104,10 +104,10 @@ smooth_known before exit name smooth is =
 
 smooth_refusal : (before : Entry) (exit : Exit) (why : Refusal) (told : List Event) → IsSmooth before exit → IsRefused before exit why told → IsDoneOrMemory (refusal_status why)
 smooth_refusal before exit (refusals.Words fault) told smooth ran = smooth_words before exit fault smooth ran.refuses.0
-smooth_refusal before exit (refusals.Unread fault) told smooth ran = smooth_open fault (λ failed. smooth.opener (ran.refuses.why_not.0 failed))
+smooth_refusal before exit (refusals.Unread fault) told smooth ran = smooth_open fault (λ failed. smooth.unbroken.opener (ran.refuses.why_not.0 failed))
 smooth_refusal before exit (refusals.Config file fault) told smooth ran = smooth_config before exit ran.refuses.asked fault smooth ran.refuses.read ran.refuses.why_not.1
 smooth_refusal before exit (refusals.NoDisk name) told smooth ran = absurd (smooth_known before exit name smooth ran.refuses)
-smooth_refusal before exit (refusals.Unopened fault) told smooth ran = smooth_open fault (λ failed. smooth.opener (ran.refuses.rose failed))
+smooth_refusal before exit (refusals.Unopened fault) told smooth ran = smooth_open fault (λ failed. smooth.unbroken.opener (ran.refuses.rose failed))
 
 -- a reading of a copy that failed is a call that reads no parity
 reading_broke : (copy : ℕ) (call : VaultCall) → IsReadOf copy call → broke_vault (record { call = call; failed = true }) ≡ true
@@ -128,7 +128,7 @@ useless_is_none v copy bytes held is (inr damaged) =
     let same : damaged.bytes ≡ bytes = cc in
     damaged.damaged (subst IsContent (sym same) is)
 
-failed_load_breaks : (old new : VaultView) → LoadFails old new → BreaksVault old new
+pub failed_load_breaks : (old new : VaultView) → LoadFails old new → BreaksVault old new
 failed_load_breaks old new fails =
     let one = fails.some.1 in
     record {
@@ -231,7 +231,7 @@ fix_broke told old new broke = record {
     rose_by_more : (n old' new' : ℕ) → RoseBy (n + 1) old' new' → Rose old' new'
     rose_by_more n old' new' rose = omega (arith, rose)
 
-vault_broke : (command : Command) (task : Task) (table : TableValue) (start after : World) (left : Left) (did : Did) → DoesCommand command task table start after left did → left.answer ≡ Broken Vault
+pub vault_broke : (command : Command) (task : Task) (table : TableValue) (start after : World) (left : Left) (did : Did) → DoesCommand command task table start after left did → left.answer ≡ Broken Vault
     → VaultBroke (view_of start.vault) (view_of after.vault) × SomeCalls (view_of start.vault) (view_of after.vault)
 vault_broke commands.List task table start after left did does broken = absurd (done_is_no_break 0 does.prints.failed (sym does.prints.answer_is ∙ broken))
 vault_broke commands.Status task table start after left did does broken = absurd (done_is_no_break _ does.prints.failed (sym does.prints.answer_is ∙ broken))
@@ -246,7 +246,7 @@ vault_broke (commands.Fix selection) task table start after left did does broken
     (fix_broke left.told (view_of start.vault) (view_of after.vault) broke.broke, broke.vault.calls)
 
 -- a failure since loading is one since the opening
-breaks_since : (given mid new : VaultState) → ReadsCopies given mid → VaultBroke (view_of mid) (view_of new) → SomeCalls (view_of mid) (view_of new) → BreaksVault (view_of given) (view_of new)
+pub breaks_since : (given mid new : VaultState) → ReadsCopies given mid → VaultBroke (view_of mid) (view_of new) → SomeCalls (view_of mid) (view_of new) → BreaksVault (view_of given) (view_of new)
 breaks_since given mid new reads broke calls =
     let since : IsTrue new.tells_calls → Gained broke_sync given.calls new.calls = λ told.
     let gained = broke.call told in
@@ -265,7 +265,7 @@ breaks_since given mid new reads broke calls =
     rose_after a b c later rose = omega (arith, later, rose)
 
 -- a folder that is answered for failed so that the run ends
-folder_breaks : (disk : ℕ) (told : List Event) (old new : FolderView) → FolderFailed disk told old new → BreaksFolder old new
+pub folder_breaks : (disk : ℕ) (told : List Event) (old new : FolderView) → FolderFailed disk told old new → BreaksFolder old new
 folder_breaks disk told old new failed = record { rose = rose_by_more (count_by (is_io_of disk) told) old.faults new.faults failed.rose; call = failed.call }
   where
     rose_by_more : (n old' new' : ℕ) → RoseBy (n + 1) old' new' → Rose old' new'
@@ -324,17 +324,17 @@ smooth_answer before exit setup ending told smooth run given same (Emptied disk)
 smooth_answer before exit setup ending told smooth run given same (Full blocks files) named counted one = absurd (layout_smooth before exit setup ending told smooth run given same _ one refl)
 smooth_answer before exit setup ending told smooth run given same (Broken (Folder disk)) named counted one =
     let held = are_held before exit setup ending told run smooth.tells in
-    absurd (smooth.folders disk (subst (λ v. BreaksFolder v (folder_at exit.after.folders disk)) (held disk one.caused.0) (folder_breaks disk told _ _ one.caused.1)))
+    absurd (smooth.unbroken.folders disk (subst (λ v. BreaksFolder v (folder_at exit.after.folders disk)) (held disk one.caused.0) (folder_breaks disk told _ _ one.caused.1)))
 smooth_answer before exit setup ending told smooth run given same (Broken Vault) named counted one =
     let broke = vault_broke run.task.command run.task one.table one.start (world_of exit.after) _ run.did one.does refl in
-    absurd (smooth.vault (subst (λ (s : VaultState). BreaksVault (view_of s) (left_vault exit)) same (breaks_since given one.start.vault (state_of exit.after.vault) one.reads.vault broke.0 broke.1)))
+    absurd (smooth.unbroken.vault (subst (λ (s : VaultState). BreaksVault (view_of s) (left_vault exit)) same (breaks_since given one.start.vault (state_of exit.after.vault) one.reads.vault broke.0 broke.1)))
 smooth_answer before exit setup ending told smooth run given same (Broken Memory) named counted one = inr refl
 
 smooth_ending : (before : Entry) (exit : Exit) (setup : SetupValue) (ending : Ending) (told : List Event) → IsSmooth before exit → (run : IsRun before exit setup ending told)
     → (given : VaultState) → given ≡ state_of before.opener.vault → Goes run.task (record { folders = run.given.folders; vault = given; out = run.given.out }) (world_of exit.after) ending told run.did
     → IsDoneOrMemory (ending_status ending)
 smooth_ending before exit setup (NotLoaded loads.Failed) told smooth run given same goes =
-    absurd (smooth.vault (failed_load_breaks (held_vault before) (left_vault exit) (subst (λ (s : VaultState). LoadFails (view_of s) (left_vault exit)) same goes.2)))
+    absurd (smooth.unbroken.vault (failed_load_breaks (held_vault before) (left_vault exit) (subst (λ (s : VaultState). LoadFails (view_of s) (left_vault exit)) same goes.2)))
 smooth_ending before exit setup (NotLoaded (loads.Damaged damages)) told smooth run given same goes =
     absurd (not_damaged (held_vault before) (left_vault exit) damages smooth.tells_vault smooth.content (subst (λ (s : VaultState). LoadIsDamaged (view_of s) (left_vault exit) damages) same goes.2))
 smooth_ending before exit setup (NotLoaded loads.Memory) told smooth run given same goes = inr refl

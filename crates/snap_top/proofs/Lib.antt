@@ -2,8 +2,11 @@ pub mod CheckedLemmas
 pub mod CompleteLemmas
 pub mod DoneLemmas
 pub mod EmptyLemmas
+pub mod EndedLemmas
 pub mod FixedLemmas
 pub mod FolderLemmas
+pub mod HistoryLemmas
+pub mod UndamagedLemmas
 pub mod KnownLemmas
 pub mod LoadLemmas
 pub mod MatchingLemmas
@@ -18,5 +21,6 @@ pub mod ResumeLemmas
 pub mod ResumedRuns
 pub mod RunLemmas
 pub mod SilentLemmas
+pub mod StoppingLemmas
 pub mod SyncLemmas
 pub mod ViewsLemmas

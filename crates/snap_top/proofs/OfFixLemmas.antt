@@ -3,6 +3,7 @@ use Rattle.std.proofs.Common.{◌≡◌, ◌⊎◌, inl, inr, ⊎_elim, ℕ, ◌
 use Rattle.std.proofs.lemmas.List.Elements.{All-cons}
 use Rattle.disk_model.specs.Bytes.{read_from}
 use Rattle.disk_model.specs.Files.{Files, parity_of}
+use Rattle.disk_model.specs.Folder.{FolderView}
 use Rattle.disk_model.specs.Vault.{VaultView, VaultState, SomeCalls}
 use Rattle.file_table.specs.Table.{TableValue}
 use Rattle.file_table.specs.Valid.{IsValid}
@@ -29,15 +30,15 @@ use Rattle.snap_sync.specs.Part.{SyncRun}
 use Rattle.snap_sync.specs.Soundness.{AreSound, IsLoadedFrom}
 use Rattle.snap_top.specs.Checking.{ChecksBy}
 use Rattle.snap_top.specs.Does.{DoesCommand}
-use Rattle.snap_top.specs.Fix.{FixRun, FixesOver, IsGenuineFix}
+use Rattle.snap_top.specs.Fix.{AllFixed, FixRun, FixesOver, IsGenuineFix}
 use Rattle.snap_top.specs.Fixing.{FixBroke, FixCourse, FixEnds, FixesBy, fix_of as run_fixed}
 use Rattle.snap_top.specs.Moment.{IsFixOf, IsSyncOf}
 use Rattle.snap_top.specs.Run.{Entry, Exit, IsAnswered, IsRun}
-use Rattle.snap_top.specs.Task.{Task, Did, fixes, reads_only, syncs, Left}
+use Rattle.snap_top.specs.Task.{Task, Did, fixes, folders_after, reads_only, syncs, Left}
 use Rattle.snap_top.specs.Views.{World, view_of, world_of}
 use Rattle.snap_top.specs.declared.end.Ending.{Ending}
 use Rattle.snap_top.specs.declared.end.Ending.TheVariants.{NotLoaded, NoTable, OtherArray, Answered}
-use Rattle.snap_top.proofs.OfSyncLemmas.{KeepsItsStripes, HasCourse, configured_for, given_files, given_is, start_folders, sync_did, sync_of, table_begins, table_loaded}
+use Rattle.snap_top.proofs.OfSyncLemmas.{KeepsItsStripes, HasCourse, configured_for, given_files, given_folders, given_is, start_folders, sync_did, sync_of, table_begins, table_loaded}
 
 -- ---- what a command did: it only read, it synced, or it fixed
 
@@ -162,6 +163,7 @@ module _ (before : Entry) (exit : Exit) (tells : IsTrue before.opener.tells) (te
     fix_of course_of =
         let course = course_of.course in
         let finds = course.finds in
+        let fixed : FixRun = run_fixed course_of.selection ran.task one.table one.start (world_of exit.after) course.lists course.listed course.plan course.stripes course.readings in
         let given_tells : IsTrue ran.given.vault.tells = ap (λ (s : VaultState). s.tells) (given_is before exit tells tells_vault setup ending told ran) ∙ tells_vault in
         record {
           readers = ran.task.readers;
@@ -171,6 +173,7 @@ module _ (before : Entry) (exit : Exit) (tells : IsTrue before.opener.tells) (te
           over = record {
             valid = one.valid;
             is_loaded = table_loaded before exit tells tells_vault setup ending told ran left one;
+            columns = one.columns;
             as_many = course.as_many;
             listed = course.lists_are;
             plan_is = course.plan_is;
@@ -187,6 +190,8 @@ module _ (before : Entry) (exit : Exit) (tells : IsTrue before.opener.tells) (te
             };
             no_gifts = course.no_gifts;
           };
+          makes = subst (λ (olds : List FolderView). AllFixed fixed olds exit.after.folders) (given_folders before exit tells tells_vault setup ending told ran)
+              (subst (λ (did : Did). folders_after did ran.given.folders exit.after.folders) course.did_is ran.keeps.folders);
           from = table_begins before exit tells tells_vault setup ending told ran left one course_of.calls;
         }
 
@@ -215,7 +220,7 @@ module _ (before : Entry) (exit : Exit) (tells : IsTrue before.opener.tells) (te
 -- ---- what it met is genuine
 
 -- what is kept of the levels of its stripes is of the vault's files
-levels_in : (block_size : ℕ) (v : VaultView) (stripes : List StripeFacts) (readings : List (List LevelReading)) → IsTrue v.tells → AreAllLevelsOf block_size v stripes readings → AreLevelsIn block_size v.files stripes
+pub levels_in : (block_size : ℕ) (v : VaultView) (stripes : List StripeFacts) (readings : List (List LevelReading)) → IsTrue v.tells → AreAllLevelsOf block_size v stripes readings → AreLevelsIn block_size v.files stripes
 levels_in block_size v [] [] tells are = λ k d below. absurd (omega (arith, below))
 levels_in block_size v [] (of ∷ readings) tells are = absurd are
 levels_in block_size v (facts ∷ stripes) [] tells are = absurd are
@@ -229,7 +234,7 @@ levels_in block_size v (facts ∷ stripes) (of ∷ readings) tells (first, rest)
     by stripe r (Some bytes) is = is.1 tells
 
 -- the table that was loaded is sound, where all copies are
-loaded_sound : (copies : ℕ) (table : TableValue) (files : Files) (snapshot : Snapshot) (is_changed : ℕ → ℕ → Bool) → IsValid table → IsLoadedFrom copies table files → AreSound copies files snapshot is_changed → Sound table files snapshot is_changed
+pub loaded_sound : (copies : ℕ) (table : TableValue) (files : Files) (snapshot : Snapshot) (is_changed : ℕ → ℕ → Bool) → IsValid table → IsLoadedFrom copies table files → AreSound copies files snapshot is_changed → Sound table files snapshot is_changed
 loaded_sound copies table files snapshot is_changed valid (inl copy) are = are copy.0 table copy.1 valid copy.2
 loaded_sound copies table files snapshot is_changed valid (inr none) are = record {
   rows = λ stripe synced. absurd (none stripe synced);

@@ -1,7 +1,6 @@
 -- A sync that is done is the part sync of its layout, and every copy spells its table.
-use Rattle.std.proofs.Common.{◌≡◌, ◌↔◌, All, ℕ, ◌+◌, ◌^◌, ◌<◌, ◌≤◌, ◌==◌, if◌then◌else◌, List, ◌++◌, length, take, Bool, true, false, Option, refl, sym, ap, ◌∙◌, subst, arith}
+use Rattle.std.proofs.Common.{◌≡◌, ◌↔◌, ⊎_elim, All, ℕ, ◌+◌, ◌^◌, ◌<◌, ◌≤◌, List, ◌++◌, length, take, true, false, Option, refl, sym, ap, ◌∙◌, subst, arith}
 use Rattle.std.proofs.Math.Seq.{take-append_seam}
-use Rattle.std.proofs.lemmas.Bool.Decides.{Decides-eqb}
 use Rattle.std.proofs.lemmas.List.{length-append, length-map, map-append, take-take, take_all}
 use Rattle.array_scan.specs.Layout.{pending_stripes}
 use Rattle.content_file.specs.Save.{HasSaved}
@@ -9,12 +8,12 @@ use Rattle.content_file.specs.Spelling.{spelling}
 use Rattle.disk_model.specs.Files.{Files}
 use Rattle.disk_model.specs.Vault.{VaultView, Holds}
 use Rattle.file_table.specs.Table.{TableValue}
-use Rattle.snap_config.specs.Setup.{SetupValue, setup_value}
+use Rattle.snap_config.specs.Setup.{SetupValue}
 use Rattle.snap_config.specs.declared.options.Command.{Command}
 use Rattle.snap_config.specs.declared.options.Command.TheVariants as commands
 use Rattle.snap_config.specs.declared.options.Options.{Options}
 use Rattle.snap_config.specs.declared.options.SyncWay.{SyncWay}
-use Rattle.snap_report.specs.Answer.{done_answer, status_of as answer_status}
+use Rattle.snap_report.specs.Answer.{status_of as answer_status}
 use Rattle.snap_report.specs.declared.answer.Answer.{Answer}
 use Rattle.snap_report.specs.declared.answer.Answer.TheVariants as answers
 use Rattle.snap_report.specs.declared.answer.RunFault.TheVariants as runs
@@ -28,19 +27,19 @@ use Rattle.snap_sync.specs.Reading.{StripeReading, is_verified, stripes_of}
 use Rattle.snap_sync.specs.declared.syncing.SyncEnd.{SyncEnd}
 use Rattle.snap_top.specs.Does.{DoesCommand}
 use Rattle.snap_top.specs.End.{status_of}
+use Rattle.snap_top.specs.Ended.{IsEndStatus, has_ended}
 use Rattle.snap_top.specs.Moment.{EndsInPart, IsSyncOf, SyncsEndInPart, TellsAll}
 use Rattle.snap_top.specs.Opening.{asked_by}
 use Rattle.snap_top.specs.Run.{Entry, Exit, IsAnswered, IsRun, Ran}
 use Rattle.snap_top.specs.Syncing.{SyncEnds, SyncsBy, run_of}
-use Rattle.snap_top.specs.Task.{Did, LeavesSynced, stands_after, end_table, Left}
-use Rattle.snap_top.specs.Views.{world_of}
+use Rattle.snap_top.specs.Task.{Task, Did, LeavesSynced, stands_after, end_table, Left}
+use Rattle.snap_top.specs.Views.{World, world_of}
 use Rattle.snap_top.specs.declared.end.End.{End}
-use Rattle.snap_top.specs.declared.end.End.TheVariants.{Refused, Worked}
-use Rattle.snap_top.specs.declared.end.Ending.TheVariants.{NotLoaded, NoTable, OtherArray, Answered}
+use Rattle.snap_top.specs.declared.end.Ending.TheVariants.{Answered}
 use Rattle.snap_top.proofs.CompleteLemmas.{same_ok}
+use Rattle.snap_top.proofs.EndedLemmas.{IsDoneAnswer, done_status, goes_to_its_end, only_read, output_rose, well_as}
 use Rattle.snap_top.proofs.MomentLemmas.{LayoutIsOfTrees}
 use Rattle.snap_top.proofs.OfSyncLemmas.{KeepsItsStripes, HasCourse, sync_of}
-use Rattle.snap_top.proofs.SilentLemmas.{load_high, refusal_high}
 
 -- ---- what snap_sync says of a sync that ended
 
@@ -78,25 +77,24 @@ all_read readings ahead pending first many =
     ∙ take-take n (length (readings ++ ahead)) pending (omega (arith, more))
     ∙ take_all n pending (omega (arith, many))
 
--- ---- the status of a sync that is done
+-- ---- a sync that went to its end, by what it did
 
-pub none_found : (counted : ℕ) (failed : Bool) → answers.Clean ≡ done_answer counted failed → counted ≡ 0
-none_found counted true is = absurd (let clash : answers.Clean ≡ answers.OutputFailed = is in cc)
-none_found counted false is = by (counted == 0) refl is
-  where
-    by : (none : Bool) → (counted == 0) ≡ none → answers.Clean ≡ (if none then answers.Clean else answers.Found) → counted ≡ 0
-    by true at is' = (Decides-eqb counted 0).0 at
-    by false at is' = absurd (let clash : answers.Clean ≡ answers.Found = is' in cc)
-
-pub some_found : (counted : ℕ) (failed : Bool) → answers.Found ≡ done_answer counted failed → counted ≡ 0 → ⊥
-some_found counted true is none = let clash : answers.Found ≡ answers.OutputFailed = is in cc
-some_found counted false is none = let clash : answers.Found ≡ answers.Clean = is ∙ ap (λ (n : ℕ). done_answer n false) none in cc
+done_by_did : (answer : Answer) (task : Task) (way : SyncWay) (table : TableValue) (before after : World) (left : Left) (did : Did) → SyncsBy answer task way table before after left did → has_ended did ≡ true → IsDoneAnswer answer
+done_by_did answers.Clean task way table before after left did does ended = tt
+done_by_did answers.Found task way table before after left did does ended = tt
+done_by_did answers.OutputFailed task way table before after left did does ended = tt
+done_by_did (answers.Zeroed disk rec) task way table before after left did does ended = absurd (only_read did does.did_is ended)
+done_by_did (answers.Emptied disk) task way table before after left did does ended = absurd (only_read did does.did_is ended)
+done_by_did (answers.Full blocks files) task way table before after left did does ended = absurd (only_read did does.did_is ended)
+done_by_did (answers.Broken (runs.Folder disk)) task way table before after left did does ended = absurd (only_read did does.did_is ended)
+done_by_did (answers.Broken runs.Vault) task way table before after left did does ended = absurd (let clash : false ≡ true = ap has_ended (sym does.course.did_is) ∙ ended in cc)
+done_by_did (answers.Broken runs.Memory) task way table before after left did does ended = absurd (only_read did does.did_is ended)
 
 module _ (laid : LayoutIsOfTrees) (part : ReadIsPartSync) (full : VerifiedIsFullSync) (given : ReadIsGiven) (finds : FindsWhatIsPending) (found : PendingIsFound) (keeps : KeepsItsStripes) (before : Entry) (exit : Exit) (tells : TellsAll before)
     (in_time : before.moment < 2 ^ 64) where
   module _ (setup : SetupValue) (answer : Answer) (named : Option TableValue) (told : List Event) (ran : IsRun before exit setup (Answered answer named) told) (left : Left)
       (one : IsAnswered ran.task ran.given (world_of exit.after) left ran.did) (way : SyncWay) (command : ran.task.command ≡ commands.Sync way) (status : ℕ) (status_is : status ≡ answer_status left.answer)
-      (ends : SyncEnds ran.task way one.table one.start (world_of exit.after) left ran.did) (clean : (answer_status left.answer ≡ 0) ↔ (left.counted ≡ 0)) where
+      (ends : SyncEnds ran.task way one.table one.start (world_of exit.after) left ran.did) where
     abbrev course_of : HasCourse ran.task.command ran.task one.table one.start (world_of exit.after) left ran.did
     course_of = record { way = way; command_is = command; failed = false; course = ends.course }
 
@@ -124,18 +122,16 @@ module _ (laid : LayoutIsOfTrees) (part : ReadIsPartSync) (full : VerifiedIsFull
     abbrev whole : take (length run.readings) run.readings ≡ run.readings
     whole = take_all (length run.readings) run.readings (omega arith)
 
-    verified : (status ≡ 0) ↔ AllVerified run.plan.start run.readings
-    verified =
+    status_well : IsEndStatus status ends.prints.failed (AllVerified run.plan.start run.readings)
+    status_well =
         let end : SyncEnd = record { table = end_table run; synced = ends.synced; pending = ends.pending; findings = left.counted } in
         let counts = finds run.plan.start run.plan.now run.readings end (record {
           table_is = refl;
           synced = ends.synced_is;
           pending = ends.pending_is ∙ sym ends.all;
           findings = ends.counted_is;
-        }) in (
-          λ zero. counts.0 (clean.0 (sym status_is ∙ zero)),
-          λ all. status_is ∙ clean.1 (counts.1 all),
-        )
+        }) in
+        well_as status ends.prints.failed counts (done_status left.counted status ends.prints.failed (status_is ∙ ap answer_status ends.prints.answer_is))
 
     ended_in_part : EndsInPart before exit status
     ended_in_part = record {
@@ -150,45 +146,38 @@ module _ (laid : LayoutIsOfTrees) (part : ReadIsPartSync) (full : VerifiedIsFull
       saved = holds_on (LeavesSynced run old) _ exit.after.vault (λ new synced.
           subst (λ (n : ℕ). HasSaved n (spelling (end_table run)) new) is_sync.over.copies_are synced.saved) stands;
       found = found run.plan.start run.readings;
-      verified = verified;
-      full = λ zero. holds_on (LeavesSynced run old) _ exit.after.vault (λ new synced. full run old new told_run ends.all (verified.0 zero) synced.parity) stands;
+      full = λ all_verified. holds_on (LeavesSynced run old) _ exit.after.vault (λ new synced. full run old new told_run ends.all all_verified synced.parity) stands;
+      output_failed = ends.prints.failed;
+      status_is = status_well;
+      output = output_rose before exit setup (Answered answer named) told ran left one ends.prints.failed ends.prints.answer_is;
     }
 
   -- by the answer
   by_answer : (setup : SetupValue) (answer : Answer) (named : Option TableValue) (told : List Event) (ran : IsRun before exit setup (Answered answer named) told) (left_answer : Answer) (left_named : Option TableValue) (counted : ℕ)
       → (let left : Left = record { answer = left_answer; named = left_named; counted = counted; told = told } in
-      (one : IsAnswered ran.task ran.given (world_of exit.after) left ran.did) (way : SyncWay) (command : ran.task.command ≡ commands.Sync way) (status : ℕ) → status ≡ answer_status left_answer → status ≤ 1
+      (one : IsAnswered ran.task ran.given (world_of exit.after) left ran.did) (way : SyncWay) (command : ran.task.command ≡ commands.Sync way) (status : ℕ) → status ≡ answer_status left_answer → IsDoneAnswer left_answer
       → SyncsBy left_answer ran.task way one.table one.start (world_of exit.after) left ran.did → EndsInPart before exit status)
-  by_answer setup answer named told ran answers.Clean left_named counted one way command status is low ends =
-      ended_in_part setup answer named told ran _ one way command status is ends
-      (λ zero. none_found counted ends.prints.failed ends.prints.answer_is, λ none. refl)
-  by_answer setup answer named told ran answers.Found left_named counted one way command status is low ends =
-      ended_in_part setup answer named told ran _ one way command status is ends
-      (λ zero. absurd (omega (arith, zero)), λ none. absurd (some_found counted ends.prints.failed ends.prints.answer_is none))
-  by_answer setup answer named told ran answers.OutputFailed left_named counted one way command status is low ends = absurd (omega (arith, is, low))
-  by_answer setup answer named told ran (answers.Zeroed disk rec) left_named counted one way command status is low ends = absurd (omega (arith, is, low))
-  by_answer setup answer named told ran (answers.Emptied disk) left_named counted one way command status is low ends = absurd (omega (arith, is, low))
-  by_answer setup answer named told ran (answers.Full blocks files) left_named counted one way command status is low ends = absurd (omega (arith, is, low))
-  by_answer setup answer named told ran (answers.Broken (runs.Folder disk)) left_named counted one way command status is low ends = absurd (omega (arith, is, low))
-  by_answer setup answer named told ran (answers.Broken runs.Vault) left_named counted one way command status is low ends = absurd (omega (arith, is, low))
-  by_answer setup answer named told ran (answers.Broken runs.Memory) left_named counted one way command status is low ends = absurd (omega (arith, is, low))
-
-pub too_high : (n status : ℕ) → 2 ≤ n → status ≡ n → status ≤ 1 → ⊥
-too_high n status high is low = omega (arith, high, is, low)
+  by_answer setup answer named told ran answers.Clean left_named counted one way command status is done ends = ended_in_part setup answer named told ran _ one way command status is ends
+  by_answer setup answer named told ran answers.Found left_named counted one way command status is done ends = ended_in_part setup answer named told ran _ one way command status is ends
+  by_answer setup answer named told ran answers.OutputFailed left_named counted one way command status is done ends = ended_in_part setup answer named told ran _ one way command status is ends
+  by_answer setup answer named told ran (answers.Zeroed disk rec) left_named counted one way command status is done ends = absurd done
+  by_answer setup answer named told ran (answers.Emptied disk) left_named counted one way command status is done ends = absurd done
+  by_answer setup answer named told ran (answers.Full blocks files) left_named counted one way command status is done ends = absurd done
+  by_answer setup answer named told ran (answers.Broken (runs.Folder disk)) left_named counted one way command status is done ends = absurd done
+  by_answer setup answer named told ran (answers.Broken runs.Vault) left_named counted one way command status is done ends = absurd done
+  by_answer setup answer named told ran (answers.Broken runs.Memory) left_named counted one way command status is done ends = absurd done
 
 -- of each run
 pub syncs_end_in_part : LayoutIsOfTrees → ReadIsPartSync → VerifiedIsFullSync → ReadIsGiven → FindsWhatIsPending → PendingIsFound → KeepsItsStripes → (before : Entry) (exit : Exit) (end : End) (told : List Event) (status : ℕ)
     → before.moment < 2 ^ 64 → status ≡ status_of end → Ran before exit end told → SyncsEndInPart before exit status
-syncs_end_in_part laid part full given finds found keeps before exit (Refused why) told status in_time is ran tells low asked way words command = absurd (too_high _ status (refusal_high why) is low)
-syncs_end_in_part laid part full given finds found keeps before exit (Worked setup (NotLoaded fault)) told status in_time is ran tells low asked way words command = absurd (too_high _ status (load_high fault) is low)
-syncs_end_in_part laid part full given finds found keeps before exit (Worked setup NoTable) told status in_time is ran tells low asked way words command = absurd (omega (arith, is, low))
-syncs_end_in_part laid part full given finds found keeps before exit (Worked setup (OtherArray difference content)) told status in_time is ran tells low asked way words command = absurd (omega (arith, is, low))
-syncs_end_in_part laid part full given finds found keeps before exit (Worked setup (Answered answer named)) told status in_time is ran tells low asked way words command =
-    let configured = ran.is_given.configured in
-    let left : Left = record { answer = answer; named = named; counted = ran.goes.0; told = told } in
-    let one : IsAnswered ran.task ran.given (world_of exit.after) left ran.did = ran.goes.1 in
+syncs_end_in_part laid part full given finds found keeps before exit end told status in_time is ran tells went asked way words command =
+    let to = goes_to_its_end before exit end told status tells.tells is ran went in
+    let configured = to.ran.is_given.configured in
+    let left : Left = record { answer = to.answer; named = to.named; counted = to.ran.goes.0; told = to.told } in
+    let one : IsAnswered to.ran.task to.ran.given (world_of exit.after) left to.ran.did = to.ran.goes.1 in
     let same : configured.asked ≡ asked = same_ok (asked_by before.texts) configured.asked asked configured.read words in
-    let command_is : ran.task.command ≡ commands.Sync way = configured.command_is ∙ ap (λ (a : Options). a.command) same ∙ command in
-    let does : DoesCommand (commands.Sync way) ran.task one.table one.start (world_of exit.after) left ran.did
-    = subst (λ (c : Command). DoesCommand c ran.task one.table one.start (world_of exit.after) left ran.did) command_is one.does in
-    by_answer laid part full given finds found keeps before exit tells in_time (setup_value setup) answer named told ran answer named ran.goes.0 one way command_is status is low does
+    let command_is : to.ran.task.command ≡ commands.Sync way = configured.command_is ∙ ap (λ (a : Options). a.command) same ∙ command in
+    let does : DoesCommand (commands.Sync way) to.ran.task one.table one.start (world_of exit.after) left to.ran.did
+    = subst (λ (c : Command). DoesCommand c to.ran.task one.table one.start (world_of exit.after) left to.ran.did) command_is one.does in
+    let done : IsDoneAnswer to.answer = ⊎_elim (λ done. done) (λ ended. done_by_did to.answer to.ran.task way one.table one.start (world_of exit.after) left to.ran.did does ended) to.how in
+    by_answer laid part full given finds found keeps before exit tells in_time to.setup to.answer to.named to.told to.ran to.answer to.named to.ran.goes.0 one way command_is status to.status_is done does

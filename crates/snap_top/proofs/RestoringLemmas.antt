@@ -1,5 +1,5 @@
 -- A fix that is done restores what can be had of the snapshot, and tells what can't.
-use Rattle.std.proofs.Common.{◌≡◌, ◌↔◌, inr, ⊎_elim, ℕ, ◌<◌, ◌≤◌, List, [], ◌++◌, length, get_or, count_by, AllPairs, Bool, true, false, IsTrue, Option, None, is_some, refl, sym, ap, ◌∙◌, subst, arith}
+use Rattle.std.proofs.Common.{◌≡◌, ◌↔◌, inr, ⊎_elim, ℕ, ◌<◌, ◌≤◌, List, [], ◌++◌, length, get_or, count_by, AllPairs, Bool, true, false, IsTrue, Option, None, is_some, sym, ap, ◌∙◌, subst, arith}
 use Rattle.std.specs.Prelude.{sum_by, not}
 use Rattle.std.specs.List.{Contains, range_with_len}
 use Rattle.std.proofs.lemmas.Bool.{and_left, cases_lt}
@@ -20,7 +20,7 @@ use Rattle.parity_writer.specs.Parity.{Row}
 use Rattle.parity_writer.specs.Sound.{Snapshot, Sound}
 use Rattle.stripe_reader.specs.Columns.{folder_at}
 use Rattle.stripe_reader.specs.Starts.{StartsValue}
-use Rattle.snap_config.specs.Setup.{SetupValue, setup_value}
+use Rattle.snap_config.specs.Setup.{SetupValue}
 use Rattle.snap_config.specs.declared.options.Command.{Command}
 use Rattle.snap_config.specs.declared.options.Command.TheVariants as commands
 use Rattle.snap_config.specs.declared.options.Options.{Options}
@@ -38,7 +38,7 @@ use Rattle.snap_fix.specs.Mended.{Mended, has_lost, is_written, known_block, kno
 use Rattle.snap_fix.specs.Plan.{FixPlan, entry_at, is_audit, is_looked_at, is_searched, is_synced, starts_of, stripes_of}
 use Rattle.snap_fix.specs.Restored.{CanBeHad, HasFixed, HoldsCell, IsDamagedCell, IsUnknownCell}
 use Rattle.snap_fix.specs.Underway.{AddsZeros, IsMendedLevel, KeepsLevels}
-use Rattle.snap_report.specs.Answer.{done_answer, status_of as answer_status}
+use Rattle.snap_report.specs.Answer.{status_of as answer_status}
 use Rattle.snap_report.specs.EndLines.{fix_text}
 use Rattle.snap_report.specs.EventLines.{lines_of}
 use Rattle.snap_report.specs.Kind.{is_left}
@@ -51,22 +51,21 @@ use Rattle.snap_report.specs.declared.events.Event.TheVariants as events
 use Rattle.snap_sync.specs.Part.{AllTell}
 use Rattle.snap_top.specs.Does.{DoesCommand}
 use Rattle.snap_top.specs.End.{status_of}
+use Rattle.snap_top.specs.Ended.{IsEndStatus, has_ended}
 use Rattle.snap_top.specs.Fix.{FixRun, LeavesFixed, MayStandFixed}
 use Rattle.snap_top.specs.Fixing.{FixEnds, FixesBy, fix_of as run_fixed}
 use Rattle.snap_top.specs.Moment.{IsFixOf, TellsAll}
 use Rattle.snap_top.specs.Opening.{asked_by}
 use Rattle.snap_top.specs.Restoring.{EndsFixed, FixesEnd, IsLostCell, Restores, events_in}
 use Rattle.snap_top.specs.Run.{Entry, Exit, IsAnswered, IsRun, Ran}
-use Rattle.snap_top.specs.Task.{Did, Left, stands_after}
+use Rattle.snap_top.specs.Task.{Task, Did, Left, stands_after}
 use Rattle.snap_top.specs.Views.{World, world_of}
 use Rattle.snap_top.specs.declared.end.End.{End}
-use Rattle.snap_top.specs.declared.end.End.TheVariants.{Refused, Worked}
-use Rattle.snap_top.specs.declared.end.Ending.TheVariants.{NotLoaded, NoTable, OtherArray, Answered}
+use Rattle.snap_top.specs.declared.end.Ending.TheVariants.{Answered}
 use Rattle.snap_top.proofs.CompleteLemmas.{same_ok}
+use Rattle.snap_top.proofs.EndedLemmas.{IsDoneAnswer, done_status, goes_to_its_end, only_read, output_rose, well_as}
 use Rattle.snap_top.proofs.OfFixLemmas.{HasFixCourse, all_looked_at, fix_of, genuine_by}
 use Rattle.snap_top.proofs.OfSyncLemmas.{given_files, given_is}
-use Rattle.snap_top.proofs.PartLemmas.{none_found, some_found, too_high}
-use Rattle.snap_top.proofs.SilentLemmas.{load_high, refusal_high}
 
 -- ---- what snap_fix says of a fix that ended
 
@@ -110,7 +109,7 @@ FactsAreGenuine = (plan : FixPlan) (starts : StartsValue) (firsts : List FolderV
 none_left : (n : ℕ) → (at_most n ≡ 0) ↔ (n ≡ 0)
 none_left n = (λ none. omega (arith, none), λ none. omega (arith, none))
 
-contains_facts : (stripes : List Mended) (mended : Mended) → Contains stripes mended → Contains (facts_of stripes) mended.facts
+pub contains_facts : (stripes : List Mended) (mended : Mended) → Contains stripes mended → Contains (facts_of stripes) mended.facts
 contains_facts stripes mended one =
     let facts : Mended → StripeFacts = λ (it : Mended). it.facts in
     (one.0, omega (arith, length-map stripes facts, one.1), get_or-map facts stripes one.0 mended mended.facts one.1 ∙ ap facts one.2)
@@ -178,20 +177,26 @@ not_had plan facts is_intact d none few = ⊎_elim
 rose_from : (n held given start last : ℕ) → given ≡ held → given ≤ start → RoseBy n start last → RoseBy n held last
 rose_from n held given start last same later rose = omega (arith, same, later, rose)
 
--- ---- the output of a fix that is done didn't fail
+-- ---- a fix that went to its end, by what it did
 
-clean_unfailed : (counted : ℕ) (failed : Bool) → answers.Clean ≡ done_answer counted failed → failed ≡ false
-clean_unfailed counted true is = let clash : answers.Clean ≡ answers.OutputFailed = is in cc
-clean_unfailed counted false is = refl
-
-found_unfailed : (counted : ℕ) (failed : Bool) → answers.Found ≡ done_answer counted failed → failed ≡ false
-found_unfailed counted true is = let clash : answers.Found ≡ answers.OutputFailed = is in cc
-found_unfailed counted false is = refl
+done_by_did : (answer : Answer) (selection : Selection) (task : Task) (table : TableValue) (before after : World) (left : Left) (did : Did) → FixesBy answer selection task table before after left did → has_ended did ≡ true → IsDoneAnswer answer
+done_by_did answers.Clean selection task table before after left did does ended = tt
+done_by_did answers.Found selection task table before after left did does ended = tt
+done_by_did answers.OutputFailed selection task table before after left did does ended = tt
+done_by_did (answers.Zeroed disk rec) selection task table before after left did does ended = absurd does
+done_by_did (answers.Emptied disk) selection task table before after left did does ended = absurd does
+done_by_did (answers.Full blocks files) selection task table before after left did does ended = absurd does
+done_by_did (answers.Broken (runs.Folder disk)) selection task table before after left did does ended = ⊎_elim
+    (λ refuses. absurd (only_read did refuses.did_is ended))
+    (λ broke. absurd (let clash : false ≡ true = ap has_ended (sym broke.course.did_is) ∙ ended in cc))
+    does
+done_by_did (answers.Broken runs.Vault) selection task table before after left did does ended = absurd (let clash : false ≡ true = ap has_ended (sym does.course.did_is) ∙ ended in cc)
+done_by_did (answers.Broken runs.Memory) selection task table before after left did does ended = absurd (only_read did does.did_is ended)
 
 module _ (restored : CellsAreRestored) (lost : CellsAreLost) (unknown_lost : UnknownAreLost) (lost_unknown : LostAreUnknown) (known : BlocksAreKnown) (genuine_facts : FactsAreGenuine) (before : Entry) (exit : Exit) (tells : TellsAll before) where
   module _ (setup : SetupValue) (answer : Answer) (named : Option TableValue) (told : List Event) (ran : IsRun before exit setup (Answered answer named) told) (left : Left)
       (one : IsAnswered ran.task ran.given (world_of exit.after) left ran.did) (selection : Selection) (command : ran.task.command ≡ commands.Fix selection) (status : ℕ) (status_is : status ≡ answer_status left.answer)
-      (ends : FixEnds selection ran.task one.table one.start (world_of exit.after) left ran.did) (clean : (answer_status left.answer ≡ 0) ↔ (left.counted ≡ 0)) (unfailed : ends.prints.failed ≡ false) where
+      (ends : FixEnds selection ran.task one.table one.start (world_of exit.after) left ran.did) where
     abbrev course_of : HasFixCourse ran.task.command ran.task one.table one.start (world_of exit.after) ran.did
     course_of = record {
       selection = selection;
@@ -274,11 +279,16 @@ module _ (restored : CellsAreRestored) (lost : CellsAreLost) (unknown_lost : Unk
         ∙ ap (λ (n : ℕ). fix_text blocks n left.counted) ends.parities_are
         ∙ ap (λ (n : ℕ). fix_text blocks parities n) ends.counted_is
 
-    printed : Tells (lines_of run.loaded.columns all ++ fix_text blocks parities (at_most (count_by is_left all))) (between false before.out) (between false exit.after.out)
+    printed : Tells (lines_of run.loaded.columns all ++ fix_text blocks parities (at_most (count_by is_left all))) (between false before.out) (between ends.prints.failed exit.after.out)
     printed =
-        subst (λ (text : List ℕ). Tells (lines_of run.loaded.columns all ++ text) (between false before.out) (between false exit.after.out)) last_line
-        (subst (λ out. Tells (lines_of run.loaded.columns all ++ fix_text ends.blocks ends.parities left.counted) (between false out) (between false exit.after.out)) start_out
-        (subst (λ (failed : Bool). Tells (lines_of run.loaded.columns all ++ fix_text ends.blocks ends.parities left.counted) (between false one.start.out) (between failed exit.after.out)) unfailed ends.prints.told))
+        subst (λ (text : List ℕ). Tells (lines_of run.loaded.columns all ++ text) (between false before.out) (between ends.prints.failed exit.after.out)) last_line
+        (subst (λ out. Tells (lines_of run.loaded.columns all ++ fix_text ends.blocks ends.parities left.counted) (between false out) (between ends.prints.failed exit.after.out)) start_out ends.prints.told)
+
+    status_well : IsEndStatus status ends.prints.failed (count_by is_left all ≡ 0)
+    status_well =
+        let none = none_left (count_by is_left all) in
+        well_as status ends.prints.failed (λ zero. none.0 (sym ends.counted_is ∙ zero), λ nothing. ends.counted_is ∙ none.1 nothing)
+        (done_status left.counted status ends.prints.failed (status_is ∙ ap answer_status ends.prints.answer_is))
 
     ascending : AreAscending (numbers_of (facts_of run.stripes))
     ascending = subst AreAscending (sym ends.numbers) (stripes_ascending run.plan)
@@ -326,12 +336,10 @@ module _ (restored : CellsAreRestored) (lost : CellsAreLost) (unknown_lost : Unk
       moment = moment;
       leaves = leaves;
       zeros = zeros;
+      output_failed = ends.prints.failed;
       printed = printed;
-      clean =
-          let none : (at_most (count_by is_left all) ≡ 0) ↔ (count_by is_left all ≡ 0) = none_left (count_by is_left all) in (
-            λ zero. none.0 (sym ends.counted_is ∙ clean.0 (sym status_is ∙ zero)),
-            λ nothing. status_is ∙ clean.1 (ends.counted_is ∙ none.1 nothing),
-          );
+      status_is = status_well;
+      output = output_rose before exit setup (Answered answer named) told ran left one ends.prints.failed ends.prints.answer_is;
       pending = pending;
       restores = restores;
     }
@@ -339,34 +347,28 @@ module _ (restored : CellsAreRestored) (lost : CellsAreLost) (unknown_lost : Unk
   -- by the answer
   by_answer : (setup : SetupValue) (answer : Answer) (named : Option TableValue) (told : List Event) (ran : IsRun before exit setup (Answered answer named) told) (left_answer : Answer) (left_named : Option TableValue) (counted : ℕ)
       → (let left : Left = record { answer = left_answer; named = left_named; counted = counted; told = told } in
-      (one : IsAnswered ran.task ran.given (world_of exit.after) left ran.did) (selection : Selection) (command : ran.task.command ≡ commands.Fix selection) (status : ℕ) → status ≡ answer_status left_answer → status ≤ 1
+      (one : IsAnswered ran.task ran.given (world_of exit.after) left ran.did) (selection : Selection) (command : ran.task.command ≡ commands.Fix selection) (status : ℕ) → status ≡ answer_status left_answer → IsDoneAnswer left_answer
       → FixesBy left_answer selection ran.task one.table one.start (world_of exit.after) left ran.did → EndsFixed before exit status)
-  by_answer setup answer named told ran answers.Clean left_named counted one selection command status is low ends =
-      ended_fixed setup answer named told ran _ one selection command status is ends
-      (λ zero. none_found counted ends.prints.failed ends.prints.answer_is, λ none. refl) (clean_unfailed counted ends.prints.failed ends.prints.answer_is)
-  by_answer setup answer named told ran answers.Found left_named counted one selection command status is low ends =
-      ended_fixed setup answer named told ran _ one selection command status is ends
-      (λ zero. absurd (omega (arith, zero)), λ none. absurd (some_found counted ends.prints.failed ends.prints.answer_is none)) (found_unfailed counted ends.prints.failed ends.prints.answer_is)
-  by_answer setup answer named told ran answers.OutputFailed left_named counted one selection command status is low ends = absurd (omega (arith, is, low))
-  by_answer setup answer named told ran (answers.Zeroed disk rec) left_named counted one selection command status is low ends = absurd (omega (arith, is, low))
-  by_answer setup answer named told ran (answers.Emptied disk) left_named counted one selection command status is low ends = absurd (omega (arith, is, low))
-  by_answer setup answer named told ran (answers.Full blocks files) left_named counted one selection command status is low ends = absurd (omega (arith, is, low))
-  by_answer setup answer named told ran (answers.Broken (runs.Folder disk)) left_named counted one selection command status is low ends = absurd (omega (arith, is, low))
-  by_answer setup answer named told ran (answers.Broken runs.Vault) left_named counted one selection command status is low ends = absurd (omega (arith, is, low))
-  by_answer setup answer named told ran (answers.Broken runs.Memory) left_named counted one selection command status is low ends = absurd (omega (arith, is, low))
+  by_answer setup answer named told ran answers.Clean left_named counted one selection command status is done ends = ended_fixed setup answer named told ran _ one selection command status is ends
+  by_answer setup answer named told ran answers.Found left_named counted one selection command status is done ends = ended_fixed setup answer named told ran _ one selection command status is ends
+  by_answer setup answer named told ran answers.OutputFailed left_named counted one selection command status is done ends = ended_fixed setup answer named told ran _ one selection command status is ends
+  by_answer setup answer named told ran (answers.Zeroed disk rec) left_named counted one selection command status is done ends = absurd done
+  by_answer setup answer named told ran (answers.Emptied disk) left_named counted one selection command status is done ends = absurd done
+  by_answer setup answer named told ran (answers.Full _ _) left_named counted one selection command status is done ends = absurd done
+  by_answer setup answer named told ran (answers.Broken (runs.Folder disk)) left_named counted one selection command status is done ends = absurd done
+  by_answer setup answer named told ran (answers.Broken runs.Vault) left_named counted one selection command status is done ends = absurd done
+  by_answer setup answer named told ran (answers.Broken runs.Memory) left_named counted one selection command status is done ends = absurd done
 
 -- of each run
 pub fixes_end : CellsAreRestored → CellsAreLost → UnknownAreLost → LostAreUnknown → BlocksAreKnown → FactsAreGenuine → (before : Entry) (exit : Exit) (end : End) (told : List Event) (status : ℕ) → status ≡ status_of end → Ran before exit end told → FixesEnd before exit status
-fixes_end restored lost unknown_lost lost_unknown known genuine_facts before exit (Refused why) told status is ran tells low asked selection words command = absurd (too_high _ status (refusal_high why) is low)
-fixes_end restored lost unknown_lost lost_unknown known genuine_facts before exit (Worked setup (NotLoaded fault)) told status is ran tells low asked selection words command = absurd (too_high _ status (load_high fault) is low)
-fixes_end restored lost unknown_lost lost_unknown known genuine_facts before exit (Worked setup NoTable) told status is ran tells low asked selection words command = absurd (omega (arith, is, low))
-fixes_end restored lost unknown_lost lost_unknown known genuine_facts before exit (Worked setup (OtherArray difference content)) told status is ran tells low asked selection words command = absurd (omega (arith, is, low))
-fixes_end restored lost unknown_lost lost_unknown known genuine_facts before exit (Worked setup (Answered answer named)) told status is ran tells low asked selection words command =
-    let configured = ran.is_given.configured in
-    let left : Left = record { answer = answer; named = named; counted = ran.goes.0; told = told } in
-    let one : IsAnswered ran.task ran.given (world_of exit.after) left ran.did = ran.goes.1 in
+fixes_end restored lost unknown_lost lost_unknown known genuine_facts before exit end told status is ran tells went asked selection words command =
+    let to = goes_to_its_end before exit end told status tells.tells is ran went in
+    let configured = to.ran.is_given.configured in
+    let left : Left = record { answer = to.answer; named = to.named; counted = to.ran.goes.0; told = to.told } in
+    let one : IsAnswered to.ran.task to.ran.given (world_of exit.after) left to.ran.did = to.ran.goes.1 in
     let same : configured.asked ≡ asked = same_ok (asked_by before.texts) configured.asked asked configured.read words in
-    let command_is : ran.task.command ≡ commands.Fix selection = configured.command_is ∙ ap (λ (a : Options). a.command) same ∙ command in
-    let does : DoesCommand (commands.Fix selection) ran.task one.table one.start (world_of exit.after) left ran.did
-    = subst (λ (c : Command). DoesCommand c ran.task one.table one.start (world_of exit.after) left ran.did) command_is one.does in
-    by_answer restored lost unknown_lost lost_unknown known genuine_facts before exit tells (setup_value setup) answer named told ran answer named ran.goes.0 one selection command_is status is low does
+    let command_is : to.ran.task.command ≡ commands.Fix selection = configured.command_is ∙ ap (λ (a : Options). a.command) same ∙ command in
+    let does : DoesCommand (commands.Fix selection) to.ran.task one.table one.start (world_of exit.after) left to.ran.did
+    = subst (λ (c : Command). DoesCommand c to.ran.task one.table one.start (world_of exit.after) left to.ran.did) command_is one.does in
+    let done : IsDoneAnswer to.answer = ⊎_elim (λ done. done) (λ ended. done_by_did to.answer selection to.ran.task one.table one.start (world_of exit.after) left to.ran.did does ended) to.how in
+    by_answer restored lost unknown_lost lost_unknown known genuine_facts before exit tells to.setup to.answer to.named to.told to.ran to.answer to.named to.ran.goes.0 one selection command_is status to.status_is done does

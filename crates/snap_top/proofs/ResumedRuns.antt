@@ -15,13 +15,14 @@ use Rattle.snap_config.specs.Setup.{SetupValue}
 use Rattle.snap_config.specs.declared.options.Command.TheVariants as commands
 use Rattle.snap_config.specs.declared.options.Options.{Options}
 use Rattle.snap_sync.specs.Images.{MayStand}
-use Rattle.snap_sync.specs.Part.{AllTell, IsFullSync, SyncRun, run_trees, trees_of}
+use Rattle.snap_sync.specs.Part.{AllTell, AllVerified, IsFullSync, SyncRun, run_trees, trees_of}
 use Rattle.snap_sync.specs.Resumed.{EndsAs}
 use Rattle.snap_sync.specs.Soundness.{AreSound}
 use Rattle.snap_top.specs.Array.{empty_table}
+use Rattle.snap_top.specs.Ended.{ByStatus}
 use Rattle.snap_top.specs.Moment.{EndsInPart, IsDidOf, IsSoundAlways, IsSyncOf}
 use Rattle.snap_top.specs.Opening.{asked_by}
-use Rattle.snap_top.specs.Resumed.{AreStoppedRuns, AsksForSync, EndAlike, EndsClean, RunOf, StandsAfter, StoppedRun, end_of, entry_of}
+use Rattle.snap_top.specs.Resumed.{AreStoppedRuns, AsksForSync, EndAlike, EndsClean, IsBetween, IsStopped, RunOf, StandsAfter, StoppedRun, end_of, entry_of}
 use Rattle.snap_top.specs.Run.{Entry, Exit}
 use Rattle.snap_top.specs.Sync.{AreStopped, IsOfArray, Stop, SyncsFrom}
 use Rattle.snap_top.specs.Task.{Did, fixes, reads_only, syncs, may_stand, end_table}
@@ -94,15 +95,16 @@ module _ {O F V W : Type 0} (opener_view : O → OpenerView) (folder_view : F �
   abbrev copies_here : ℕ
   copies_here = length setup.contents
 
-  stops_are : (stops : List (StoppedRun O F V W)) (files left : Files) → AreStoppedRuns opener_view folder_view vault_view sink_view setup trees seed stops files left
-      → (list : List Stop) × AreStopped setup trees seed copies_here list files left
-  stops_are [] files left are = ([], are)
-  stops_are (stop ∷ stops) files left are =
+  abbrev StopsTo : Files → Files → Type 0
+  StopsTo files left = (list : List Stop) × AreStopped setup trees seed copies_here list files left
+
+  -- one that was stopped before
+  stopped_before : (stop : StoppedRun O F V W) (files left : Files) → IsStopped opener_view folder_view vault_view sink_view setup trees seed files stop → StopsTo stop.left left → StopsTo files left
+  stopped_before stop files left stopped rest =
       let before : Entry = entry_of opener_view sink_view stop.run in
       let exit : Exit = end_of opener_view folder_view vault_view sink_view stop.run in
-      let asks = are.0.asks in
-      let always : IsSoundAlways before exit = are.0.sound (record { tells = asks.tells.tells; tells_vault = asks.tells.tells_vault; settled = asks.settled }) in
-      let rest = stops_are stops stop.left left are.1 in
+      let asks = stopped.asks in
+      let always : IsSoundAlways before exit = stopped.sound (record { tells = asks.tells.tells; tells_vault = asks.tells.tells_vault; settled = asks.settled }) in
       ⊎_elim
       (λ still. (rest.0, subst (λ (fs : Files). AreStopped setup trees seed copies_here rest.0 fs left) (still ∙ asks.files_are) rest.1))
       (λ did. (
@@ -116,12 +118,34 @@ module _ {O F V W : Type 0} (opener_view : O → OpenerView) (folder_view : F �
           rest.1,
         ),
       ))
-      (by_did setup trees seed files before exit asks before.opener.vault.files stop.left always.did always.is_did (always.moments stop.left are.0.stands))
+      (by_did setup trees seed files before exit asks before.opener.vault.files stop.left always.did always.is_did (always.moments stop.left stopped.stands))
+
+  -- one that changed nothing before
+  between_before : (stop : StoppedRun O F V W) (files left : Files) → IsBetween opener_view folder_view vault_view sink_view setup trees seed files stop → StopsTo stop.left left → StopsTo files left
+  between_before stop files left between rest =
+      let before : Entry = entry_of opener_view sink_view stop.run in
+      let exit : Exit = end_of opener_view folder_view vault_view sink_view stop.run in
+      let always : IsSoundAlways before exit = between.sound between.fresh in
+      let still : stop.left ≡ before.opener.vault.files
+      = subst (λ (did : Did). may_stand did before.opener.vault.files stop.left) (always.reads between.asked between.words between.command_is) (always.moments stop.left between.stands) in
+      (rest.0, subst (λ (fs : Files). AreStopped setup trees seed copies_here rest.0 fs left) (still ∙ between.files_are) rest.1)
+
+  stops_are : (stops : List (StoppedRun O F V W)) (files left : Files) → AreStoppedRuns opener_view folder_view vault_view sink_view setup trees seed stops files left → StopsTo files left
+  stops_are [] files left are = ([], are)
+  stops_are (stop ∷ stops) files left are = ⊎_elim
+      (λ stopped. stopped_before stop files left stopped (stops_are stops stop.left left are.1))
+      (λ between. between_before stop files left between (stops_are stops stop.left left are.1))
+      are.0
 
   -- a run that ended with status 0
   ends_in_part : (files : Files) (run : RunOf O F V W) (left : Files) → EndsClean opener_view folder_view vault_view sink_view setup trees seed files run left
       → EndsInPart (entry_of opener_view sink_view run) (end_of opener_view folder_view vault_view sink_view run) run.status
-  ends_in_part files run left clean = let zero = clean.clean in clean.ends clean.asks.tells (omega (arith, zero)) clean.asks.asked clean.asks.way clean.asks.words clean.asks.command_is
+  ends_in_part files run left clean = let zero = clean.clean in clean.ends clean.asks.tells (ByStatus (omega (arith, zero))) clean.asks.asked clean.asks.way clean.asks.words clean.asks.command_is
+
+  -- so all is verified
+  all_verified : (files : Files) (run : RunOf O F V W) (left : Files) (clean : EndsClean opener_view folder_view vault_view sink_view setup trees seed files run left)
+      → (let sync = (ends_in_part files run left clean).run in AllVerified sync.plan.start sync.readings)
+  all_verified files run left clean = ((ends_in_part files run left clean).status_is.clean.0 clean.clean).1
 
   full_of : (files : Files) (run : RunOf O F V W) (left : Files) (clean : EndsClean opener_view folder_view vault_view sink_view setup trees seed files run left)
       → (let sync = (ends_in_part files run left clean).run in IsFullSync setup sync.loaded trees sync.plan.now files (end_table sync) left)
@@ -132,7 +156,7 @@ module _ {O F V W : Type 0} (opener_view : O → OpenerView) (folder_view : F �
       let sync : SyncRun = part.run in
       let of : IsOfArray setup trees sync = of_array setup trees seed files before exit clean.asks sync part.is_sync in
       let full : IsFullSync sync.setup sync.loaded (run_trees sync) sync.plan.now before.opener.vault.files (end_table sync) left
-      = stands_after (λ (new : Files). IsFullSync sync.setup sync.loaded (run_trees sync) sync.plan.now before.opener.vault.files (end_table sync) new) exit left (part.full clean.clean) clean.stands in
+      = stands_after (λ (new : Files). IsFullSync sync.setup sync.loaded (run_trees sync) sync.plan.now before.opener.vault.files (end_table sync) new) exit left (part.full (all_verified files run left clean)) clean.stands in
       subst (λ (fs : Files). IsFullSync setup sync.loaded trees sync.plan.now fs (end_table sync) left) clean.asks.files_are
       (subst (λ (ts : List Tree). IsFullSync setup sync.loaded ts sync.plan.now before.opener.vault.files (end_table sync) left) of.trees_are
       (subst (λ (s : SetupValue). IsFullSync s sync.loaded (run_trees sync) sync.plan.now before.opener.vault.files (end_table sync) left) of.setup_is full))
@@ -155,7 +179,7 @@ module _ {O F V W : Type 0} (opener_view : O → OpenerView) (folder_view : F �
       let first = ends_in_part files whole one clean in
       let second = ends_in_part left last other later in
       let shapes = keeps first.run.setup first.run.loaded (run_trees first.run) first.run.plan.now (end_table first.run) (entry_of opener_view sink_view whole).opener.vault.files one
-      (stands_after _ (end_of opener_view folder_view vault_view sink_view whole) one (first.full clean.clean) clean.stands) in
+      (stands_after _ (end_of opener_view folder_view vault_view sink_view whole) one (first.full (all_verified files whole one clean)) clean.stands) in
       let same : (first.run.plan.start.shape ≡ (end_table first.run).shape) × (length first.run.plan.start.infos ≡ length (end_table first.run).infos)
       = (ap (λ (t : TableValue). t.shape) first.laid ∙ sym shapes.0, ap (λ (t : TableValue). length t.infos) first.laid ∙ sym shapes.1) in
       record {

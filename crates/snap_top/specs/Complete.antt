@@ -88,6 +88,12 @@ abbrev pub IsUnrefused : Entry → Exit → Command → SetupValue → Type 0
 IsUnrefused before exit command setup = (way : SyncWay) (table : TableValue) (folders : List FolderView) (fault : ScanFault) → command ≡ commands.Sync way → MayBegin before setup table → AreHeld before folders
     → RefusesLayout setup way table folders exit.after.folders fault → fault ≡ scans.Memory
 
+-- Neither the opener nor a folder nor the vault failed so that a run ends.
+pub record NothingBroke (before : Entry) (exit : Exit) : Type 0 where
+  pub opener : ¬ (Rose before.opener.faults exit.opener.faults)
+  pub folders : (d : ℕ) → ¬ (BreaksFolder (folder_held before.opener d) (folder_at exit.after.folders d))
+  pub vault : ¬ (BreaksVault (held_vault before) (left_vault exit))
+
 -- Words and configuration are accepted, all names that are selected are known, nothing failed so that a run ends, what is first read of the content is of the configuration's array, and
 -- no layout is refused.
 -- All that is said here of what the opener holds, it tells.
@@ -99,10 +105,8 @@ pub record IsSmooth (before : Entry) (exit : Exit) : Type 0 where
   pub tells_vault : IsTrue before.opener.vault.tells
   pub configuration : read_setup (take 1048577 before.opener.config) asked.log ≡ Ok setup
   pub known : unknown_in setup asked.command ≡ None
-  pub opener : ¬ (Rose before.opener.faults exit.opener.faults)
+  pub unbroken : NothingBroke before exit
   pub out : ¬ (Rose before.out.faults exit.after.out.faults)
-  pub folders : (d : ℕ) → ¬ (BreaksFolder (folder_held before.opener d) (folder_at exit.after.folders d))
-  pub vault : ¬ (BreaksVault (held_vault before) (left_vault exit))
   pub content : HasContentOrNone (held_vault before)
   pub layout : IsUnrefused before exit asked.command setup
   pub agrees : (table : TableValue) → LoadsTable (held_vault before) (left_vault exit) table → Matches setup table

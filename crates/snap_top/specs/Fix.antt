@@ -66,6 +66,7 @@ pub record AllFixed (run : FixRun) (olds news : List FolderView) : Type 0 where
 pub record FixesOver (copies : ℕ) (vault : VaultView) (run : FixRun) : Type 0 where
   pub valid : IsValid run.loaded
   pub is_loaded : IsLoadedFrom copies run.loaded vault.files
+  pub columns : length run.folders ≡ length run.loaded.columns
   pub as_many : length run.listed ≡ length run.folders
   pub listed : ListsAll run.folders run.listed run.lists
   pub plan_is : IsPlan modes.Fix run.selection (names_of run.setup) run.loaded run.lists run.plan

@@ -1,9 +1,10 @@
 -- What stands at each moment of a run, wherever it is stopped, and what a sync leaves at its end.
-use Rattle.std.specs.Prelude.{◌≡◌, ◌↔◌, ◌⊎◌, ℕ, length, ◌≤◌, All, Bool, false, IsTrue, Ok}
+use Rattle.std.specs.Prelude.{◌≡◌, ◌⊎◌, ℕ, length, All, Bool, false, IsTrue, Ok}
 use Rattle.array_scan.specs.Layout.{pending_stripes}
 use Rattle.content_file.specs.Load.{HasFailed}
 use Rattle.content_file.specs.Save.{HasSaved}
 use Rattle.content_file.specs.Spelling.{spelling}
+use Rattle.disk_model.specs.Cause.{Rose}
 use Rattle.disk_model.specs.Files.{Files}
 use Rattle.disk_model.specs.Vault.{Holds, IsSettled, copies_of}
 use Rattle.parity_writer.specs.Parity.{Rows, no_rows}
@@ -18,9 +19,10 @@ use Rattle.snap_sync.specs.Images.{rows_after}
 use Rattle.snap_sync.specs.Part.{AllTell, AllVerified, AreOfPartSyncs, IsFullSync, IsPartSync, NoneRose, SyncRun, layout_by, readings_by, run_trees, verified_stripes}
 use Rattle.snap_sync.specs.Reading.{StripeReading, is_verified, stripes_of}
 use Rattle.snap_sync.specs.Soundness.{AreSound, changed_without, snapshot_with}
+use Rattle.snap_top.specs.Ended.{IsEndStatus, WentToItsEnd}
 use Rattle.snap_top.specs.Opening.{IsConfigured, asked_by}
 use Rattle.snap_top.specs.Run.{Entry, Exit}
-use Rattle.snap_top.specs.Fix.{FixRun, FixesOver, IsGenuineFix}
+use Rattle.snap_top.specs.Fix.{AllFixed, FixRun, FixesOver, IsGenuineFix}
 use Rattle.snap_top.specs.Sync.{BeginsFrom, SyncsFrom, SyncsOver}
 use Rattle.snap_top.specs.Task.{Did, fixes, reads_only, syncs, may_stand, end_table}
 
@@ -48,6 +50,8 @@ pub record IsFixOf (before : Entry) (exit : Exit) (run : FixRun) : Type 0 where
   pub folders_are : run.folders ≡ before.opener.folders
   pub ended_is : run.ended ≡ exit.after.folders
   pub over : FixesOver (copies_of before.opener.vault) before.opener.vault run
+  -- only its calls were made of the folders
+  pub makes : AllFixed run before.opener.folders exit.after.folders
   pub from : ((copy : ℕ) → ¬ (HasFailed before.opener.vault exit.after.vault copy))
       → BeginsFrom run.setup before.seed (copies_of before.opener.vault) before.opener.vault.files run.loaded
 
@@ -128,9 +132,10 @@ pub record TellsAll (before : Entry) : Type 0 where
   pub tells_vault : IsTrue before.opener.vault.tells
   pub tells_folders : AllTell before.opener.folders
 
--- A sync that is done: all pending stripes of the layout were read, and where no folder's count of faults rose this gave what the trees hold. It is
--- the part sync of those that are verified, and every copy spells its table; in each that is not something was found. It has status 0 exactly where
--- all are verified, and then it is the full sync. So it stands as the vault reads, and in each image.
+-- A sync that went to its end: all pending stripes of the layout were read, and where no folder's count of faults rose this gave what the trees
+-- hold. It is the part sync of those that are verified, and every copy spells its table; in each that is not something was found. Where all are
+-- verified, it is the full sync. So it stands as the vault reads, and in each image. Its status is 0 exactly where all are verified and the output
+-- did not fail. A failure of the output is counted, and changes nothing else of this.
 pub record EndsInPart (before : Entry) (exit : Exit) (status : ℕ) : Type 0 where
   pub run : SyncRun
   pub is_sync : IsSyncOf before exit run
@@ -143,11 +148,13 @@ pub record EndsInPart (before : Entry) (exit : Exit) (status : ℕ) : Type 0 whe
   pub saved : Holds (HasSaved (copies_of before.opener.vault) (spelling (end_table run))) exit.after.vault
   pub found : All (λ (reading : StripeReading). is_verified run.plan.start reading ≡ false
       → IsFoundIn (events_of run.plan.start run.readings) reading.stripe) run.readings
-  pub verified : (status ≡ 0) ↔ AllVerified run.plan.start run.readings
-  pub full : status ≡ 0 → Holds (IsFullSync run.setup run.loaded (run_trees run) run.plan.now before.opener.vault.files (end_table run))
-      exit.after.vault
+  pub full : AllVerified run.plan.start run.readings
+      → Holds (IsFullSync run.setup run.loaded (run_trees run) run.plan.now before.opener.vault.files (end_table run)) exit.after.vault
+  pub output_failed : Bool
+  pub status_is : IsEndStatus status output_failed (AllVerified run.plan.start run.readings)
+  pub output : IsTrue output_failed → Rose before.out.faults exit.after.out.faults
 
--- so a sync that was asked for ends with status 0 or 1
+-- so a sync that was asked for ends, whatever the output did
 abbrev pub SyncsEndInPart : Entry → Exit → ℕ → Type 0
-SyncsEndInPart before exit status = TellsAll before → status ≤ 1 → (asked : Options) (way : SyncWay)
+SyncsEndInPart before exit status = TellsAll before → WentToItsEnd before exit status → (asked : Options) (way : SyncWay)
     → asked_by before.texts ≡ Ok asked → asked.command ≡ commands.Sync way → EndsInPart before exit status

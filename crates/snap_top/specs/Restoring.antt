@@ -1,8 +1,8 @@
 -- What a run leaves that was asked to fix an array.
-use Rattle.std.specs.Prelude.{◌≡◌, ◌↔◌, ℕ, ◌<◌, ◌≤◌, List, ◌++◌, length, Bool, true, false, Contains, Ok, count_by, sum_by}
+use Rattle.std.specs.Prelude.{◌≡◌, ℕ, ◌<◌, List, ◌++◌, length, Bool, true, false, Contains, IsTrue, Ok, count_by, sum_by}
 use Rattle.cauchy.specs.Matrix.{byte_of}
 use Rattle.cauchy.specs.Recovery.{AreBytes}
-use Rattle.disk_model.specs.Cause.{RoseBy}
+use Rattle.disk_model.specs.Cause.{Rose, RoseBy}
 use Rattle.disk_model.specs.Vault.{Holds}
 use Rattle.file_table.specs.declared.block.Cell.{Cell}
 use Rattle.parity_writer.specs.Sound.{Snapshot, Sound}
@@ -26,6 +26,7 @@ use Rattle.snap_report.specs.Telling.{Tells, between}
 use Rattle.snap_report.specs.declared.events.Event.{Event}
 use Rattle.snap_report.specs.declared.events.Event.TheVariants as events
 use Rattle.stripe_reader.specs.Columns.{folder_at}
+use Rattle.snap_top.specs.Ended.{IsEndStatus, WentToItsEnd}
 use Rattle.snap_top.specs.Fix.{FixRun, LeavesFixed, MayStandFixed}
 use Rattle.snap_top.specs.Moment.{IsFixOf, TellsAll}
 use Rattle.snap_top.specs.Opening.{asked_by}
@@ -45,7 +46,7 @@ pub record IsLostCell (run : FixRun) (snapshot : Snapshot) (mended : Mended) (d 
 
 -- Where no hash is met by chance: such a cell of a record that isn't blocked has the snapshot's block, at its real length, where no more
 -- cells of its stripe are damaged than levels are intact. It stands under PATH, or under PATH`.unrecoverable` where its record has a lost
--- block. Any other such cell is told to be lost, and none of these is.
+-- block. Where more cells are damaged, it is told to be lost; where no more are, it is not.
 pub record Restores (run : FixRun) (finishes : Finishes) (snapshot : Snapshot) : Type 0 where
   pub restored : (mended : Mended) (d : ℕ) (cell : Cell) (is_intact : ℕ → Bool) → IsLostCell run snapshot mended d cell is_intact
       → (entry_at run.plan d cell.rec).blocked ≡ false → IsRestorableStripe run.plan mended.facts is_intact
@@ -57,10 +58,11 @@ pub record Restores (run : FixRun) (finishes : Finishes) (snapshot : Snapshot) :
       → IsRestorableStripe run.plan mended.facts is_intact
       → ¬ (Contains (events_in run finishes) (events.Lost mended.facts.stripe d cell.rec cell.index))
 
--- A fix that is done: it looked at all stripes with something selected, and what it did to the files is what follows of that. What it could
+-- A fix that went to its end: it looked at all stripes with something selected, and what it did to the files is what follows of that. What it could
 -- not read was counted as a fault. Its levels hold the sums of the rows that are known, also in each image; its copies and all other bytes
--- of its levels stay. It printed all lines, and its status is 0 exactly where nothing is left. Each selected damaged cell of a pending
--- stripe is told to be lost. Where the table that it began with was sound, and no hash is met by chance, it restores the snapshot's blocks.
+-- of its levels stay. It printed all lines, or a prefix where the output failed; its status is 0 exactly where that did not and nothing is left.
+-- Each selected damaged cell of a pending stripe is told to be lost. Where the table that it began with was sound, and no hash is met by
+-- chance, it restores the snapshot's blocks. A failure of the output is counted, and changes nothing else of this.
 pub record EndsFixed (before : Entry) (exit : Exit) (status : ℕ) : Type 0 where
   pub run : FixRun
   pub is_fix : IsFixOf before exit run
@@ -72,10 +74,12 @@ pub record EndsFixed (before : Entry) (exit : Exit) (status : ℕ) : Type 0 wher
   pub moment : MayStandFixed run before.opener.vault.files exit.after.vault.files
   pub leaves : Holds (LeavesFixed run) exit.after.vault
   pub zeros : AddsZeros run.plan.table.shape.block_size (IsMendedLevel run.plan (facts_of run.stripes)) before.opener.vault.files exit.after.vault.files
+  pub output_failed : Bool
   pub printed : Tells (lines_of run.loaded.columns (events_in run finishes)
       ++ fix_text (at_most (sum_by (written_in run.plan) run.stripes)) (at_most (sum_by (wrong_in run.plan) run.stripes)) (at_most (count_by is_left (events_in run finishes))))
-      (between false before.out) (between false exit.after.out)
-  pub clean : (status ≡ 0) ↔ (count_by is_left (events_in run finishes) ≡ 0)
+      (between false before.out) (between output_failed exit.after.out)
+  pub status_is : IsEndStatus status output_failed (count_by is_left (events_in run finishes) ≡ 0)
+  pub output : IsTrue output_failed → Rose before.out.faults exit.after.out.faults
   pub pending : (mended : Mended) (d : ℕ) (cell : Cell) → IsDamagedCell run.plan run.stripes mended d cell
       → is_synced run.plan mended.facts.stripe ≡ false
       → Contains (events_in run finishes) (events.Lost mended.facts.stripe d cell.rec cell.index)
@@ -83,7 +87,7 @@ pub record EndsFixed (before : Entry) (exit : Exit) (status : ℕ) : Type 0 wher
       → Sound run.loaded before.opener.vault.files snapshot is_changed
       → AreGenuine run.plan snapshot (facts_of run.stripes) → Restores run finishes snapshot
 
--- so a fix that was asked for ends with status 0 or 1
+-- so a fix that was asked for ends, whatever the output did
 abbrev pub FixesEnd : Entry → Exit → ℕ → Type 0
-FixesEnd before exit status = TellsAll before → status ≤ 1 → (asked : Options) (selection : Selection)
+FixesEnd before exit status = TellsAll before → WentToItsEnd before exit status → (asked : Options) (selection : Selection)
     → asked_by before.texts ≡ Ok asked → asked.command ≡ commands.Fix selection → EndsFixed before exit status

@@ -1,4 +1,4 @@
--- Syncs of runs that are stopped one after another, said by what `run` says of each of them.
+-- Syncs of runs that are stopped one after another, said by what `run` says of each of them. Runs that change nothing may stand between.
 use Rattle.std.specs.Prelude.{◌≡◌, ◌⊎◌, ℕ, List, [], ◌∷◌, length, take, Bool, IsTrue, Option, Ok}
 use Rattle.content_file.specs.Load.{HasFailed}
 use Rattle.content_file.specs.Save.{HasSaved}
@@ -18,7 +18,7 @@ use Rattle.snap_config.specs.declared.options.Options.{Options}
 use Rattle.snap_config.specs.declared.options.SyncWay.{SyncWay}
 use Rattle.snap_sync.specs.Part.{trees_of}
 use Rattle.snap_sync.specs.Resumed.{EndsAs}
-use Rattle.snap_top.specs.Moment.{EveryMomentIsSound, StandsIn, SyncsEndInPart, TellsAll}
+use Rattle.snap_top.specs.Moment.{ChangesNothing, EveryMomentIsSound, HoldsFresh, StandsIn, SyncsEndInPart, TellsAll}
 use Rattle.snap_top.specs.Opening.{asked_by}
 use Rattle.snap_top.specs.Run.{Entry, Exit, at_entry, exit_of}
 use Rattle.snap_top.specs.Sync.{HasNoCopy}
@@ -87,10 +87,21 @@ module _ {O F V W : Type 0} (opener_view : O → OpenerView) (folder_view : F �
     pub sound : EveryMomentIsSound (entry_of opener_view sink_view stop.run) (end_of opener_view folder_view vault_view sink_view stop.run)
     pub stands : StandsIn (entry_of opener_view sink_view stop.run) (end_of opener_view folder_view vault_view sink_view stop.run) stop.left
 
+  -- A run of a command that changes nothing, by whichever configuration and over whichever trees, was stopped at some moment or ended. The vault was
+  -- opened anew.
+  pub record IsBetween (files : Files) (stop : StoppedRun O F V W) : Type 0 where
+    pub asked : Options
+    pub words : asked_by (entry_of opener_view sink_view stop.run).texts ≡ Ok asked
+    pub command_is : ChangesNothing asked.command
+    pub fresh : HoldsFresh (entry_of opener_view sink_view stop.run)
+    pub files_are : (entry_of opener_view sink_view stop.run).opener.vault.files ≡ files
+    pub sound : EveryMomentIsSound (entry_of opener_view sink_view stop.run) (end_of opener_view folder_view vault_view sink_view stop.run)
+    pub stands : StandsIn (entry_of opener_view sink_view stop.run) (end_of opener_view folder_view vault_view sink_view stop.run) stop.left
+
   -- one after another, each over what the one before it left
   abbrev pub AreStoppedRuns : List (StoppedRun O F V W) → Files → Files → Type 0
   AreStoppedRuns [] files left = left ≡ files
-  AreStoppedRuns (stop ∷ stops) files left = IsStopped files stop × AreStoppedRuns stops stop.left left
+  AreStoppedRuns (stop ∷ stops) files left = (IsStopped files stop ⊎ IsBetween files stop) × AreStoppedRuns stops stop.left left
 
 -- What two syncs left: each copy of both spells a table, and these are the same but for the times of the last checks; parity is the same in all
 -- stripes of the table, but for what was changed from outside.

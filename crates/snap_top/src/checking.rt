@@ -11,7 +11,7 @@ use crate::job::{Done, Job};
 use disk_model::{Folder, Sink, Vault};
 use file_table::Table;
 use snap_config::Selection;
-use snap_fix::{Mode, NoSpare, check};
+use snap_fix::{Mode, NoSpare, repair};
 use snap_report::{Answer, Lines, Report};
 use std::alloc::Global;
 use std::thread::Threads;
@@ -37,7 +37,7 @@ pub(crate) fn check_array<R: Threads + Sync, F: Folder, V: Vault, W: Sink>(
         reports.old.items reports.new.items result.answer result.named }
 {
     let mut lines = Lines::over(out);
-    match check(
+    match repair(
         rt,
         alloc,
         mode,

@@ -11,7 +11,7 @@ use crate::job::{Done, Job};
 use disk_model::{Folder, Sink, Vault};
 use file_table::Table;
 use snap_config::Selection;
-use snap_fix::{NoSpare, fix};
+use snap_fix::{Mode, NoSpare, repair};
 use snap_report::{Answer, Lines, Report};
 use std::alloc::Global;
 use std::thread::Threads;
@@ -36,9 +36,10 @@ pub(crate) fn fix_array<R: Threads + Sync, F: Folder, V: Vault, W: Sink>(
         reports.old.items reports.new.items result.answer result.named }
 {
     let mut lines = Lines::over(out);
-    match fix(
+    match repair(
         rt,
         alloc,
+        Mode::Fix,
         selection,
         &job.setup,
         folders,

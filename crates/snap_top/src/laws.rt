@@ -1,18 +1,35 @@
 //! What follows for one run after another. The calls do nothing: their contracts are laws.
-ghost use Rattle.std.specs.Prelude.{ℕ, List, Bool, length};
+ghost use Rattle.std.specs.Prelude.{◌≡◌, ℕ, List, Bool, IsTrue, true, length};
+ghost use Rattle.cauchy.specs.Matrix.{byte_of};
 ghost use Rattle.disk_model.specs.Files.{Files};
+ghost use Rattle.disk_model.specs.Opener.{folder_held};
 ghost use Rattle.disk_model.specs.Tree.{Tree};
 ghost use Rattle.file_table.specs.Table.{TableValue};
-ghost use Rattle.parity_writer.specs.Sound.{Snapshot};
+ghost use Rattle.file_table.specs.declared.block.Cell.{Cell};
+ghost use Rattle.parity_writer.specs.Sound.{Snapshot, Sound};
 ghost use Rattle.snap_config.specs.Setup.{SetupValue};
+ghost use Rattle.snap_fix.specs.Ending.{Finishes};
+ghost use Rattle.snap_fix.specs.Genuine.{IsIntactLevel};
+ghost use Rattle.snap_fix.specs.Known.{whole_level};
+ghost use Rattle.snap_fix.specs.Mended.{Mended, has_lost};
+ghost use Rattle.snap_fix.specs.Restored.{HoldsCell};
 ghost use Rattle.snap_sync.specs.Part.{IsFullSync, SyncRun};
 ghost use Rattle.snap_sync.specs.Resumed.{EndsAs};
 ghost use Rattle.snap_sync.specs.Soundness.{AreSound};
-ghost use Rattle.snap_top.specs.Resumed.{AreStoppedRuns, EndAlike, EndsClean, RunOf, StoppedRun};
+ghost use Rattle.snap_top.specs.Fix.{FixRun};
+ghost use Rattle.snap_top.specs.History.{AreSoundBy, IsHistory, LastSynced, StaysSound, Step};
+ghost use Rattle.snap_top.specs.Moment.{IsFixOf};
+ghost use Rattle.snap_top.specs.Restoring.{Restores};
+ghost use Rattle.snap_top.specs.Resumed.{AreStoppedRuns, EndAlike, EndsClean, RunOf, StoppedRun, end_of, entry_of};
+ghost use Rattle.snap_top.specs.Stopping.{FindsNoLess, FolderStandsIn, SparesFolder};
 ghost use Rattle.snap_top.specs.Sync.{AreStopped, IsOfArray, Stop, SyncsFrom};
+ghost use Rattle.snap_top.specs.Undamaged.{HasEnough, IsRecoverable, IsUndamaged};
+ghost use Rattle.snap_top.specs.Views.{folder_at};
 
 use content_file::laws::one_table_has_a_spelling;
 use disk_model::{Folder, Opener, Sink, Vault};
+use parity_writer::laws::a_whole_level_is_what_the_file_holds;
+use snap_fix::laws::a_stop_within_a_fix_changes_written_blocks_alone;
 use snap_sync::laws::{
     a_stopped_sync_is_resumed, a_sync_is_a_part_sync, every_moment_is_sound, there_is_a_full_sync,
     what_a_sync_saves_is_valid,
@@ -44,9 +61,10 @@ pub fn stopped_syncs_are_resumed()
 }
 
 /// The same of runs, by what `run` says of each of them. Syncs by one configuration and over the same trees were stopped
-/// one after another, or ended with whatever status, and `last` after them ended with status 0. `whole` is a sync of what
-/// there was before the first of them, which ended with status 0. Then both left the same table in every copy, but for
-/// the times of the last checks, and the same parity, but for what was changed from outside.
+/// one after another, or ended with whatever status, and `last` after them ended with status 0. Runs of commands that
+/// change nothing, `list`, `status` and `check`, may stand between. `whole` is a sync of what there was before the first
+/// of them, which ended with status 0. Then both left the same table in every copy, but for the times of the last checks,
+/// and the same parity, but for what was changed from outside.
 pub fn stopped_runs_are_resumed<O: Opener, F: Folder, V: Vault, W: Sink>()
     ensures { (setup : SetupValue) (trees : List Tree) (seed : List ℕ) (stops : List (StoppedRun O F V W))
         (files left one other : Files) (whole last : RunOf O F V W) (snapshot : Snapshot) (is_changed : ℕ → ℕ → Bool) →
@@ -58,4 +76,56 @@ pub fn stopped_runs_are_resumed<O: Opener, F: Folder, V: Vault, W: Sink>()
 {
     stopped_syncs_are_resumed();
     there_is_a_full_sync();
+}
+
+/// A history: runs of any commands, one after another over one vault, each of which ended or was stopped at some moment,
+/// and changes of parity and copies from outside in between. Where the copies were sound before the first of them, they
+/// are sound after each: with the rows of the stripes that syncs have closed by then in the snapshot, as long as no fix
+/// met a recorded hash by chance. And each fix that went to its end restores the blocks of the snapshot of its time.
+/// What is said of each run `run` says of it: of its moments in its clause `sound`, of a fix in its clause `fixed`.
+pub fn copies_stay_sound<O: Opener, F: Folder, V: Vault, W: Sink>()
+    ensures { (copies : ℕ) (steps : List (Step O F V W)) (files : Files) (last : LastSynced) →
+        IsHistory O.view F.view V.view W.view copies steps files → AreSoundBy copies files last →
+        StaysSound O.view F.view V.view W.view copies steps files last }
+{}
+
+/// Wherever the fix of a run is stopped, also within a write, the files of its folders are what they were but in blocks
+/// that it writes. The next fix that goes to its end restores the blocks of the same snapshot (`copies_stay_sound`): those
+/// of each stripe that has enough undamaged levels then (`undamaged_levels_restore`). It has enough if it had for the first
+/// one, where the next one misses no other cell and reads each level again. `run` says of a fix which calls it made of its
+/// folders, in its clauses `sound` and `fixed`.
+pub fn a_stopped_fix_spares_and_is_resumed<O: Opener, F: Folder, V: Vault, W: Sink>()
+    ensures spares { (run : RunOf O F V W) (fix : FixRun) (d : ℕ) (left : Tree) →
+        IsFixOf (entry_of O.view W.view run) (end_of O.view F.view V.view W.view run) fix →
+        FolderStandsIn (entry_of O.view W.view run) (end_of O.view F.view V.view W.view run) d left →
+        SparesFolder fix d (folder_held (entry_of O.view W.view run).opener d) left }
+    ensures again { (first again : FixRun) (is_changed : ℕ → ℕ → Bool) (mended mended_again : Mended) →
+        FindsNoLess first again mended mended_again →
+        HasEnough first is_changed mended.facts → HasEnough again is_changed mended_again.facts }
+{
+    a_stop_within_a_fix_changes_written_blocks_alone();
+}
+
+/// A level is undamaged where it was read, and was not changed from outside since its stripe was last synced. Such a level
+/// is whole and intact. So a fix that went to its end restores the block of each selected damaged cell of a stripe that was
+/// synced, where no more of its cells are missing than levels are undamaged, unless its record is blocked.
+pub fn undamaged_levels_restore<O: Opener, F: Folder, V: Vault, W: Sink>()
+    ensures intact { (run : RunOf O F V W) (fix : FixRun) (snapshot : Snapshot) (is_changed : ℕ → ℕ → Bool)
+        (mended : Mended) (r : ℕ) →
+        IsFixOf (entry_of O.view W.view run) (end_of O.view F.view V.view W.view run) fix →
+        IsTrue (entry_of O.view W.view run).opener.vault.tells →
+        Sound fix.loaded (entry_of O.view W.view run).opener.vault.files snapshot is_changed →
+        IsUndamaged fix is_changed mended r →
+        (whole_level mended.facts.levels r ≡ true)
+        × IsIntactLevel fix.plan mended.facts (snapshot mended.facts.stripe) r }
+    ensures restored { (run : RunOf O F V W) (fix : FixRun) (finishes : Finishes) (snapshot : Snapshot)
+        (is_changed : ℕ → ℕ → Bool) (mended : Mended) (d : ℕ) (cell : Cell) →
+        IsFixOf (entry_of O.view W.view run) (end_of O.view F.view V.view W.view run) fix →
+        IsTrue (entry_of O.view W.view run).opener.vault.tells →
+        Sound fix.loaded (entry_of O.view W.view run).opener.vault.files snapshot is_changed →
+        Restores fix finishes snapshot → IsRecoverable fix snapshot is_changed mended d cell →
+        HoldsCell fix.plan.table d cell (has_lost fix.plan fix.stripes d cell.rec)
+        (byte_of (snapshot mended.facts.stripe) d) (folder_at fix.ended d).tree }
+{
+    a_whole_level_is_what_the_file_holds();
 }

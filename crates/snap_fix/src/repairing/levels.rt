@@ -1,9 +1,8 @@
 // The wrong levels of a stripe of the window, written anew.
 ghost use Rattle.std.specs.Prelude.{◌≡◌, ◌<◌, ◌≤◌, [], ◌∷◌, length, IfOk, IfErr};
-ghost use Rattle.parity_writer.specs.LevelsValue.{level_at};
 ghost use Rattle.parity_writer.specs.WindowRow.{row_at};
 ghost use Rattle.snap_fix.specs.Facts.{StripeFacts};
-ghost use Rattle.snap_fix.specs.Findings.{is_wrong as is_wrong_at};
+ghost use Rattle.snap_fix.specs.Judging.{TellsWrong};
 ghost use Rattle.snap_fix.specs.Marks.{CanExamine, row_if};
 ghost use Rattle.snap_fix.specs.Plan.{plan_of};
 ghost use Rattle.snap_fix.specs.Repairing.{CanMendLevels, FlagsWritten, MendsLevels, MendsNotLevels, ShowsLevels};
@@ -12,39 +11,12 @@ ghost use Rattle.snap_fix.specs.RepairSteps.{WritesLevel, WritesNotLevel};
 
 use crate::entry::Entries;
 use crate::scope::Scope;
-use crate::selecting::selects_level;
-use crate::telling::is_wrong;
 use disk_model::{Failed, Sink, Vault};
 use file_table::Table;
 use parity_writer::{Levels, sum_row};
 use snap_report::events::Event;
 use snap_report::{Lines, Report, tell};
 use stripe_reader::Window;
-
-// Whether a selected level of a stripe of the window is wrong.
-fn is_wrong_level(
-    scope: Scope,
-    table: &Table,
-    entries: &Entries,
-    stripe: u32,
-    i: u32,
-    window: &Window,
-    known: bool,
-    levels: &Levels,
-    r: u32,
-    sum: &mut [u8],
-) -> bool
-    requires can { CanExamine (plan_of scope table.now entries.now) stripe i window.now }
-    requires columns { length window.now.lanes ≤ 251 }
-    requires most { r < 6 }
-    requires level { r < levels.now.count }
-    requires sum { length sum.old ≡ table.now.shape.block_size }
-    ensures sum { length sum.new ≡ length sum.old }
-    ensures value { result ≡ is_wrong_at (plan_of scope table.now entries.now) stripe
-        (level_at levels.now r) (row_if known window.now i) r }
-{
-    selects_level(scope, table, entries, stripe, r) && is_wrong(window, i, known, levels, r, sum)
-}
 
 // Writes a level of the row of a stripe of the window, and tells it.
 fn write_level<V: Vault, W: Sink>(
@@ -69,7 +41,7 @@ fn write_level<V: Vault, W: Sink>(
         window.now.block_size stripe r (row_at window.now i)
         (levels_outside (V.view vault.old) lines.old reports.old.items) (levels_outside (V.view vault.new) lines.new reports.new.items)) }
     ensures failed { IfErr result (λ _. WritesNotLevel W.view standing stands table.now.columns
-        window.now.block_size stripe r
+        window.now.block_size stripe r (row_at window.now i)
         (levels_outside (V.view vault.old) lines.old reports.old.items) (levels_outside (V.view vault.new) lines.new reports.new.items)) }
 {
     let at = u64::from(stripe) * block.len() as u64;
@@ -95,6 +67,7 @@ pub(crate) fn mend_levels<V: Vault, W: Sink>(
     window: &Window,
     known: bool,
     levels: &Levels,
+    wrong: &[bool; 6],
     block: &mut [u8],
     vault: &mut V,
     lines: &mut Lines<'_, W>,
@@ -103,6 +76,7 @@ pub(crate) fn mend_levels<V: Vault, W: Sink>(
 ) -> Result<u32, Failed>
     requires can { CanExamine (plan_of scope table.now entries.now) stripe i window.now }
     requires mend { CanMendLevels (plan_of scope table.now entries.now) levels.now block.old (V.view vault.old) }
+    requires wrong { TellsWrong (plan_of scope table.now entries.now) stripe levels.now (row_if known window.now i) wrong.now }
     requires written { length written.old ≡ table.now.shape.levels }
     ensures block { length block.new ≡ length block.old }
     ensures mended { IfOk result (MendsLevels W.view standing stands (plan_of scope table.now entries.now) stripe i window.now levels.now known
@@ -114,9 +88,7 @@ pub(crate) fn mend_levels<V: Vault, W: Sink>(
 {
     let mut count = 0;
     for r in 0..table.shape().levels {
-        if !is_wrong_level(
-            scope, table, entries, stripe, i, window, known, levels, r, block,
-        ) {
+        if !wrong[r as usize] {
             continue;
         }
         write_level(table, stripe, i, window, r, block, vault, lines, reports)?;

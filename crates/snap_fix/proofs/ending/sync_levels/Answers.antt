@@ -1,10 +1,10 @@
-use Rattle.std.proofs.Common.{◌∙◌, refl}
+use Rattle.std.proofs.Common.{◌∙◌, refl, arith}
 use Rattle.snap_fix.proofs.EndingSyncLemmas.{on_err, synced_more, synced_not}
 use Rattle.snap_fix.proofs.ending.sync_levels.Goals as goal
 
 pub returns-in_err-sync_level-clause-failed : goal.returns-in_err-sync_level-clause-failed
 returns-in_err-sync_level-clause-failed g c =
-    on_err c.from_residual.result _ (synced_not c.args.written.now c.loop-level.level _ _ _ c.loop-level.invariant.synced c.in_err-sync_level.ensures.failed)
+    on_err c.from_residual.result _ (synced_not c.args.written.now c.loop-level.level _ _ _ _ refl (omega (arith, c.loop-level-test.true, c.loop-level.invariant.end)) c.loop-level.invariant.synced c.in_err-sync_level.ensures.failed)
 
 pub loop-level-preserved : goal.loop-level-preserved
 loop-level-preserved g c =

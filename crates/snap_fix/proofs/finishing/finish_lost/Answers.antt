@@ -1,7 +1,7 @@
 use Rattle.std.proofs.Common.{sym, ◌∙◌}
 use Rattle.disk_model.specs.declared.fault.FileFault.{FileFault}
 use Rattle.snap_fix.specs.FinishSteps.{BreaksBy, IsLostCall}
-use Rattle.snap_fix.proofs.FinishStepsLemmas.{lost_renamed, lost_not_renamed}
+use Rattle.snap_fix.proofs.FinishStepsLemmas.{lost_kept, lost_renamed, lost_not_renamed}
 use Rattle.snap_fix.proofs.FinishTreeLemmas.{may_lose}
 use Rattle.snap_fix.proofs.GoesOnLemmas.{handed_on}
 use Rattle.snap_fix.proofs.finishing.finish_lost.Goals as goal
@@ -22,3 +22,7 @@ pub returns-clause-finished : goal.returns-clause-finished
 returns-clause-finished g c meta =
     lost_renamed c.args.path.now meta c.args.start c.args.state (g.F.Folder.view c.args.folder.now) (g.F.Folder.view c.rename.new.self) (g.F.Folder.well_formed _) c.requires
     (sym c.stands.ensures ∙ c.if-not-stands.false) c.in_ok-rename.ensures.call
+
+pub returns-then-not-stands-clause-finished : goal.returns-then-not-stands-clause-finished
+returns-then-not-stands-clause-finished g c meta =
+    lost_kept c.args.path.now meta c.args.start c.args.state (g.F.Folder.view c.args.folder.now) (sym c.stands.ensures ∙ c.if-not-stands.true)

@@ -1,9 +1,9 @@
 use Rattle.std.proofs.Common.{refl}
-use Rattle.std.proofs.lemmas.Bool.{ne_eqb}
+use Rattle.std.proofs.lemmas.Bool.{eq-eqb, ne_eqb}
 use Rattle.disk_model.specs.Folder.{SetSize}
 use Rattle.snap_fix.specs.FinishSteps.{IsSizeCall}
 use Rattle.snap_fix.proofs.FinishCallsLemmas.{breaks_one}
-use Rattle.snap_fix.proofs.FinishStepsLemmas.{size_set}
+use Rattle.snap_fix.proofs.FinishStepsLemmas.{size_kept, size_set}
 use Rattle.snap_fix.proofs.finishing.fit_size.Goals as goal
 
 pub returns-clause-broke : goal.returns-clause-broke
@@ -15,3 +15,6 @@ pub returns-clause-sized : goal.returns-clause-sized
 returns-clause-sized g c =
     size_set c.args.path.now c.args.before c.args.size c.set_size.result (g.F.Folder.view c.args.folder.now) (g.F.Folder.view c.set_size.new.self) (g.F.Folder.well_formed _)
     (ne_eqb c.args.before c.args.size c.if-before-size.false) c.set_size.ensures.call
+
+pub returns-then-before-size-clause-sized : goal.returns-then-before-size-clause-sized
+returns-then-before-size-clause-sized g c = size_kept c.args.path.now c.args.before c.args.size (g.F.Folder.view c.args.folder.now) (eq-eqb c.args.before c.args.size c.if-before-size.true)

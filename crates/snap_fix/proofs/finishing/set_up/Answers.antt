@@ -1,6 +1,6 @@
 use Rattle.std.proofs.Common.{◌≡◌, false, sym, ◌∙◌}
 use Rattle.snap_fix.specs.State.{stands}
-use Rattle.snap_fix.proofs.FinishStepsLemmas.{sets_up_back, breaks_back, breaks_new, sets_up_new}
+use Rattle.snap_fix.proofs.FinishStepsLemmas.{sets_up_nothing, sets_up_back, breaks_back, breaks_new, sets_up_new}
 use Rattle.snap_fix.proofs.finishing.set_up.Goals as goal
 
 pub returns-in-Lost-clause-set_up : goal.returns-in-Lost-clause-set_up
@@ -29,3 +29,7 @@ returns-in-Err g c =
       set_up = tt;
       broke = breaks_new c.args.path.now c.args.place c.args.touched (g.F.Folder.view c.args.folder.now) (g.F.Folder.view c.make.new.self) (g.F.Folder.well_formed _) absent c.in-Plain.is c.in-Err.ensures.call;
     }
+
+pub returns-then-stands-clause-set_up : goal.returns-then-stands-clause-set_up
+returns-then-stands-clause-set_up g c =
+    sets_up_nothing c.args.path.now c.args.place c.args.touched (g.F.Folder.view c.args.folder.now) c.requires (sym c.stands.ensures ∙ c.if-stands.true)

@@ -16,13 +16,13 @@ use Rattle.snap_fix.proofs.KnowRemainders.{none_of_many, known_none, known_some}
 use Rattle.snap_fix.proofs.knowing.know_row.Goals as goal
 
 pub returns-in_default-clause-known : goal.returns-in_default-clause-known
-returns-in_default-clause-known c =
+returns-in_default-clause-known g c =
     let levels = c.args.levels.now in
     none_of_many c.args.table.now.shape _ (row_at c.args.window.now c.args.i) (take levels.count levels.levels)
     (omega (arith, length-take levels.count levels.levels, c.requires.count, c.shape-shape.ensures.valid.shape.levels.most)) c.in_default.ensures.value
 
 pub search-requires-clause-room : goal.search-requires-clause-room
-search-requires-clause-room c =
+search-requires-clause-room g c κs outlive =
     let table = c.args.table.now in
     let plan = plan_of c.args.scope table c.args.entries.now in
     let valid = c.shape-shape.ensures.valid in
@@ -42,7 +42,7 @@ search-requires-clause-room c =
     }
 
 pub search-requires-clause-columns : goal.search-requires-clause-columns
-search-requires-clause-columns c =
+search-requires-clause-columns g c κs outlive =
     let table = c.args.table.now in
     let plan = plan_of c.args.scope table c.args.entries.now in
     let p : ℕ → Bool = λ d. is_marked_missing (mark_in c.args.marks.now d) in
@@ -51,14 +51,14 @@ search-requires-clause-columns c =
     (passed_distinct p (length table.columns) 251 (omega (arith, c.shape-shape.ensures.valid.columns.few)))
 
 pub search-requires-clause-levels : goal.search-requires-clause-levels
-search-requires-clause-levels c =
+search-requires-clause-levels g c κs outlive =
     let levels = c.args.levels.now in
     let read = take levels.count levels.levels in
     subst (AreDistinctBelow 6) (sym (c.deref-2.ensures.0 ∙ c.whole_levels-whole.ensures))
     (passed_distinct (whole_level read) (length read) 6 (omega (arith, length-take levels.count levels.levels, c.requires.count, c.shape-shape.ensures.valid.shape.levels.most)))
 
 pub returns-then-not-search-clause-known : goal.returns-then-not-search-clause-known
-returns-then-not-search-clause-known c =
+returns-then-not-search-clause-known g c =
     let levels = c.args.levels.now in
     let some : 0 < length c.in-Some.wanted.items = grind (arith, nat_tests, c.is_empty.ensures, c.if-is_empty.false) in
     known_none c.args.table.now.shape c.shape-shape.result _ c.deref.result.now (row_at c.args.window.now c.args.i) (take levels.count levels.levels) c.deref-2.result.now c.fill_remainders.new.remainders
@@ -66,7 +66,7 @@ returns-then-not-search-clause-known c =
     (omega (arith, some, ap length c.in-Some.ensures.value)) c.fill_remainders.ensures (c.search.ensures.none c.if-not-search.true)
 
 pub put_found-requires-clause-columns : goal.put_found-requires-clause-columns
-put_found-requires-clause-columns c =
+put_found-requires-clause-columns g c =
     let table = c.args.table.now in
     let plan = plan_of c.args.scope table c.args.entries.now in
     let p : ℕ → Bool = λ d. is_marked_missing (mark_in c.args.marks.now d) in
@@ -75,7 +75,7 @@ put_found-requires-clause-columns c =
     (wanted_within table.shape (seen_at plan c.args.stripe) p (length table.columns)))
 
 pub put_found-requires-clause-lengths : goal.put_found-requires-clause-lengths
-put_found-requires-clause-lengths c =
+put_found-requires-clause-lengths g c =
     let table = c.args.table.now in
     let plan = plan_of c.args.scope table c.args.entries.now in
     let size_is : c.shape-shape.result.block_size ≡ table.shape.block_size = ap (λ (s : Shape). s.block_size) c.shape-shape.ensures.shape in
@@ -85,7 +85,7 @@ put_found-requires-clause-lengths c =
     (wanted_lengths table.shape (seen_at plan c.args.stripe) missing))
 
 pub returns-clause-others : goal.returns-clause-others
-returns-clause-others c = λ d failing.
+returns-clause-others g c = λ d failing.
     let table = c.args.table.now in
     let plan = plan_of c.args.scope table c.args.entries.now in
     let p : ℕ → Bool = λ e. is_marked_missing (mark_in c.args.marks.now e) in
@@ -94,7 +94,7 @@ returns-clause-others c = λ d failing.
     (wanted_apart table.shape (seen_at plan c.args.stripe) p (length table.columns) d failing))
 
 pub returns-clause-known : goal.returns-clause-known
-returns-clause-known c =
+returns-clause-known g c =
     let levels = c.args.levels.now in
     let row = row_at c.args.window.now c.args.i in
     let size = c.shape-shape.result.block_size in

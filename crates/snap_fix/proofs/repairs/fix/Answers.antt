@@ -106,6 +106,11 @@ returns-then-is_err-clause-failed g c =
     c.in-Ok.states c.in-Ok.ensures opened.new.lines opened.new.reports.items opened.ensures.told
     c.as_mut_slice.result.now mid.work.starts mid.states mid.written (map g.F.Folder.view mid.folders) (g.V.Vault.view mid.vault) (g.P.Spare.holding mid.spare) mid.lines mid.reports.items
     c.in_ok-totals.totals c.in_ok-totals.ensures.fixed (g.V.Vault.view c.sync_levels.new.vault)
+    c.as_slice.result.now (c.as_slice.ensures.value ∙ take_at c.fix_stripes.new.written _ c.in-Ok-vec.written.len (c.fix_stripes.auto.written ∙ c.as_mut_slice.ensures.len))
+    (omega (arith, c.as_mut_slice.ensures.len, c.in-Ok-vec.ensures.len, ap (λ (shape : Shape). shape.levels) c.shape.ensures.shape))
+    (λ r below.
+    ap (λ (all : List Bool). get_or all r false) (c.as_mut_slice.ensures.value ∙ c.in-Ok-vec.ensures.items_if_clones_equal (λ y same. same))
+    ∙ get_or-replicate c.shape.result.levels r false false (omega (arith, below, c.as_mut_slice.ensures.len, c.in-Ok-vec.ensures.len)))
     (at_err c.sync_levels.result _ (sym c.is_err.ensures.value ∙ c.if-is_err.true) c.sync_levels.ensures.failed))
 
 pub finish_all-requires-after_bounds : goal.finish_all-requires-after_bounds
@@ -146,7 +151,13 @@ returns-in-Err-clause-failed g c =
     c.as_mut_slice.result.now mid.work.starts mid.states mid.written (map g.F.Folder.view mid.folders) (g.V.Vault.view mid.vault) (g.P.Spare.holding mid.spare) mid.lines mid.reports.items
     c.in_ok-totals.totals c.in_ok-totals.ensures.fixed (g.V.Vault.view c.sync_levels.new.vault)
     c.as_slice.result.now (at_ok c.sync_levels.result _ (sym c.is_err.ensures.value ∙ c.if-is_err.false) c.sync_levels.ensures.synced)
-    done.starts done.states (map g.F.Folder.view done.folders) done.lines done.reports.items c.in-Err.disk _ same c.in-Err.ensures.failed)
+    done.starts done.states (map g.F.Folder.view done.folders) done.lines done.reports.items
+    (c.as_slice.ensures.value ∙ take_at c.fix_stripes.new.written _ c.in-Ok-vec.written.len (c.fix_stripes.auto.written ∙ c.as_mut_slice.ensures.len))
+    (omega (arith, c.as_mut_slice.ensures.len, c.in-Ok-vec.ensures.len, ap (λ (shape : Shape). shape.levels) c.shape.ensures.shape))
+    (λ r below.
+    ap (λ (all : List Bool). get_or all r false) (c.as_mut_slice.ensures.value ∙ c.in-Ok-vec.ensures.items_if_clones_equal (λ y same. same))
+    ∙ get_or-replicate c.shape.result.levels r false false (omega (arith, below, c.as_mut_slice.ensures.len, c.in-Ok-vec.ensures.len)))
+    c.in-Err.disk _ same c.in-Err.ensures.failed)
 
 pub returns-clause-fixes : goal.returns-clause-fixes
 returns-clause-fixes g c =

@@ -9,17 +9,17 @@ use Rattle.snap_fix.proofs.SearchLemmas.{from_choices, to_choices}
 use Rattle.snap_fix.proofs.search.search.Goals as goal
 
 pub returns-then-wanted-levels-clause-none : goal.returns-then-wanted-levels-clause-none
-returns-then-wanted-levels-clause-none c none =
+returns-then-wanted-levels-clause-none g c none =
     let Refused : List ℕ → Type 0 = λ (choice : List ℕ). IsAcceptable c.args.shape c.args.wanted.now c.args.remainders.now choice → ⊥ in
     subst (All Refused) (sym (choices_none (length c.args.wanted.now) c.args.levels.now (omega arith))) (All-nil Refused)
 
 pub search_from-requires-clause-most : goal.search_from-requires-clause-most
-search_from-requires-clause-most c =
+search_from-requires-clause-most g c κs outlive =
     let few = distinct_few 6 c.args.levels.now c.requires.levels in
     omega (arith, few, c.if-wanted-levels.false)
 
 pub search_from-requires-clause-choices : goal.search_from-requires-clause-choices
-search_from-requires-clause-choices c =
+search_from-requires-clause-choices g c κs outlive =
     let wanteds = c.args.wanted.now in
     let columns = columns_of wanteds in
     let count = length-columns_of wanteds in
@@ -29,12 +29,12 @@ search_from-requires-clause-choices c =
     from_choices (length wanteds) c.args.levels.now (All (IsChoice columns)) each
 
 pub returns-clause-found : goal.returns-clause-found
-returns-clause-found c found =
+returns-clause-found g c found =
     to_choices (length c.args.wanted.now) c.args.levels.now
     (λ (tried : List (List ℕ)). FindsAmong c.args.shape c.args.wanted.now c.args.remainders.now tried (found_in c.args.shape c.args.wanted.now c.search_from.new.work))
     (λ m count. c.search_from.ensures.found m count found)
 
 pub returns-clause-none : goal.returns-clause-none
-returns-clause-none c none =
+returns-clause-none g c none =
     to_choices (length c.args.wanted.now) c.args.levels.now (NoneAcceptable c.args.shape c.args.wanted.now c.args.remainders.now)
     (λ m count. c.search_from.ensures.none m count none)

@@ -4,7 +4,7 @@ use Rattle.snap_fix.proofs.SearchAccepted.{accepted_at, acceptable_right, length
 use Rattle.snap_fix.proofs.search.try_choice.Goals as goal
 
 pub returns-clause-found : goal.returns-clause-found
-returns-clause-found c is_right =
+returns-clause-found g c is_right =
     let shape = c.args.shape in
     let wanteds = c.args.wanted.now in
     let remainders = c.args.remainders.now in
@@ -16,7 +16,7 @@ returns-clause-found c is_right =
     accepted_at shape wanteds remainders choice blocks solved long (c.are_right.ensures.0 is_right) (drop (length wanteds * shape.block_size) c.args.work.now)
 
 pub returns-clause-none : goal.returns-clause-none
-returns-clause-none c is_wrong some =
+returns-clause-none g c is_wrong some =
     let shape = c.args.shape in
     let wanteds = c.args.wanted.now in
     let remainders = c.args.remainders.now in

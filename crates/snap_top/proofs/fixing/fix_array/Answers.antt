@@ -10,17 +10,17 @@ use Rattle.snap_top.proofs.fixing.fix_array.Goals as goal
 pub returns-in-Ok : goal.returns-in-Ok
 returns-in-Ok g c =
     with_answer _ _ (task_of c.args.job.now) _ _ _ _ _ _ _ _ _ (c.done.ensures ∙ ap (done_answer c.in-Ok.end.left) c.failed.ensures) refl
-    (fix_done _ _ g.W.Sink.view c.args.selection.now (task_of c.args.job.now) c.args.table.now c.requires.command _ _ _ _ c.requires.array _ _ c.over-lines.result c.fix.new.lines _ _ c.over-lines.ensures.state
-    (let same = c.in-Ok.ensures.fixes.puts.same_reference in let first = c.over-lines.ensures.same_reference in search rules) c.in-Ok.end c.in-Ok.ensures.fixes)
+    (fix_done _ _ g.W.Sink.view c.args.selection.now (task_of c.args.job.now) c.args.table.now c.requires.command _ _ _ _ c.requires.array _ _ c.over-lines.result c.repair.new.lines _ _ c.over-lines.ensures.state
+    (let same = c.in-Ok.ensures.repairs.puts.same_reference in let first = c.over-lines.ensures.same_reference in search rules) c.in-Ok.end c.in-Ok.ensures.repairs)
 
 pub returns-in-Err : goal.returns-in-Err
 returns-in-Err g c =
     let failed = c.in-Err.ensures.failed in
-    let same = same_output g.W.Sink.view _ _ c.args.selection.now (task_of c.args.job.now) c.args.table.now _ _ _ _ c.over-lines.result c.fix.new.lines _ _ _ c.in-Err.fault (λ still. ap (λ l. l.out.ghost_name) still.2) failed in
+    let same = same_output g.W.Sink.view _ _ c.args.selection.now (task_of c.args.job.now) c.args.table.now _ _ _ _ c.over-lines.result c.repair.new.lines _ _ _ c.in-Err.fault (λ still. ap (λ l. l.out.ghost_name) still.2) failed in
     let first = c.over-lines.ensures.same_reference in
     with_answer _ _ (task_of c.args.job.now) _ _ _ _ _ _ _ _ _ c.from.ensures refl
-    (fix_not_done _ _ g.W.Sink.view c.args.selection.now (task_of c.args.job.now) c.args.table.now c.requires.command _ _ _ _ c.requires.array _ _ c.over-lines.result c.fix.new.lines _ _ c.over-lines.ensures.state (search rules) _ c.in-Err.fault
-    (length-map _ _ ∙ c.fix.auto.folders ∙ sym (length-map _ _))
+    (fix_not_done _ _ g.W.Sink.view c.args.selection.now (task_of c.args.job.now) c.args.table.now c.requires.command _ _ _ _ c.requires.array _ _ c.over-lines.result c.repair.new.lines _ _ c.over-lines.ensures.state (search rules) _ c.in-Err.fault
+    (length-map _ _ ∙ c.repair.auto.folders ∙ sym (length-map _ _))
     (λ still P was. subst (λ v. P (g.V.Vault.view v)) (sym still.0) was)
     (λ still. ap (λ l. told_of g.W.Sink.view l) still.2)
     (λ still. ap (λ r. r.items) still.3)

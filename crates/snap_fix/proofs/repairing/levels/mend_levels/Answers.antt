@@ -20,14 +20,14 @@ loop-r-init g c = record {
   so_far = λ facts shows. levels_none _ _ _ _ _ _;
 }
 
-pub loop-r-preserved-then-not-is_wrong_level : goal.loop-r-preserved-then-not-is_wrong_level
-loop-r-preserved-then-not-is_wrong_level g c =
+pub loop-r-preserved-then-not-wrong-r : goal.loop-r-preserved-then-not-wrong-r
+loop-r-preserved-then-not-wrong-r g c =
     let plan = plan_of c.args.scope c.args.table.now c.args.entries.now in
     let so_far = c.loop-r.invariant in
     let below : c.loop-r.r < c.args.levels.now.count = omega (arith, c.loop-r-test.true, so_far.end, c.requires.mend.count) in
-    let right = sym c.is_wrong_level.ensures.value ∙ c.if-not-is_wrong_level.true in
+    let right = sym (c.requires.wrong c.loop-r.r below) ∙ c.if-not-wrong-r.true in
     record {
-      block = c.is_wrong_level.ensures.sum ∙ so_far.block;
+      block = so_far.block;
       calls = so_far.calls;
       drafts = so_far.drafts;
       few = omega (arith, so_far.few);
@@ -47,9 +47,9 @@ loop-r-preserved g c =
     let so_far = c.loop-r.invariant in
     let writes = c.in_ok-write_level.ensures.written in
     let below : c.loop-r.r < c.args.levels.now.count = omega (arith, c.loop-r-test.true, so_far.end, c.requires.mend.count) in
-    let wrong = sym c.is_wrong_level.ensures.value ∙ c.if-not-is_wrong_level.false in
+    let wrong = sym (c.requires.wrong c.loop-r.r below) ∙ c.if-not-wrong-r.false in
     record {
-      block = c.write_level.ensures.block ∙ c.is_wrong_level.ensures.sum ∙ so_far.block;
+      block = c.write_level.ensures.block ∙ so_far.block;
       calls = calls_then _ _ _ so_far.calls writes.calls;
       drafts = drafts_then _ _ _ so_far.calls.goes_on.tells so_far.drafts writes.drafts;
       few = omega (arith, so_far.few);
@@ -81,7 +81,7 @@ returns-in_err-write_level-clause-failed g c =
     let plan = plan_of c.args.scope c.args.table.now c.args.entries.now in
     let so_far = c.loop-r.invariant in
     let below : c.loop-r.r < c.args.levels.now.count = omega (arith, c.loop-r-test.true, so_far.end, c.requires.mend.count) in
-    let wrong = sym c.is_wrong_level.ensures.value ∙ c.if-not-is_wrong_level.false in
+    let wrong = sym (c.requires.wrong c.loop-r.r below) ∙ c.if-not-wrong-r.false in
     handed_on c.from_residual.result _ c.in_err-write_level.field-0.0 c.from_residual.ensures.1
     (mends_not _ _ _ plan c.args.stripe c.args.i c.args.window.now c.args.levels.now c.args.known c.args.window.now.block_size c.requires.can.fits.block_size
     c.loop-r.r c.loop-r.count _ _ _ below c.requires.mend.room wrong so_far.calls so_far.drafts c.in_err-write_level.ensures.failed so_far.so_far)

@@ -16,10 +16,10 @@ invariant-loop-r g l =
       few : l.count ≤ l.r;
       long : length l.written ≡ length l.fn.written;
       flags : (facts : StripeFacts) → ShowsLevels facts l.stripe l.i l.window l.levels l.known
-          → FlagsSoFar (plan_of l.scope l.table l.entries) facts l.r l.fn.written l.written;
+          → FlagsSoFar (plan_of l.fn.scope l.table l.entries) facts l.r l.fn.written l.written;
       end : l.r-end ≡ l.table.shape.levels;
       so_far : (facts : StripeFacts) → ShowsLevels facts l.stripe l.i l.window l.levels l.known
           → LevelsSoFar g.W.Sink.view (λ b. (goal.Report-dyn g (b.vtable, b.value)).standing b.value) (λ b. (goal.Report-dyn g (b.vtable, b.value)).stands b.value)
-          (plan_of l.scope l.table l.entries) facts l.r l.count
+          (plan_of l.fn.scope l.table l.entries) facts l.r l.count
           (levels_outside (g.V.Vault.view l.fn.vault) l.fn.lines l.fn.reports.items) (levels_outside (g.V.Vault.view l.vault) l.lines l.reports.items);
     }

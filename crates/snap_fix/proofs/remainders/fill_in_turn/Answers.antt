@@ -10,8 +10,8 @@ use Rattle.parity_writer.specs.WindowRow.{row_at}
 use Rattle.snap_fix.specs.Known.{is_whole, whole_level}
 use Rattle.snap_fix.proofs.KnowRemainders.{put_byte, earlier_byte}
 use Rattle.snap_fix.proofs.SearchBlocks.{place_within}
-use Rattle.snap_fix.proofs.knowing.fill_remainders.Goals as goal
-use Rattle.snap_fix.proofs.knowing.fill_remainders.Goals.{then-is_whole, else-is_whole}
+use Rattle.snap_fix.proofs.remainders.fill_in_turn.Goals as goal
+use Rattle.snap_fix.proofs.remainders.fill_in_turn.Goals.{then-is_whole, else-is_whole}
 
 pub loop-r-preserved : goal.loop-r-preserved
 loop-r-preserved c =

@@ -5,7 +5,7 @@ use Rattle.cauchy.specs.System.{byte_in}
 use Rattle.parity_writer.specs.LevelsValue.{no_level}
 use Rattle.parity_writer.specs.WindowRow.{row_at}
 use Rattle.snap_fix.specs.Known.{whole_level}
-use Rattle.snap_fix.proofs.knowing.fill_remainders.Given as goal
+use Rattle.snap_fix.proofs.remainders.fill_in_turn.Given as goal
 
 -- the blocks of the levels so far are filled
 abbrev pub invariant-loop-r : goal.invariant-loop-r

@@ -2,7 +2,7 @@ use Rattle.std.proofs.Common.{ℕ, List, length, slice_index, get_or, ◌∙◌,
 use Rattle.gf256.specs.Field.{field_sum}
 use Rattle.parity_writer.specs.WindowRow.{row_at}
 use Rattle.snap_fix.proofs.KnowRemainders.{byte_of_level}
-use Rattle.snap_fix.proofs.knowing.fill_remainder.Goals as goal
+use Rattle.snap_fix.proofs.remainders.fill_remainder.Goals as goal
 
 pub returns-clause-value : goal.returns-clause-value
 returns-clause-value c = λ p below.

@@ -1,6 +1,6 @@
 use Rattle.std.proofs.Common.{◌≡◌, ℕ, ◌<◌, ◌≤◌, slice_index}
 use Rattle.gf256.specs.Field.{field_sum}
-use Rattle.snap_fix.proofs.knowing.add_block.Given as goal
+use Rattle.snap_fix.proofs.remainders.add_block.Given as goal
 
 -- the bytes so far are added, and the others are as they were
 abbrev pub invariant-loop-p : goal.invariant-loop-p

@@ -1,0 +1,32 @@
+-- In which order a folder gets the calls of a fix that write.
+use Rattle.std.specs.Prelude.{◌≡◌, ℕ, List, [], ◌∷◌, ◌++◌, map, filter, not, Bool, false, if◌then◌else◌}
+use Rattle.disk_model.specs.Folder.{FolderView, FolderCall, FolderDone, FolderGoesOn, Make, Rename, WriteAt}
+use Rattle.snap_report.specs.Answer.{is_reading}
+use Rattle.stripe_reader.specs.FolderCalls.{succeeds}
+use Rattle.stripe_reader.specs.declared.starts.Place.{Place}
+use Rattle.stripe_reader.specs.declared.starts.Place.TheVariants.{Plain, Lost, Nowhere}
+use Rattle.snap_fix.specs.State.{stands}
+
+-- a call that neither looks at a file nor reads one
+abbrev pub is_writing : FolderDone → Bool
+is_writing done = not (is_reading done.call)
+
+-- Of all calls of a folder just these write, in this order, and none of them failed.
+pub record FolderWrites (calls : List FolderCall) (old new : FolderView) : Type 0 where
+  pub done : List FolderDone
+  pub goes_on : FolderGoesOn old new done
+  pub are : filter is_writing done ≡ map succeeds calls
+
+-- the call that puts a file under PATH, where it has the other name or there is none
+abbrev pub set_up_calls : Place → List ℕ → List FolderCall
+set_up_calls Plain path = []
+set_up_calls Lost path = Rename path false ∷ []
+set_up_calls Nowhere path = Make path ∷ []
+
+-- the same, if it does not stand there yet
+abbrev pub put_calls : Place → Bool → List ℕ → List FolderCall
+put_calls place touched path = if stands place touched then [] else set_up_calls place path
+
+-- the calls that write a block: the file is put under PATH first, if it does not stand there yet
+abbrev pub block_calls : Place → Bool → List ℕ → ℕ → List ℕ → List FolderCall
+block_calls place touched path at bytes = put_calls place touched path ++ WriteAt path at bytes ∷ []

@@ -1,0 +1,57 @@
+// A check or a fix, by the mode.
+ghost use Rattle.std.specs.Prelude.{◌≡◌, IfOk, IfErr, length, map};
+ghost use Rattle.snap_config.specs.Setup.{setup_value};
+ghost use Rattle.snap_fix.specs.ByMode.{AreOpenFor, LeavesFor, MayFailBy, Repairs, RepairsNot};
+ghost use Rattle.snap_fix.specs.Course.{IsArray, outside};
+ghost use Rattle.snap_fix.specs.Plan.{names_of};
+
+use crate::checks::{FixEnd, check};
+use crate::repairs::fix;
+use crate::scope::Mode;
+use crate::spare::Spare;
+use disk_model::{Folder, Sink, Vault};
+use file_table::Table;
+use snap_config::{Selection, Setup};
+use snap_report::{Lines, Report, RunFault};
+use std::alloc::Global;
+use std::thread::Threads;
+
+/// Tells what is damaged of an array by its table and, in the mode `Fix`, writes what is known of it anew. A check or an audit fails only
+/// by a folder that can't be listed, and for want of memory. A fix fails by a folder or by parity that can't be written, too. What
+/// was written before that stays.
+pub fn repair<R: Threads + Sync, F: Folder, V: Vault, P: Spare, W: Sink>(
+    rt: &R,
+    alloc: Global,
+    mode: Mode,
+    selection: &Selection,
+    setup: &Setup,
+    folders: &mut [F],
+    vault: &mut V,
+    spare: &mut P,
+    readers: u32,
+    table: &Table,
+    reports: &mut Vec<Box<dyn Report>>,
+    lines: &mut Lines<'_, W>,
+) -> Result<FixEnd, RunFault>
+    requires array { IsArray table.now (length setup.now.disks) (map F.view folders.old) (V.view vault.old) (P.holding spare.old) }
+    requires open { AreOpenFor mode table.now (map F.view folders.old) }
+    ensures repairs { IfOk result (Repairs W.view standing stands mode selection.now (names_of (setup_value setup.now)) table.now
+        (outside (map F.view folders.old) (V.view vault.old) (P.holding spare.old) lines.old reports.old.items)
+        (outside (map F.view folders.new) (V.view vault.new) (P.holding spare.new) lines.new reports.new.items)) }
+    ensures failed { IfErr result (RepairsNot W.view standing stands mode selection.now (names_of (setup_value setup.now)) table.now
+        (outside (map F.view folders.old) (V.view vault.old) (P.holding spare.old) lines.old reports.old.items)
+        (outside (map F.view folders.new) (V.view vault.new) (P.holding spare.new) lines.new reports.new.items)
+        ((vault.new ≡ vault.old) × (spare.new ≡ spare.old) × (lines.new ≡ lines.old) × (reports.new ≡ reports.old))) }
+    ensures leaves { LeavesFor mode (map F.view folders.old) (map F.view folders.new) (V.view vault.old) (V.view vault.new) }
+    ensures cause { IfErr result (MayFailBy mode) }
+{
+    match mode {
+        Mode::Check | Mode::Audit => check(
+            rt, alloc, mode, selection, setup, folders, vault, spare, readers, table, reports,
+            lines,
+        ),
+        Mode::Fix => fix(
+            rt, alloc, selection, setup, folders, vault, spare, readers, table, reports, lines,
+        ),
+    }
+}

@@ -1,0 +1,68 @@
+-- The copies stay sound over a history.
+use Rattle.std.proofs.Common.{⊎_elim, ℕ, ◌+◌, ◌*◌, List, [], ◌∷◌, Bool, refl, sym, ◌∙◌, subst, arith}
+use Rattle.content_file.specs.Spelling.{spelling}
+use Rattle.disk_model.specs.Files.{Files}
+use Rattle.disk_model.specs.Folder.{FolderView}
+use Rattle.disk_model.specs.Opener.{OpenerView}
+use Rattle.disk_model.specs.Sink.{SinkView}
+use Rattle.disk_model.specs.Vault.{VaultView, copies_of}
+use Rattle.parity_writer.specs.Sound.{Snapshot, Sound}
+use Rattle.snap_sync.specs.Soundness.{AreSound}
+use Rattle.snap_top.specs.History.{AreSoundBy, Changes, IsChange, IsHistory, LastSynced, Runs, StaysSound, Step, synced_by}
+use Rattle.snap_top.specs.Moment.{IsSoundAlways, IsSupposed}
+use Rattle.snap_top.specs.Resumed.{end_of, entry_of}
+use Rattle.snap_top.specs.Run.{Entry, Exit}
+use Rattle.snap_top.proofs.OfFixLemmas.{loaded_sound}
+
+-- a change from outside keeps what it doesn't count as changed
+change_sound : (copies copies_then : ℕ) (is_changed is_changed_then : ℕ → ℕ → Bool) (old new : Files) (snapshot : Snapshot) → IsChange copies copies_then is_changed is_changed_then old new → AreSound copies old snapshot is_changed
+    → AreSound copies_then new snapshot is_changed_then
+change_sound copies copies_then is_changed is_changed_then old new snapshot change are copy table below valid spells =
+    ⊎_elim
+    (λ same. kept (are same.0 table same.1 valid (sym same.2 ∙ spells)))
+    (λ none. absurd (none (spelling table) spells (record { table = table; valid = valid; spelled = refl })))
+    (change.contents copy below)
+  where
+    kept : Sound table old snapshot is_changed → Sound table new snapshot is_changed_then
+    kept sound = record {
+      rows = sound.rows;
+      sums = λ stripe level synced within unchanged i less.
+          let stays = change.parity copy table stripe level below valid spells unchanged in
+          stays.bytes (stripe * table.shape.block_size + i) _ (omega arith) (omega (arith, less)) (sound.sums stripe level synced within (change.counted stripe level unchanged) i less);
+    }
+
+module _ {O F V W : Type 0} (opener_view : O → OpenerView) (folder_view : F → FolderView) (vault_view : V → VaultView) (sink_view : W → SinkView) where
+  stays_sound : (copies : ℕ) (steps : List (Step O F V W)) (files : Files) (last : LastSynced) → IsHistory opener_view folder_view vault_view sink_view copies steps files → AreSoundBy copies files last
+      → StaysSound opener_view folder_view vault_view sink_view copies steps files last
+  stays_sound copies [] files last history are = tt
+  stays_sound copies (Changes copies_then left is_changed ∷ steps) files last history are = λ change.
+      let then : AreSoundBy copies_then left (record { snapshot = last.snapshot; is_changed = is_changed }) = change_sound copies copies_then last.is_changed is_changed files left last.snapshot change are in
+      (then, stays_sound copies_then steps left (record { snapshot = last.snapshot; is_changed = is_changed }) history then)
+  stays_sound copies (Runs stop ∷ steps) files last history are =
+      let before : Entry = entry_of opener_view sink_view stop.run in
+      let exit : Exit = end_of opener_view folder_view vault_view sink_view stop.run in
+      let runs = history.0 in
+      let always : IsSoundAlways before exit = runs.sound runs.fresh in
+      let here : AreSound (copies_of before.opener.vault) before.opener.vault.files last.snapshot last.is_changed
+      = subst (λ (n : ℕ). AreSound n before.opener.vault.files last.snapshot last.is_changed) (sym runs.copies_are)
+      (subst (λ (fs : Files). AreSound copies fs last.snapshot last.is_changed) (sym runs.files_are) are) in
+      record {
+        did = always.did;
+        is_did = always.is_did;
+        sound = λ supposed.
+            let supposed_here : IsSupposed always.did (copies_of before.opener.vault) before.opener.vault.files last.snapshot
+            = subst (λ (n : ℕ). IsSupposed always.did n before.opener.vault.files last.snapshot) (sym runs.copies_are)
+            (subst (λ (fs : Files). IsSupposed always.did copies fs last.snapshot) (sym runs.files_are) supposed) in
+            let next = always.sound stop.left last.snapshot last.is_changed runs.stands here supposed_here in
+            let then : AreSoundBy copies stop.left (synced_by always.did next.count last)
+            = subst (λ (n : ℕ). AreSoundBy n stop.left (synced_by always.did next.count last)) runs.copies_are next.sound in
+            record { count = next.count; sound = then; goes_on = stays_sound copies steps stop.left (synced_by always.did next.count last) history.1 then };
+        restores = λ ends genuine.
+            let over = ends.is_fix.over in
+            ends.restores last.snapshot last.is_changed
+            (loaded_sound (copies_of before.opener.vault) ends.run.loaded before.opener.vault.files last.snapshot last.is_changed over.valid over.is_loaded here) genuine;
+      }
+
+pub history_sound : {O F V W : Type 0} (opener_view : O → OpenerView) (folder_view : F → FolderView) (vault_view : V → VaultView) (sink_view : W → SinkView) (copies : ℕ) (steps : List (Step O F V W)) (files : Files) (last : LastSynced)
+    → IsHistory opener_view folder_view vault_view sink_view copies steps files → AreSoundBy copies files last → StaysSound opener_view folder_view vault_view sink_view copies steps files last
+history_sound opener_view folder_view vault_view sink_view = stays_sound opener_view folder_view vault_view sink_view

@@ -1,0 +1,98 @@
+-- Runs of any commands, one after another, each of which ended or was stopped at some moment, and what others do to the vault in between.
+use Rattle.std.specs.Prelude.{◌≡◌, ◌⊎◌, ℕ, ◌+◌, ◌*◌, ◌<◌, ◌≤◌, List, [], ◌∷◌, Bool, false, Some}
+use Rattle.content_file.specs.Spelling.{spelling}
+use Rattle.disk_model.specs.Files.{Files, content_of, parity_of}
+use Rattle.disk_model.specs.Folder.{FolderView}
+use Rattle.disk_model.specs.Opener.{OpenerView}
+use Rattle.disk_model.specs.Sink.{SinkView}
+use Rattle.disk_model.specs.Vault.{VaultView, copies_of}
+use Rattle.file_table.specs.Table.{TableValue}
+use Rattle.file_table.specs.Valid.{IsValid}
+use Rattle.parity_writer.specs.Keeps.{HasByte}
+use Rattle.parity_writer.specs.Sound.{Snapshot}
+use Rattle.snap_fix.specs.Fixing.{facts_of}
+use Rattle.snap_fix.specs.Genuine.{AreGenuine}
+use Rattle.snap_sync.specs.Soundness.{AreSound, changed_without, snapshot_with}
+use Rattle.snap_top.specs.Moment.{EveryMomentIsSound, HoldsFresh, IsDidOf, IsSupposed, StandsIn, rows_closed}
+use Rattle.snap_top.specs.Restoring.{EndsFixed, Restores}
+use Rattle.snap_top.specs.Resumed.{StoppedRun, end_of, entry_of}
+use Rattle.snap_top.specs.Sync.{HoldsNoContent}
+use Rattle.snap_top.specs.Task.{Did}
+
+-- The snapshot: of each stripe the row that was last synced. And which levels of which stripes were changed from outside since then.
+pub record LastSynced : Type 0 where
+  pub snapshot : Snapshot
+  pub is_changed : ℕ → ℕ → Bool
+
+-- A step of a history: a run with the files that a stop at some moment of it leaves; or a change of the vault from outside, also by another
+-- configuration, with so many copies and the files that there are then, and what counts as changed from then on.
+pub data Step (O F V W : Type 0) : Type 0 where
+  Runs : StoppedRun O F V W → Step O F V W
+  Changes : (copies : ℕ) (left : Files) (is_changed : ℕ → ℕ → Bool) → Step O F V W
+
+-- ---- what is changed from outside
+
+-- each byte of the block of a level at a stripe stays
+pub record BlockStays (block_size level stripe : ℕ) (old new : Files) : Type 0 where
+  pub bytes : (i x : ℕ) → stripe * block_size ≤ i → i < stripe * block_size + block_size → HasByte (parity_of old level) i x → HasByte (parity_of new level) i x
+
+-- Each copy is as one of the copies was, or it is absent or no content. Parity is changed only in blocks that count as changed from then on, and what
+-- counted before does so still.
+pub record IsChange (copies copies_then : ℕ) (is_changed is_changed_then : ℕ → ℕ → Bool) (old new : Files) : Type 0 where
+  pub contents : (copy : ℕ) → copy < copies_then
+      → ((other : ℕ) × (other < copies) × (content_of new copy ≡ content_of old other)) ⊎ HoldsNoContent new copy
+  pub counted : (stripe level : ℕ) → is_changed_then stripe level ≡ false → is_changed stripe level ≡ false
+  pub parity : (copy : ℕ) (table : TableValue) (stripe level : ℕ) → copy < copies_then → IsValid table → content_of new copy ≡ Some (spelling table)
+      → is_changed_then stripe level ≡ false → BlockStays table.shape.block_size level stripe old new
+
+-- ---- a history
+
+-- what was last synced once so many of the stripes that a run read are closed: their rows, and nothing of their stripes is changed any more
+abbrev pub synced_by : Did → ℕ → LastSynced → LastSynced
+synced_by did count last = record {
+  snapshot = snapshot_with (rows_closed did count) last.snapshot;
+  is_changed = changed_without (rows_closed did count) last.is_changed;
+}
+
+-- sound by that
+abbrev pub AreSoundBy : ℕ → Files → LastSynced → Type 0
+AreSoundBy copies files last = AreSound copies files last.snapshot last.is_changed
+
+-- Sound once so many of the stripes that a run read were closed, and then goes on so.
+pub record IsSoundOnce (did : Did) (copies : ℕ) (left : Files) (last : LastSynced) (GoesOn : LastSynced → Type 0) : Type 0 where
+  pub count : ℕ
+  pub sound : AreSoundBy copies left (synced_by did count last)
+  pub goes_on : GoesOn (synced_by did count last)
+
+module _ {O F V W : Type 0} (opener_view : O → OpenerView) (folder_view : F → FolderView) (vault_view : V → VaultView) (sink_view : W → SinkView) where
+  -- a run over a vault of so many copies, opened anew, that holds these files; it leaves others at some moment, or at its end
+  pub record RunsOver (copies : ℕ) (files : Files) (stop : StoppedRun O F V W) : Type 0 where
+    pub fresh : HoldsFresh (entry_of opener_view sink_view stop.run)
+    pub copies_are : copies_of (entry_of opener_view sink_view stop.run).opener.vault ≡ copies
+    pub files_are : (entry_of opener_view sink_view stop.run).opener.vault.files ≡ files
+    pub sound : EveryMomentIsSound (entry_of opener_view sink_view stop.run) (end_of opener_view folder_view vault_view sink_view stop.run)
+    pub stands : StandsIn (entry_of opener_view sink_view stop.run) (end_of opener_view folder_view vault_view sink_view stop.run) stop.left
+
+  -- Sound after a run. What it did is to read, to sync or to fix. Unless a fix met a hash by chance, the copies that it left are sound with the rows
+  -- that it had closed by then, and so it goes on from there. A fix that went to its end restores the blocks of the snapshot.
+  pub record IsSoundAfter (copies : ℕ) (files : Files) (last : LastSynced) (stop : StoppedRun O F V W) (GoesOn : LastSynced → Type 0) : Type 0 where
+    pub did : Did
+    pub is_did : IsDidOf (entry_of opener_view sink_view stop.run) (end_of opener_view folder_view vault_view sink_view stop.run) did
+    pub sound : IsSupposed did copies files last.snapshot → IsSoundOnce did copies stop.left last GoesOn
+    pub restores : (ends : EndsFixed (entry_of opener_view sink_view stop.run) (end_of opener_view folder_view vault_view sink_view stop.run) stop.run.status)
+        → AreGenuine ends.run.plan last.snapshot (facts_of ends.run.stripes) → Restores ends.run ends.finishes last.snapshot
+
+  -- each step begins with what the one before it left
+  abbrev pub IsHistory : ℕ → List (Step O F V W) → Files → Type 0
+  IsHistory copies [] files = Unit {0}
+  IsHistory copies (Runs stop ∷ steps) files = RunsOver copies files stop × IsHistory copies steps stop.left
+  IsHistory copies (Changes copies_then left is_changed ∷ steps) files = IsHistory copies_then steps left
+
+  -- and so the copies are sound after each of them
+  abbrev pub StaysSound : ℕ → List (Step O F V W) → Files → LastSynced → Type 0
+  StaysSound copies [] files last = Unit {0}
+  StaysSound copies (Runs stop ∷ steps) files last = IsSoundAfter copies files last stop (StaysSound copies steps stop.left)
+  StaysSound copies (Changes copies_then left is_changed ∷ steps) files last =
+      IsChange copies copies_then last.is_changed is_changed files left
+      → AreSoundBy copies_then left (record { snapshot = last.snapshot; is_changed = is_changed })
+      × StaysSound copies_then steps left (record { snapshot = last.snapshot; is_changed = is_changed })
