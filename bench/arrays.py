@@ -25,14 +25,15 @@ def make_files(room, name, total, size):
     return count
 
 
-def configuration(room, name, tool):
+def configuration(room, name, tool, block=256):
+    """The path of a configuration with blocks of so many KiB."""
     lines = []
     for level in range(LEVELS):
         lines.append(f"{'' if level == 0 else str(level + 1) + '-'}parity {room}/{tool}-{name}.parity{level}")
     for copy in range(LEVELS + 1):
         lines.append(f"content {room}/{tool}-{name}.content{copy}")
     lines += [f"data d{disk} {room}/{name}/d{disk}/" for disk in range(DISKS)]
-    lines.append("blocksize 256")
+    lines.append(f"blocksize {block}")
     path = f"{room}/{tool}-{name}.conf"
     with open(path, "w") as file:
         file.write("\n".join(lines) + "\n")

@@ -1,5 +1,4 @@
-// Checks and fixes over objects in memory.
+// Checks over objects in memory.
 mod array;
 mod damaged;
-mod fixed;
 mod selected;

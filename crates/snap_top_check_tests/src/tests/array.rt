@@ -5,7 +5,7 @@ ghost use Rattle.disk_memory.specs.Given.{HasNoDraft};
 ghost use Rattle.disk_memory.specs.Vault.{vault_view};
 
 use disk_memory::{MemFolder, MemOpener, MemSink, MemVault};
-use disk_model::{Folder, Path, Stamp, Vault};
+use disk_model::{Path, Stamp, Vault};
 use snap_top::{Outcome, run};
 use std::alloc::Global;
 use std::test::Fail;
@@ -119,84 +119,6 @@ pub fn say<R: Threads + Sync>(
 ) -> Result<Said, Fail> {
     let (said, _) = run_over(rt, alloc, words, array, synced)?;
     Ok(said)
-}
-
-/// What words printed, and what they left of the folders and of the vault.
-#[derive(Drop)]
-pub struct Done {
-    pub said: Said,
-    pub folders: Vec<MemFolder>,
-    pub left: Synced,
-}
-
-impl Done {
-    /// Whether a disk holds a file of these bytes under a path.
-    pub fn holds(
-        &mut self,
-        alloc: Global,
-        disk: usize,
-        path: &str,
-        bytes: &[u8],
-    ) -> Result<bool, Fail> {
-        let path = Path::new(alloc, path)?;
-        if disk >= self.folders.len() {
-            return Ok(false);
-        }
-        let found = read_file(alloc, &mut self.folders[disk], &path)?;
-        match found {
-            Some(there) => Ok(there.as_slice() == bytes),
-            None => Ok(false),
-        }
-    }
-
-    /// How many files a disk holds.
-    pub fn count(&mut self, alloc: Global, disk: usize) -> Result<usize, Fail> {
-        if disk >= self.folders.len() {
-            return Ok(0);
-        }
-        count_files(alloc, &mut self.folders[disk])
-    }
-}
-
-// The bytes of a file, if it is there.
-fn read_file(alloc: Global, folder: &mut MemFolder, path: &Path) -> Result<Option<Vec<u8>>, Fail> {
-    let Ok(meta) = folder.look(path, false) else {
-        return Ok(None);
-    };
-    let mut bytes = Vec::new(alloc);
-    bytes.resize(meta.size as usize, 0)?;
-    folder.read_at(path, false, 0, bytes.as_mut_slice())?;
-    Ok(Some(bytes))
-}
-
-// How many files a folder lists.
-fn count_files(alloc: Global, folder: &mut MemFolder) -> Result<usize, Fail> {
-    let files = folder.list(alloc)?;
-    Ok(files.len())
-}
-
-/// Runs words over an array as it is now, with what a sync left, and gives back what became of it.
-pub fn act<R: Threads + Sync>(
-    rt: &R,
-    alloc: Global,
-    words: &[&str],
-    array: Array,
-    synced: &Synced,
-) -> Result<Done, Fail> {
-    let (said, outcome) = run_over(rt, alloc, words, array, synced)?;
-    let Outcome { folders, vault, .. } = outcome;
-    let left = match vault {
-        Some(vault) => read_all(alloc, vault)?,
-        None => Synced {
-            content: Vec::new(alloc),
-            parities: Vec::new(alloc),
-        },
-    };
-    Ok(Done {
-        said,
-        folders,
-        left,
-    })
 }
 
 // Runs words over an array.
