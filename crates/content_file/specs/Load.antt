@@ -62,41 +62,65 @@ pub record IsDamaged (v : VaultView) (copy : ℕ) : Type 0 where
 abbrev pub IsUseless : VaultView → ℕ → Type 0
 IsUseless v copy = (content_of v.files copy ≡ None) ⊎ IsDamaged v copy
 
--- ---- how often a copy is read
+-- ---- how often a copy is asked for
+
+-- whether a call asks the size of this copy
+abbrev pub is_size_of : ℕ → VaultCall → Bool
+is_size_of copy (ContentSize k) = k == copy
+is_size_of copy _ = false
 
 -- whether a call reads a piece of this copy
 abbrev pub is_piece_of : ℕ → VaultCall → Bool
 is_piece_of copy (ContentRead k at n) = k == copy
 is_piece_of copy _ = false
 
+-- how many of these calls ask the size of this copy
+abbrev pub sizes_of : ℕ → List VaultDone → ℕ
+sizes_of copy done = count_by (λ (d : VaultDone). is_size_of copy d.call) done
+
 -- how many of these calls read a piece of this copy
 abbrev pub pieces_of : ℕ → List VaultDone → ℕ
 pieces_of copy done = count_by (λ (d : VaultDone). is_piece_of copy d.call) done
 
--- of the calls since, at most so many read a piece of this copy, and none a piece of another
-pub record ReadsPieces (copy most : ℕ) (old new : VaultView) : Type 0 where
-  pub done : List VaultDone
-  pub grown : Grows old.tells_calls old.calls new.tells_calls new.calls done
-  pub others : (k : ℕ) → k ≢ copy → pieces_of k done ≡ 0
-  pub few : pieces_of copy done ≤ most
+-- none of these calls asks the size of this copy or reads a piece of it
+pub record AsksNothing (copy : ℕ) (done : List VaultDone) : Type 0 where
+  pub size : sizes_of copy done ≡ 0
+  pub pieces : pieces_of copy done ≡ 0
 
 -- a copy of so many bytes is read in so many pieces at most
 abbrev pub most_pieces : ℕ → ℕ
 most_pieces size = size / most_read + 1
 
--- of the calls since, no more read a piece of this copy than its bytes ask for, and none a piece of another
-pub record ReadsCopyOnce (copy : ℕ) (old new : VaultView) : Type 0 where
-  pub done : List VaultDone
-  pub grown : Grows old.tells_calls old.calls new.tells_calls new.calls done
-  pub others : (k : ℕ) → k ≢ copy → pieces_of k done ≡ 0
-  pub few : IsTrue old.tells → (bytes : List ℕ) → content_of old.files copy ≡ Some bytes → pieces_of copy done ≤ most_pieces (length bytes)
+-- and one that holds this, where that is a file: one that is not there in none
+abbrev pub most_pieces_of : Option (List ℕ) → ℕ
+most_pieces_of None = 0
+most_pieces_of (Some bytes) = most_pieces (length bytes)
 
--- of the calls since, no more read a piece of any of the first copies than its bytes ask for, and none a piece of another
-pub record ReadsOnce (copies : ℕ) (old new : VaultView) : Type 0 where
+-- Of the calls since, none asks a size, at most so many read a piece of this copy, and none a piece of another.
+pub record ReadsPieces (copy most : ℕ) (old new : VaultView) : Type 0 where
   pub done : List VaultDone
   pub grown : Grows old.tells_calls old.calls new.tells_calls new.calls done
-  pub others : (k : ℕ) → copies ≤ k → pieces_of k done ≡ 0
-  pub few : IsTrue old.tells → (k : ℕ) (bytes : List ℕ) → content_of old.files k ≡ Some bytes → pieces_of k done ≤ most_pieces (length bytes)
+  pub size : sizes_of copy done ≡ 0
+  pub few : pieces_of copy done ≤ most
+  pub others : (k : ℕ) → k ≢ copy → AsksNothing k done
+
+-- Of the calls since, at most one asks the size of this copy, no more read a piece of it than its bytes need, and none
+-- reads one where there is no such file. No call asks for another copy.
+pub record ReadsCopyInPieces (copy : ℕ) (old new : VaultView) : Type 0 where
+  pub done : List VaultDone
+  pub grown : Grows old.tells_calls old.calls new.tells_calls new.calls done
+  pub size : sizes_of copy done ≤ 1
+  pub few : IsTrue old.tells → pieces_of copy done ≤ most_pieces_of (content_of old.files copy)
+  pub others : (k : ℕ) → k ≢ copy → AsksNothing k done
+
+-- Of the calls since, at most one asks the size of each of the first copies, no more read a piece of it than its bytes
+-- need, and none reads one where there is no such file. No call asks for another copy.
+pub record ReadsInPieces (copies : ℕ) (old new : VaultView) : Type 0 where
+  pub done : List VaultDone
+  pub grown : Grows old.tells_calls old.calls new.tells_calls new.calls done
+  pub size : (k : ℕ) → sizes_of k done ≤ 1
+  pub few : IsTrue old.tells → (k : ℕ) → pieces_of k done ≤ most_pieces_of (content_of old.files k)
+  pub others : (k : ℕ) → copies ≤ k → AsksNothing k done
 
 -- ---- one copy
 

@@ -3,7 +3,7 @@ ghost use Rattle.std.specs.Prelude.{◌≡◌, ◌<◌, [], length, IfOk, IfErr,
 ghost use Rattle.disk_model.specs.Files.{content_of};
 ghost use Rattle.disk_model.specs.Vault.{copies_of};
 ghost use Rattle.content_file.specs.Decoding.{HasFed};
-ghost use Rattle.content_file.specs.Load.{ReadsCopy, ReadsBelow, ReadsPieces, ReadsCopyOnce, ReadsOnce, most_pieces, IsFedBy, IsFedAll, Loads, LoadsNot, HasFailed, NoneFailed, IsCopyOf, GivesNoTable, most_read};
+ghost use Rattle.content_file.specs.Load.{ReadsCopy, ReadsBelow, ReadsPieces, ReadsCopyInPieces, ReadsInPieces, most_pieces, IsFedBy, IsFedAll, Loads, LoadsNot, HasFailed, NoneFailed, IsCopyOf, GivesNoTable, most_read};
 
 use crate::{Damage, Damages, DecodeFault, Decoder};
 use disk_model::{Failed, Vault};
@@ -72,7 +72,7 @@ fn read_copy<V: Vault>(
     requires copy { copy < copies_of (V.view vault.old) }
     requires buffer { length buffer.old ≡ most_read }
     ensures reads { ReadsCopy copy (V.view vault.old) (V.view vault.new) }
-    ensures once { ReadsCopyOnce copy (V.view vault.old) (V.view vault.new) }
+    ensures pieces { ReadsCopyInPieces copy (V.view vault.old) (V.view vault.new) }
     ensures found { IsTrue (V.view vault.old).tells → IfOk result (λ decoder. IsFedBy decoder (content_of (V.view vault.old).files copy)) }
     ensures none_failed { OnOk result (NoneFailed (V.view vault.old) (V.view vault.new)) }
     ensures cause { IfErr result (GivesNoTable (V.view vault.old) (V.view vault.new) copy) }
@@ -102,7 +102,7 @@ fn load_copy<V: Vault>(
     requires copy { copy < copies_of (V.view vault.old) }
     requires buffer { length buffer.old ≡ most_read }
     ensures reads { ReadsCopy copy (V.view vault.old) (V.view vault.new) }
-    ensures once { ReadsCopyOnce copy (V.view vault.old) (V.view vault.new) }
+    ensures pieces { ReadsCopyInPieces copy (V.view vault.old) (V.view vault.new) }
     ensures found { IfOk result (λ table. IsCopyOf (V.view vault.old) copy table) }
     ensures none_failed { OnOk result (NoneFailed (V.view vault.old) (V.view vault.new)) }
     ensures cause { IfErr result (GivesNoTable (V.view vault.old) (V.view vault.new) copy) }
@@ -127,7 +127,7 @@ fn load_by<V: Vault>(
 ) -> Result<Option<Table>, LoadFault>
     requires { length buffer.old ≡ most_read }
     ensures reads { ReadsBelow (copies_of (V.view vault.old)) (V.view vault.old) (V.view vault.new) }
-    ensures once { ReadsOnce (copies_of (V.view vault.old)) (V.view vault.old) (V.view vault.new) }
+    ensures pieces { ReadsInPieces (copies_of (V.view vault.old)) (V.view vault.old) (V.view vault.new) }
     ensures loaded { IfOk result (Loads (V.view vault.old) (V.view vault.new)) }
     ensures cause { IfErr result (LoadsNot (V.view vault.old) (V.view vault.new)) }
 {
@@ -160,7 +160,7 @@ fn load_by<V: Vault>(
 /// its size or to a piece that is shorter than what was asked for.
 pub fn load<V: Vault>(alloc: Global, vault: &mut V) -> Result<Option<Table>, LoadFault>
     ensures reads { ReadsBelow (copies_of (V.view vault.old)) (V.view vault.old) (V.view vault.new) }
-    ensures once { ReadsOnce (copies_of (V.view vault.old)) (V.view vault.old) (V.view vault.new) }
+    ensures pieces { ReadsInPieces (copies_of (V.view vault.old)) (V.view vault.old) (V.view vault.new) }
     ensures loaded { IfOk result (Loads (V.view vault.old) (V.view vault.new)) }
     ensures cause { IfErr result (LoadsNot (V.view vault.old) (V.view vault.new)) }
 {

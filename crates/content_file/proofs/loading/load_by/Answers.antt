@@ -1,34 +1,34 @@
 use Rattle.std.proofs.Common.{◌∙◌, refl, sym, arith, subst}
 use Rattle.disk_model.specs.Vault.{copies_of}
 use Rattle.file_table.specs.Table.{TableValue}
-use Rattle.content_file.specs.Load.{ReadsBelow, ReadsOnce, LoadsTable, GivesNoTable}
-use Rattle.content_file.proofs.LoadCounts.{once_none, once_then, once_all}
+use Rattle.content_file.specs.Load.{ReadsBelow, ReadsInPieces, LoadsTable, GivesNoTable}
+use Rattle.content_file.proofs.LoadCounts.{pieces_none, pieces_then, pieces_all}
 use Rattle.content_file.proofs.LoadLoop.{passed_none, passed_absent, passed_damaged, passed_failed, passed_to_table, reads_all, went_well, not_empty, is_empty, as_called, copy_of, ends_reading, ends_failed, ends_damaged, ends_empty}
 use Rattle.content_file.proofs.loading.load_by.Given as given
 use Rattle.content_file.proofs.loading.load_by.Goals as goal
 use Rattle.content_file.proofs.loading.load_by.Goals.{After-load_copy, in-Ok-None, in-Err-Failed, in-Err-Damaged+else-is_err}
 
 pub loop-copy-init : goal.loop-copy-init
-loop-copy-init g c = (as_called _ _ _ _ _ _ _ refl c.new-damages.ensures (passed_none (g.V.Vault.view c.args.vault.now)), once_none (g.V.Vault.view c.args.vault.now))
+loop-copy-init g c = (as_called _ _ _ _ _ _ _ refl c.new-damages.ensures (passed_none (g.V.Vault.view c.args.vault.now)), pieces_none (g.V.Vault.view c.args.vault.now))
 
 -- one copy more was read
 reads : (g : given.Over) (c : After-load_copy g) → ReadsBelow (copies_of (g.V.Vault.view c.args.vault.now)) (g.V.Vault.view c.args.vault.now) (g.V.Vault.view c.load_copy.new.vault)
 reads g c = reads_all _ (g.V.Vault.view c.loop-copy.vault) _ c.loop-copy.copy _ _ c.loop-copy.invariant.0 c.load_copy.ensures.reads (omega (arith, c.loop-copy-test.true, c.copies-copy-end.ensures))
 
--- and in no more pieces than it has
-once : (g : given.Over) (c : After-load_copy g) → ReadsOnce (copies_of (g.V.Vault.view c.args.vault.now)) (g.V.Vault.view c.args.vault.now) (g.V.Vault.view c.load_copy.new.vault)
-once g c =
-    once_all _ _ _ _ (omega (arith, c.loop-copy-test.true, c.copies-copy-end.ensures))
-    (once_then c.loop-copy.copy _ (g.V.Vault.view c.loop-copy.vault) _ c.loop-copy.invariant.0.reads.calls.goes_on.tells c.loop-copy.invariant.0.reads.changes c.loop-copy.invariant.1 c.load_copy.ensures.once)
+-- and its size was asked once at most, and no more pieces read than it has
+pieces : (g : given.Over) (c : After-load_copy g) → ReadsInPieces (copies_of (g.V.Vault.view c.args.vault.now)) (g.V.Vault.view c.args.vault.now) (g.V.Vault.view c.load_copy.new.vault)
+pieces g c =
+    pieces_all _ _ _ _ (omega (arith, c.loop-copy-test.true, c.copies-copy-end.ensures))
+    (pieces_then c.loop-copy.copy _ (g.V.Vault.view c.loop-copy.vault) _ c.loop-copy.invariant.1 c.load_copy.ensures.pieces c.loop-copy.invariant.0.reads.calls.goes_on.tells c.loop-copy.invariant.0.reads.changes)
 
-pub returns-in-Ok-Some-clause-once : goal.returns-in-Ok-Some-clause-once
-returns-in-Ok-Some-clause-once g c = once g (goal.at.returns-in-Ok-Some-clause-once g c).After-load_copy
+pub returns-in-Ok-Some-clause-pieces : goal.returns-in-Ok-Some-clause-pieces
+returns-in-Ok-Some-clause-pieces g c = pieces g (goal.at.returns-in-Ok-Some-clause-pieces g c).After-load_copy
 
-pub returns-in-Err-Memory-clause-once : goal.returns-in-Err-Memory-clause-once
-returns-in-Err-Memory-clause-once g c = once g (goal.at.returns-in-Err-Memory-clause-once g c).After-load_copy
+pub returns-in-Err-Memory-clause-pieces : goal.returns-in-Err-Memory-clause-pieces
+returns-in-Err-Memory-clause-pieces g c = pieces g (goal.at.returns-in-Err-Memory-clause-pieces g c).After-load_copy
 
-pub returns-then-is_err-clause-once : goal.returns-then-is_err-clause-once
-returns-then-is_err-clause-once g c = once g (goal.at.returns-then-is_err-clause-once g c).After-load_copy
+pub returns-then-is_err-clause-pieces : goal.returns-then-is_err-clause-pieces
+returns-then-is_err-clause-pieces g c = pieces g (goal.at.returns-then-is_err-clause-pieces g c).After-load_copy
 
 pub returns-in-Ok-Some-clause-reads : goal.returns-in-Ok-Some-clause-reads
 returns-in-Ok-Some-clause-reads g c = reads g (goal.at.returns-in-Ok-Some-clause-reads g c).After-load_copy
@@ -51,7 +51,7 @@ loop-copy-preserved g c =
     let mid = g.V.Vault.view c.loop-copy.vault in
     let new = g.V.Vault.view c.load_copy.new.vault in
     let copy = c.loop-copy.copy in
-    let once = once_then copy old mid new c.loop-copy.invariant.0.reads.calls.goes_on.tells c.loop-copy.invariant.0.reads.changes c.loop-copy.invariant.1 c.load_copy.ensures.once in (
+    let pieces = pieces_then copy old mid new c.loop-copy.invariant.1 c.load_copy.ensures.pieces c.loop-copy.invariant.0.reads.calls.goes_on.tells c.loop-copy.invariant.0.reads.changes in (
       elim c.match-load_copy.branch [
         | in-Ok-None w ↦ as_called _ _ _ _ _ _ _ w.failed-is w.damages-is
             (passed_absent old mid new copy _ _ c.loop-copy.invariant.0 c.load_copy.ensures.reads (copy_of mid copy _ _ w.in-Ok-None.field-0-is w.in-Ok-None.ensures.found) w.in-Ok-None.ensures.none_failed)
@@ -60,7 +60,7 @@ loop-copy-preserved g c =
         | in-Err-Damaged+else-is_err w ↦ as_called _ _ _ _ _ _ _ w.failed-is (w.damages-is ∙ went_well w.push.result (sym w.if-is_err.ensures.value) w.push.ensures.ok)
             (passed_damaged old mid new copy _ _ c.loop-copy.invariant.0 c.load_copy.ensures.reads w.in-Err-Damaged.damage (subst (GivesNoTable mid new copy) w.in-Err-Damaged.field-0-is w.in-Err-Damaged.ensures.cause))
       ],
-      once,
+      pieces,
     )
 
 pub returns-then-failed-clause-reads : goal.returns-then-failed-clause-reads
@@ -83,11 +83,11 @@ pub returns-then-is_empty-clause-loaded : goal.returns-then-is_empty-clause-load
 returns-then-is_empty-clause-loaded g c =
     ends_empty _ _ c.loop-copy.copy _ _ (omega (arith, c.copies-copy-end.ensures, c.loop-copy-test.false, c.loop-copy.auto.copy-end)) c.loop-copy.invariant.0 c.if-failed.false (is_empty c.loop-copy.damages (sym c.if-is_empty.ensures))
 
-pub returns-then-failed-clause-once : goal.returns-then-failed-clause-once
-returns-then-failed-clause-once g c = once_all _ _ _ _ (omega (arith, c.copies-copy-end.ensures, c.loop-copy-test.false, c.loop-copy.auto.copy-end)) c.loop-copy.invariant.1
+pub returns-then-failed-clause-pieces : goal.returns-then-failed-clause-pieces
+returns-then-failed-clause-pieces g c = pieces_all _ _ _ _ (omega (arith, c.copies-copy-end.ensures, c.loop-copy-test.false, c.loop-copy.auto.copy-end)) c.loop-copy.invariant.1
 
-pub returns-clause-once : goal.returns-clause-once
-returns-clause-once g c = once_all _ _ _ _ (omega (arith, c.copies-copy-end.ensures, c.loop-copy-test.false, c.loop-copy.auto.copy-end)) c.loop-copy.invariant.1
+pub returns-clause-pieces : goal.returns-clause-pieces
+returns-clause-pieces g c = pieces_all _ _ _ _ (omega (arith, c.copies-copy-end.ensures, c.loop-copy-test.false, c.loop-copy.auto.copy-end)) c.loop-copy.invariant.1
 
-pub returns-then-is_empty-clause-once : goal.returns-then-is_empty-clause-once
-returns-then-is_empty-clause-once g c = once_all _ _ _ _ (omega (arith, c.copies-copy-end.ensures, c.loop-copy-test.false, c.loop-copy.auto.copy-end)) c.loop-copy.invariant.1
+pub returns-then-is_empty-clause-pieces : goal.returns-then-is_empty-clause-pieces
+returns-then-is_empty-clause-pieces g c = pieces_all _ _ _ _ (omega (arith, c.copies-copy-end.ensures, c.loop-copy-test.false, c.loop-copy.auto.copy-end)) c.loop-copy.invariant.1
