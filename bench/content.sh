@@ -3,6 +3,7 @@
 # stripe synced, one copy in memory. It builds a small program over crates/content_file in a folder of its own, outside
 # the repository, since what it prints differs from run to run.
 # Usage: bench/content.sh [files], 200,000 where nothing is given, at most 10,000,000.
+# The crates below are proved first, unless the gate proved them on this machine.
 set -eu
 top=$(cd "$(dirname "$0")/.." && pwd)
 files=${1:-200000}
@@ -18,6 +19,7 @@ done
 grep -E '^(block_hash|disk_model|disk_memory|file_table|content_file):' "$top/crates.txt" >"$scratch/crates.txt"
 echo 'content_speed: content_file file_table block_hash disk_model disk_memory' >>"$scratch/crates.txt"
 mkdir -p "$scratch/crates/content_speed/src"
+cp "$top/HANDLES" "$scratch/HANDLES"
 cat >"$scratch/crates/content_speed/src/main.rt" <<'PROGRAM'
 //! Times how a content file is saved and loaded. The number of files is the only argument; without it nothing is done.
 #![tactic(auto)]
@@ -148,7 +150,7 @@ invariant-loop-number l = record { before_infos : l.builder.infos ≡ []; column
 PROOFS
 
 cd "$scratch/crates/content_speed"
-rt run >"$scratch/log" 2>&1 || {
+(cd "$scratch/crates/content_speed" && rt fmt; cd "$scratch" && rt ci) >"$scratch/log" 2>&1 || {
     cat "$scratch/log" >&2
     exit 1
 }

@@ -4,6 +4,7 @@
 # files that are given, and three times with twice as many. It builds a small program over crates/array_scan in a folder of its own,
 # outside the repository, since what it prints differs from run to run.
 # Usage: bench/layout.sh [files], 200,000 where nothing is given, at most 4,500,000.
+# The crates below are proved first, unless the gate proved them on this machine.
 set -eu
 top=$(cd "$(dirname "$0")/.." && pwd)
 files=${1:-200000}
@@ -16,6 +17,7 @@ for crate in block_hash disk_model file_table position_alloc snap_config array_s
         cp -r "$top/crates/$crate/$part" "$scratch/crates/$crate/$part"
     done
 done
+cp "$top/HANDLES" "$scratch/HANDLES"
 cat >"$scratch/crates.txt" <<'CRATES'
 block_hash: md5 sha2 hex
 disk_model: thiserror
@@ -360,7 +362,7 @@ invariant-loop-number l = record { before_infos : l.builder.infos ≡ []; column
 PROOFS
 
 cd "$crate"
-rt run >"$scratch/log" 2>&1 || {
+(cd "$scratch/crates/layout_speed" && rt fmt; cd "$scratch" && rt ci) >"$scratch/log" 2>&1 || {
     cat "$scratch/log" >&2
     exit 1
 }

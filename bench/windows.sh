@@ -6,6 +6,7 @@
 # Usage: bench/windows.sh [stripes] [rounds] [columns], 320, 5 and 6 where nothing is given; stripes are cut to a multiple of 16,
 # and there are 1 to 16 columns. Four readers of six equal columns have groups of up to two, so they are at most 3 times as fast as
 # one; eight columns give each of them two.
+# The crates below are proved first, unless the gate proved them on this machine.
 set -eu
 top=$(cd "$(dirname "$0")/.." && pwd)
 stripes=$((${1:-320} / 16 * 16))
@@ -239,7 +240,7 @@ invariant-loop-name l = l.builder.infos ≡ []
 PROOFS
 
 cd "$scratch/crates/window_speed"
-rt run >"$scratch/log" 2>&1 || {
+(cd "$scratch/crates/window_speed" && rt fmt; cd "$scratch" && rt ci) >"$scratch/log" 2>&1 || {
     cat "$scratch/log" >&2
     exit 1
 }
