@@ -11,7 +11,7 @@ use Rattle.disk_model.proofs.CallsLemmas.{only_none}
 use Rattle.content_file.specs.Flaw.{Damage}
 use Rattle.content_file.specs.FirstFlaw.{first_flaw}
 use Rattle.content_file.specs.Damages.{with_flaw, damage_in, damages_below}
-use Rattle.content_file.specs.Load.{IsReadBelow, ReadsBelow, HasFailed, NoneFailed, IsDamaged, IsUseless, HasDamage, IsFoundDamaged, ReadsCopy, IsCopyOf, LoadsTable, LoadsNothing, LoadFails, LoadIsDamaged}
+use Rattle.content_file.specs.Load.{IsReadBelow, ReadsBelow, HasFailed, NoneFailed, IsDamaged, IsUseless, HasDamage, IsFoundDamaged, ReadsCopy, IsCopyOf, LoadsTable, LoadsNothing, LoadFails, LoadIsDamaged, ReadsInPieces}
 use Rattle.content_file.proofs.ReadContent.{none_from_content}
 use Rattle.content_file.proofs.LoadLemmas.{failed_before, failed_after, none_failed_yet, none_failed_then, below_then, below_all, read_well}
 
@@ -158,13 +158,14 @@ module _ (old mid new : VaultView) (copies : ℕ) (failed : Bool) (damages : Lis
       }
 
   -- the next copy gave a table
-  pub passed_to_table : (table : TableValue) → copies < copies_of old → NoneFailed mid new → IsCopyOf mid copies (Some table) → LoadsTable old new table
-  passed_to_table table within well is = record {
+  pub passed_to_table : (table : TableValue) → copies < copies_of old → NoneFailed mid new → ReadsInPieces (copies + 1) old new → IsCopyOf mid copies (Some table) → LoadsTable old new table
+  passed_to_table table within well pieces is = record {
     copy = copies;
     within = within;
     valid = is.0;
     held = λ told. sym (content_then old mid copies one.reads.changes told) ∙ is.1 (tells ∙ told);
     read = read_well copies old mid new one.reads.made well;
+    pieces = pieces;
     earlier = λ told k below. passed_before old mid new k reads.calls (one.passed told k below);
   }
 

@@ -104,7 +104,7 @@ pub record ReadsPieces (copy most : ℕ) (old new : VaultView) : Type 0 where
   pub few : pieces_of copy done ≤ most
   pub others : (k : ℕ) → k ≢ copy → AsksNothing k done
 
--- Of the calls since, at most one asks the size of this copy, no more read a piece of it than its bytes need, and none
+-- Of the calls since, at most one asks the size of this copy, at most as many as are allowed read a piece of it, and none
 -- reads one where there is no such file. No call asks for another copy.
 pub record ReadsCopyInPieces (copy : ℕ) (old new : VaultView) : Type 0 where
   pub done : List VaultDone
@@ -113,8 +113,8 @@ pub record ReadsCopyInPieces (copy : ℕ) (old new : VaultView) : Type 0 where
   pub few : IsTrue old.tells → pieces_of copy done ≤ most_pieces_of (content_of old.files copy)
   pub others : (k : ℕ) → k ≢ copy → AsksNothing k done
 
--- Of the calls since, at most one asks the size of each of the first copies, no more read a piece of it than its bytes
--- need, and none reads one where there is no such file. No call asks for another copy.
+-- Of the calls since, at most one asks the size of each of the first copies, at most as many as are allowed read a piece
+-- of it, and none reads one where there is no such file. No call asks for another copy.
 pub record ReadsInPieces (copies : ℕ) (old new : VaultView) : Type 0 where
   pub done : List VaultDone
   pub grown : Grows old.tells_calls old.calls new.tells_calls new.calls done
@@ -171,13 +171,14 @@ pub record ReadsBelow (copies : ℕ) (old new : VaultView) : Type 0 where
   pub changes : ChangesBy Stays old new
   pub drafts : DraftsStay old new
 
--- the table of the first copy that was read and is a content file
+-- The table of the first copy that was read and is a content file. No copy behind it was asked for.
 pub record LoadsTable (old new : VaultView) (table : TableValue) : Type 0 where
   pub copy : ℕ
   pub within : copy < copies_of old
   pub valid : IsValid table
   pub held : IsTrue old.tells → content_of old.files copy ≡ Some (spelling table)
   pub read : IsReadWell old new copy
+  pub pieces : ReadsInPieces (copy + 1) old new
   pub earlier : IsTrue old.tells → (k : ℕ) → k < copy → IsUseless old k ⊎ HasFailed old new k
 
 -- there is no copy

@@ -1,6 +1,6 @@
 -- What loading says of views of a vault, said of its states.
-use Rattle.std.proofs.Common.{◌⊎◌, inl, inr, ℕ, List, Option, None, Some}
-use Rattle.content_file.specs.Load.{ReadsBelow, LoadsNot as GivesNoTable, Loads, LoadFails, LoadIsDamaged, HasFailed, NoneFailed, IsDamaged, IsUseless}
+use Rattle.std.proofs.Common.{◌⊎◌, inl, inr, ℕ, ◌+◌, List, Option, None, Some}
+use Rattle.content_file.specs.Load.{ReadsBelow, LoadsNot as GivesNoTable, Loads, LoadFails, LoadIsDamaged, ReadsInPieces, HasFailed, NoneFailed, IsDamaged, IsUseless}
 use Rattle.content_file.specs.declared.fault.Damage.{Damage}
 use Rattle.content_file.specs.declared.loading.LoadFault.{LoadFault}
 use Rattle.content_file.specs.declared.loading.LoadFault.TheVariants as loads
@@ -11,6 +11,9 @@ use Rattle.snap_top.specs.Views.{view_of}
 use Rattle.snap_top.proofs.ViewsLemmas.{some_calls_of}
 
 module _ (old new : VaultView) where
+  pieces_of : (copies : ℕ) → ReadsInPieces copies old new → ReadsInPieces copies (view_of (state_of old)) (view_of (state_of new))
+  pieces_of copies is = record { done = is.done; grown = is.grown; size = is.size; few = is.few; others = is.others }
+
   failed_of : (copy : ℕ) → HasFailed old new copy → HasFailed (view_of (state_of old)) (view_of (state_of new)) copy
   failed_of copy is = record { within = is.within; rose = is.rose; earlier = is.earlier; call = is.call; later = is.later; read = is.read; made = is.made }
 
@@ -36,6 +39,7 @@ module _ (old new : VaultView) where
     valid = is.valid;
     held = is.held;
     read = record { done = is.read.done; grown = is.read.grown; each = is.read.each };
+    pieces = pieces_of (is.copy + 1) is.pieces;
     earlier = λ told k below. either_of k (is.earlier told k below);
   }
 
@@ -56,10 +60,11 @@ module _ (old new : VaultView) where
   loads_not_of (loads.Damaged damages) is = is_damaged_of damages is
   loads_not_of loads.Memory is = tt
 
-  pub reads_of : ReadsBelow (copies_of old) old new → ReadsCopies (state_of old) (state_of new)
-  reads_of is = record {
+  pub reads_of : ReadsBelow (copies_of old) old new → ReadsInPieces (copies_of old) old new → ReadsCopies (state_of old) (state_of new)
+  reads_of is pieces = record {
     calls = some_calls_of old new is.calls;
     made = record { done = is.made.done; grown = is.made.grown; each = is.made.each };
+    pieces = pieces_of (copies_of old) pieces;
     drafts = record { state = is.drafts.state; bytes = is.drafts.bytes };
     files = is.changes.reads;
   }

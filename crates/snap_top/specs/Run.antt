@@ -1,6 +1,6 @@
 -- What a run leaves, and why it ended so.
 use Rattle.std.specs.Prelude.{◌≡◌, ℕ, List, [], length, Bool, true, false, IsTrue, Option, None, Some, is_some, map}
-use Rattle.content_file.specs.Load.{IsReadBelow, Loads, LoadFails, LoadIsDamaged}
+use Rattle.content_file.specs.Load.{IsReadBelow, Loads, LoadFails, LoadIsDamaged, ReadsInPieces}
 use Rattle.content_file.specs.declared.loading.LoadFault.{LoadFault}
 use Rattle.content_file.specs.declared.loading.LoadFault.TheVariants as loads
 use Rattle.disk_model.specs.Calls.{MakesOnly}
@@ -30,10 +30,11 @@ use Rattle.snap_top.specs.declared.end.Refusal.{Refusal}
 
 -- ---- after the opening
 
--- the content copies were read, and nothing of the vault was changed
+-- The content copies were read, none more than once, and nothing of the vault was changed.
 pub record ReadsCopies (old new : VaultState) : Type 0 where
   pub calls : SomeCalls (view_of old) (view_of new)
   pub made : MakesOnly (IsReadBelow (copies_of (view_of old))) (view_of old) (view_of new)
+  pub pieces : ReadsInPieces (copies_of (view_of old)) (view_of old) (view_of new)
   pub drafts : DraftsStay (view_of old) (view_of new)
   pub files : IsTrue old.tells → new.files ≡ old.files
 

@@ -1,4 +1,4 @@
-use Rattle.std.proofs.Common.{◌∙◌, refl, sym, arith, subst}
+use Rattle.std.proofs.Common.{◌+◌, ◌∙◌, refl, sym, arith, subst}
 use Rattle.disk_model.specs.Vault.{copies_of}
 use Rattle.file_table.specs.Table.{TableValue}
 use Rattle.content_file.specs.Load.{ReadsBelow, ReadsInPieces, LoadsTable, GivesNoTable}
@@ -15,11 +15,12 @@ loop-copy-init g c = (as_called _ _ _ _ _ _ _ refl c.new-damages.ensures (passed
 reads : (g : given.Over) (c : After-load_copy g) → ReadsBelow (copies_of (g.V.Vault.view c.args.vault.now)) (g.V.Vault.view c.args.vault.now) (g.V.Vault.view c.load_copy.new.vault)
 reads g c = reads_all _ (g.V.Vault.view c.loop-copy.vault) _ c.loop-copy.copy _ _ c.loop-copy.invariant.0 c.load_copy.ensures.reads (omega (arith, c.loop-copy-test.true, c.copies-copy-end.ensures))
 
--- and its size was asked once at most, and no more pieces read than it has
+-- and its size was asked once at most, and no more pieces read than are allowed
+pieces_here : (g : given.Over) (c : After-load_copy g) → ReadsInPieces (c.loop-copy.copy + 1) (g.V.Vault.view c.args.vault.now) (g.V.Vault.view c.load_copy.new.vault)
+pieces_here g c = pieces_then c.loop-copy.copy _ (g.V.Vault.view c.loop-copy.vault) _ c.loop-copy.invariant.1 c.load_copy.ensures.pieces c.loop-copy.invariant.0.reads.calls.goes_on.tells c.loop-copy.invariant.0.reads.changes
+
 pieces : (g : given.Over) (c : After-load_copy g) → ReadsInPieces (copies_of (g.V.Vault.view c.args.vault.now)) (g.V.Vault.view c.args.vault.now) (g.V.Vault.view c.load_copy.new.vault)
-pieces g c =
-    pieces_all _ _ _ _ (omega (arith, c.loop-copy-test.true, c.copies-copy-end.ensures))
-    (pieces_then c.loop-copy.copy _ (g.V.Vault.view c.loop-copy.vault) _ c.loop-copy.invariant.1 c.load_copy.ensures.pieces c.loop-copy.invariant.0.reads.calls.goes_on.tells c.loop-copy.invariant.0.reads.changes)
+pieces g c = pieces_all _ _ _ _ (omega (arith, c.loop-copy-test.true, c.copies-copy-end.ensures)) (pieces_here g c)
 
 pub returns-in-Ok-Some-clause-pieces : goal.returns-in-Ok-Some-clause-pieces
 returns-in-Ok-Some-clause-pieces g c = pieces g (goal.at.returns-in-Ok-Some-clause-pieces g c).After-load_copy
@@ -41,7 +42,7 @@ returns-then-is_err-clause-reads g c = reads g (goal.at.returns-then-is_err-clau
 
 pub returns-in-Ok-Some-clause-loaded : goal.returns-in-Ok-Some-clause-loaded
 returns-in-Ok-Some-clause-loaded g c =
-    let loaded = passed_to_table _ (g.V.Vault.view c.loop-copy.vault) _ c.loop-copy.copy _ _ c.loop-copy.invariant.0 c.load_copy.ensures.reads _ (omega (arith, c.loop-copy-test.true, c.copies-copy-end.ensures)) c.in-Ok-Some.ensures.none_failed
+    let loaded = passed_to_table _ (g.V.Vault.view c.loop-copy.vault) _ c.loop-copy.copy _ _ c.loop-copy.invariant.0 c.load_copy.ensures.reads _ (omega (arith, c.loop-copy-test.true, c.copies-copy-end.ensures)) c.in-Ok-Some.ensures.none_failed (pieces_here g (goal.at.returns-in-Ok-Some-clause-loaded g c).After-load_copy)
     (copy_of (g.V.Vault.view c.loop-copy.vault) c.loop-copy.copy _ _ c.in-Ok-Some.field-0-is c.in-Ok-Some.ensures.found) in
     subst (λ (t : TableValue). LoadsTable (g.V.Vault.view c.args.vault.now) (g.V.Vault.view c.load_copy.new.vault) t) (sym c.in-Ok-Some.table-is) loaded
 

@@ -8,14 +8,14 @@ use Rattle.snap_top.proofs.running.work_on.Goals as goal
 pub returns-in-Err : goal.returns-in-Err
 returns-in-Err g c =
     let load = c.load.ensures in
-    not_loaded _ _ (task_of c.args.job.now) _ _ _ _ _ c.in-Err.fault (reads_of _ _ load.reads) load.reads.changes (loads_not_of _ _ c.in-Err.fault c.in-Err.ensures.cause)
+    not_loaded _ _ (task_of c.args.job.now) _ _ _ _ _ c.in-Err.fault (reads_of _ _ load.reads load.pieces) load.reads.changes (loads_not_of _ _ c.in-Err.fault c.in-Err.ensures.cause)
 
 pub returns-in-Err-first_table : goal.returns-in-Err-first_table
 returns-in-Err-first_table g c =
     let load = c.load.ensures in
-    not_begun _ _ (task_of c.args.job.now) _ _ _ _ _ _ _ (reads_of _ _ load.reads) load.reads.changes (loads_of _ _ _ c.in-Ok.ensures.loaded) c.in-Err-first_table.ensures.not
+    not_begun _ _ (task_of c.args.job.now) _ _ _ _ _ _ _ (reads_of _ _ load.reads load.pieces) load.reads.changes (loads_of _ _ _ c.in-Ok.ensures.loaded) c.in-Err-first_table.ensures.not
 
 pub returns : goal.returns
 returns g c =
     let load = c.load.ensures in
-    answered _ _ (task_of c.args.job.now) _ _ _ _ _ _ _ _ _ _ _ (reads_of _ _ load.reads) load.reads.changes (loads_of _ _ _ c.in-Ok.ensures.loaded) c.in-Ok-first_table.ensures.begins c.in-Ok-first_table.ensures.valid (length-map _ _ ∙ c.requires.folders) c.carry_out-answer.ensures
+    answered _ _ (task_of c.args.job.now) _ _ _ _ _ _ _ _ _ _ _ (reads_of _ _ load.reads load.pieces) load.reads.changes (loads_of _ _ _ c.in-Ok.ensures.loaded) c.in-Ok-first_table.ensures.begins c.in-Ok-first_table.ensures.valid (length-map _ _ ∙ c.requires.folders) c.carry_out-answer.ensures
