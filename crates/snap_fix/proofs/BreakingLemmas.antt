@@ -1,66 +1,83 @@
--- A part of some calls of a vault, after others and before others.
-use Rattle.std.proofs.Common.{◌≡◌, inl, inr, ℕ, zero, suc, ◌+◌, ◌-◌, ◌≤◌, List, [], ◌∷◌, ◌++◌, false, true, sym, ap, ◌∙◌, refl, arith, append_assoc}
+-- Some calls of a vault of which one failed, behind others and before others.
+use Rattle.std.proofs.Common.{◌≡◌, ℕ, zero, suc, ◌+◌, ◌-◌, ◌≤◌, List, [], ◌∷◌, ◌++◌, false, true, sym, ap, ◌∙◌, refl, subst, arith, append_assoc}
 use Rattle.std.specs.List.{range_with_len, flat_map}
 use Rattle.std.proofs.lemmas.List.{append-nil, map-append}
 use Rattle.array_scan.proofs.PlacingLemmas.{flat_range_more}
 use Rattle.disk_model.specs.Ran.{vault_done}
 use Rattle.disk_model.specs.Vault.{VaultView, VaultCall, VaultDone, GoesOn}
-use Rattle.snap_fix.specs.Breaking.{MakesPartOf}
+use Rattle.snap_report.specs.declared.answer.RunFault.{RunFault}
+use Rattle.snap_report.specs.declared.answer.RunFault.TheVariants.{Folder, Vault, Memory}
+use Rattle.snap_fix.specs.Breaking.{BreaksAfter, FailsAfter, FailsIn, writes_parity}
 use Rattle.snap_fix.specs.Underway.{done_well}
 use Rattle.snap_fix.proofs.LookingLemmas.{vault_goes_on}
 
--- all of them were made
-pub part_all : (whole : List VaultDone) (old new : VaultView) → GoesOn old new whole → MakesPartOf whole old new
-part_all whole old new ran = record { done = whole; is_part = inl ([], sym (append-nil whole)); goes_on = ran }
-
 -- others were to come after them
-pub part_more : (whole more : List VaultDone) (old new : VaultView) → MakesPartOf whole old new → MakesPartOf (whole ++ more) old new
-part_more whole more old new part = record {
-  done = part.done;
-  is_part = elim part.is_part [
-    | inl first ↦ inl (first.0 ++ more, ap (λ (calls : List VaultDone). calls ++ more) first.1 ∙ append_assoc part.done first.0 more)
-    | inr fails ↦ inr (record {
-      front = fails.front;
-      call = fails.call;
-      rest = fails.rest ++ more;
-      whole_is = ap (λ (calls : List VaultDone). calls ++ more) fails.whole_is ∙ append_assoc fails.front (vault_done fails.call false ∷ fails.rest) more;
-      done_is = fails.done_is;
-    })
-  ];
-  goes_on = part.goes_on;
+in_more : (whole more done : List VaultDone) → FailsIn whole done → FailsIn (whole ++ more) done
+in_more whole more done fails = record {
+  front = fails.front;
+  call = fails.call;
+  writes = fails.writes;
+  rest = fails.rest ++ more;
+  whole_is = ap (λ (calls : List VaultDone). calls ++ more) fails.whole_is ∙ append_assoc fails.front (vault_done fails.call false ∷ fails.rest) more;
+  done_is = fails.done_is;
 }
 
 -- others were made before them
-pub part_then : (front whole : List VaultDone) (old mid new : VaultView) → GoesOn old mid front → MakesPartOf whole mid new → MakesPartOf (front ++ whole) old new
-part_then front whole old mid new ran part = record {
+in_behind : (front whole done : List VaultDone) → FailsIn whole done → FailsIn (front ++ whole) (front ++ done)
+in_behind front whole done fails = record {
+  front = front ++ fails.front;
+  call = fails.call;
+  writes = fails.writes;
+  rest = fails.rest;
+  whole_is = ap (λ (calls : List VaultDone). front ++ calls) fails.whole_is ∙ sym (append_assoc front fails.front (vault_done fails.call false ∷ fails.rest));
+  done_is = ap (λ (calls : List VaultDone). front ++ calls) fails.done_is ∙ sym (append_assoc front fails.front (vault_done fails.call true ∷ []));
+}
+
+pub fails_more : (whole more : List VaultDone) (old new : VaultView) → FailsAfter [] whole old new → FailsAfter [] (whole ++ more) old new
+fails_more whole more old new part = record { done = part.done; fails = in_more whole more part.done part.fails; goes_on = part.goes_on }
+
+pub fails_behind : (front whole : List VaultDone) (old mid new : VaultView) → GoesOn old mid front → FailsAfter [] whole mid new → FailsAfter [] (front ++ whole) old new
+fails_behind front whole old mid new ran part = record {
   done = front ++ part.done;
-  is_part = elim part.is_part [
-    | inl first ↦ inl (first.0, ap (λ (calls : List VaultDone). front ++ calls) first.1 ∙ sym (append_assoc front part.done first.0))
-    | inr fails ↦ inr (record {
-      front = front ++ fails.front;
-      call = fails.call;
-      rest = fails.rest;
-      whole_is = ap (λ (calls : List VaultDone). front ++ calls) fails.whole_is ∙ sym (append_assoc front fails.front (vault_done fails.call false ∷ fails.rest));
-      done_is = ap (λ (calls : List VaultDone). front ++ calls) fails.done_is ∙ sym (append_assoc front fails.front (vault_done fails.call true ∷ []));
-    })
-  ];
+  fails = in_behind front whole part.done part.fails;
   goes_on = vault_goes_on old mid new front part.done ran part.goes_on;
 }
 
 -- the first ones were made, and then one failed
-pub part_fails : (front rest : List VaultCall) (call : VaultCall) (old mid new : VaultView) → GoesOn old mid (done_well front) → GoesOn mid new (vault_done call true ∷ [])
-    → MakesPartOf (done_well (front ++ call ∷ rest)) old new
-part_fails front rest call old mid new ran fails = record {
+pub fails_at : (front rest : List VaultCall) (call : VaultCall) (old mid new : VaultView) → writes_parity call ≡ true → GoesOn old mid (done_well front) → GoesOn mid new (vault_done call true ∷ [])
+    → FailsAfter [] (done_well (front ++ call ∷ rest)) old new
+fails_at front rest call old mid new writes ran fails = record {
   done = done_well front ++ vault_done call true ∷ [];
-  is_part = inr (record {
+  fails = record {
     front = done_well front;
     call = call;
+    writes = writes;
     rest = done_well rest;
     whole_is = map-append (λ (it : VaultCall). vault_done it false) front (call ∷ rest);
     done_is = refl;
-  });
+  };
   goes_on = vault_goes_on old mid new (done_well front) (vault_done call true ∷ []) ran fails;
 }
+
+-- ---- behind some calls
+
+pub fails_after : (before others : List VaultDone) (old mid new : VaultView) → GoesOn old mid before → FailsAfter [] others mid new → FailsAfter before others old new
+fails_after before others old mid new ran part = record {
+  done = part.done;
+  fails = part.fails;
+  goes_on = vault_goes_on old mid new before part.done ran part.goes_on;
+}
+
+-- and behind more of them
+pub breaks_then : (fault : RunFault) (front before others : List VaultDone) (old mid new : VaultView) → GoesOn old mid front → BreaksAfter fault before others mid new
+    → BreaksAfter fault (front ++ before) others old new
+breaks_then (Folder disk) front before others old mid new ran part = vault_goes_on old mid new front before ran part
+breaks_then Vault front before others old mid new ran part = record {
+  done = part.done;
+  fails = part.fails;
+  goes_on = subst (GoesOn old new) (sym (append_assoc front before part.done)) (vault_goes_on old mid new front (before ++ part.done) ran part.goes_on);
+}
+breaks_then Memory front before others old mid new ran part = part
 
 -- ---- joined over numbers
 

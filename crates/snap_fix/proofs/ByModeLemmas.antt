@@ -20,7 +20,8 @@ use Rattle.snap_fix.specs.declared.scope.Mode.TheVariants.{Check, Audit, Fix}
 use Rattle.snap_fix.specs.Beginning.{BeginsNot}
 use Rattle.snap_fix.specs.ByMode.{LeavesAll, LeavesFor, MayFailBy, Repairs, RepairsNot}
 use Rattle.snap_fix.specs.Course.{Checks, Outside}
-use Rattle.snap_fix.specs.FixCourse.{Fixes, FixesNot}
+use Rattle.snap_fix.specs.FixBreaking.{FixesNot}
+use Rattle.snap_fix.specs.FixCourse.{Fixes}
 use Rattle.snap_fix.proofs.FixedParityLemmas.{drafts_same}
 
 -- a fact, and others beside it

@@ -9,10 +9,10 @@ use Rattle.disk_model.specs.Ran.{vault_done, log_of}
 use Rattle.disk_model.specs.Vault.{VaultView, VaultCall, VaultDone, GoesOn, ChangesBy, DraftsStay, IsWellFormed, state_of}
 use Rattle.disk_model.proofs.RanLemmas.{ran_none, ran_all_then}
 use Rattle.disk_model.proofs.VaultLemmas.{no_calls, calls_then, changes_start, stays_then}
-use Rattle.snap_fix.specs.Breaking.{MakesPartOf, broke_parity}
-use Rattle.snap_fix.specs.Ending.{IsSettled, Syncs, SyncsNot, sync_call, sync_if, written_syncs}
+use Rattle.snap_fix.specs.Breaking.{FailsAfter, broke_parity}
+use Rattle.snap_fix.specs.Ending.{IsLevelSettled, Syncs, SyncsNot, sync_call, sync_if, written_syncs}
 use Rattle.snap_fix.specs.Underway.{done_well}
-use Rattle.snap_fix.proofs.BreakingLemmas.{flat_split, part_more, part_then}
+use Rattle.snap_fix.proofs.BreakingLemmas.{fails_behind, fails_more, flat_split}
 
 -- what holds whichever fault it was
 pub on_err : {T E : Type 0} (result : Result T E) (P : Type 0) → P → IfErr result (λ fault. P)
@@ -44,13 +44,13 @@ syncs_then one two old mid new a b = record {
 
 pub record SyncedTo (written : List Bool) (level : ℕ) (old now : VaultView) : Type 0 where
   pub syncs : Syncs (flat_map (sync_call written) (range_with_len 0 level)) old now
-  pub settled : (l : ℕ) → l < level → get_or written l false ≡ true → IsSettled l old now
+  pub settled : (l : ℕ) → l < level → get_or written l false ≡ true → IsLevelSettled l old now
 
 pub synced_start : (written : List Bool) (old : VaultView) → SyncedTo written 0 old old
 synced_start written old = record { syncs = syncs_none old; settled = λ l below. absurd (omega (arith, below)) }
 
 -- what was settled stays so while the files stay
-settled_on : (l : ℕ) (old mid new : VaultView) → mid.tells ≡ old.tells → new.tells ≡ mid.tells → ChangesBy Stays mid new → IsSettled l old mid → IsSettled l old new
+settled_on : (l : ℕ) (old mid new : VaultView) → mid.tells ≡ old.tells → new.tells ≡ mid.tells → ChangesBy Stays mid new → IsLevelSettled l old mid → IsLevelSettled l old new
 settled_on l old mid new first next changes settled = record {
   reads = λ told.
       let told_mid : IsTrue mid.tells = sym next ∙ told in
@@ -62,7 +62,7 @@ settled_on l old mid new first next changes settled = record {
 
 -- what is settled later is as it was before, since the files stayed
 settled_since : (l : ℕ) (old mid new : VaultView) → IsWellFormed mid → mid.tells ≡ old.tells → new.tells ≡ mid.tells → ChangesBy Stays old mid → ChangesBy Stays mid new
-    → IsSettled l mid new → IsSettled l old new
+    → IsLevelSettled l mid new → IsLevelSettled l old new
 settled_since l old mid new formed first next before changes settled = record {
   reads = λ told. settled.reads told ∙ ap (λ (files : Files). parity_of files l) (before.reads (sym first ∙ sym next ∙ told));
   leaves = λ told files left.
@@ -70,7 +70,7 @@ settled_since l old mid new formed first next before changes settled = record {
 }
 
 pub synced_more : (written : List Bool) (level : ℕ) (is : Bool) (old mid new : VaultView) → is ≡ get_or written level false → IsWellFormed mid → SyncedTo written level old mid
-    → Syncs (sync_if is level) mid new → (is ≡ true → IsSettled level mid new) → SyncedTo written (level + 1) old new
+    → Syncs (sync_if is level) mid new → (is ≡ true → IsLevelSettled level mid new) → SyncedTo written (level + 1) old new
 synced_more written level is old mid new here formed so_far one settled = record {
   syncs = subst (λ (calls : List VaultCall). Syncs calls old new) (flat_range_more (sync_call written) level)
       (syncs_then (flat_map (sync_call written) (range_with_len 0 level)) (sync_call written level) old mid new so_far.syncs
@@ -79,7 +79,7 @@ synced_more written level is old mid new here formed so_far one settled = record
     | inl near ↦ settled_on l old mid new so_far.syncs.some.goes_on.tells one.some.goes_on.tells one.changes (so_far.settled l near was)
     | inr far ↦
         let last : level ≡ l = omega (arith, below, far) in
-        subst (λ (n : ℕ). IsSettled n old new) last
+        subst (λ (n : ℕ). IsLevelSettled n old new) last
         (settled_since level old mid new formed so_far.syncs.some.goes_on.tells one.some.goes_on.tells so_far.syncs.changes one.changes
         (settled (here ∙ ap (λ (n : ℕ). get_or written n false) last ∙ was)))
   ];
@@ -105,19 +105,19 @@ syncs_go_on calls old new syncs = record {
   calls = syncs.ran.grown;
 }
 
--- the first ones of all syncs, and a part of those of the next level
-syncs_part : (written : List Bool) (level : ℕ) (old mid new : VaultView) → level < length written → Syncs (flat_map (sync_call written) (range_with_len 0 level)) old mid
-    → MakesPartOf (done_well (sync_call written level)) mid new → MakesPartOf (done_well (written_syncs written)) old new
-syncs_part written level old mid new below synced part =
+-- the first ones of all syncs, and then that of the next level failed
+syncs_fail : (written : List Bool) (level : ℕ) (old mid new : VaultView) → level < length written → Syncs (flat_map (sync_call written) (range_with_len 0 level)) old mid
+    → FailsAfter [] (done_well (sync_call written level)) mid new → FailsAfter [] (done_well (written_syncs written)) old new
+syncs_fail written level old mid new below synced fails =
     let front : List VaultCall = flat_map (sync_call written) (range_with_len 0 level) in
     let next : List VaultCall = sync_call written level in
     let split = flat_split (sync_call written) (level + 1) (length written) (omega (arith, below)) in
     let whole : written_syncs written ≡ front ++ (next ++ split.0) =
     split.1 ∙ ap (λ (calls : List VaultCall). calls ++ split.0) (sym (flat_range_more (sync_call written) level)) ∙ append_assoc front next split.0 in
-    subst (λ (calls : List VaultCall). MakesPartOf (done_well calls) old new) (sym whole)
-    (subst (λ (calls : List VaultDone). MakesPartOf calls old new) (sym (well_then front (next ++ split.0)))
-    (part_then (done_well front) (done_well (next ++ split.0)) old mid new (syncs_go_on front old mid synced)
-    (subst (λ (calls : List VaultDone). MakesPartOf calls mid new) (sym (well_then next split.0)) (part_more (done_well next) (done_well split.0) mid new part))))
+    subst (λ (calls : List VaultCall). FailsAfter [] (done_well calls) old new) (sym whole)
+    (subst (λ (calls : List VaultDone). FailsAfter [] calls old new) (sym (well_then front (next ++ split.0)))
+    (fails_behind (done_well front) (done_well (next ++ split.0)) old mid new (syncs_go_on front old mid synced)
+    (subst (λ (calls : List VaultDone). FailsAfter [] calls mid new) (sym (well_then next split.0)) (fails_more (done_well next) (done_well split.0) mid new fails))))
   where
     well_then : (one two : List VaultCall) → done_well (one ++ two) ≡ done_well one ++ done_well two
     well_then one two = map-append (λ (call : VaultCall). vault_done call false) one two
@@ -125,7 +125,7 @@ syncs_part written level old mid new below synced part =
 pub synced_not : (written : List Bool) (level : ℕ) (is : Bool) (old mid new : VaultView) → is ≡ get_or written level false → level < length written → SyncedTo written level old mid
     → SyncsNot (sync_if is level) mid new → SyncsNot (written_syncs written) old new
 synced_not written level is old mid new here below so_far broke = record {
-  ran = syncs_part written level old mid new below so_far.syncs (subst (λ (b : Bool). MakesPartOf (done_well (sync_if b level)) mid new) here broke.ran);
+  ran = syncs_fail written level old mid new below so_far.syncs (subst (λ (b : Bool). FailsAfter [] (done_well (sync_if b level)) mid new) here broke.ran);
   rose = (let more = so_far.syncs.ran.later in let rose = broke.rose in omega arith);
   call = λ tells.
       let told : IsTrue mid.tells_calls = broke.calls.goes_on.calls.told tells in

@@ -15,15 +15,15 @@ use Rattle.disk_model.specs.Vault.{VaultView, VaultDone, GoesOn}
 use Rattle.parity_writer.specs.LevelReading.{LevelReading, has_failed}
 use Rattle.snap_report.specs.Answer.{is_parity_io}
 use Rattle.snap_report.specs.Report.{ReportView}
+use Rattle.snap_report.specs.declared.answer.RunFault.{RunFault}
 use Rattle.snap_report.specs.declared.events.Event.{Event}
 use Rattle.snap_report.proofs.ToldLemmas.{told_then, told_nothing}
 use Rattle.stripe_reader.specs.Columns.{folder_at}
 use Rattle.snap_fix.specs.declared.fixing.Totals.{Totals}
 use Rattle.snap_fix.specs.declared.room.Room.{Room}
 use Rattle.snap_fix.specs.Asking.{AsksSpare}
-use Rattle.snap_fix.specs.Breaking.{MakesPartOf}
 use Rattle.snap_fix.specs.Facts.{StripeFacts}
-use Rattle.snap_fix.specs.FixRun.{AreAscending, FixesAll, HoldAllWrong}
+use Rattle.snap_fix.specs.FixRun.{AreAscending, BreaksInLast, FixesAll, HoldAllWrong}
 use Rattle.snap_fix.specs.Fixing.{AreTotals, FixScene, FixesStripe, MendsVault, SceneFits, Writes, facts_of, was_written}
 use Rattle.snap_fix.specs.Known.{AreFacts}
 use Rattle.snap_fix.specs.Looking.{AreAllLevelsOf, numbers_of, unread_in}
@@ -31,9 +31,9 @@ use Rattle.snap_fix.specs.Mended.{AnswersFit, Mended, all_mended_events, is_wron
 use Rattle.snap_fix.specs.Plan.{FixPlan}
 use Rattle.snap_fix.specs.Spare.{SpareView}
 use Rattle.snap_fix.specs.State.{WellCall}
-use Rattle.snap_fix.specs.Underway.{AddsZeros, AreUnderway, HoldsWrong, IsMendCall, IsMendedLevel, mend_calls, stripe_calls}
+use Rattle.snap_fix.specs.Underway.{AddsZeros, AreUnderway, HoldsWrong, IsMendCall, IsMendedLevel, done_well, mend_calls, stripe_calls, wrong_writes}
 use Rattle.snap_fix.proofs.AskedLemmas.{asks_none, asks_then}
-use Rattle.snap_fix.proofs.BreakingLemmas.{part_then}
+use Rattle.snap_fix.proofs.BreakingLemmas.{breaks_then}
 use Rattle.snap_fix.proofs.FixCountLemmas.{count_append, parity_io_in_stripe}
 use Rattle.snap_fix.proofs.FolderCallLemmas.{makes_none}
 use Rattle.snap_fix.proofs.KeptStartsLemmas.{stood_none, stood_then, well_then}
@@ -144,14 +144,23 @@ writes_then plan xs ys old mid new (length_one, one) (length_two, two) = (length
 
 -- ---- all of it
 
--- so much was made of the calls of some stripes, after those of others
-pub part_of_stripes : (plan : FixPlan) (xs ys : List Mended) (firsts more : List (List LevelReading)) (old mid new : VaultView)
-    → AreAllLevelsOf plan.table.shape.block_size old (facts_of xs) firsts → GoesOn old mid (mend_calls plan (facts_of xs) firsts) → MakesPartOf (mend_calls plan (facts_of ys) more) mid new
-    → MakesPartOf (mend_calls plan (facts_of (xs ++ ys)) (firsts ++ more)) old new
-part_of_stripes plan xs ys firsts more old mid new read ran part =
-    subst (λ (stripes : List StripeFacts). MakesPartOf (mend_calls plan stripes (firsts ++ more)) old new) (sym (facts_append xs ys))
-    (subst (λ (calls : List VaultDone). MakesPartOf calls old new) (sym (mend_calls_append plan plan.table.shape.block_size old (facts_of xs) (facts_of ys) firsts more read))
-    (part_then (mend_calls plan (facts_of xs) firsts) (mend_calls plan (facts_of ys) more) old mid new ran part))
+-- the calls of some stripes up to the writes of the last one, after those of others
+pub breaks_in_last : (fault : RunFault) (plan : FixPlan) (xs ys : List Mended) (firsts more : List (List LevelReading)) (old mid new : VaultView)
+    → AreAllLevelsOf plan.table.shape.block_size old (facts_of xs) firsts → GoesOn old mid (mend_calls plan (facts_of xs) firsts) → BreaksInLast plan fault (facts_of ys) more mid new
+    → BreaksInLast plan fault (facts_of (xs ++ ys)) (firsts ++ more) old new
+breaks_in_last fault plan xs ys firsts more old mid new read ran broke =
+    let calls = mend_calls plan (facts_of xs) firsts in
+    let writes = done_well (wrong_writes plan broke.last) in
+    record {
+      earlier = facts_of xs ++ broke.earlier;
+      last = broke.last;
+      stripes_are = facts_append xs ys ∙ ap (λ (stripes : List StripeFacts). facts_of xs ++ stripes) broke.stripes_are ∙ sym (append_assoc (facts_of xs) broke.earlier (broke.last ∷ []));
+      before = calls ++ broke.before;
+      calls_are = ap (λ (stripes : List StripeFacts). mend_calls plan stripes (firsts ++ more)) (facts_append xs ys)
+          ∙ mend_calls_append plan plan.table.shape.block_size old (facts_of xs) (facts_of ys) firsts more read
+          ∙ ap (λ (others : List VaultDone). calls ++ others) broke.calls_are ∙ sym (append_assoc calls broke.before writes);
+      ran = breaks_then fault calls broke.before writes old mid new ran broke.ran;
+    }
 
 module _ {W R : Type 0} (view : W → SinkView) (standing : R → ReportView) (stands : R → List Event → Type 0) (plan : FixPlan) where
   pub fixes_none : (totals : Totals) (s : FixScene W R) → SceneFits plan s → AreTotals plan [] totals → FixesAll view standing stands plan [] s s totals

@@ -35,10 +35,11 @@ use Rattle.snap_fix.specs.Beginning.{Begins}
 use Rattle.snap_fix.specs.Checking.{plan_for}
 use Rattle.snap_fix.specs.Counts.{AreCounts}
 use Rattle.snap_fix.specs.Course.{IsPlan, Outside, outside}
-use Rattle.snap_fix.specs.Breaking.{MakesPartOf}
+use Rattle.snap_fix.specs.Breaking.{FailsAfter}
 use Rattle.snap_fix.specs.Ending.{FinishesAll, FinishesNotAll, FinishesOne, SyncsNot, SyncsWritten, all_finish_news, written_syncs}
 use Rattle.snap_fix.specs.Findings.{opening_events}
-use Rattle.snap_fix.specs.FixCourse.{FixBreaks, FixFinds, Fixes, WritesFiles, Written, fix_calls, fix_events, mend_syncs}
+use Rattle.snap_fix.specs.FixBreaking.{FixBreaks}
+use Rattle.snap_fix.specs.FixCourse.{FixFinds, Fixes, FixesVault, WritesFiles, Written, fix_events, mend_syncs}
 use Rattle.snap_fix.specs.FixRun.{AreAscending, BreaksStripes, FixesStripes, HasBroken}
 use Rattle.snap_fix.specs.Fixing.{AreReadThen, FixScene, facts_of, fix_scene, was_written}
 use Rattle.snap_fix.specs.Known.{AreFacts}
@@ -49,27 +50,21 @@ use Rattle.snap_fix.specs.Repairing.{outside as files_outside}
 use Rattle.snap_fix.specs.Spare.{SpareView}
 use Rattle.snap_fix.specs.State.{AnyCall, WellCall, first_states}
 use Rattle.snap_fix.specs.Underway.{AreFixable, AreUnderway, IsMendCall, done_well, mend_calls}
-use Rattle.snap_fix.proofs.BreakingLemmas.{part_all, part_more, part_then}
+use Rattle.snap_fix.proofs.BreakingLemmas.{fails_after}
 use Rattle.snap_fix.proofs.FixCallLemmas.{fix_calls_of, fix_calls_of_writing}
 use Rattle.snap_fix.proofs.FixCountLemmas.{count_append}
 use Rattle.snap_fix.proofs.FixEventLemmas.{io_no_file, none_finishing, none_finishing_first, none_opening, parity_io_no_file}
-use Rattle.snap_fix.proofs.FixFilesLemmas.{fixes_files, planned, planned_done}
+use Rattle.snap_fix.proofs.FixFilesLemmas.{fixes_files}
 use Rattle.snap_fix.proofs.FixIntoLemmas.{folder_gained, vault_gained}
 use Rattle.snap_fix.proofs.FixStartLemmas.{begun_underway, stripes_ascending, underway_begun}
-use Rattle.snap_fix.proofs.FixVaultLemmas.{fixes_ran, fixes_vault, flag_is, mends_synced, rose_on, syncs_are}
-use Rattle.snap_fix.proofs.FolderCallLemmas.{makes_any, makes_none}
+use Rattle.snap_fix.proofs.FixVaultLemmas.{fixes_vault, flag_is, holds_synced, mends_synced, rose_on, syncs_are}
+use Rattle.snap_fix.proofs.FolderCallLemmas.{makes_any}
 use Rattle.snap_fix.proofs.PresentLemmas.{StartsFitFolders, present_at_first, starts_fit_first}
 
 -- ---- which events were told
 
 in_stripes : (os ms first rest : List Event) → ms ≡ first ++ rest → os ++ ms ≡ (os ++ first) ++ rest
 in_stripes os ms first rest is = ap (λ (es : List Event). os ++ es) is ∙ sym (append_assoc os first rest)
-
-in_finish : (os ms ns first rest : List Event) → ns ≡ first ++ rest → os ++ (ms ++ ns) ≡ (os ++ (ms ++ first)) ++ rest
-in_finish os ms ns first rest is =
-    ap (λ (es : List Event). os ++ (ms ++ es)) is
-    ∙ ap (λ (es : List Event). os ++ es) (sym (append_assoc ms first rest))
-    ∙ sym (append_assoc os (ms ++ first) rest)
 
 -- the events before the stripes tell no failed reading
 broke_opened : (plan : FixPlan) (fault : RunFault) (first : List Event) (olds news : List FolderView) (old new : VaultView)
@@ -154,10 +149,14 @@ module _ {W R : Type 0} (view : W → SinkView) (standing : R → ReportView) (s
           unread = broke.unread;
           unread_cells_of = λ d within. rose_listed d _ _ within (broke.unread_cells_of d within);
           spare = broke.spare;
-          ran = part_more (mend_calls plan (facts_of broke.stripes) broke.readings) (done_well (mend_syncs plan broke.stripes)) old.vault vault_mid broke.ran;
           vault = broke.vault;
           first = opening ++ broke.first;
-          files = inl (record { rest = broke.rest; events = in_stripes opening (all_mended_events plan broke.stripes) broke.first broke.rest broke.events; makes = broke.makes });
+          off = inl (record {
+            rest = broke.rest;
+            events = in_stripes opening (all_mended_events plan broke.stripes) broke.first broke.rest broke.events;
+            makes = broke.makes;
+            ran = broke.ran;
+          });
           told = told_then view standing stands table.columns opening broke.first old.lines opened_lines lines_mid old.reports opened_reports reports_mid opened broke.told;
           folders = broke.folders ∙ begun.as_many;
           calls = fix_calls_of_writing plan starts broke.stripes mids folders_mid broke.makes;
@@ -211,10 +210,19 @@ module _ {W R : Type 0} (view : W → SinkView) (standing : R → ReportView) (s
             let within : r < length written = omega (arith, below, written_are) in
             ap (λ (all : List Bool). get_or all r false) levels_are ∙ flag_is plan stripes written written_mid fixed.fixes.written r within (none_written r within)
 
-        synced_part : MakesPartOf (done_well (written_syncs levels)) vault_mid vault_new → MakesPartOf (fix_calls plan stripes readings) old.vault vault_new
-        synced_part part = subst (λ (calls : List VaultCall). MakesPartOf (mend_calls plan (facts_of stripes) readings ++ done_well calls) old.vault vault_new)
+        -- all calls for the stripes were made, and then a sync failed
+        sync_failed : FailsAfter [] (done_well (written_syncs levels)) vault_mid vault_new
+            → FailsAfter (mend_calls plan (facts_of stripes) readings) (done_well (mend_syncs plan stripes)) old.vault vault_new
+        sync_failed fails =
+            subst (λ (calls : List VaultCall). FailsAfter (mend_calls plan (facts_of stripes) readings) (done_well calls) old.vault vault_new)
             (syncs_are plan stripes levels as_many_levels flags_are)
-            (part_then (mend_calls plan (facts_of stripes) readings) (done_well (written_syncs levels)) old.vault vault_mid vault_new fixed.fixes.ran part)
+            (fails_after (mend_calls plan (facts_of stripes) readings) (done_well (written_syncs levels)) old.vault vault_mid vault_new fixed.fixes.ran fails)
+
+        -- or each level that was written was synced
+        all_synced : IsWellFormed vault_new → SyncsWritten levels vault_mid vault_new → FixesVault plan stripes readings old.vault vault_new
+        all_synced formed synced =
+            fixes_vault plan stripes readings old.vault vault_mid vault_new levels as_many_levels flags_are synced formed
+            fixed.fixes.ran fixed.fixes.unread fixed.fixes.vault fixed.fixes.zeros fixed.fixes.holds
 
       -- a sync of a level failed
       pub sync_broke : (levels : List Bool) → levels ≡ written_mid → length written ≡ table.shape.levels → ((r : ℕ) → r < length written → get_or written r false ≡ false)
@@ -224,7 +232,6 @@ module _ {W R : Type 0} (view : W → SinkView) (standing : R → ReportView) (s
           let none = none_opening is_parity_io parity_io_no_file plan in
           let before = fixed.fixes.parity_io in
           let rose = not_synced.rose in
-          let finishes = planned plan starts_mid states_mid folders_mid in
           record {
             lists = begun.lists;
             mids = mids;
@@ -240,19 +247,19 @@ module _ {W R : Type 0} (view : W → SinkView) (standing : R → ReportView) (s
             unread = rose_on (unread_in readings) old.vault.faults vault_mid.faults vault_new.faults fixed.fixes.unread not_synced.calls.goes_on.later;
             unread_cells_of = λ d within. rose_listed d _ _ within (fixed.unread d within);
             spare = fixed.fixes.spare;
-            ran = synced_part levels levels_are written_are none_written not_synced.ran;
             vault = mends_synced plan (facts_of stripes) old.vault vault_mid vault_new fixed.fixes.vault not_synced.calls not_synced.drafts not_synced.changes;
             first = opening ++ mended;
-            files = inr (
+            off = inr (
               refl,
               record {
                 written = all_written;
                 writes = writes;
-                finishes = finishes;
-                are = planned_done plan starts_mid states_mid folders_mid;
-                rest = all_finish_news plan finishes;
-                events = sym (append_assoc opening mended (all_finish_news plan finishes));
-                makes = λ d within. makes_none (AnyCall (FinishesOne plan d starts_mid states_mid)) (folder_at folders_mid d);
+                ending = record {
+                  events = refl;
+                  ran = sync_failed levels levels_are written_are none_written not_synced.ran;
+                  holds = holds_synced plan (facts_of stripes) vault_mid vault_new not_synced.calls not_synced.changes fixed.fixes.holds;
+                  folders = refl;
+                };
               },
             );
             told = told_stripes;
@@ -273,12 +280,12 @@ module _ {W R : Type 0} (view : W → SinkView) (standing : R → ReportView) (s
             (told_then view standing stands table.columns mended news opened_lines lines_mid lines_end opened_reports reports_mid reports_new fixed.fixes.told told)
 
         -- a folder failed while files were finished
-        pub finish_broke : levels ≡ written_mid → length written ≡ table.shape.levels → ((r : ℕ) → r < length written → get_or written r false ≡ false)
+        pub finish_broke : IsWellFormed vault_new → levels ≡ written_mid → length written ≡ table.shape.levels → ((r : ℕ) → r < length written → get_or written r false ≡ false)
             → (disk : ℕ) (plan_then : FixPlan) → plan_then ≡ plan
             → FinishesNotAll view standing stands plan_then (files_outside starts_mid states_mid folders_mid lines_mid reports_mid)
             (files_outside starts_new states_new folders_new lines_end reports_new) disk
             → FixBreaks view standing stands mode selection names table old (outside folders_new vault_new spare_mid lines_end reports_new) (Folder disk)
-        finish_broke levels_are written_are none_written disk plan_then same broke_then =
+        finish_broke formed levels_are written_are none_written disk plan_then same broke_then =
             let broke = subst (λ (p : FixPlan). FinishesNotAll view standing stands p (files_outside starts_mid states_mid folders_mid lines_mid reports_mid)
             (files_outside starts_new states_new folders_new lines_end reports_new) disk) same broke_then in
             let sum = count_append (is_io_of disk) opening (mended ++ broke.first) in
@@ -302,21 +309,23 @@ module _ {W R : Type 0} (view : W → SinkView) (standing : R → ReportView) (s
               unread = rose_on (unread_in readings) old.vault.faults vault_mid.faults vault_new.faults fixed.fixes.unread synced.syncs.some.goes_on.later;
               unread_cells_of = λ d within. rose_through d _ _ within (fixed.unread d within) (broke.makes d within).goes_on.later;
               spare = fixed.fixes.spare;
-              ran = part_all (fix_calls plan stripes readings) old.vault vault_new
-                  (fixes_ran plan stripes readings old.vault vault_mid vault_new levels (as_many_levels levels levels_are written_are none_written)
-                  (flags_are levels levels_are written_are none_written) synced fixed.fixes.ran);
               vault = mends_synced plan (facts_of stripes) old.vault vault_mid vault_new fixed.fixes.vault synced.syncs.some synced.syncs.drafts synced.syncs.changes;
               first = opening ++ (mended ++ broke.first);
-              files = inr (
+              off = inr (
                 refl,
                 record {
                   written = all_written;
                   writes = writes;
-                  finishes = broke.finishes;
-                  are = broke.are;
-                  rest = broke.rest;
-                  events = in_finish opening mended (all_finish_news plan broke.finishes) broke.first broke.rest broke.events;
-                  makes = broke.makes;
+                  ending = record {
+                    finishes = broke.finishes;
+                    are = broke.are;
+                    finished = broke.first;
+                    rest = broke.rest;
+                    events = sym (append_assoc opening mended broke.first);
+                    finished_are = broke.events;
+                    makes = broke.makes;
+                    vault = all_synced levels levels_are written_are none_written formed synced;
+                  };
                 },
               );
               told = told_with broke.first broke.told;
@@ -349,8 +358,6 @@ module _ {W R : Type 0} (view : W → SinkView) (standing : R → ReportView) (s
             let finish_news = all_finish_news plan finished.finishes in
             let told = told_with finish_news finished.told in
             let counted = and_all opening (mended ++ finish_news) opening_counted (and_news mended finish_news fixed.fixes.totals_are.counts finished.counts_are) in
-            let long = as_many_levels levels levels_are written_are none_written in
-            let flags = flags_are levels levels_are written_are none_written in
             record {
               lists = begun.lists;
               mids = mids;
@@ -363,7 +370,7 @@ module _ {W R : Type 0} (view : W → SinkView) (standing : R → ReportView) (s
               readings = readings;
               finds = finds;
               spare = fixed.fixes.spare;
-              vault = fixes_vault plan stripes readings old.vault vault_mid vault_new levels long flags synced formed fixed.fixes.ran fixed.fixes.unread fixed.fixes.vault fixed.fixes.zeros fixed.fixes.holds;
+              vault = all_synced levels levels_are written_are none_written formed synced;
               finishes = finished.finishes;
               files = fixes_files plan starts stripes mids folders_new all_written finished.finishes writes (finished.folders ∙ writes.underway.folders) finished.columns;
               unread = λ d within. rose_through d _ _ within (fixed.unread d within) (finished.columns d within).makes.goes_on.later;

@@ -29,9 +29,8 @@ use Rattle.snap_fix.specs.Marks.{slots_at}
 use Rattle.snap_fix.specs.Mended.{AnswersFit, Mended, all_mended_events, mended_events}
 use Rattle.snap_fix.specs.Plan.{FixPlan}
 use Rattle.snap_fix.specs.State.{AnyCall, FolderMakes}
-use Rattle.snap_fix.specs.Underway.{FixUnderway, IsMendCall, stripe_calls}
-use Rattle.snap_fix.proofs.BreakingLemmas.{part_more}
-use Rattle.snap_fix.proofs.FixAllLemmas.{answered_then, asked_then, events_append, facts_append, facts_then, fixes_none, fixes_then, levels_then, mends_then, part_of_stripes, precede, unread_then}
+use Rattle.snap_fix.specs.Underway.{FixUnderway, IsMendCall, stripe_calls, stripe_reads}
+use Rattle.snap_fix.proofs.FixAllLemmas.{answered_then, asked_then, breaks_in_last, events_append, facts_append, facts_then, fixes_none, fixes_then, levels_then, mends_then, precede, unread_then}
 use Rattle.snap_fix.proofs.FixCountLemmas.{count_append, parity_io_in_stripe}
 use Rattle.snap_fix.proofs.KeptStartsLemmas.{any_then}
 use Rattle.snap_fix.proofs.MendedVaultLemmas.{Precede}
@@ -190,8 +189,14 @@ module _ {W R : Type 0} (view : W → SinkView) (standing : R → ReportView) (s
           readings = so_far.fixes.readings ++ readings ∷ [];
           read = levels_then plan xs ys old.vault mid.vault so_far.fixes.readings (readings ∷ []) so_far.fixes.vault
               (before_it all ascending i within first one old mid so_far mended broke.number) so_far.fixes.read (broke.read.are, tt);
-          ran = part_of_stripes plan xs ys so_far.fixes.readings (readings ∷ []) old.vault mid.vault new.vault so_far.fixes.read so_far.fixes.ran
-              (part_more (stripe_calls plan mended.facts readings) [] mid.vault new.vault broke.ran);
+          ran = breaks_in_last fault plan xs ys so_far.fixes.readings (readings ∷ []) old.vault mid.vault new.vault so_far.fixes.read so_far.fixes.ran (record {
+            earlier = [];
+            last = mended.facts;
+            stripes_are = refl;
+            before = stripe_reads plan mended.facts readings;
+            calls_are = append-nil (stripe_calls plan mended.facts readings);
+            ran = broke.ran;
+          });
           unread = unread_then so_far.fixes.readings (readings ∷ []) old.vault.faults mid.vault.faults new.vault.faults so_far.fixes.unread (omega (arith, broke.read.unread));
           spare = asked_then plan xs ys old.spare mid.spare new.spare so_far.fixes.spare broke.spare;
           vault = mends_then plan xs ys old.vault mid.vault new.vault so_far.fixes.vault broke.vault;

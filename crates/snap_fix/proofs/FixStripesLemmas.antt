@@ -32,7 +32,7 @@ use Rattle.snap_fix.specs.Mended.{Mended, all_mended_events}
 use Rattle.snap_fix.specs.Plan.{EntriesFit, FixPlan}
 use Rattle.snap_fix.specs.State.{AnyCall, WellCall, FolderMakes}
 use Rattle.snap_fix.specs.Underway.{AreFixable, AreUnderway, FixUnderway, IsMendCall}
-use Rattle.snap_fix.proofs.FixAllLemmas.{answered_then, asked_then, events_append, facts_append, facts_then, fixes_none, fixes_then, levels_then, mends_then, part_of_stripes, precede, unread_then}
+use Rattle.snap_fix.proofs.FixAllLemmas.{answered_then, asked_then, breaks_in_last, events_append, facts_append, facts_then, fixes_none, fixes_then, levels_then, mends_then, precede, unread_then}
 use Rattle.snap_fix.proofs.FixCountLemmas.{count_append, io_in_cells}
 use Rattle.snap_fix.proofs.FixIntoLemmas.{count_first, folder_gained, vault_gained}
 use Rattle.snap_fix.proofs.FixReadLemmas.{cell_read, cells_unread, underway_read, window_makes}
@@ -268,7 +268,7 @@ module _ {W R : Type 0} (view : W → SinkView) (standing : R → ReportView) (s
             cells = read_more first one old so_far ys into.behind into.numbers_are into.slots;
             readings = so_far.fixes.readings ++ into.readings;
             read = levels_then plan xs ys old.vault mid.vault so_far.fixes.readings into.readings so_far.fixes.vault before so_far.fixes.read into.read;
-            ran = part_of_stripes plan xs ys so_far.fixes.readings into.readings old.vault mid.vault new.vault so_far.fixes.read so_far.fixes.ran into.ran;
+            ran = breaks_in_last fault plan xs ys so_far.fixes.readings into.readings old.vault mid.vault new.vault so_far.fixes.read so_far.fixes.ran into.ran;
             unread = unread_then so_far.fixes.readings into.readings old.vault.faults mid.vault.faults new.vault.faults so_far.fixes.unread into.unread;
             unread_cells_of = λ d below.
                 unread_since first one old so_far ys into.behind into.numbers_are into.slots d (folder_at new.folders d).faults below (into.makes d below).goes_on.later;

@@ -6,7 +6,7 @@ use Rattle.disk_model.specs.Files.{Files, Stays, parity_of}
 use Rattle.disk_model.specs.Vault.{VaultView, VaultCall, VaultDone, GoesOn, SomeCalls, ChangesBy, DraftsStay, IsWellFormed}
 use Rattle.disk_model.proofs.VaultLemmas.{calls_then, then_stays}
 use Rattle.parity_writer.specs.LevelReading.{LevelReading}
-use Rattle.snap_fix.specs.Ending.{IsSettled, SyncsWritten, sync_call, sync_if, written_syncs}
+use Rattle.snap_fix.specs.Ending.{IsLevelSettled, SyncsWritten, sync_call, sync_if, written_syncs}
 use Rattle.snap_fix.specs.Facts.{StripeFacts}
 use Rattle.snap_fix.specs.FixCourse.{FixesVault, fix_calls, mend_syncs}
 use Rattle.snap_fix.specs.FixRun.{HoldAllWrong}
@@ -30,13 +30,13 @@ mends_synced plan stripes old mid new mends calls drafts stays =
       changes = then_stays (KeepsLevels plan.table.shape.block_size (IsMendedLevel plan stripes)) old mid new tells mends.changes stays;
     }
 
-holds_synced : (plan : FixPlan) (stripes : List StripeFacts) (mid new : VaultView) → SomeCalls mid new → ChangesBy Stays mid new → HoldAllWrong plan stripes mid → HoldAllWrong plan stripes new
+pub holds_synced : (plan : FixPlan) (stripes : List StripeFacts) (mid new : VaultView) → SomeCalls mid new → ChangesBy Stays mid new → HoldAllWrong plan stripes mid → HoldAllWrong plan stripes new
 holds_synced plan stripes mid new calls stays holds told =
     let before : IsTrue mid.tells = subst IsTrue calls.goes_on.tells told in
     subst (λ (files : Files). All (λ (facts : StripeFacts). HoldsWrong plan facts files) stripes) (sym (stays.reads before)) (holds before)
 
 -- a stop leaves of a level what a read gives
-settled_now : (level : ℕ) (mid new : VaultView) → IsWellFormed new → SomeCalls mid new → ChangesBy Stays mid new → IsSettled level mid new → IsSettled level new new
+settled_now : (level : ℕ) (mid new : VaultView) → IsWellFormed new → SomeCalls mid new → ChangesBy Stays mid new → IsLevelSettled level mid new → IsLevelSettled level new new
 settled_now level mid new formed calls stays settled = record {
   reads = λ told. refl;
   leaves = λ images files may.

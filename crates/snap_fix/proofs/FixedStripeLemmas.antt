@@ -1,9 +1,9 @@
 -- A stripe that was looked at and written anew: what holds of it where all went well, and where a folder or the vault failed.
-use Rattle.std.proofs.Common.{◌≡◌, inl, ℕ, ◌<◌, ◌≤◌, ◌^◌, List, [], ◌∷◌, ◌++◌, length, Bool, refl, sym, ap, ◌∙◌, subst, append_assoc, arith}
+use Rattle.std.proofs.Common.{◌≡◌, ℕ, ◌<◌, ◌≤◌, ◌^◌, List, [], ◌∷◌, ◌++◌, length, Bool, refl, sym, ap, ◌∙◌, subst, append_assoc, arith}
 use Rattle.std.specs.Vec.{with_items}
 use Rattle.std.proofs.lemmas.List.{with_items_is}
 use Rattle.disk_model.specs.Sink.{SinkView}
-use Rattle.disk_model.specs.Vault.{VaultView}
+use Rattle.disk_model.specs.Vault.{VaultView, GoesOn}
 use Rattle.disk_model.proofs.VaultLemmas.{changes_start, no_calls}
 use Rattle.snap_report.specs.Report.{ReportView}
 use Rattle.snap_report.specs.Told.{Told}
@@ -18,7 +18,6 @@ use Rattle.snap_fix.specs.declared.marking.CellMark.{CellMark}
 use Rattle.snap_fix.specs.declared.repairing.Repaired.{Repaired}
 use Rattle.snap_fix.specs.declared.room.Room.{Room}
 use Rattle.snap_fix.specs.Asking.{AsksSpare}
-use Rattle.snap_fix.specs.Breaking.{MakesPartOf}
 use Rattle.snap_fix.specs.Counts.{AreCounts}
 use Rattle.snap_fix.specs.Examining.{Examines, ReadsTried, facts_examined}
 use Rattle.snap_fix.specs.Facts.{StripeFacts}
@@ -32,12 +31,12 @@ use Rattle.snap_fix.specs.Plan.{FixPlan, is_searched}
 use Rattle.snap_fix.specs.Repairing.{MendsFiles, MendsNotFiles, levels_outside, outside}
 use Rattle.snap_fix.specs.Room.{IsRoomFor}
 use Rattle.snap_fix.specs.Spare.{IsSpareFor}
-use Rattle.snap_fix.specs.Underway.{IsMendedLevel, KeepsLevels, ShowsFacts, done_well, stripe_calls, wrong_writes}
+use Rattle.snap_fix.specs.Underway.{IsMendedLevel, KeepsLevels, ShowsFacts, stripe_reads}
 use Rattle.snap_fix.proofs.FixedCountLemmas.{totals_of, writes_one}
 use Rattle.snap_fix.proofs.FixedParityLemmas.{drafts_same}
-use Rattle.snap_fix.proofs.FixedVaultLemmas.{any_makes_as, mends_vault, mends_zeros, part_stripe, ran_stripe, read_broke, reading_calls, vault_broke, well_makes_any, well_makes_as, were_read}
+use Rattle.snap_fix.proofs.FixedVaultLemmas.{any_makes_as, fails_stripe, mends_vault, mends_zeros, ran_stripe, read_broke, reading_calls, reads_stripe, vault_broke, well_makes_any, well_makes_as, were_read}
 use Rattle.snap_fix.proofs.WindowLemmas.{length_tried, levels_one}
-use Rattle.snap_fix.proofs.WrittenLevelLemmas.{keeps_nothing, ran_nothing}
+use Rattle.snap_fix.proofs.WrittenLevelLemmas.{keeps_nothing}
 
 -- room with another sum in its block
 pub room_then : (plan : FixPlan) (room : Room) (items : List ℕ) → length items ≡ length room.block.items → IsRoomFor plan.table room
@@ -81,20 +80,16 @@ module _ {W R : Type 0} (view : W → SinkView) (standing : R → ReportView) (s
   read_by : (after : VaultView) → vault.faults ≤ after.faults → LevelsWereRead plan facts old.vault after
   read_by after later = were_read plan facts old.vault vault after later levels_read_of
 
-  -- its levels were read, and so much of its calls was made
-  record ReadAndPart (after : VaultView) : Type 0 where
+  -- its levels were read, and no other call of the vault was made
+  record ReadsAlone (after : VaultView) : Type 0 where
     pub read : LevelsWereRead plan facts old.vault after
-    pub ran : MakesPartOf (stripe_calls plan facts read.readings) old.vault after
+    pub ran : GoesOn old.vault after (stripe_reads plan facts read.readings)
 
-  read_alone : ReadAndPart vault
+  read_alone : ReadsAlone vault
   unfolding read_by
   read_alone =
       let later : vault.faults ≤ vault.faults = omega arith in
-      record {
-        read = read_by vault later;
-        ran = part_stripe plan facts old.vault vault vault later levels_read_of
-            (record { done = []; is_part = inl (done_well (wrong_writes plan facts), refl); goes_on = ran_nothing vault });
-      }
+      record { read = read_by vault later; ran = reads_stripe plan facts old.vault vault vault later levels_read_of }
 
   -- ---- its cells were written
 
@@ -177,7 +172,7 @@ module _ {W R : Type 0} (view : W → SinkView) (standing : R → ReportView) (s
       folders = files.folders;
       answered = files.answered facts refl shown;
       read = read_by new.vault parity.calls.goes_on.later;
-      ran = part_stripe plan facts old.vault vault new.vault parity.calls.goes_on.later levels_read_of parity.ran;
+      ran = fails_stripe plan facts old.vault vault new.vault parity.calls.goes_on.later levels_read_of parity.ran;
       spare = asks;
       vault = mends_vault plan facts (is_searched plan stripe) stripe mid.levels old.vault vault new.vault reads parity.calls parity.drafts parity.changes;
       makes = λ d within. well_makes_any plan old.starts d facts [] files.answers (folder_at old.folders d) (folder_at new.folders d) (files.makes facts refl shown d within);
@@ -198,7 +193,7 @@ module _ {W R : Type 0} (view : W → SinkView) (standing : R → ReportView) (s
       let first : List Event = part.1 in
       let rest : List Event = part.2 in
       let levels : List Event = all_level_news plan facts in
-      let then_read : ReadAndPart new.vault = subst ReadAndPart (sym same) read_alone in
+      let then_read : ReadsAlone new.vault = subst ReadsAlone (sym same) read_alone in
       record {
         mended = record { facts = facts; answers = answers };
         number = refl;

@@ -12,7 +12,7 @@ use Rattle.parity_writer.specs.LevelReading.{LevelReading, calls_of, has_failed}
 use Rattle.parity_writer.specs.LevelsValue.{LevelsValue}
 use Rattle.snap_report.specs.Answer.{Gained}
 use Rattle.stripe_reader.specs.Starts.{StartsValue}
-use Rattle.snap_fix.specs.Breaking.{MakesPartOf, broke_parity}
+use Rattle.snap_fix.specs.Breaking.{FailsAfter, broke_parity}
 use Rattle.snap_fix.specs.Examining.{ReadsTried}
 use Rattle.snap_fix.specs.Facts.{StripeFacts}
 use Rattle.snap_fix.specs.Fixing.{LevelsWereRead, MendsVault, VaultBroke}
@@ -20,8 +20,8 @@ use Rattle.snap_fix.specs.Looking.{AreAllLevelsOf, LevelsAreRead, level_reads, u
 use Rattle.snap_fix.specs.Mended.{Mended}
 use Rattle.snap_fix.specs.Plan.{FixPlan}
 use Rattle.snap_fix.specs.State.{AnyCall, WellCall, FolderMakes}
-use Rattle.snap_fix.specs.Underway.{AddsZeros, IsMendCall, IsMendedLevel, KeepsLevels, WritesCell, done_well, stripe_calls, wrong_writes}
-use Rattle.snap_fix.proofs.BreakingLemmas.{part_then}
+use Rattle.snap_fix.specs.Underway.{AddsZeros, IsMendCall, IsMendedLevel, KeepsLevels, WritesCell, done_well, stripe_calls, stripe_reads, wrong_writes}
+use Rattle.snap_fix.proofs.BreakingLemmas.{fails_after}
 use Rattle.snap_fix.proofs.FolderCallLemmas.{makes_wider, well_wider}
 use Rattle.snap_fix.proofs.LookingLemmas.{vault_goes_on}
 use Rattle.snap_fix.proofs.WrittenLevelLemmas.{keeps_nothing}
@@ -86,23 +86,29 @@ pub ran_stripe : (plan : FixPlan) (facts : StripeFacts) (old mid new : VaultView
 unfolding were_read
 ran_stripe plan facts old mid new later read writes = ran_by plan facts old mid new later read.readings read.are read.unread read.goes_on writes
 
--- or a part of those
-part_by : (plan : FixPlan) (facts : StripeFacts) (old mid new : VaultView) (later : mid.faults ≤ new.faults)
+-- or they were read alone
+reads_by : (plan : FixPlan) (facts : StripeFacts) (old mid new : VaultView) (later : mid.faults ≤ new.faults)
     → (readings : List (List LevelReading)) (are : AreAllLevelsOf plan.table.shape.block_size old (facts ∷ []) readings) (unread : RoseBy (unread_in readings) old.faults mid.faults)
-    → GoesOn old mid (level_reads plan.table.shape.block_size (facts ∷ []) readings) → MakesPartOf (done_well (wrong_writes plan facts)) mid new
-    → MakesPartOf (stripe_calls plan facts (were_read_by plan facts old mid new later readings are unread).readings) old new
+    → GoesOn old mid (level_reads plan.table.shape.block_size (facts ∷ []) readings)
+    → GoesOn old mid (stripe_reads plan facts (were_read_by plan facts old mid new later readings are unread).readings)
 unfolding were_read_by
-part_by plan facts old mid new later [] are unread reads writes = absurd are
-part_by plan facts old mid new later (one ∷ []) are unread reads writes =
-    let calls : List VaultDone = calls_of plan.table.shape.block_size facts.stripe one in
-    let read : GoesOn old mid calls = subst (GoesOn old mid) (append-nil calls) reads in
-    part_then calls (done_well (wrong_writes plan facts)) old mid new read writes
-part_by plan facts old mid new later (one ∷ two ∷ more) are unread reads writes = absurd are.1
+reads_by plan facts old mid new later [] are unread reads = absurd are
+reads_by plan facts old mid new later (one ∷ []) are unread reads =
+    subst (GoesOn old mid) (append-nil (stripe_reads plan facts one)) reads
+reads_by plan facts old mid new later (one ∷ two ∷ more) are unread reads = absurd are.1
 
-pub part_stripe : (plan : FixPlan) (facts : StripeFacts) (old mid new : VaultView) (later : mid.faults ≤ new.faults) (read : LevelsAreRead plan (facts ∷ []) old mid)
-    → MakesPartOf (done_well (wrong_writes plan facts)) mid new → MakesPartOf (stripe_calls plan facts (were_read plan facts old mid new later read).readings) old new
+pub reads_stripe : (plan : FixPlan) (facts : StripeFacts) (old mid new : VaultView) (later : mid.faults ≤ new.faults) (read : LevelsAreRead plan (facts ∷ []) old mid)
+    → GoesOn old mid (stripe_reads plan facts (were_read plan facts old mid new later read).readings)
 unfolding were_read
-part_stripe plan facts old mid new later read writes = part_by plan facts old mid new later read.readings read.are read.unread read.goes_on writes
+reads_stripe plan facts old mid new later read = reads_by plan facts old mid new later read.readings read.are read.unread read.goes_on
+
+-- or one of the writes failed
+pub fails_stripe : (plan : FixPlan) (facts : StripeFacts) (old mid new : VaultView) (later : mid.faults ≤ new.faults) (read : LevelsAreRead plan (facts ∷ []) old mid)
+    → FailsAfter [] (done_well (wrong_writes plan facts)) mid new
+    → FailsAfter (stripe_reads plan facts (were_read plan facts old mid new later read).readings) (done_well (wrong_writes plan facts)) old new
+fails_stripe plan facts old mid new later read fails =
+    fails_after (stripe_reads plan facts (were_read plan facts old mid new later read).readings) (done_well (wrong_writes plan facts)) old mid new
+    (reads_stripe plan facts old mid new later read) fails
 
 -- ---- and then some are written
 

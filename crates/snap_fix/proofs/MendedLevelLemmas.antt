@@ -30,7 +30,7 @@ use Rattle.snap_report.specs.declared.events.Event.TheVariants.{FixedParity}
 use Rattle.snap_report.specs.declared.pages.Lines.{Lines}
 use Rattle.snap_report.proofs.ToldLemmas.{told_then, told_nothing}
 use Rattle.stripe_reader.specs.WindowValue.{WindowValue}
-use Rattle.snap_fix.specs.Breaking.{MakesPartOf}
+use Rattle.snap_fix.specs.Breaking.{FailsAfter}
 use Rattle.snap_fix.specs.Facts.{StripeFacts}
 use Rattle.snap_fix.specs.Findings.{is_wrong, is_wrong_by}
 use Rattle.snap_fix.specs.Marks.{row_if}
@@ -39,7 +39,7 @@ use Rattle.snap_fix.specs.Plan.{FixPlan, selects_level}
 use Rattle.snap_fix.specs.Repairing.{LevelsOutside, ShowsLevels, MendsLevels, MendsNotLevels, levels_outside}
 use Rattle.snap_fix.specs.RepairSteps.{WritesLevel, WritesNotLevel}
 use Rattle.snap_fix.specs.Underway.{AddsZeros, KeepsLevels, IsMendedLevel, HoldsWrong, done_well, level_write, wrong_write, wrong_writes}
-use Rattle.snap_fix.proofs.BreakingLemmas.{flat_split, part_fails}
+use Rattle.snap_fix.proofs.BreakingLemmas.{flat_split, fails_at}
 use Rattle.snap_fix.proofs.LookingLemmas.{vault_goes_on}
 use Rattle.snap_fix.proofs.SelectLemmas.{range_more}
 use Rattle.snap_fix.proofs.StripeLemmas.{level_of_first, levels_as_many}
@@ -183,7 +183,7 @@ module _ {W R : Type 0} (view : W → SinkView) (standing : R → ReportView) (s
 
   -- the write of one more wrong level failed
   pub levels_not : (r : ℕ) (row : Row) (old mid new : VaultView) → is_wrong_level plan facts r ≡ true → facts.row ≡ Some row → r < length facts.levels
-      → GoesOn old mid (done_well (writes_to r)) → GoesOn mid new (vault_done (level_write plan facts row r) true ∷ []) → MakesPartOf (done_well (wrong_writes plan facts)) old new
+      → GoesOn old mid (done_well (writes_to r)) → GoesOn mid new (vault_done (level_write plan facts row r) true ∷ []) → FailsAfter [] (done_well (wrong_writes plan facts)) old new
   levels_not r row old mid new wrong row_is below so_far fails =
       let call : VaultCall = level_write plan facts row r in
       let split = flat_split (wrong_write plan facts facts.row) (r + 1) (length facts.levels) (omega (arith, below)) in
@@ -191,7 +191,7 @@ module _ {W R : Type 0} (view : W → SinkView) (standing : R → ReportView) (s
       sym (flat_range_more (wrong_write plan facts facts.row) r) ∙ ap (λ (more : List VaultCall). writes_to r ++ more) (one_written r row row_is wrong) in
       let whole : wrong_writes plan facts ≡ writes_to r ++ call ∷ split.0 =
       split.1 ∙ ap (λ (calls : List VaultCall). calls ++ split.0) here ∙ append_assoc (writes_to r) (call ∷ []) split.0 in
-      subst (λ (calls : List VaultCall). MakesPartOf (done_well calls) old new) (sym whole) (part_fails (writes_to r) split.0 call old mid new so_far fails)
+      subst (λ (calls : List VaultCall). FailsAfter [] (done_well calls) old new) (sym whole) (fails_at (writes_to r) split.0 call old mid new refl so_far fails)
 
   pub levels_none : (s : LevelsOutside W R) → LevelsSoFar 0 0 s s
   levels_none s = record {

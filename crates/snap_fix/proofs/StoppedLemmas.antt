@@ -113,7 +113,7 @@ module _ (stop : FixStop) (stops : IsStop stop) where
   stripes = stop.stripes
 
   abbrev calls : List FolderDone
-  calls = stop.calls
+  calls = stops.calls
 
   abbrev first : Tree
   first = stop.first

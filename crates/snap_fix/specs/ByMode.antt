@@ -16,7 +16,8 @@ use Rattle.snap_fix.specs.declared.scope.Mode.{Mode}
 use Rattle.snap_fix.specs.declared.scope.Mode.TheVariants.{Check, Audit, Fix}
 use Rattle.snap_fix.specs.Beginning.{BeginsNot}
 use Rattle.snap_fix.specs.Course.{Checks, Outside}
-use Rattle.snap_fix.specs.FixCourse.{AreOpen, Fixes, FixesNot}
+use Rattle.snap_fix.specs.FixBreaking.{FixesNot}
+use Rattle.snap_fix.specs.FixCourse.{AreOpen, Fixes}
 
 -- a fix alone needs the folders open whose columns have records
 abbrev pub AreOpenFor : Mode → TableValue → List FolderView → Type 0

@@ -10,7 +10,7 @@ use Rattle.disk_model.specs.Tree.{Tree, file_of, path_of}
 use Rattle.disk_model.specs.Vault.{VaultView, VaultCall, ParitySync, SomeCalls, ChangesBy, DraftsStay, Holds, state_of}
 use Rattle.file_table.specs.Table.{record_at}
 use Rattle.snap_report.specs.Answer.{Gained, broke_folder}
-use Rattle.snap_fix.specs.Breaking.{MakesPartOf, broke_parity}
+use Rattle.snap_fix.specs.Breaking.{FailsAfter, broke_parity}
 use Rattle.snap_report.specs.Report.{ReportView}
 use Rattle.snap_report.specs.Told.{Told}
 use Rattle.snap_report.specs.declared.events.Event.{Event}
@@ -51,20 +51,20 @@ pub record Syncs (calls : List VaultCall) (old new : VaultView) : Type 0 where
   pub changes : ChangesBy Stays old new
 
 -- a stop leaves of a level what a read gives
-abbrev pub IsSettled : ℕ → VaultView → VaultView → Type 0
-IsSettled level old new = Holds (λ files. parity_of files level ≡ parity_of old.files level) new
+abbrev pub IsLevelSettled : ℕ → VaultView → VaultView → Type 0
+IsLevelSettled level old new = Holds (λ files. parity_of files level ≡ parity_of old.files level) new
 
 -- the levels were synced
 pub record SyncsWritten (written : List Bool) (old new : VaultView) : Type 0 where
   pub syncs : Syncs (written_syncs written) old new
-  pub settled : (level : ℕ) → level < length written → get_or written level false ≡ true → IsSettled level old new
+  pub settled : (level : ℕ) → level < length written → get_or written level false ≡ true → IsLevelSettled level old new
 
 -- A sync of a level failed, and the count of faults rose: of these calls the first ones were made, and that one.
 pub record SyncsNot (syncs : List VaultCall) (old new : VaultView) : Type 0 where
   pub rose : Rose old.faults new.faults
   pub call : IsTrue new.tells_calls → Gained broke_parity old.calls new.calls
   pub calls : SomeCalls old new
-  pub ran : MakesPartOf (done_well syncs) old new
+  pub ran : FailsAfter [] (done_well syncs) old new
   pub drafts : DraftsStay old new
   pub changes : ChangesBy Stays old new
 

@@ -1,5 +1,5 @@
 -- A fix as a whole.
-use Rattle.std.specs.Prelude.{◌≡◌, ◌⊎◌, ℕ, ◌<◌, List, [], ◌++◌, length, sum_by, count_by, All, Bool, true, false, IsTrue}
+use Rattle.std.specs.Prelude.{◌≡◌, ℕ, ◌<◌, List, [], ◌++◌, length, sum_by, count_by, All, Bool, true, false, IsTrue}
 use Rattle.std.specs.List.{range_with_len, flat_map}
 use Rattle.array_scan.specs.Kept.{ListedFile}
 use Rattle.array_scan.specs.Listings.{ListsAll}
@@ -19,8 +19,6 @@ use Rattle.snap_report.specs.Kind.{is_finding, is_left}
 use Rattle.snap_report.specs.Report.{ReportView, AllGiven}
 use Rattle.snap_report.specs.State.{Puts, state_of}
 use Rattle.snap_report.specs.Telling.{Settled}
-use Rattle.snap_report.specs.Told.{Told}
-use Rattle.snap_report.specs.declared.answer.RunFault.{RunFault}
 use Rattle.snap_report.specs.declared.events.Event.{Event}
 use Rattle.stripe_reader.specs.Columns.{folder_at}
 use Rattle.stripe_reader.specs.Starts.{StartsValue, starts_at}
@@ -30,13 +28,11 @@ use Rattle.snap_fix.specs.declared.finishing.Finish.{Finish}
 use Rattle.snap_fix.specs.declared.scope.Mode.{Mode}
 use Rattle.snap_fix.specs.declared.state.FileState.{FileState}
 use Rattle.snap_fix.specs.Asking.{AsksSpare}
-use Rattle.snap_fix.specs.Beginning.{BeginsNot}
-use Rattle.snap_fix.specs.Breaking.{MakesPartOf}
 use Rattle.snap_fix.specs.Counts.{at_most}
 use Rattle.snap_fix.specs.Course.{IsPlan, Outside}
-use Rattle.snap_fix.specs.Ending.{AreDone, FinishesColumn, FinishesOne, IsSettled, all_finish_news, column_calls, states_at, sync_if}
+use Rattle.snap_fix.specs.Ending.{FinishesColumn, IsLevelSettled, all_finish_news, column_calls, states_at, sync_if}
 use Rattle.snap_fix.specs.Findings.{opening_events}
-use Rattle.snap_fix.specs.FixRun.{HasBroken, HoldAllWrong}
+use Rattle.snap_fix.specs.FixRun.{HoldAllWrong}
 use Rattle.snap_fix.specs.Fixing.{ArePresent, MendsVault, facts_of, was_written}
 use Rattle.snap_fix.specs.Known.{AreFacts}
 use Rattle.snap_fix.specs.Looking.{AreAllLevelsOf, numbers_of, unread_cells, unread_in}
@@ -86,7 +82,7 @@ pub record FixesVault (plan : FixPlan) (stripes : List Mended) (readings : List 
   pub mends : MendsVault plan (facts_of stripes) old new
   pub zeros : IsTrue old.tells → AddsZeros plan.table.shape.block_size (IsMendedLevel plan (facts_of stripes)) old.files new.files
   pub holds : HoldAllWrong plan (facts_of stripes) new
-  pub synced : (level : ℕ) → level < plan.table.shape.levels → was_written plan stripes level ≡ true → IsSettled level new new
+  pub synced : (level : ℕ) → level < plan.table.shape.levels → was_written plan stripes level ≡ true → IsLevelSettled level new new
 
 -- Any call of a fix of these stripes, once the folders are listed, by where files stood then: files are read; of the records that are selected and not
 -- blocked, a file is made if there was none, renamed back if it had the other name, and its known blocks are written; one without a lost
@@ -166,59 +162,3 @@ pub record Fixes {W R : Type 0} (view : W → SinkView) (standing : R → Report
   pub left : end.left ≡ at_most (count_by is_left (fix_events plan stripes finishes))
   pub blocks : end.blocks ≡ at_most (sum_by (written_in plan) stripes)
   pub parities : end.parities ≡ at_most (sum_by (wrong_in plan) stripes)
-
--- ---- how it breaks off
-
--- While blocks were written: a prefix of the events of its stripes was told, and only calls that write their blocks were made.
-pub record BreaksWriting (plan : FixPlan) (starts : StartsValue) (stripes : List Mended) (first : List Event) (firsts news : List FolderView) : Type 0 where
-  pub rest : List Event
-  pub events : opening_events plan ++ all_mended_events plan stripes ≡ first ++ rest
-  pub makes : (d : ℕ) → d < length plan.table.columns → FolderMakes (AnyCall (IsMendCall plan starts d stripes)) (folder_at firsts d) (folder_at news d)
-
--- While levels were synced or files finished: all blocks were written, a prefix was told of what is told where nothing fails, and only
--- calls that finish files were made.
-pub record BreaksFinishing (plan : FixPlan) (starts : StartsValue) (stripes : List Mended) (first : List Event) (firsts news : List FolderView) : Type 0 where
-  pub written : Written
-  pub writes : WritesFiles plan starts stripes firsts written
-  pub finishes : List (List Finish)
-  pub are : AreDone plan written.starts written.states written.folders finishes
-  pub rest : List Event
-  pub events : fix_events plan stripes finishes ≡ first ++ rest
-  pub makes : (d : ℕ) → d < length plan.table.columns
-      → FolderMakes (AnyCall (FinishesOne plan d written.starts written.states)) (folder_at written.folders d) (folder_at news d)
-
--- A fix that broke off after the folders were listed: an object failed otherwise than in the readings that were told. These first stripes
--- were looked at, and all of them before files were finished. The vault got a part of the calls of a fix of these stripes: the first ones, or
--- those and one that failed.
-pub record FixBreaks {W R : Type 0} (view : W → SinkView) (standing : R → ReportView) (stands : R → List Event → Type 0)
-    (mode : Mode) (selection : Selection) (names : List (List ℕ)) (table : TableValue) (old new : Outside W R) (fault : RunFault) : Type 0 where
-  pub lists : List (List ListedFile)
-  pub mids : List FolderView
-  pub as_many : length mids ≡ length old.folders
-  pub listed : ListsAll old.folders mids lists
-  pub plan : FixPlan
-  pub plan_is : IsPlan mode selection names table lists plan
-  pub stripes : List Mended
-  pub behind : List ℕ
-  pub numbers : stripes_of plan ≡ numbers_of (facts_of stripes) ++ behind
-  pub readings : List (List LevelReading)
-  pub finds : FixFinds plan (starts_of table lists) mids old.vault stripes readings
-  pub unread : RoseBy (unread_in readings) old.vault.faults new.vault.faults
-  pub unread_cells_of : (d : ℕ) → d < length plan.table.columns
-      → RoseBy (unread_cells d (facts_of stripes)) (folder_at old.folders d).faults (folder_at new.folders d).faults
-  pub spare : AsksSpare plan (facts_of stripes) old.spare new.spare
-  pub ran : MakesPartOf (fix_calls plan stripes readings) old.vault new.vault
-  pub vault : MendsVault plan (facts_of stripes) old.vault new.vault
-  pub first : List Event
-  pub files : BreaksWriting plan (starts_of table lists) stripes first mids new.folders
-      ⊎ ((behind ≡ []) × BreaksFinishing plan (starts_of table lists) stripes first mids new.folders)
-  pub told : Told view standing stands table.columns first old.lines new.lines old.reports new.reports
-  pub folders : length new.folders ≡ length old.folders
-  pub calls : MakeFixCalls plan (starts_of table lists) stripes mids new.folders
-  pub broke : HasBroken plan fault first mids new.folders old.vault new.vault
-
--- why a fix did not end: it did not begin, and nothing but the folders was touched, or it broke off
-abbrev pub FixesNot : {W R : Type 0} → (W → SinkView) → (R → ReportView) → (R → List Event → Type 0) → Mode → Selection → List (List ℕ) → TableValue
-    → Outside W R → Outside W R → Type 0 → RunFault → Type 0
-FixesNot view standing stands mode selection names table old new untouched fault =
-    (BeginsNot old.folders new.folders fault × untouched) ⊎ FixBreaks view standing stands mode selection names table old new fault

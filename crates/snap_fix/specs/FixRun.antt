@@ -1,13 +1,13 @@
 -- All stripes of a fix.
-use Rattle.std.specs.Prelude.{◌≡◌, ℕ, ◌+◌, ◌<◌, List, [], ◌++◌, length, count_by, IsTrue, All, AllPairs}
+use Rattle.std.specs.Prelude.{◌≡◌, ℕ, ◌+◌, ◌<◌, List, [], ◌∷◌, ◌++◌, length, count_by, IsTrue, All, AllPairs}
 use Rattle.disk_model.specs.Cause.{RoseBy}
 use Rattle.disk_model.specs.Folder.{FolderView}
 use Rattle.disk_model.specs.Sink.{SinkView}
-use Rattle.disk_model.specs.Vault.{VaultView, GoesOn, Reads}
+use Rattle.disk_model.specs.Vault.{VaultView, VaultDone, GoesOn, Reads}
 use Rattle.parity_writer.specs.LevelReading.{LevelReading}
 use Rattle.file_table.specs.Table.{TableValue}
 use Rattle.snap_report.specs.Answer.{Gained, broke_folder, is_io_of, is_parity_io}
-use Rattle.snap_fix.specs.Breaking.{MakesPartOf, broke_parity}
+use Rattle.snap_fix.specs.Breaking.{BreaksAfter, broke_parity}
 use Rattle.snap_report.specs.Report.{ReportView}
 use Rattle.snap_report.specs.Told.{Told}
 use Rattle.snap_report.specs.declared.answer.RunFault.{RunFault}
@@ -28,7 +28,7 @@ use Rattle.snap_fix.specs.Mended.{Mended, AnswersFit, all_mended_events}
 use Rattle.snap_fix.specs.Plan.{FixPlan}
 use Rattle.snap_fix.specs.Room.{IsRoomFor}
 use Rattle.snap_fix.specs.State.{AnyCall, WellCall, FolderMakes, KeepsStarts}
-use Rattle.snap_fix.specs.Underway.{AddsZeros, AreFixable, AreUnderway, HoldsWrong, IsMendCall, IsMendedLevel, mend_calls}
+use Rattle.snap_fix.specs.Underway.{AddsZeros, AreFixable, AreUnderway, HoldsWrong, IsMendCall, IsMendedLevel, done_well, mend_calls, wrong_writes}
 
 -- the stripes are looked at in ascending order, none twice
 abbrev pub AreAscending : List ℕ → Type 0
@@ -116,6 +116,17 @@ HasBroken plan (Folder disk) told olds news old new = (disk < length plan.table.
 HasBroken plan Vault told olds news old new = VaultFailedBy told old new
 HasBroken plan Memory told olds news old new = ⊥
 
+-- Of the vault all calls for these stripes were made, but for the writes of the last one: where a folder failed, none of them, and where a call
+-- of the vault did, the first ones and that.
+pub record BreaksInLast (plan : FixPlan) (fault : RunFault) (stripes : List StripeFacts) (readings : List (List LevelReading))
+    (old new : VaultView) : Type 0 where
+  pub earlier : List StripeFacts
+  pub last : StripeFacts
+  pub stripes_are : stripes ≡ earlier ++ last ∷ []
+  pub before : List VaultDone
+  pub calls_are : mend_calls plan stripes readings ≡ before ++ done_well (wrong_writes plan last)
+  pub ran : BreaksAfter fault before (done_well (wrong_writes plan last)) old new
+
 -- Some first stripes were written anew, and the one after them broke off: a prefix of their events was told, and only calls were made
 -- that they ask for.
 pub record BreaksStripes {W R : Type 0} (view : W → SinkView) (standing : R → ReportView) (stands : R → List Event → Type 0)
@@ -134,7 +145,7 @@ pub record BreaksStripes {W R : Type 0} (view : W → SinkView) (standing : R �
       → AreReadThen plan old.starts firsts stripes
   pub readings : List (List LevelReading)
   pub read : AreAllLevelsOf plan.table.shape.block_size old.vault (facts_of stripes) readings
-  pub ran : MakesPartOf (mend_calls plan (facts_of stripes) readings) old.vault new.vault
+  pub ran : BreaksInLast plan fault (facts_of stripes) readings old.vault new.vault
   pub unread : RoseBy (unread_in readings) old.vault.faults new.vault.faults
   pub unread_cells_of : (d : ℕ) → d < length plan.table.columns
       → RoseBy (unread_cells d (facts_of stripes)) (folder_at old.folders d).faults (folder_at new.folders d).faults
@@ -164,7 +175,7 @@ pub record BreaksInto {W R : Type 0} (view : W → SinkView) (standing : R → R
   pub answered : All (AnswersFit plan old.folders) stripes
   pub readings : List (List LevelReading)
   pub read : AreAllLevelsOf plan.table.shape.block_size old.vault (facts_of stripes) readings
-  pub ran : MakesPartOf (mend_calls plan (facts_of stripes) readings) old.vault new.vault
+  pub ran : BreaksInLast plan fault (facts_of stripes) readings old.vault new.vault
   pub unread : RoseBy (unread_in readings) old.vault.faults new.vault.faults
   pub spare : AsksSpare plan (facts_of stripes) old.spare new.spare
   pub vault : MendsVault plan (facts_of stripes) old.vault new.vault

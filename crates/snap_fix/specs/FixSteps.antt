@@ -5,7 +5,7 @@ use Rattle.disk_model.specs.Sink.{SinkView}
 use Rattle.disk_model.specs.Vault.{GoesOn, SomeCalls, ChangesBy, DraftsStay, Reads}
 use Rattle.parity_writer.specs.LevelsValue.{LevelsValue}
 use Rattle.snap_report.specs.Answer.{Gained}
-use Rattle.snap_fix.specs.Breaking.{MakesPartOf, broke_parity}
+use Rattle.snap_fix.specs.Breaking.{FailsAfter, broke_parity}
 use Rattle.snap_report.specs.Report.{ReportView}
 use Rattle.snap_report.specs.Told.{Told}
 use Rattle.snap_report.specs.declared.events.Event.{Event}
@@ -46,7 +46,7 @@ pub record MendsNotParity {W R : Type 0} (view : W → SinkView) (standing : R �
   pub call : IsTrue new.vault.tells_calls → Gained broke_parity old.vault.calls new.vault.calls
   pub calls : SomeCalls old.vault new.vault
   pub drafts : DraftsStay old.vault new.vault
-  pub ran : MakesPartOf (done_well (wrong_writes plan facts)) old.vault new.vault
+  pub ran : FailsAfter [] (done_well (wrong_writes plan facts)) old.vault new.vault
   pub first : List Event
   pub rest : List Event
   pub events : all_level_news plan facts ≡ first ++ rest

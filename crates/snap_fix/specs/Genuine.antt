@@ -97,6 +97,6 @@ abbrev pub TellsIntactLevels : FixPlan → StripeFacts → Row → (ℕ → Bool
 TellsIntactLevels plan facts snapshot is_intact =
     All (λ (r : ℕ). IsTrue (is_intact r) ↔ IsIntactLevel plan facts snapshot r) (whole_levels facts.levels)
 
--- Restorable, by counting: no more cells are missing than levels are intact.
+-- A stripe that was synced is restorable, by counting: no more cells are missing than levels are intact.
 abbrev pub IsRestorableStripe : FixPlan → StripeFacts → (ℕ → Bool) → Type 0
 IsRestorableStripe plan facts is_intact = length (missing_in plan facts) ≤ count_by is_intact (whole_levels facts.levels)

@@ -40,6 +40,7 @@ pub mod Fixing
 pub mod FixSteps
 pub mod FixRun
 pub mod FixCourse
+pub mod FixBreaking
 pub mod ByMode
 pub mod Genuine
 pub mod Stopped

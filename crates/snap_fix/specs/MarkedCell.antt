@@ -25,8 +25,8 @@ pub record IsAnswer (asked : Option Digest16) (shape : Shape) (long : ℕ) (give
 
 -- what the mark of a damaged cell says, by what was asked of the spare: its slot has the block that was given, or
 -- no bytes
-abbrev pub IsSettled : Option Digest16 → Shape → ℕ → ℕ → SlotValue → CellMark → SlotValue → Type 0
-IsSettled asked shape block_size long before Right after = ⊥
-IsSettled asked shape block_size long before Missing after = after ≡ slot_given block_size [] before
-IsSettled asked shape block_size long before Given after =
+abbrev pub ShowsAnswer : Option Digest16 → Shape → ℕ → ℕ → SlotValue → CellMark → SlotValue → Type 0
+ShowsAnswer asked shape block_size long before Right after = ⊥
+ShowsAnswer asked shape block_size long before Missing after = after ≡ slot_given block_size [] before
+ShowsAnswer asked shape block_size long before Given after =
     (given : List ℕ) × IsAnswer asked shape long given × (after ≡ slot_given block_size given before)

@@ -7,11 +7,11 @@ use Rattle.stripe_reader.specs.declared.starts.Place.{Place}
 use Rattle.stripe_reader.specs.declared.starts.Place.TheVariants.{Plain, Lost, Nowhere}
 use Rattle.snap_fix.specs.State.{stands}
 
--- a call that neither looks at a file nor reads one
+-- a call that neither looks at a file nor reads one: it writes, or lists the folder
 abbrev pub is_writing : FolderDone → Bool
 is_writing done = not (is_reading done.call)
 
--- Of all calls of a folder just these write, in this order, and none of them failed.
+-- Of all calls of a folder just these write, in this order, and none of them failed; as far as the folder tells its calls.
 pub record FolderWrites (calls : List FolderCall) (old new : FolderView) : Type 0 where
   pub done : List FolderDone
   pub goes_on : FolderGoesOn old new done

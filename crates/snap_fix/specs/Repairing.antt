@@ -6,7 +6,7 @@ use Rattle.disk_model.specs.Sink.{SinkView}
 use Rattle.disk_model.specs.Vault.{VaultView, GoesOn, SomeCalls, ChangesBy, DraftsStay, Reads}
 use Rattle.parity_writer.specs.LevelsValue.{LevelsValue}
 use Rattle.snap_report.specs.Answer.{Gained, broke_folder}
-use Rattle.snap_fix.specs.Breaking.{MakesPartOf, broke_parity}
+use Rattle.snap_fix.specs.Breaking.{FailsAfter, broke_parity}
 use Rattle.snap_report.specs.Report.{ReportView}
 use Rattle.snap_report.specs.Told.{Told}
 use Rattle.snap_report.specs.declared.events.Event.{Event}
@@ -144,7 +144,7 @@ pub record MendsNotLevels {W R : Type 0} (view : W → SinkView) (standing : R �
   pub call : IsTrue new.vault.tells_calls → Gained broke_parity old.vault.calls new.vault.calls
   pub calls : SomeCalls old.vault new.vault
   pub drafts : DraftsStay old.vault new.vault
-  pub ran : (facts : StripeFacts) → ShowsLevels facts stripe i window levels known → MakesPartOf (done_well (wrong_writes plan facts)) old.vault new.vault
+  pub ran : (facts : StripeFacts) → ShowsLevels facts stripe i window levels known → FailsAfter [] (done_well (wrong_writes plan facts)) old.vault new.vault
   pub events : (facts : StripeFacts) → ShowsLevels facts stripe i window levels known
       → (first : List Event) × (rest : List Event) × (all_level_news plan facts ≡ first ++ rest)
       × Told view standing stands plan.table.columns first old.lines new.lines old.reports new.reports

@@ -108,7 +108,7 @@ CandidatesAreGenuine lost snapshot =
 abbrev pub TellsIntact : LostStripe → Row → (ℕ → Bool) → Type 0
 TellsIntact lost snapshot is_intact = All (λ r. IsTrue (is_intact r) ↔ IsIntact lost snapshot r) lost.levels
 
--- there are no more lost blocks than intact levels
+-- a synced stripe is restorable: there are no more lost blocks than intact levels
 abbrev pub IsRestorable : LostStripe → (ℕ → Bool) → Type 0
 IsRestorable lost is_intact = length lost.wanteds ≤ count_by is_intact lost.levels
 

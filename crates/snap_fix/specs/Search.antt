@@ -91,7 +91,7 @@ FindsNone shape wanteds remainders levels = NoneAcceptable shape wanteds remaind
 
 -- Blocks can be searched for: none is longer than a block of the array, which has at most 4 MiB, and there is room for
 -- six remainders and for six blocks.
-pub record HasRoom (shape : Shape) (wanteds : List Wanted) (remainders work : List ℕ) : Type 0 where
+pub record CanSearch (shape : Shape) (wanteds : List Wanted) (remainders work : List ℕ) : Type 0 where
   pub some : 0 < length wanteds
   pub block : 0 < shape.block_size
   pub at_most : shape.block_size ≤ 4194304

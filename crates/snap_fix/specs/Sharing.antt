@@ -1,4 +1,4 @@
--- What threads share: blocks that are hashed, and levels that are summed side by side.
+-- What has to hold before blocks are hashed or levels summed, several at a time, and what a sum then is.
 use Rattle.std.specs.Prelude.{◌≡◌, ℕ, ◌*◌, ◌<◌, ◌≤◌, List, length, slice_index, true}
 use Rattle.std.specs.List.{All}
 use Rattle.cauchy.specs.Matrix.{parity_byte}

@@ -15,15 +15,14 @@ use Rattle.snap_fix.specs.Underway.{WritesOneOf}
 
 -- ---- a stop
 
--- A stop within a fix: its plan, its starts and its stripes; and of one column whether the folder keeps stamps, the calls that were
--- made of it, the files that it held before them, and those that the stop left.
+-- A stop within a fix: its plan, its starts and its stripes; and of one column whether the folder keeps stamps, the files that it held
+-- before, and those that the stop left.
 pub record FixStop : Type 0 where
   pub plan : FixPlan
   pub starts : StartsValue
   pub stripes : List Mended
   pub d : ℕ
   pub keeps_stamps : Bool
-  pub calls : List FolderDone
   pub first : Tree
   pub left : Tree
 
@@ -43,13 +42,14 @@ StandInPlace plan starts d first = (i : ℕ) → i < length (records_in plan.tab
 abbrev pub IsRunCall : FixStop → FolderCall → Type 0
 IsRunCall stop call = (call ≡ ListFiles) ⊎ IsFixCall stop.plan stop.starts stop.d stop.stripes call
 
--- the calls are such as a run makes, and the stop may leave these files
+-- these files may be left by a stop within some calls such as a run makes
 pub record IsStop (stop : FixStop) : Type 0 where
   pub valid : IsValid stop.plan.table
   pub column : stop.d < length stop.plan.table.columns
   pub places : StandInPlace stop.plan stop.starts stop.d stop.first
-  pub each : All (AnyCall (IsRunCall stop)) stop.calls
-  pub left : MayBeLeft stop.keeps_stamps stop.calls stop.first stop.left
+  pub calls : List FolderDone
+  pub each : All (AnyCall (IsRunCall stop)) calls
+  pub left : MayBeLeft stop.keeps_stamps calls stop.first stop.left
 
 -- ---- what it leaves of a file
 

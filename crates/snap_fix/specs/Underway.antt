@@ -159,8 +159,11 @@ abbrev pub done_well : List VaultCall → List VaultDone
 done_well calls = map (λ (call : VaultCall). vault_done call false) calls
 
 -- all calls for a stripe: its levels are read, and then the wrong ones written
+abbrev pub stripe_reads : FixPlan → StripeFacts → List LevelReading → List VaultDone
+stripe_reads plan facts readings = calls_of plan.table.shape.block_size facts.stripe readings
+
 abbrev pub stripe_calls : FixPlan → StripeFacts → List LevelReading → List VaultDone
-stripe_calls plan facts readings = calls_of plan.table.shape.block_size facts.stripe readings ++ done_well (wrong_writes plan facts)
+stripe_calls plan facts readings = stripe_reads plan facts readings ++ done_well (wrong_writes plan facts)
 
 -- for stripes, one after another
 abbrev pub mend_calls : FixPlan → List StripeFacts → List (List LevelReading) → List VaultDone

@@ -17,8 +17,8 @@ use std::alloc::Global;
 use std::thread::Threads;
 
 /// Tells what is damaged of an array by its table and, in the mode `Fix`, writes what is known of it anew. A check or an audit fails only
-/// by a folder that can't be listed, and for want of memory. A fix fails by a folder or by parity that can't be written, too. What
-/// was written before that stays.
+/// by a folder that can't be listed, and for want of memory. A fix fails by a folder or by parity that can't be written, too: then
+/// blocks may have been written already.
 pub fn repair<R: Threads + Sync, F: Folder, V: Vault, P: Spare, W: Sink>(
     rt: &R,
     alloc: Global,

@@ -4,7 +4,7 @@ ghost use Rattle.std.specs.Option.{option_to_list};
 ghost use Rattle.file_table.specs.Table.{column_at};
 ghost use Rattle.snap_report.specs.Told.{Told};
 ghost use Rattle.snap_fix.specs.Counts.{AreCounts};
-ghost use Rattle.snap_fix.specs.Ending.{CanFinishAll, FinishesAll, FinishesNotAll, SyncsWritten, SyncsNot, Syncs, IsSettled};
+ghost use Rattle.snap_fix.specs.Ending.{CanFinishAll, FinishesAll, FinishesNotAll, IsLevelSettled, SyncsWritten, SyncsNot, Syncs};
 ghost use Rattle.snap_fix.specs.Ending.{finish_news, sync_if, written_syncs};
 ghost use Rattle.snap_fix.specs.EndingSteps.{CanEndRecord, EndsRecord, EndsNotRecord, CanEndColumn, EndsColumn, EndsNotColumn};
 ghost use Rattle.snap_fix.specs.EndingSteps.{column_outside, done_news, unstamped_news};
@@ -27,7 +27,7 @@ use stripe_reader::Starts;
 fn sync_level<V: Vault>(written: bool, level: u32, vault: &mut V) -> Result<(), Failed>
     requires { level < (V.view vault.old).levels }
     ensures synced { IfOk result (λ _. Syncs (sync_if written level) (V.view vault.old) (V.view vault.new)) }
-    ensures settled { IfOk result (λ _. written ≡ true → IsSettled level (V.view vault.old) (V.view vault.new)) }
+    ensures settled { IfOk result (λ _. written ≡ true → IsLevelSettled level (V.view vault.old) (V.view vault.new)) }
     ensures failed { IfErr result (λ _. SyncsNot (sync_if written level) (V.view vault.old) (V.view vault.new)) }
 {
     if written {

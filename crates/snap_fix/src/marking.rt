@@ -9,7 +9,7 @@ ghost use Rattle.snap_fix.specs.declared.entry.Entry.{Entry};
 ghost use Rattle.snap_fix.specs.AskedCell.{AsksBlock, AsksMarked};
 ghost use Rattle.snap_fix.specs.AskedCell.{asks_for, holds_wanted, is_marked_given};
 ghost use Rattle.snap_fix.specs.Facts.{agrees as agrees_with, hash_or_none, wanted_by};
-ghost use Rattle.snap_fix.specs.MarkedCell.{ChangesSlot, IsSettled};
+ghost use Rattle.snap_fix.specs.MarkedCell.{ChangesSlot, ShowsAnswer};
 ghost use Rattle.snap_fix.specs.Marks.{CanExamine, IsMarked, MarksCells};
 ghost use Rattle.snap_fix.specs.Plan.{plan_of, is_searched as is_searched_by};
 ghost use Rattle.snap_fix.specs.Spare.{IsSpareFor, holds_block};
@@ -107,7 +107,7 @@ fn mark_damaged<P: Spare>(
     requires most { length block.old ≤ 4194304 }
     requires spare { IsSpareFor shape (P.holding spare.old) }
     ensures block { length block.new ≡ length block.old }
-    ensures mark { IsSettled asked shape window.old.block_size (length block.old)
+    ensures mark { ShowsAnswer asked shape window.old.block_size (length block.old)
         (slot_at window.old i d) result (slot_at window.new i d) }
     ensures changes { ChangesSlot i d window.old window.new }
     ensures asks { AsksBlock (is_some asked)

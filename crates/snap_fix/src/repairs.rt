@@ -2,7 +2,8 @@
 ghost use Rattle.std.specs.Prelude.{◌≡◌, IfOk, IfErr, length, map};
 ghost use Rattle.snap_config.specs.Setup.{setup_value};
 ghost use Rattle.snap_fix.specs.Course.{IsArray, outside};
-ghost use Rattle.snap_fix.specs.FixCourse.{AreOpen, Fixes, FixesNot};
+ghost use Rattle.snap_fix.specs.FixBreaking.{FixesNot};
+ghost use Rattle.snap_fix.specs.FixCourse.{AreOpen, Fixes};
 ghost use Rattle.snap_fix.specs.Plan.{names_of};
 ghost use Rattle.snap_fix.specs.State.{first_state, first_states};
 
@@ -58,7 +59,8 @@ fn states_before(alloc: Global, starts: &Starts) -> Result<States, NoMemory>
 }
 
 /// Writes what is damaged and known anew, and tells it. It fails by a folder that can't be listed or written, by parity that can't be
-/// written, and for want of memory, before parity is read or anything written. What was written before a failure stays.
+/// written, and for want of memory, before parity is read or anything written. At the end the levels that were written are synced, and
+/// only then files are finished.
 pub(crate) fn fix<R: Threads + Sync, F: Folder, V: Vault, P: Spare, W: Sink>(
     rt: &R,
     alloc: Global,

@@ -6,7 +6,7 @@ ghost use Rattle.std.specs.List.{All};
 ghost use Rattle.std.specs.Thread.{IsSync};
 ghost use Rattle.cauchy.specs.System.{AreDistinctBelow, IsChoice};
 ghost use Rattle.snap_fix.specs.Search.{choices_after, columns_of, found_in, given};
-ghost use Rattle.snap_fix.specs.Search.{AreRightBlocks, Finds, FindsAmong, FindsNone, HasRoom};
+ghost use Rattle.snap_fix.specs.Search.{AreRightBlocks, CanSearch, Finds, FindsAmong, FindsNone};
 ghost use Rattle.snap_fix.specs.Search.{IsAcceptable, IsAccepted, IsRightBlock, NoneAcceptable};
 ghost use Rattle.snap_fix.specs.Sharing.{HaveBlocks};
 
@@ -147,7 +147,7 @@ fn try_choice<R: Threads + Sync>(
     choice: &[u32],
     work: &mut [u8],
 ) -> bool
-    requires room { HasRoom shape wanted.now remainders.now work.old }
+    requires room { CanSearch shape wanted.now remainders.now work.old }
     requires choice { IsChoice (columns_of wanted.now) choice.now }
     ensures work { length work.new ≡ length work.old }
     ensures found { IsTrue result → IsAccepted shape wanted.now remainders.now choice.now
@@ -187,7 +187,7 @@ fn search_from<R: Threads + Sync>(
     remainders: &[u8],
     work: &mut [u8],
 ) -> bool
-    requires room { HasRoom shape wanted.now remainders.now work.old }
+    requires room { CanSearch shape wanted.now remainders.now work.old }
     requires most { length wanted.now ≤ 6 }
     requires few { length chosen.now ≤ length wanted.now }
     requires choices { (m : ℕ) → m + length chosen.now ≡ length wanted.now →
@@ -220,7 +220,7 @@ pub(crate) fn search<R: Threads + Sync>(
     remainders: &[u8],
     work: &mut [u8],
 ) -> bool
-    requires room { HasRoom shape wanted.now remainders.now work.old }
+    requires room { CanSearch shape wanted.now remainders.now work.old }
     requires columns { AreDistinctBelow 251 (columns_of wanted.now) }
     requires levels { AreDistinctBelow 6 levels.now }
     ensures work { length work.new ≡ length work.old }

@@ -6,7 +6,6 @@ use Rattle.std.proofs.lemmas.List.Elements.{All-cons, All-weaker}
 use Rattle.array_scan.specs.Kept.{ListedFile}
 use Rattle.array_scan.specs.Listings.{ListsAll}
 use Rattle.disk_model.specs.Cause.{RoseBy}
-use Rattle.disk_model.specs.Files.{parity_of}
 use Rattle.disk_model.specs.Folder.{FolderView, FolderDone, IsFolderReading, ListFiles}
 use Rattle.disk_model.specs.Sink.{SinkView}
 use Rattle.disk_model.specs.Stopped.{MayBeLeft}
@@ -24,15 +23,16 @@ use Rattle.snap_fix.specs.Breaking.{broke_parity}
 use Rattle.snap_fix.specs.Course.{IsPlan, outside}
 use Rattle.snap_fix.specs.Facts.{StripeFacts}
 use Rattle.snap_fix.specs.Findings.{is_wrong}
-use Rattle.snap_fix.specs.FixCourse.{FixBreaks, FixFinds, Fixes, FixesNot, FixesVault, IsFixCall, MakeFixCalls, fix_events}
+use Rattle.snap_fix.specs.FixBreaking.{FixBreaks, FixesNot}
+use Rattle.snap_fix.specs.FixCourse.{Fixes, FixesVault, IsFixCall, MakeFixCalls, fix_events}
 use Rattle.snap_fix.specs.FixRun.{FolderFailedBy, HasBroken}
-use Rattle.snap_fix.specs.Fixing.{MendsVault, facts_of, was_written}
+use Rattle.snap_fix.specs.Fixing.{facts_of, was_written}
 use Rattle.snap_fix.specs.Known.{AreFacts, IsTried}
 use Rattle.snap_fix.specs.Mended.{Mended, is_wrong_level}
 use Rattle.snap_fix.specs.Plan.{FixPlan, is_searched, names_of, selects_level, starts_of}
 use Rattle.snap_fix.specs.Spare.{nothing}
 use Rattle.snap_fix.specs.State.{AnyCall, FolderMakes}
-use Rattle.snap_fix.specs.Underway.{HoldsWrong, IsMendedLevel, KeepsLevels}
+use Rattle.snap_fix.specs.Underway.{HoldsWrong}
 use Rattle.snap_fix.specs.declared.checks.FixEnd.{FixEnd}
 use Rattle.snap_fix.specs.declared.scope.Mode.TheVariants as modes
 use Rattle.snap_report.specs.Answer.{FolderFailed, IsCaused, Outside, broke_vault, done_answer}
@@ -46,53 +46,18 @@ use Rattle.snap_report.specs.declared.answer.RunFault.{RunFault}
 use Rattle.snap_report.specs.declared.answer.RunFault.TheVariants as runs
 use Rattle.snap_report.specs.declared.events.Event.{Event}
 use Rattle.snap_report.specs.declared.pages.Lines.{Lines}
-use Rattle.stripe_reader.specs.Starts.{StartsValue}
 use Rattle.snap_top.specs.Checking.{CheckRefuses}
 use Rattle.snap_top.specs.Does.{DoesCommand, IsDone}
 use Rattle.snap_top.specs.Fix.{AllFixed, FixRun, IsRunCall}
 use Rattle.snap_top.specs.Fixing.{FixBroke, FixEnds, FixesBy, fix_of}
 use Rattle.snap_top.specs.Syncing.{IsOpened}
 use Rattle.snap_top.specs.Task.{Did, Left, Task, fixes, reads_only}
-use Rattle.snap_top.specs.Views.{World, outside_of, view_of, world_of, world_view}
-use Rattle.snap_top.proofs.CheckedLemmas.{all_levels_of, goes_on_of, none_given, not_begun_done, refusal_of}
+use Rattle.snap_top.specs.Views.{World, outside_of, world_of, world_view}
+use Rattle.snap_top.proofs.CheckedLemmas.{none_given, not_begun_done, refusal_of}
 use Rattle.snap_top.proofs.DoneLemmas.{by_output}
-use Rattle.snap_top.proofs.SyncLemmas.{any_more, changes_of, holds_of, never, printed_lines}
+use Rattle.snap_top.proofs.FixStatesLemmas.{broken_of, finds_of, mends_of, off_of, vault_of}
+use Rattle.snap_top.proofs.SyncLemmas.{any_more, never, printed_lines}
 use Rattle.snap_top.proofs.ViewsLemmas.{some_calls_of}
-
--- ---- by its states
-
-finds_of : (plan : FixPlan) (starts : StartsValue) (firsts : List FolderView) (v : VaultView) (stripes : List Mended) (readings : List (List LevelReading)) → FixFinds plan starts firsts v stripes readings
-    → FixFinds plan starts firsts (view_of (state_of v)) stripes readings
-finds_of plan starts firsts v stripes readings finds = record {
-  are = finds.are;
-  cells = finds.cells;
-  levels = all_levels_of plan.table.shape.block_size v (facts_of stripes) readings finds.levels;
-  answered = finds.answered;
-}
-
-mends_of : (plan : FixPlan) (stripes : List StripeFacts) (old new : VaultView) → MendsVault plan stripes old new → MendsVault plan stripes (view_of (state_of old)) (view_of (state_of new))
-mends_of plan stripes old new mends = record {
-  calls = some_calls_of old new mends.calls;
-  drafts = record { state = mends.drafts.state; bytes = mends.drafts.bytes };
-  changes = changes_of (KeepsLevels plan.table.shape.block_size (IsMendedLevel plan stripes)) old new mends.changes;
-}
-
-vault_of : (plan : FixPlan) (stripes : List Mended) (readings : List (List LevelReading)) (old new : VaultView) → FixesVault plan stripes readings old new
-    → FixesVault plan stripes readings (view_of (state_of old)) (view_of (state_of new))
-vault_of plan stripes readings old new vault = record {
-  ran = goes_on_of old new _ vault.ran;
-  unread = vault.unread;
-  mends = mends_of plan (facts_of stripes) old new vault.mends;
-  zeros = vault.zeros;
-  holds = vault.holds;
-  synced = λ level below was. holds_of (λ files. parity_of files level ≡ parity_of new.files level) new (vault.synced level below was);
-}
-
-broken_of : (plan : FixPlan) (fault : RunFault) (told : List Event) (olds news : List FolderView) (old new : VaultView) → HasBroken plan fault told olds news old new
-    → HasBroken plan fault told olds news (view_of (state_of old)) (view_of (state_of new))
-broken_of plan (runs.Folder disk) told olds news old new broke = broke
-broken_of plan runs.Vault told olds news old new broke = record { rose = broke.rose; call = broke.call }
-broken_of plan runs.Memory told olds news old new broke = absurd broke
 
 -- ---- what it leaves in the levels that it wrote
 
@@ -355,7 +320,7 @@ module _ {W R : Type 0} (standing : R → ReportView) (stands : R → List Event
           numbers = is.numbers;
           vault = mends_of is.plan (facts_of is.stripes) vault vault_new is.vault;
           unread = is.unread;
-          files = is.files;
+          off = off_of is.plan (starts_of table is.lists) fault is.stripes is.behind is.readings is.first is.mids folders_new vault vault_new is.off;
           calls = is.calls;
           broke = broken_of is.plan fault is.first is.mids folders_new vault vault_new is.broke;
           answer_is = refl;

@@ -3,6 +3,7 @@ pub mod CompleteLemmas
 pub mod DoneLemmas
 pub mod EmptyLemmas
 pub mod EndedLemmas
+pub mod FixStatesLemmas
 pub mod FixedLemmas
 pub mod FolderLemmas
 pub mod HistoryLemmas

@@ -56,7 +56,7 @@ use Rattle.snap_top.specs.Fix.{FixRun, LeavesFixed, MayStandFixed}
 use Rattle.snap_top.specs.Fixing.{FixEnds, FixesBy, fix_of as run_fixed}
 use Rattle.snap_top.specs.Moment.{IsFixOf, TellsAll}
 use Rattle.snap_top.specs.Opening.{asked_by}
-use Rattle.snap_top.specs.Restoring.{EndsFixed, FixesEnd, IsLostCell, Restores, events_in}
+use Rattle.snap_top.specs.Restoring.{EndsFixed, FixesEnd, IsDamagedOfSynced, Restores, events_in}
 use Rattle.snap_top.specs.Run.{Entry, Exit, IsAnswered, IsRun, Ran}
 use Rattle.snap_top.specs.Task.{Task, Did, Left, stands_after}
 use Rattle.snap_top.specs.Views.{World, world_of}
@@ -315,7 +315,7 @@ module _ (restored : CellsAreRestored) (lost : CellsAreLost) (unknown_lost : Unk
         genuine : AreGenuineOf run.plan starts run.listed old snapshot is_changed (facts_of run.stripes)
         genuine = genuine_by (copies_of before.opener.vault) before.opener.vault run snapshot is_changed tells.tells_vault is_fix.over sound supposed
 
-        facts_at : (mended : Mended) (d : ℕ) (cell : Cell) (is_intact : ℕ → Bool) → IsLostCell run snapshot mended d cell is_intact → HasGenuineFacts run.plan starts run.listed (snapshot mended.facts.stripe) mended.facts
+        facts_at : (mended : Mended) (d : ℕ) (cell : Cell) (is_intact : ℕ → Bool) → IsDamagedOfSynced run snapshot mended d cell is_intact → HasGenuineFacts run.plan starts run.listed (snapshot mended.facts.stripe) mended.facts
         facts_at mended d cell is_intact it =
             genuine_facts run.plan starts run.listed old snapshot is_changed (facts_of run.stripes) mended.facts genuine (contains_facts run.stripes mended it.is.one) it.synced
 

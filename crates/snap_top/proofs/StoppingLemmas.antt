@@ -19,7 +19,7 @@ use Rattle.snap_fix.specs.Stopped.{FixStop, IsNoneOf, IsStop, StandInPlace, Stan
 use Rattle.snap_top.specs.Fix.{FixRun, IsRunCall}
 use Rattle.snap_top.specs.Moment.{IsFixOf}
 use Rattle.snap_top.specs.Run.{Entry, Exit}
-use Rattle.snap_top.specs.Stopping.{FindsNoLess, FolderStandsIn, MayStandLeft, SparesFolder, calls_since, stop_of}
+use Rattle.snap_top.specs.Stopping.{FindsNoLess, FolderStandsIn, MayStandLeft, SparesFiles, calls_since, stop_of}
 use Rattle.snap_top.specs.Undamaged.{HasEnough, undamaged_levels, was_read}
 use Rattle.snap_top.specs.Views.{folder_at}
 
@@ -49,7 +49,7 @@ left_within P old new left makes at_end tells (inr at) =
     subst (λ (done : List FolderDone). MayBeLeft old.keeps_stamps done old.tree left) calls at.1
 
 pub stop_spares : BytesAreSpared → NotSelectedStay → OthersStay → ListedStandInPlace → (before : Entry) (exit : Exit) (run : FixRun) (d : ℕ) (left : Tree) → IsFixOf before exit run → FolderStandsIn before exit d left
-    → SparesFolder run d (folder_held before.opener d) left
+    → SparesFiles (stop_of run d (folder_held before.opener d) left)
 stop_spares bytes not_selected others listed before exit run d left is at =
     let old : FolderView = folder_held before.opener d in
     let new : FolderView = folder_at exit.after.folders d in
@@ -62,21 +62,20 @@ stop_spares bytes not_selected others listed before exit run d left is at =
     let lists = (over.listed.each d within).found in
     let found : get_or run.lists d [] ≡ listing_of old.tree
     = subst (λ (folder : FolderView). IsTrue folder.tells → get_or run.lists d [] ≡ listing_of folder.tree) held lists at.tells in
-    let stop : FixStop = stop_of run d old makes.done left in
+    let stop : FixStop = stop_of run d old left in
     let is_stop : IsStop stop = record {
       valid = subst IsValid (sym table) over.valid;
       column = below;
       places = subst (λ (t : TableValue). StandInPlace run.plan (starts_of t run.lists) d old.tree) table (listed run.plan run.lists d old.tree below found);
+      calls = makes.done;
       each = makes.each;
       left = left_within (AnyCall (IsRunCall run d)) old new left makes (λ told. makes.left told at.is_tree) at.tells at.stands;
-    } in (
-      makes.done,
-      record {
-        bytes = λ i file there. bytes stop i file is_stop there;
-        not_selected = λ i lost there. not_selected stop i lost is_stop there;
-        others = λ name. others stop name is_stop;
-      },
-    )
+    } in
+    record {
+      bytes = λ i file there. bytes stop i file is_stop there;
+      not_selected = λ i lost there. not_selected stop i lost is_stop there;
+      others = λ name. others stop name is_stop;
+    }
 
 -- ---- counting
 

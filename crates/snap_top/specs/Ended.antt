@@ -8,7 +8,7 @@ use Rattle.snap_top.specs.Run.{Entry, Exit, IsRun}
 use Rattle.snap_top.specs.Task.{Did, fixes, reads_only, syncs}
 use Rattle.snap_top.specs.declared.end.Ending.{Ending}
 
--- the run synced or fixed, and no call failed in that
+-- the run synced or fixed, and did not break off
 abbrev pub has_ended : Did → Bool
 has_ended reads_only = false
 has_ended (syncs failed run) = not failed
@@ -24,7 +24,7 @@ pub record HasEnded (before : Entry) (exit : Exit) (status : ℕ) : Type 0 where
   pub ended : has_ended ran.did ≡ true
 
 -- How it shows that a sync or a fix went to its end. Its status is 0 or 1. Or it is 3, and neither the opener nor a folder nor the vault failed
--- so that a run ends: then the output failed, and nothing else. Or it is what the run did.
+-- so that a run ends: then the output failed, and nothing else. Or what the run did says so.
 pub data WentToItsEnd (before : Entry) (exit : Exit) (status : ℕ) : Type 0 where
   ByStatus : status ≤ 1 → WentToItsEnd before exit status
   ByFaults : status ≡ 3 → NothingBroke before exit → WentToItsEnd before exit status

@@ -11,7 +11,8 @@ use Rattle.snap_fix.specs.Counts.{at_most}
 use Rattle.snap_fix.specs.Course.{IsPlan}
 use Rattle.snap_fix.specs.Ending.{Finishes}
 use Rattle.snap_fix.specs.Facts.{StripeFacts, gift_of}
-use Rattle.snap_fix.specs.FixCourse.{BreaksFinishing, BreaksWriting, FixFinds, FixesFiles, FixesVault, MakeFixCalls, fix_events}
+use Rattle.snap_fix.specs.FixBreaking.{BreaksOff}
+use Rattle.snap_fix.specs.FixCourse.{FixFinds, FixesFiles, FixesVault, MakeFixCalls, fix_events}
 use Rattle.snap_fix.specs.FixRun.{HasBroken}
 use Rattle.snap_fix.specs.Fixing.{MendsVault, facts_of}
 use Rattle.snap_fix.specs.Looking.{numbers_of, unread_cells, unread_in}
@@ -83,16 +84,16 @@ pub record FixEnds (selection : Selection) (task : Task) (table : TableValue) (b
   pub parities_are : parities ≡ at_most (sum_by (wrong_in course.plan) course.stripes)
   pub prints : Prints (lines_of table.columns (fix_events course.plan course.stripes finishes) ++ fix_text blocks parities left.counted) left.counted before.out after.out left.answer
 
--- A fix that broke off after the folders were listed: some first stripes were looked at, and a prefix was told and printed of what is where
--- nothing fails.
+-- A fix that broke off after the folders were listed: some first stripes were looked at, and it broke off in the last of them, or at the end.
+-- A prefix was told and printed of what is where nothing fails.
 pub record FixBroke (fault : RunFault) (selection : Selection) (task : Task) (table : TableValue) (before after : World) (left : Left) (did : Did) : Type 0 where
   pub course : FixCourse selection task table true before after did
   pub behind : List ℕ
   pub numbers : stripes_of course.plan ≡ numbers_of (facts_of course.stripes) ++ behind
   pub vault : MendsVault course.plan (facts_of course.stripes) (view_of before.vault) (view_of after.vault)
   pub unread : RoseBy (unread_in course.readings) before.vault.faults after.vault.faults
-  pub files : BreaksWriting course.plan (starts_of table course.lists) course.stripes left.told course.listed after.folders
-      ⊎ ((behind ≡ []) × BreaksFinishing course.plan (starts_of table course.lists) course.stripes left.told course.listed after.folders)
+  pub off : BreaksOff course.plan (starts_of table course.lists) fault course.stripes behind course.readings left.told course.listed after.folders
+      (view_of before.vault) (view_of after.vault)
   pub calls : MakeFixCalls course.plan (starts_of table course.lists) course.stripes course.listed after.folders
   pub broke : HasBroken course.plan fault left.told course.listed after.folders (view_of before.vault) (view_of after.vault)
   pub answer_is : left.answer ≡ answers.Broken fault

@@ -73,8 +73,9 @@ module _ {O F V W : Type 0} (opener_view : O → OpenerView) (folder_view : F �
     pub sound : EveryMomentIsSound (entry_of opener_view sink_view stop.run) (end_of opener_view folder_view vault_view sink_view stop.run)
     pub stands : StandsIn (entry_of opener_view sink_view stop.run) (end_of opener_view folder_view vault_view sink_view stop.run) stop.left
 
-  -- Sound after a run. What it did is to read, to sync or to fix. Unless a fix met a hash by chance, the copies that it left are sound with the rows
-  -- that it had closed by then, and so it goes on from there. A fix that went to its end restores the blocks of the snapshot.
+  -- Sound after a run. What it did is to read, to sync or to fix. Unless a fix met a hash by chance, or a content file has blocks of another size, the
+  -- copies that it left are sound with the rows that it had closed by then, and so it goes on from there. A fix that went to its end, and met no hash by
+  -- chance, restores the blocks of the snapshot.
   pub record IsSoundAfter (copies : ℕ) (files : Files) (last : LastSynced) (stop : StoppedRun O F V W) (GoesOn : LastSynced → Type 0) : Type 0 where
     pub did : Did
     pub is_did : IsDidOf (entry_of opener_view sink_view stop.run) (end_of opener_view folder_view vault_view sink_view stop.run) did

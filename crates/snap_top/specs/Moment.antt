@@ -101,14 +101,14 @@ AreOfRun (syncs failed run) copies old new = AllTell run.folders →
     AreOfPartSyncs (layout_by run.setup run.loaded (run_trees run)) (run_trees run) run.plan.now copies old new
 AreOfRun (fixes failed run) copies old new = new.contents ≡ old.contents
 
--- What soundness rests on besides: of a fix, that no hash was met by chance.
+-- What soundness rests on besides: of a fix, that no hash was met by chance, and that all content files have blocks of its size.
 abbrev pub IsSupposed : Did → ℕ → Files → Snapshot → Type 0
 IsSupposed reads_only copies files snapshot = Unit {0}
 IsSupposed (syncs failed run) copies files snapshot = Unit {0}
 IsSupposed (fixes failed run) copies files snapshot = IsGenuineFix run copies files snapshot
 
 -- Where all copies are sound at the beginning of a run, they are at each moment of it, whatever it answers. What a run did is to read, to sync, or to fix;
--- of a fix this rests on that no hash was met by chance.
+-- of a fix this rests on that no hash was met by chance, and that all content files have blocks of its size.
 pub record IsSoundAlways (before : Entry) (exit : Exit) : Type 0 where
   pub did : Did
   pub is_did : IsDidOf before exit did
@@ -154,7 +154,7 @@ pub record EndsInPart (before : Entry) (exit : Exit) (status : ℕ) : Type 0 whe
   pub status_is : IsEndStatus status output_failed (AllVerified run.plan.start run.readings)
   pub output : IsTrue output_failed → Rose before.out.faults exit.after.out.faults
 
--- so a sync that was asked for ends, whatever the output did
+-- so a sync ends that was asked for and went to its end, whatever the output did
 abbrev pub SyncsEndInPart : Entry → Exit → ℕ → Type 0
 SyncsEndInPart before exit status = TellsAll before → WentToItsEnd before exit status → (asked : Options) (way : SyncWay)
     → asked_by before.texts ≡ Ok asked → asked.command ≡ commands.Sync way → EndsInPart before exit status

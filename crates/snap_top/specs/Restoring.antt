@@ -38,7 +38,7 @@ events_in run finishes = fix_events run.plan run.stripes finishes
 
 -- A selected damaged cell of a stripe that was synced, and which of its levels that were read whole hold the sums of the snapshot's row,
 -- a row of bytes.
-pub record IsLostCell (run : FixRun) (snapshot : Snapshot) (mended : Mended) (d : ℕ) (cell : Cell) (is_intact : ℕ → Bool) : Type 0 where
+pub record IsDamagedOfSynced (run : FixRun) (snapshot : Snapshot) (mended : Mended) (d : ℕ) (cell : Cell) (is_intact : ℕ → Bool) : Type 0 where
   pub is : IsDamagedCell run.plan run.stripes mended d cell
   pub synced : is_searched run.plan mended.facts.stripe ≡ true
   pub bytes : AreBytes (snapshot mended.facts.stripe)
@@ -48,13 +48,13 @@ pub record IsLostCell (run : FixRun) (snapshot : Snapshot) (mended : Mended) (d 
 -- cells of its stripe are damaged than levels are intact. It stands under PATH, or under PATH`.unrecoverable` where its record has a lost
 -- block. Where more cells are damaged, it is told to be lost; where no more are, it is not.
 pub record Restores (run : FixRun) (finishes : Finishes) (snapshot : Snapshot) : Type 0 where
-  pub restored : (mended : Mended) (d : ℕ) (cell : Cell) (is_intact : ℕ → Bool) → IsLostCell run snapshot mended d cell is_intact
+  pub restored : (mended : Mended) (d : ℕ) (cell : Cell) (is_intact : ℕ → Bool) → IsDamagedOfSynced run snapshot mended d cell is_intact
       → (entry_at run.plan d cell.rec).blocked ≡ false → IsRestorableStripe run.plan mended.facts is_intact
       → HoldsCell run.plan.table d cell (has_lost run.plan run.stripes d cell.rec) (byte_of (snapshot mended.facts.stripe) d) (folder_at run.ended d).tree
-  pub named : (mended : Mended) (d : ℕ) (cell : Cell) (is_intact : ℕ → Bool) → IsLostCell run snapshot mended d cell is_intact
+  pub named : (mended : Mended) (d : ℕ) (cell : Cell) (is_intact : ℕ → Bool) → IsDamagedOfSynced run snapshot mended d cell is_intact
       → ¬ (IsRestorableStripe run.plan mended.facts is_intact)
       → Contains (events_in run finishes) (events.Lost mended.facts.stripe d cell.rec cell.index)
-  pub only : (mended : Mended) (d : ℕ) (cell : Cell) (is_intact : ℕ → Bool) → IsLostCell run snapshot mended d cell is_intact
+  pub only : (mended : Mended) (d : ℕ) (cell : Cell) (is_intact : ℕ → Bool) → IsDamagedOfSynced run snapshot mended d cell is_intact
       → IsRestorableStripe run.plan mended.facts is_intact
       → ¬ (Contains (events_in run finishes) (events.Lost mended.facts.stripe d cell.rec cell.index))
 
@@ -87,7 +87,7 @@ pub record EndsFixed (before : Entry) (exit : Exit) (status : ℕ) : Type 0 wher
       → Sound run.loaded before.opener.vault.files snapshot is_changed
       → AreGenuine run.plan snapshot (facts_of run.stripes) → Restores run finishes snapshot
 
--- so a fix that was asked for ends, whatever the output did
+-- so a fix ends that was asked for and went to its end, whatever the output did
 abbrev pub FixesEnd : Entry → Exit → ℕ → Type 0
 FixesEnd before exit status = TellsAll before → WentToItsEnd before exit status → (asked : Options) (selection : Selection)
     → asked_by before.texts ≡ Ok asked → asked.command ≡ commands.Fix selection → EndsFixed before exit status

@@ -35,15 +35,14 @@ pub record FolderStandsIn (before : Entry) (exit : Exit) (d : ℕ) (left : Tree)
 
 -- ---- what a fix leaves of them
 
--- a stop within the calls that a fix made of the folder of a column
-abbrev pub stop_of : FixRun → ℕ → FolderView → List FolderDone → Tree → FixStop
-stop_of run d old calls left = record {
+-- a stop within the calls that a fix made of the folder of a column, which left these files
+abbrev pub stop_of : FixRun → ℕ → FolderView → Tree → FixStop
+stop_of run d old left = record {
   plan = run.plan;
   starts = starts_of run.loaded run.lists;
   stripes = run.stripes;
   d = d;
   keeps_stamps = old.keeps_stamps;
-  calls = calls;
   first = old.tree;
   left = left;
 }
@@ -55,10 +54,6 @@ pub record SparesFiles (stop : FixStop) : Type 0 where
   pub not_selected : (i : ℕ) (lost : Bool) → i < length (records_of stop) → is_finished stop.plan stop.d i ≡ false
       → file_of stop.left (path_of (path_at stop i) lost) ≡ file_of stop.first (path_of (path_at stop i) lost)
   pub others : (name : List ℕ) → IsNoneOf stop name → file_of stop.left name ≡ file_of stop.first name
-
--- by some calls of its folder
-abbrev pub SparesFolder : FixRun → ℕ → FolderView → Tree → Type 0
-SparesFolder run d old left = (calls : List FolderDone) × SparesFiles (stop_of run d old calls left)
 
 -- ---- the next fix
 

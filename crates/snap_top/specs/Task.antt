@@ -41,8 +41,8 @@ IsBuilt (commands.Audit selection) = Unit {0}
 IsBuilt (commands.Fix selection) = Unit {0}
 IsBuilt _ = ⊥
 
--- what a run did to the files of the vault and of the folders: it only read them, or it synced or fixed them, and a call failed in that or
--- none did
+-- what a run did to the files of the vault and of the folders: it only read them, or it synced or fixed them, and broke off in that
+-- (`failed`) or did not
 pub data Did : Type 0 where
   reads_only : Did
   syncs : (failed : Bool) → SyncRun → Did

@@ -21,7 +21,7 @@ ghost use Rattle.snap_top.specs.History.{AreSoundBy, IsHistory, LastSynced, Stay
 ghost use Rattle.snap_top.specs.Moment.{IsFixOf};
 ghost use Rattle.snap_top.specs.Restoring.{Restores};
 ghost use Rattle.snap_top.specs.Resumed.{AreStoppedRuns, EndAlike, EndsClean, RunOf, StoppedRun, end_of, entry_of};
-ghost use Rattle.snap_top.specs.Stopping.{FindsNoLess, FolderStandsIn, SparesFolder};
+ghost use Rattle.snap_top.specs.Stopping.{FindsNoLess, FolderStandsIn, SparesFiles, stop_of};
 ghost use Rattle.snap_top.specs.Sync.{AreStopped, IsOfArray, Stop, SyncsFrom};
 ghost use Rattle.snap_top.specs.Undamaged.{HasEnough, IsRecoverable, IsUndamaged};
 ghost use Rattle.snap_top.specs.Views.{folder_at};
@@ -81,7 +81,8 @@ pub fn stopped_runs_are_resumed<O: Opener, F: Folder, V: Vault, W: Sink>()
 /// A history: runs of any commands, one after another over one vault, each of which ended or was stopped at some moment,
 /// and changes of parity and copies from outside in between. Where the copies were sound before the first of them, they
 /// are sound after each: with the rows of the stripes that syncs have closed by then in the snapshot, as long as no fix
-/// met a recorded hash by chance. And each fix that went to its end restores the blocks of the snapshot of its time.
+/// met a recorded hash by chance, and all content files had blocks of its size. And each fix that went to its end, and met
+/// no hash by chance, restores the blocks of the snapshot of its time.
 /// What is said of each run `run` says of it: of its moments in its clause `sound`, of a fix in its clause `fixed`.
 pub fn copies_stay_sound<O: Opener, F: Folder, V: Vault, W: Sink>()
     ensures { (copies : ℕ) (steps : List (Step O F V W)) (files : Files) (last : LastSynced) →
@@ -89,16 +90,18 @@ pub fn copies_stay_sound<O: Opener, F: Folder, V: Vault, W: Sink>()
         StaysSound O.view F.view V.view W.view copies steps files last }
 {}
 
-/// Wherever the fix of a run is stopped, also within a write, the files of its folders are what they were but in blocks
-/// that it writes. The next fix that goes to its end restores the blocks of the same snapshot (`copies_stay_sound`): those
-/// of each stripe that has enough undamaged levels then (`undamaged_levels_restore`). It has enough if it had for the first
-/// one, where the next one misses no other cell and reads each level again. `run` says of a fix which calls it made of its
-/// folders, in its clauses `sound` and `fixed`.
+/// Wherever the fix of a run is stopped, also within a write, the file that stood in the place of a record stands under one
+/// of its names with all bytes that it had, but in blocks that the fix writes, and behind the recorded end where no block
+/// is lost. The files of records that are blocked or not selected stay, and so do all that are no record's. Names, sizes
+/// and stamps of these files may have changed. The next fix that goes to its end restores the blocks of the same snapshot
+/// (`copies_stay_sound`): those of each stripe that has enough undamaged levels then (`undamaged_levels_restore`). It has
+/// enough if the first one had, where the next one misses no other cell and reads each level again: of the two fixes just
+/// these counts are compared. `run` says of a fix which calls it made of its folders, in its clauses `sound` and `fixed`.
 pub fn a_stopped_fix_spares_and_is_resumed<O: Opener, F: Folder, V: Vault, W: Sink>()
     ensures spares { (run : RunOf O F V W) (fix : FixRun) (d : ℕ) (left : Tree) →
         IsFixOf (entry_of O.view W.view run) (end_of O.view F.view V.view W.view run) fix →
         FolderStandsIn (entry_of O.view W.view run) (end_of O.view F.view V.view W.view run) d left →
-        SparesFolder fix d (folder_held (entry_of O.view W.view run).opener d) left }
+        SparesFiles (stop_of fix d (folder_held (entry_of O.view W.view run).opener d) left) }
     ensures again { (first again : FixRun) (is_changed : ℕ → ℕ → Bool) (mended mended_again : Mended) →
         FindsNoLess first again mended mended_again →
         HasEnough first is_changed mended.facts → HasEnough again is_changed mended_again.facts }
@@ -106,9 +109,10 @@ pub fn a_stopped_fix_spares_and_is_resumed<O: Opener, F: Folder, V: Vault, W: Si
     a_stop_within_a_fix_changes_written_blocks_alone();
 }
 
-/// A level is undamaged where it was read, and was not changed from outside since its stripe was last synced. Such a level
-/// is whole and intact. So a fix that went to its end restores the block of each selected damaged cell of a stripe that was
-/// synced, where no more of its cells are missing than levels are undamaged, unless its record is blocked.
+/// A level is undamaged where it was read, and was not changed from outside since its stripe was last synced. Where the
+/// table was sound, such a level is whole and intact. So a fix that went to its end from a sound table, and met no recorded
+/// hash by chance, restores the block of each selected damaged cell of a stripe that was synced, where no more of its cells
+/// are missing than levels are undamaged, unless its record is blocked.
 pub fn undamaged_levels_restore<O: Opener, F: Folder, V: Vault, W: Sink>()
     ensures intact { (run : RunOf O F V W) (fix : FixRun) (snapshot : Snapshot) (is_changed : ℕ → ℕ → Bool)
         (mended : Mended) (r : ℕ) →

@@ -152,7 +152,7 @@ returns-in-Err-clause-failed g c =
     c.in_ok-totals.totals c.in_ok-totals.ensures.fixed (g.V.Vault.view c.sync_levels.new.vault)
     c.as_slice.result.now (at_ok c.sync_levels.result _ (sym c.is_err.ensures.value ∙ c.if-is_err.false) c.sync_levels.ensures.synced)
     done.starts done.states (map g.F.Folder.view done.folders) done.lines done.reports.items
-    (c.as_slice.ensures.value ∙ take_at c.fix_stripes.new.written _ c.in-Ok-vec.written.len (c.fix_stripes.auto.written ∙ c.as_mut_slice.ensures.len))
+    (g.V.Vault.well_formed c.sync_levels.new.vault) (c.as_slice.ensures.value ∙ take_at c.fix_stripes.new.written _ c.in-Ok-vec.written.len (c.fix_stripes.auto.written ∙ c.as_mut_slice.ensures.len))
     (omega (arith, c.as_mut_slice.ensures.len, c.in-Ok-vec.ensures.len, ap (λ (shape : Shape). shape.levels) c.shape.ensures.shape))
     (λ r below.
     ap (λ (all : List Bool). get_or all r false) (c.as_mut_slice.ensures.value ∙ c.in-Ok-vec.ensures.items_if_clones_equal (λ y same. same))

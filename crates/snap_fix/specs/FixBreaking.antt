@@ -1,0 +1,124 @@
+-- How a fix breaks off: while blocks are written, or, once all are, while levels are synced or files finished.
+use Rattle.std.specs.Prelude.{◌≡◌, ◌⊎◌, ℕ, ◌<◌, List, [], ◌++◌, length}
+use Rattle.array_scan.specs.Kept.{ListedFile}
+use Rattle.array_scan.specs.Listings.{ListsAll}
+use Rattle.disk_model.specs.Cause.{RoseBy}
+use Rattle.disk_model.specs.Folder.{FolderView}
+use Rattle.disk_model.specs.Sink.{SinkView}
+use Rattle.disk_model.specs.Vault.{VaultView}
+use Rattle.file_table.specs.Table.{TableValue}
+use Rattle.parity_writer.specs.LevelReading.{LevelReading}
+use Rattle.snap_config.specs.declared.options.Selection.{Selection}
+use Rattle.snap_report.specs.Report.{ReportView}
+use Rattle.snap_report.specs.Told.{Told}
+use Rattle.snap_report.specs.declared.answer.RunFault.{RunFault}
+use Rattle.snap_report.specs.declared.answer.RunFault.TheVariants.{Folder, Vault, Memory}
+use Rattle.snap_report.specs.declared.events.Event.{Event}
+use Rattle.stripe_reader.specs.Columns.{folder_at}
+use Rattle.stripe_reader.specs.Starts.{StartsValue}
+use Rattle.snap_fix.specs.declared.finishing.Finish.{Finish}
+use Rattle.snap_fix.specs.declared.scope.Mode.{Mode}
+use Rattle.snap_fix.specs.Asking.{AsksSpare}
+use Rattle.snap_fix.specs.Beginning.{BeginsNot}
+use Rattle.snap_fix.specs.Breaking.{FailsAfter}
+use Rattle.snap_fix.specs.Course.{IsPlan, Outside}
+use Rattle.snap_fix.specs.Ending.{AreDone, FinishesOne, all_finish_news}
+use Rattle.snap_fix.specs.Findings.{opening_events}
+use Rattle.snap_fix.specs.FixCourse.{FixFinds, FixesVault, MakeFixCalls, WritesFiles, Written, mend_syncs}
+use Rattle.snap_fix.specs.FixRun.{BreaksInLast, HasBroken, HoldAllWrong}
+use Rattle.snap_fix.specs.Fixing.{MendsVault, facts_of}
+use Rattle.snap_fix.specs.Looking.{numbers_of, unread_cells, unread_in}
+use Rattle.snap_fix.specs.Mended.{Mended, all_mended_events}
+use Rattle.snap_fix.specs.Plan.{FixPlan, starts_of, stripes_of}
+use Rattle.snap_fix.specs.State.{AnyCall, FolderMakes}
+use Rattle.snap_fix.specs.Underway.{IsMendCall, done_well, mend_calls}
+
+-- what is told before files are finished
+abbrev pub written_events : FixPlan → List Mended → List Event
+written_events plan stripes = opening_events plan ++ all_mended_events plan stripes
+
+-- While blocks were written: a prefix of the events of its stripes was told, and only calls that write their blocks were made. Of the vault
+-- all calls for these stripes were made, up to the writes of the last one.
+pub record BreaksWriting (plan : FixPlan) (starts : StartsValue) (fault : RunFault) (stripes : List Mended) (readings : List (List LevelReading))
+    (first : List Event) (firsts news : List FolderView) (old new : VaultView) : Type 0 where
+  pub rest : List Event
+  pub events : written_events plan stripes ≡ first ++ rest
+  pub makes : (d : ℕ) → d < length plan.table.columns → FolderMakes (AnyCall (IsMendCall plan starts d stripes)) (folder_at firsts d) (folder_at news d)
+  pub ran : BreaksInLast plan fault (facts_of stripes) readings old new
+
+-- While levels were synced: all calls for its stripes were made of the vault, then the first syncs and one that failed. All that was written
+-- was told, wrong levels hold their sums, and the folders are as they were once all blocks were written.
+pub record BreaksSyncing (plan : FixPlan) (stripes : List Mended) (readings : List (List LevelReading)) (first : List Event)
+    (written : Written) (news : List FolderView) (old new : VaultView) : Type 0 where
+  pub events : first ≡ written_events plan stripes
+  pub ran : FailsAfter (mend_calls plan (facts_of stripes) readings) (done_well (mend_syncs plan stripes)) old new
+  pub holds : HoldAllWrong plan (facts_of stripes) new
+  pub folders : news ≡ written.folders
+
+-- While files were finished: the vault is as a fix leaves it that ends, so each level that was written was synced before. All that was written
+-- was told, and then a prefix of what is told of the files. Only calls that finish files were made.
+pub record BreaksFinishing (plan : FixPlan) (stripes : List Mended) (readings : List (List LevelReading)) (first : List Event)
+    (written : Written) (news : List FolderView) (old new : VaultView) : Type 0 where
+  pub finishes : List (List Finish)
+  pub are : AreDone plan written.starts written.states written.folders finishes
+  pub finished : List Event
+  pub rest : List Event
+  pub events : first ≡ written_events plan stripes ++ finished
+  pub finished_are : all_finish_news plan finishes ≡ finished ++ rest
+  pub makes : (d : ℕ) → d < length plan.table.columns
+      → FolderMakes (AnyCall (FinishesOne plan d written.starts written.states)) (folder_at written.folders d) (folder_at news d)
+  pub vault : FixesVault plan stripes readings old new
+
+-- by what failed
+abbrev pub BreaksEnding : RunFault → FixPlan → List Mended → List (List LevelReading) → List Event → Written → List FolderView
+    → VaultView → VaultView → Type 0
+BreaksEnding (Folder disk) plan stripes readings first written news old new = BreaksFinishing plan stripes readings first written news old new
+BreaksEnding Vault plan stripes readings first written news old new = BreaksSyncing plan stripes readings first written news old new
+BreaksEnding Memory plan stripes readings first written news old new = ⊥
+
+-- At the end: all blocks were written. A sync failed before any file was finished, or a folder once all levels were synced.
+pub record BreaksAtEnd (plan : FixPlan) (starts : StartsValue) (fault : RunFault) (stripes : List Mended) (readings : List (List LevelReading))
+    (first : List Event) (firsts news : List FolderView) (old new : VaultView) : Type 0 where
+  pub written : Written
+  pub writes : WritesFiles plan starts stripes firsts written
+  pub ending : BreaksEnding fault plan stripes readings first written news old new
+
+-- Where a fix broke off, with so many stripes behind those that it looked at: at the end there are none.
+abbrev pub BreaksOff : FixPlan → StartsValue → RunFault → List Mended → List ℕ → List (List LevelReading) → List Event
+    → List FolderView → List FolderView → VaultView → VaultView → Type 0
+BreaksOff plan starts fault stripes behind readings first firsts news old new =
+    BreaksWriting plan starts fault stripes readings first firsts news old new
+    ⊎ ((behind ≡ []) × BreaksAtEnd plan starts fault stripes readings first firsts news old new)
+
+-- A fix that broke off after the folders were listed: an object failed otherwise than in the readings that were told. These first stripes
+-- were looked at, and it broke off in the last of them or at the end.
+pub record FixBreaks {W R : Type 0} (view : W → SinkView) (standing : R → ReportView) (stands : R → List Event → Type 0)
+    (mode : Mode) (selection : Selection) (names : List (List ℕ)) (table : TableValue) (old new : Outside W R) (fault : RunFault) : Type 0 where
+  pub lists : List (List ListedFile)
+  pub mids : List FolderView
+  pub as_many : length mids ≡ length old.folders
+  pub listed : ListsAll old.folders mids lists
+  pub plan : FixPlan
+  pub plan_is : IsPlan mode selection names table lists plan
+  pub stripes : List Mended
+  pub behind : List ℕ
+  pub numbers : stripes_of plan ≡ numbers_of (facts_of stripes) ++ behind
+  pub readings : List (List LevelReading)
+  pub finds : FixFinds plan (starts_of table lists) mids old.vault stripes readings
+  pub unread : RoseBy (unread_in readings) old.vault.faults new.vault.faults
+  pub unread_cells_of : (d : ℕ) → d < length plan.table.columns
+      → RoseBy (unread_cells d (facts_of stripes)) (folder_at old.folders d).faults (folder_at new.folders d).faults
+  pub spare : AsksSpare plan (facts_of stripes) old.spare new.spare
+  pub vault : MendsVault plan (facts_of stripes) old.vault new.vault
+  pub first : List Event
+  pub off : BreaksOff plan (starts_of table lists) fault stripes behind readings first mids new.folders old.vault new.vault
+  pub told : Told view standing stands table.columns first old.lines new.lines old.reports new.reports
+  pub folders : length new.folders ≡ length old.folders
+  pub calls : MakeFixCalls plan (starts_of table lists) stripes mids new.folders
+  pub broke : HasBroken plan fault first mids new.folders old.vault new.vault
+
+-- why a fix did not end: it did not begin, and nothing but the folders was touched, or it broke off
+abbrev pub FixesNot : {W R : Type 0} → (W → SinkView) → (R → ReportView) → (R → List Event → Type 0) → Mode → Selection → List (List ℕ) → TableValue
+    → Outside W R → Outside W R → Type 0 → RunFault → Type 0
+FixesNot view standing stands mode selection names table old new untouched fault =
+    (BeginsNot old.folders new.folders fault × untouched) ⊎ FixBreaks view standing stands mode selection names table old new fault
