@@ -1,0 +1,3 @@
+// Syncs over objects that fail, and by several readers.
+mod faults;
+mod readers;

@@ -1,0 +1,183 @@
+// Any number of readers gives the same, and they read beside one another and beside the writer.
+ghost use Rattle.std.specs.Prelude.{IfOk, IfSome};
+ghost use Rattle.disk_model.specs.Vault.{IsSettled};
+ghost use Rattle.disk_memory.specs.Given.{HasNoDraft};
+ghost use Rattle.disk_memory.specs.Vault.{vault_view};
+
+use disk_memory::{GateFolder, GateVault, MemVault};
+use snap_top_memory::arrays::{Array, Disk, EMPTY, Left, SYNC, folder, run_first, run_with, vault};
+use std::alloc::Global;
+use std::sync::atomic::AtomicBool;
+use std::test::Fail;
+use std::thread::Threads;
+
+// Four disks, two levels and three contents, as a user may have them.
+const USUAL: &str = "# four disks, two parities
+parity /mnt/parity1/snapraid.parity
+2-parity /mnt/parity2/snapraid.2-parity
+content /var/snapraid/snapraid.content
+content /mnt/disk1/snapraid.content
+content /mnt/disk2/snapraid.content
+data d1 /mnt/disk1/
+data d2 /mnt/disk2/
+data d3 /mnt/disk3/
+data d4 /mnt/disk4/
+exclude *.tmp
+exclude /lost+found/
+autosave 500
+pool /pool
+blocksize 256
+";
+
+// What the second and the third file system hold beside `a` is left out.
+const FOUR_DISKS: Array = Array {
+    config: USUAL,
+    levels: 2,
+    copies: 3,
+    disks: &[
+        &[("a", b"\x01", 1, 5), ("snapraid.content", b"1", 1, 5)],
+        &[("a", b"\x02", 1, 5), ("snapraid.content.tmp", b"2", 1, 5)],
+        &[("a", b"\x04", 1, 5), ("b.tmp", b"3", 1, 5)],
+        &[("a", b"\x08", 1, 5), ("lost+found/c", b"4", 1, 5)],
+    ],
+};
+
+// Whether a level has one block of 256 KiB, of zeros but this first byte.
+fn is_block(level: &[u8], first: u8) -> bool {
+    level.len() == 262_144
+        && level.first() == Some(&first)
+        && level.iter().skip(1).all(|byte| *byte == 0)
+}
+
+// Whether the first content copy is there, and so are the other two.
+fn copies_agree(alloc: Global, left: &mut Left) -> Result<bool, Fail> {
+    let first = left.content(alloc, 0)?;
+    let second = left.content(alloc, 1)?;
+    let third = left.content(alloc, 2)?;
+    Ok(!first.is_empty() && first == second && first == third)
+}
+
+#[test]
+fn a_usual_array_by_any_number_of_readers(rt: HostRuntime) -> Result<(), Fail> {
+    let alloc = rt.alloc();
+    let mut whole = run_first(&rt, alloc, SYNC, FOUR_DISKS)?;
+    let want = whole.content(alloc, 0)?;
+    for readers in ["1", "3", "16"] {
+        let words = ["snapraid", "sync", "-c", "FILE", "--readers", readers];
+        let mut left = run_first(&rt, alloc, &words, FOUR_DISKS)?;
+        assert!(rt; left.is(0, "sync: 1 stripes synced, 0 pending\n", ""));
+        assert!(rt; is_block(left.parity(alloc, 0)?.as_slice(), 0x0f));
+        assert!(rt; is_block(left.parity(alloc, 1)?.as_slice(), 0x55));
+        assert!(rt; copies_agree(alloc, &mut left)?);
+        assert!(rt; left.content(alloc, 0)?.as_slice() == want.as_slice());
+    }
+    Ok(())
+}
+
+const BYTE: Disk<'static> = &[("a", b"1", 1, 5)];
+
+const TWO_DISKS: &str = "blocksize 1\nparity p\ncontent content\ndata d1 d\ndata d2 e\n";
+
+// Whether words over two disks with a file each end so, and the first readings of the two disks are made at once: a folder's
+// third call, after it was listed and the file looked at.
+fn reads_at_once<R: Threads + Sync>(
+    rt: &R,
+    alloc: Global,
+    command: &str,
+    vault: MemVault,
+    out: &str,
+) -> Result<Option<MemVault>, Fail>
+    requires settled { IsSettled (vault_view vault) }
+    requires drafts { HasNoDraft (vault_view vault) }
+    ensures settled { IfOk result (λ found. IfSome found (λ vault. IsSettled (vault_view vault))) }
+    ensures drafts { IfOk result (λ found. IfSome found (λ vault. HasNoDraft (vault_view vault))) }
+{
+    let one = AtomicBool::new(false);
+    let two = AtomicBool::new(false);
+    let mut folders = Vec::new(alloc);
+    folders.push(GateFolder::new(folder(alloc, BYTE)?, 3, &one, &two))?;
+    folders.push(GateFolder::new(folder(alloc, BYTE)?, 3, &two, &one))?;
+    let words = ["snapraid", command, "-c", "FILE", "--readers", "2"];
+    let left = run_with(rt, alloc, &words, TWO_DISKS, folders, vault)?;
+    let saw = left.outcome.folders.iter().all(|folder| folder.saw());
+    if !left.is(0, out, "") || left.outcome.folders.len() != 2 || !saw {
+        return Ok(None);
+    }
+    Ok(Some(left.reopened()?))
+}
+
+#[test]
+fn two_disks_are_read_at_once(rt: HostRuntime) -> Result<(), Fail> {
+    let alloc = rt.alloc();
+    let first = vault(alloc, EMPTY)?;
+    let done = "sync: 1 stripes synced, 0 pending\n";
+    let Some(synced) = reads_at_once(&rt, alloc, "sync", first, done)? else {
+        return Err("a sync".into());
+    };
+    let found = reads_at_once(&rt, alloc, "check", synced, "check: 0 findings\n")?;
+    assert!(rt; found.is_some(), "a check");
+    Ok(())
+}
+
+// One file a stripe. A window has sixteen of them.
+const SEVENTEEN: Array = Array {
+    disks: &[&[
+        ("a", b"1", 1, 5),
+        ("b", b"1", 1, 5),
+        ("c", b"1", 1, 5),
+        ("d", b"1", 1, 5),
+        ("e", b"1", 1, 5),
+        ("f", b"1", 1, 5),
+        ("g", b"1", 1, 5),
+        ("h", b"1", 1, 5),
+        ("i", b"1", 1, 5),
+        ("j", b"1", 1, 5),
+        ("k", b"1", 1, 5),
+        ("l", b"1", 1, 5),
+        ("m", b"1", 1, 5),
+        ("n", b"1", 1, 5),
+        ("o", b"1", 1, 5),
+        ("p", b"1", 1, 5),
+        ("q", b"1", 1, 5),
+    ]],
+    ..EMPTY
+};
+
+// The number of the first write to parity in a sync of those files.
+fn first_write<R: Threads + Sync>(rt: &R, alloc: Global) -> Result<u64, Fail> {
+    let left = run_first(rt, alloc, SYNC, SEVENTEEN)?;
+    match &left.outcome.vault {
+        Some(vault) => Ok(vault.first_write()),
+        None => Err("no vault".into()),
+    }
+}
+
+// The writer begins with the first window while the last stripe is read: by the folder's 35th call, after it was listed, and
+// then each file looked at and read.
+#[test]
+fn one_window_is_written_while_the_next_is_read(rt: HostRuntime) -> Result<(), Fail> {
+    let alloc = rt.alloc();
+    let write = first_write(&rt, alloc)?;
+    for readers in ["1", "3", "16"] {
+        let one = AtomicBool::new(false);
+        let two = AtomicBool::new(false);
+        let mut folders = Vec::new(alloc);
+        let files = folder(alloc, SEVENTEEN.disks[0])?;
+        folders.push(GateFolder::new(files, 35, &one, &two))?;
+        let vault = GateVault::new(vault(alloc, SEVENTEEN)?, write, &two, &one);
+        let words = ["snapraid", "sync", "-c", "FILE", "--readers", readers];
+        let left = run_with(&rt, alloc, &words, SEVENTEEN.config, folders, vault)?;
+        assert!(rt; left.is(0, "sync: 17 stripes synced, 0 pending\n", ""));
+        assert!(rt; left.outcome.folders.iter().all(|folder| folder.saw()));
+        assert!(rt; saw(&left.outcome.vault));
+    }
+    Ok(())
+}
+
+// Whether the gated call of the vault saw the other gate's flag.
+fn saw(vault: &Option<GateVault>) -> bool {
+    match vault {
+        Some(vault) => vault.saw(),
+        None => false,
+    }
+}

@@ -1,0 +1,3 @@
+// Syncs that are stopped.
+mod again;
+mod stops;
