@@ -1,13 +1,11 @@
 -- The files of all columns at the end of a fix, column by column.
-use Rattle.std.proofs.Common.{◌≡◌, ◌≢◌, inl, inr, ℕ, suc, ◌+◌, ◌-◌, ◌<◌, ◌≤◌, List, [], ◌∷◌, ◌++◌, length, map, set, get_or, IsTrue, true, false, refl, sym, ap, ◌∙◌, subst, arith, append_assoc}
+use Rattle.std.proofs.Common.{◌≡◌, ◌≢◌, inl, inr, ℕ, suc, ◌+◌, ◌-◌, ◌<◌, ◌≤◌, List, [], ◌∷◌, ◌++◌, length, map, set, get_or, true, false, refl, sym, ap, ◌∙◌, subst, arith, append_assoc}
 use Rattle.std.specs.List.{range_with_len, flat_map}
 use Rattle.std.proofs.lemmas.Bool.{cases_lt}
 use Rattle.std.proofs.lemmas.List.{get_or-map, get_or-set_other, get_or-set_same, length-append, length-map, length-set, map-set}
-use Rattle.disk_model.specs.Cause.{Rose}
 use Rattle.disk_model.specs.Folder.{FolderView, quiet_folder}
 use Rattle.disk_model.specs.Sink.{SinkView}
 use Rattle.file_table.specs.Valid.{IsValid}
-use Rattle.snap_report.specs.Answer.{Gained, broke_folder}
 use Rattle.snap_report.specs.Report.{ReportView}
 use Rattle.snap_report.specs.declared.events.Event.{Event}
 use Rattle.snap_report.specs.declared.pages.Lines.{Lines}
@@ -18,16 +16,15 @@ use Rattle.stripe_reader.specs.declared.starts.Start.{Start}
 use Rattle.snap_fix.specs.declared.counts.Counts.{Counts}
 use Rattle.snap_fix.specs.declared.finishing.Finish.{Finish}
 use Rattle.snap_fix.specs.declared.state.FileState.{FileState}
+use Rattle.snap_fix.specs.Breaking.{FolderFails}
 use Rattle.snap_fix.specs.Counts.{AreCounts}
 use Rattle.snap_fix.specs.Ending.{AreDone, CanFinishAll, CanFinishColumn, FinishesAll, FinishesFiles, FinishesNotAll, FinishesFile, IsDone, all_finish_news, column_news, column_news_at, finish_at, finishes_at, is_finished, states_at}
 use Rattle.snap_fix.specs.EndingSteps.{CanEndColumn, EndsColumn, EndsNotColumn, column_outside}
 use Rattle.snap_fix.specs.Mending.{StatesFit}
 use Rattle.snap_fix.specs.Plan.{FixPlan, records_in}
 use Rattle.snap_fix.specs.Repairing.{outside}
-use Rattle.snap_fix.specs.State.{AnyCall, FolderMakes}
 use Rattle.snap_fix.proofs.EndingTellLemmas.{columns_before, events_same, events_split, finishes_before, finishes_last}
 use Rattle.snap_fix.proofs.EndingWantedLemmas.{column_wanted, columns_wanted, first_columns, wanted_columns}
-use Rattle.snap_fix.proofs.FolderCallLemmas.{makes_any, makes_none}
 use Rattle.snap_fix.proofs.TellingLemmas.{Joins, Tells, events_to, tells_as, tells_more, tells_nothing, told_as}
 
 module _ (plan : FixPlan) (first : StartsValue) (firsts : List (List FileState)) (olds : List FolderView) where
@@ -108,13 +105,13 @@ module _ (plan : FixPlan) (first : StartsValue) (firsts : List (List FileState))
     }
 
     -- calls of its folder are calls of what it was
-    calls_here : FolderMakes (AnyCall (FinishesFile plan d (starts_at starts.columns d) (states_at states d))) (view_of (get_or folders d before)) (view_of after)
-        → FolderMakes (AnyCall (FinishesFile plan d (starts_at first.columns d) (states_at firsts d))) (folder_at olds d) (folder_at (map view_of (set folders d after)) d)
-    calls_here makes =
-        subst (λ (v : FolderView). FolderMakes (AnyCall (FinishesFile plan d (starts_at first.columns d) (states_at firsts d))) (folder_at olds d) v) (sym now_here)
-        (subst (λ (v : FolderView). FolderMakes (AnyCall (FinishesFile plan d (starts_at first.columns d) (states_at firsts d))) v (view_of after)) lent
-        (subst (λ (s : List Start). FolderMakes (AnyCall (FinishesFile plan d s (states_at firsts d))) (view_of (get_or folders d before)) (view_of after)) same_starts
-        (subst (λ (s : List FileState). FolderMakes (AnyCall (FinishesFile plan d (starts_at starts.columns d) s)) (view_of (get_or folders d before)) (view_of after)) same_states makes)))
+    calls_here : FolderFails (FinishesFile plan d (starts_at starts.columns d) (states_at states d)) (view_of (get_or folders d before)) (view_of after)
+        → FolderFails (FinishesFile plan d (starts_at first.columns d) (states_at firsts d)) (folder_at olds d) (folder_at (map view_of (set folders d after)) d)
+    calls_here fails =
+        subst (λ (v : FolderView). FolderFails (FinishesFile plan d (starts_at first.columns d) (states_at firsts d)) (folder_at olds d) v) (sym now_here)
+        (subst (λ (v : FolderView). FolderFails (FinishesFile plan d (starts_at first.columns d) (states_at firsts d)) v (view_of after)) lent
+        (subst (λ (s : List Start). FolderFails (FinishesFile plan d s (states_at firsts d)) (view_of (get_or folders d before)) (view_of after)) same_starts
+        (subst (λ (s : List FileState). FolderFails (FinishesFile plan d (starts_at starts.columns d) s) (view_of (get_or folders d before)) (view_of after)) same_states fails)))
 
     -- what would be done to a record of it is by what it was
     done_here : (i : ℕ) (finish : Finish) → IsDone plan d (starts_at starts.columns d) (states_at states d) (view_of (get_or folders d before)) i finish
@@ -188,13 +185,13 @@ module _ (plan : FixPlan) (first : StartsValue) (firsts : List (List FileState))
           → FinishesNotAll view standing stands plan (outside first firsts olds lines_old reports_old)
           (outside starts_new states_new (map view_of (set folders d after)) lines_new reports_new) d
       all_not broke = record {
-        within = within;
-        rose = subst (λ (v : FolderView). Rose (folder_at olds d).faults v.faults) (sym now_here)
-            (subst (λ (v : FolderView). Rose v.faults (view_of after).faults) lent broke.rose);
-        call = subst (λ (v : FolderView). IsTrue v.tells_calls → Gained broke_folder (folder_at olds d).calls v.calls) (sym now_here)
-            (subst (λ (v : FolderView). IsTrue (view_of after).tells_calls → Gained broke_folder v.calls (view_of after).calls) lent broke.call);
         folders = many_now;
-        makes = makes;
+        fails = record {
+          within = within;
+          before = λ k near. (column_before broke.done k near).makes;
+          here = calls_here broke.fails;
+          behind = λ k past below. now_other k (λ same. omega (arith, same, past)) ∙ so_far.later k (omega (arith, past));
+        };
         finishes = all_finishes;
         are = are;
         first = front;
@@ -250,22 +247,6 @@ module _ (plan : FixPlan) (first : StartsValue) (firsts : List (List FileState))
 
           front : List Event
           front = events_to of d ++ broke.first
-
-          Calls : ℕ → FolderView → FolderView → Type 0
-          Calls k = FolderMakes (AnyCall (FinishesFile plan k (starts_at first.columns k) (states_at firsts k)))
-
-          makes : (k : ℕ) → k < length plan.table.columns → Calls k (folder_at olds k) (folder_at (map view_of (set folders d after)) k)
-          makes k below = elim (cases_lt k d) [
-            | inl near ↦ makes_any (FinishesFile plan k (starts_at first.columns k) (states_at firsts k)) (column_before broke.done k near).makes
-            | inr from ↦ elim (cases_lt d k) [
-              | inl past ↦
-                  subst (λ (v : FolderView). Calls k (folder_at olds k) v) (sym (now_other k (λ same. omega (arith, same, past)) ∙ so_far.later k (omega (arith, past))))
-                  (makes_none (AnyCall (FinishesFile plan k (starts_at first.columns k) (states_at firsts k))) (folder_at olds k))
-              | inr not_past ↦
-                  let here : d ≡ k = omega (arith, from, not_past) in
-                  subst (λ (j : ℕ). Calls j (folder_at olds j) (folder_at (map view_of (set folders d after)) j)) here (calls_here broke.makes)
-            ]
-          ]
 
   -- all were
   pub all_done : {W R : Type 0} (view : W → SinkView) (standing : R → ReportView) (stands : R → List Event → Type 0) (d : ℕ) (starts : StartsValue) (states : List (List FileState)) (news : List FolderView)

@@ -25,12 +25,12 @@ use Rattle.snap_fix.specs.Finishing.{FitsTree, HoldsFinished, IsFinishCall, Same
 use Rattle.snap_fix.specs.Mending.{StatesFit}
 use Rattle.snap_fix.specs.Order.{FolderWrites}
 use Rattle.snap_fix.specs.Plan.{FixPlan, entry_at, records_in}
-use Rattle.snap_fix.specs.State.{AnyCall, WellCall, FolderMakes, OthersStay, no_state, record_path, state_in}
+use Rattle.snap_fix.specs.State.{WellCall, FolderMakes, OthersStay, no_state, record_path, state_in}
 use Rattle.snap_fix.proofs.EndingFilesLemmas.{fits_stays, free_stays, holds_on, holds_since, names_stay, whole_on, whole_since}
 use Rattle.snap_fix.proofs.EndingTellLemmas.{events_after, events_split, finish_before, finish_last, records_before}
 use Rattle.snap_fix.proofs.EndingWantedLemmas.{all_wanted, first_news, wanted_from}
-use Rattle.snap_fix.proofs.FolderCallLemmas.{makes_any_wider, makes_none, makes_then, makes_well_wider}
-use Rattle.snap_fix.proofs.GoesOnLemmas.{breaks_then}
+use Rattle.snap_fix.proofs.FolderCallLemmas.{makes_none, makes_then, makes_well_wider}
+use Rattle.snap_fix.proofs.FolderFailsLemmas.{fails_then, fails_wider}
 use Rattle.snap_fix.proofs.OrderLemmas.{writes_none, writes_then}
 use Rattle.snap_fix.proofs.RecordPathsLemmas.{ArePaths, names_distinct}
 use Rattle.snap_fix.proofs.TellingLemmas.{Joins, Tells, events_to, tells_as, tells_more, tells_nothing, told_as}
@@ -153,9 +153,6 @@ module _ (plan : FixPlan) (d : ℕ) (first : StartsValue) (firsts : List (List F
 
     calls_next : {new : FolderView} → FolderMakes (WellCall This) mid new → FolderMakes (WellCall Some) mid new
     calls_next makes = makes_well_wider This Some call_next makes
-
-    any_next : {new : FolderView} → FolderMakes (AnyCall This) mid new → FolderMakes (AnyCall Some) mid new
-    any_next makes = makes_any_wider This Some call_next makes
 
     -- what was done to it is by its first start and state, in the folder as it was
     abbrev finish_next : List Start → List FileState → Bool → Finish
@@ -314,15 +311,12 @@ module _ (plan : FixPlan) (d : ℕ) (first : StartsValue) (firsts : List (List F
         → EndsNotColumn view standing stands plan d (column_outside first firsts folder lines_old reports_old) (column_outside starts_new states_new new lines_new reports_new)
     ended_not view standing stands starts_new states_new new lines_old lines lines_new reports_old reports reports_new so_counts before broke =
         let P = FinishesFile plan d starts_of states_of in
-        let all = breaks_then P folder mid new so_far.makes (record { rose = broke.rose; call = broke.call; makes = any_next broke.makes }) in
         let done = so_far.done ++ wanted_from plan d starts_of states_of folder n in
         let news = events_to (record_news plan d done) n in
         let before_too = tells_as view standing stands plan.table.columns news (events_to (record_news plan d so_far.done) n) so_counts lines_old lines reports_old reports
         (first_news plan d starts_of states_of folder so_far.done n so_far.long) before in
         record {
-          rose = all.rose;
-          call = all.call;
-          makes = all.makes;
+          fails = fails_then P folder mid new so_far.makes (fails_wider This P call_next broke.fails);
           done = done;
           is = all_wanted plan d starts_of states_of folder so_far.done n so_far.long so_far.is;
           first = news;

@@ -22,7 +22,8 @@ use Rattle.snap_fix.specs.Finishing.{CanFinish, FinishesNot, FinishesRecord, Fit
 use Rattle.snap_fix.specs.Order.{FolderWrites}
 use Rattle.snap_fix.specs.Plan.{FixPlan, entry_at, records_in}
 use Rattle.snap_fix.specs.State.{WellCall, record_path, state_in}
-use Rattle.snap_fix.proofs.FolderCallLemmas.{makes_any_wider, makes_none, makes_well_wider}
+use Rattle.snap_fix.proofs.FolderCallLemmas.{makes_none, makes_well_wider}
+use Rattle.snap_fix.proofs.FolderFailsLemmas.{fails_wider}
 use Rattle.snap_fix.proofs.OrderLemmas.{writes_none}
 use Rattle.snap_fix.proofs.TellingLemmas.{told_as}
 
@@ -119,8 +120,6 @@ module _ (plan : FixPlan) (d i : ℕ) (starts : StartsValue) (states : List (Lis
         → listed ≡ (entry_at plan d i).listed → FinishesNot plan.table d i listed starts states folder folder_new
         → EndsNotRecord view standing stands plan d i (column_outside starts states folder lines reports) (column_outside starts_new states_new folder_new lines reports)
     ends_not listed folder_new starts_new states_new finished same broke = record {
-      rose = broke.rose;
-      call = broke.call;
-      makes = makes_any_wider (CallBy listed) (FinishesThis plan d i (starts_at starts.columns d) (states_at states d)) (call_of listed finished same) broke.makes;
+      fails = fails_wider (CallBy listed) (FinishesThis plan d i (starts_at starts.columns d) (states_at states d)) (call_of listed finished same) broke;
       told = told_nothing view standing stands plan.table.columns lines reports;
     }

@@ -1,5 +1,5 @@
 -- How the calls of a finish break off.
-use Rattle.std.proofs.Common.{◌≡◌, ◌≢◌, List, ℕ, Bool, true, false, None, IsTrue, Result, Ok, Err, IfOk, IfErr, cond, refl, sym, ◌∙◌, ap}
+use Rattle.std.proofs.Common.{◌≡◌, ◌≢◌, List, ℕ, Bool, true, false, None, IsTrue, Result, Ok, Err, IfOk, IfErr, refl, sym, ◌∙◌}
 use Rattle.disk_model.specs.Folder.{FolderView, FolderCall, IsFolder, MissingExactly, file_failed}
 use Rattle.disk_model.specs.Tree.{file_of}
 use Rattle.disk_model.specs.Writing.{IsFolderWrite}
@@ -8,8 +8,8 @@ use Rattle.disk_model.specs.declared.fault.FileFault.TheVariants.{Missing, Faile
 use Rattle.snap_report.specs.Answer.{is_reading}
 use Rattle.snap_fix.specs.FinishSteps.{BreaksBy}
 use Rattle.snap_fix.specs.State.{WellCall, FolderMakes}
-use Rattle.snap_fix.proofs.FolderCallLemmas.{makes_any_wider, makes_then, makes_well_wider, makes_well_write}
-use Rattle.snap_fix.proofs.GoesOnLemmas.{breaks_off, breaks_then as fails_then}
+use Rattle.snap_fix.proofs.FolderCallLemmas.{makes_then, makes_well_wider, makes_well_write}
+use Rattle.snap_fix.proofs.FolderFailsLemmas.{fails_one, fails_then, fails_wider}
 
 -- after calls that went well
 pub breaks_then : (fault : FileFault) (P : FolderCall → Type 0) (old mid new : FolderView) → FolderMakes (WellCall P) old mid → BreaksBy fault P mid new → BreaksBy fault P old new
@@ -18,7 +18,7 @@ breaks_then Missing P old mid new one two = record { untold = sym one.goes_on.te
 
 -- the same calls are of a wider kind
 pub breaks_wider : (fault : FileFault) (P Q : FolderCall → Type 0) (old new : FolderView) → ((call : FolderCall) → P call → Q call) → BreaksBy fault P old new → BreaksBy fault Q old new
-breaks_wider Failed P Q old new wider breaks = record { rose = breaks.rose; call = breaks.call; makes = makes_any_wider P Q wider breaks.makes }
+breaks_wider Failed P Q old new wider breaks = fails_wider P Q wider breaks
 breaks_wider Missing P Q old new wider breaks = record {
   untold = breaks.untold;
   makes = makes_well_wider P Q wider breaks.makes;
@@ -34,7 +34,7 @@ pub breaks_one : {T : Type 0} (result : Result T FileFault) (P : FolderCall → 
     → IsFolderWrite call (file_failed result) old new → MissingExactly result old path → (IsTrue old.tells → file_of old.tree path ≢ None)
     → is_reading call ≡ false → P call → IfErr result (λ fault. BreaksBy fault P old new)
 breaks_one (Ok _) P call path old new formed wrote missing there writes is = tt
-breaks_one (Err Failed) P call path old new formed wrote missing there writes is = breaks_off P call old new is (ap (λ (reads : Bool). cond reads false true) writes) formed wrote
+breaks_one (Err Failed) P call path old new formed wrote missing there writes is = fails_one P call old new is writes formed wrote
 breaks_one (Err Missing) P call path old new formed wrote missing there writes is = record {
   untold = not_told old.tells (λ told. there told (missing told));
   makes = makes_well_write P formed wrote is;

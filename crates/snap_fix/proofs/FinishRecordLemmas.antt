@@ -12,9 +12,10 @@ use Rattle.stripe_reader.specs.declared.starts.Start.{Start}
 use Rattle.snap_fix.specs.declared.finishing.Finish.{Finish}
 use Rattle.snap_fix.specs.declared.finishing.Finish.TheVariants.{Kept, Renamed, Gone}
 use Rattle.snap_fix.specs.declared.state.FileState.{FileState}
+use Rattle.snap_fix.specs.Breaking.{FolderFails}
 use Rattle.snap_fix.specs.Finishing.{CanFinish, FinishesNot, FinishesRecord, IsFinishCall, IsWholeCall, finish_calls, finish_of, is_changed, is_stamped, lost_finish, same_stamp, stamped_finish, whole_finish}
 use Rattle.snap_fix.specs.FinishSteps.{BreaksBy, FinishesBy, IsReady}
-use Rattle.snap_fix.specs.State.{WellCall, AnyCall, FolderMakes, stands, state_in}
+use Rattle.snap_fix.specs.State.{WellCall, FolderMakes, stands, state_in}
 use Rattle.snap_fix.proofs.FinishWholeLemmas.{stands_whole}
 
 -- ---- where a call is due, the file is not kept as it is
@@ -157,4 +158,4 @@ module _ (table : TableValue) (d i : ℕ) (listed : Option Meta) (starts : Start
         → FinishesNot table d i listed starts states folder new
     is_failed fault new failed broke =
         let fails = subst (λ (f : FileFault). BreaksBy f (IsFinishCall state.lost listed start state path meta) folder new) failed broke in
-        record { rose = fails.rose; call = fails.call; makes = there (λ p m s t. FolderMakes (AnyCall (IsFinishCall t.lost listed s t p m)) folder new) fails.makes }
+        there (λ p m s t. FolderFails (IsFinishCall t.lost listed s t p m) folder new) fails

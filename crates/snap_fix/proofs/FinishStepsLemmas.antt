@@ -15,14 +15,14 @@ use Rattle.stripe_reader.specs.declared.starts.Place.TheVariants.{Plain, Lost, N
 use Rattle.snap_fix.specs.declared.finishing.Finish.{Finish}
 use Rattle.snap_fix.specs.declared.finishing.Finish.TheVariants.{Kept, Renamed}
 use Rattle.snap_fix.specs.declared.state.FileState.{FileState}
+use Rattle.snap_fix.specs.Breaking.{FolderFails}
 use Rattle.snap_fix.specs.Finishing.{HoldsFinished, IsFinishCall, IsWholeCall, bytes_now, finish_calls, finish_of, is_changed, is_stamped, lost_after, lost_calls, lost_finish, same_stamp, size_calls, stamped_finish, whole_calls, whole_finish}
 use Rattle.snap_fix.specs.FinishSteps.{BreaksBy, FinishesBy, FitsSize, IsLostCall, IsPlaced, IsPutCall, IsReady, IsSizeCall, SetsUp, SizesBy, Stands}
-use Rattle.snap_fix.specs.Mending.{BreaksOff}
 use Rattle.snap_fix.specs.Order.{FolderWrites, put_calls, set_up_calls}
 use Rattle.snap_fix.specs.State.{WellCall, FolderMakes, stands}
 use Rattle.snap_fix.proofs.FinishCallsLemmas.{breaks_one, breaks_then, breaks_wider, when_ok}
 use Rattle.snap_fix.proofs.FolderCallLemmas.{makes_none, makes_then, makes_well_wider, makes_well_write, others_same}
-use Rattle.snap_fix.proofs.GoesOnLemmas.{breaks_off}
+use Rattle.snap_fix.proofs.FolderFailsLemmas.{fails_one}
 use Rattle.snap_fix.proofs.OrderLemmas.{writes_none, writes_one, writes_then}
 use Rattle.snap_fix.proofs.FinishTreeLemmas.{holds_stamped, same_names, some_is_some, stands_lost, stands_made, stands_moved, stands_sized, stands_stamped, stands_there}
 
@@ -77,9 +77,9 @@ sets_up_new path place touched old new formed placed absent either wrote =
     } in subst (λ (p : Place). SetsUp path p touched old new) (sym is.0) sets
 
 pub breaks_new : (path : List ℕ) (place : Place) (touched : Bool) (old new : FolderView) → IsFolder new → stands place touched ≡ false → (place ≡ Plain) ⊎ (place ≡ Nowhere)
-    → IsFolderWrite (Make path) true old new → BreaksOff (IsPutCall place touched path) old new
+    → IsFolderWrite (Make path) true old new → FolderFails (IsPutCall place touched path) old new
 breaks_new path place touched old new formed absent either wrote =
-    breaks_off (IsPutCall place touched path) (Make path) old new (absent, inr ((nowhere place touched absent either).0, refl)) refl formed wrote
+    fails_one (IsPutCall place touched path) (Make path) old new (absent, inr ((nowhere place touched absent either).0, refl)) refl formed wrote
 
 -- ---- its size is set
 

@@ -16,6 +16,7 @@ use Rattle.parity_writer.specs.LevelReading.{LevelReading, has_failed}
 use Rattle.snap_report.specs.Answer.{is_parity_io}
 use Rattle.snap_report.specs.Report.{ReportView}
 use Rattle.snap_report.specs.declared.answer.RunFault.{RunFault}
+use Rattle.snap_report.specs.declared.answer.RunFault.TheVariants.{Folder, Vault, Memory}
 use Rattle.snap_report.specs.declared.events.Event.{Event}
 use Rattle.snap_report.proofs.ToldLemmas.{told_then, told_nothing}
 use Rattle.stripe_reader.specs.Columns.{folder_at}
@@ -24,7 +25,7 @@ use Rattle.snap_fix.specs.declared.room.Room.{Room}
 use Rattle.snap_fix.specs.Asking.{AsksSpare}
 use Rattle.snap_fix.specs.Facts.{StripeFacts}
 use Rattle.snap_fix.specs.FixRun.{AreAscending, BreaksInLast, FixesAll, HoldAllWrong}
-use Rattle.snap_fix.specs.Fixing.{AreTotals, FixScene, FixesStripe, MendsVault, SceneFits, Writes, facts_of, was_written}
+use Rattle.snap_fix.specs.Fixing.{AreTotals, FixScene, FixesStripe, MendsVault, SceneFits, Writes, facts_of, levels_begun, was_written}
 use Rattle.snap_fix.specs.Known.{AreFacts}
 use Rattle.snap_fix.specs.Looking.{AreAllLevelsOf, numbers_of, unread_in}
 use Rattle.snap_fix.specs.Mended.{AnswersFit, Mended, all_mended_events, is_wrong_level, mended_events}
@@ -38,7 +39,7 @@ use Rattle.snap_fix.proofs.FixCountLemmas.{count_append, parity_io_in_stripe}
 use Rattle.snap_fix.proofs.FolderCallLemmas.{makes_none}
 use Rattle.snap_fix.proofs.KeptStartsLemmas.{stood_none, stood_then, well_then}
 use Rattle.snap_fix.proofs.LookingLemmas.{vault_goes_on}
-use Rattle.snap_fix.proofs.MendedVaultLemmas.{Precede, all_levels_append, goes_on_none, holds_append, levels_before, mend_calls_append, mends_append, mends_none, zeros_append}
+use Rattle.snap_fix.proofs.MendedVaultLemmas.{Precede, all_levels_append, goes_on_none, holds_append, levels_before, mend_calls_append, mends_append, mends_nothing, zeros_append}
 
 -- ---- the facts and events of stripes, and then of others
 
@@ -144,11 +145,28 @@ writes_then plan xs ys old mid new (length_one, one) (length_two, two) = (length
 
 -- ---- all of it
 
+begun_append : (fault : RunFault) (xs earlier : List StripeFacts) (last : StripeFacts) → levels_begun fault (xs ++ earlier) last ≡ xs ++ levels_begun fault earlier last
+begun_append (Folder disk) xs earlier last = refl
+begun_append Vault xs earlier last = append_assoc xs earlier (last ∷ [])
+begun_append Memory xs earlier last = refl
+
+-- where the last stripe's levels were not begun, they stayed
+begun_all : (fault : RunFault) (plan : FixPlan) (earlier : List StripeFacts) (last : StripeFacts) (old new : VaultView) → MendsVault plan (levels_begun fault earlier last) old new
+    → MendsVault plan (earlier ++ last ∷ []) old new
+begun_all (Folder disk) plan earlier last old new mends = mends_append plan earlier (last ∷ []) old new new mends (mends_nothing plan (last ∷ []) new)
+begun_all Vault plan earlier last old new mends = mends
+begun_all Memory plan earlier last old new mends = mends_append plan earlier (last ∷ []) old new new mends (mends_nothing plan (last ∷ []) new)
+
+pub mends_in_last : (fault : RunFault) (plan : FixPlan) (stripes : List StripeFacts) (readings : List (List LevelReading)) (old new : VaultView) → BreaksInLast plan fault stripes readings old new
+    → MendsVault plan stripes old new
+mends_in_last fault plan stripes readings old new broke =
+    subst (λ (its : List StripeFacts). MendsVault plan its old new) (sym broke.stripes_are) (begun_all fault plan broke.earlier broke.last old new broke.vault)
+
 -- the calls of some stripes up to the writes of the last one, after those of others
 pub breaks_in_last : (fault : RunFault) (plan : FixPlan) (xs ys : List Mended) (firsts more : List (List LevelReading)) (old mid new : VaultView)
-    → AreAllLevelsOf plan.table.shape.block_size old (facts_of xs) firsts → GoesOn old mid (mend_calls plan (facts_of xs) firsts) → BreaksInLast plan fault (facts_of ys) more mid new
-    → BreaksInLast plan fault (facts_of (xs ++ ys)) (firsts ++ more) old new
-breaks_in_last fault plan xs ys firsts more old mid new read ran broke =
+    → AreAllLevelsOf plan.table.shape.block_size old (facts_of xs) firsts → GoesOn old mid (mend_calls plan (facts_of xs) firsts) → MendsVault plan (facts_of xs) old mid
+    → BreaksInLast plan fault (facts_of ys) more mid new → BreaksInLast plan fault (facts_of (xs ++ ys)) (firsts ++ more) old new
+breaks_in_last fault plan xs ys firsts more old mid new read ran mends broke =
     let calls = mend_calls plan (facts_of xs) firsts in
     let writes = done_well (wrong_writes plan broke.last) in
     record {
@@ -160,6 +178,8 @@ breaks_in_last fault plan xs ys firsts more old mid new read ran broke =
           ∙ mend_calls_append plan plan.table.shape.block_size old (facts_of xs) (facts_of ys) firsts more read
           ∙ ap (λ (others : List VaultDone). calls ++ others) broke.calls_are ∙ sym (append_assoc calls broke.before writes);
       ran = breaks_then fault calls broke.before writes old mid new ran broke.ran;
+      vault = subst (λ (stripes : List StripeFacts). MendsVault plan stripes old new) (sym (begun_append fault (facts_of xs) broke.earlier broke.last))
+          (mends_append plan (facts_of xs) (levels_begun fault broke.earlier broke.last) old mid new mends broke.vault);
     }
 
 module _ {W R : Type 0} (view : W → SinkView) (standing : R → ReportView) (stands : R → List Event → Type 0) (plan : FixPlan) where
@@ -176,7 +196,7 @@ module _ {W R : Type 0} (view : W → SinkView) (standing : R → ReportView) (s
     read = tt;
     unread = omega arith;
     ran = goes_on_none s.vault;
-    vault = mends_none plan s.vault;
+    vault = mends_nothing plan [] s.vault;
     zeros = λ told level at x outside short has. absurd (omega (arith, short, has.within));
     holds = λ told. All-nil (λ (facts : StripeFacts). HoldsWrong plan facts s.vault.files);
     parity_io = omega arith;

@@ -51,6 +51,7 @@ use Rattle.snap_fix.specs.Spare.{SpareView}
 use Rattle.snap_fix.specs.State.{AnyCall, WellCall, first_states}
 use Rattle.snap_fix.specs.Underway.{AreFixable, AreUnderway, IsMendCall, done_well, mend_calls}
 use Rattle.snap_fix.proofs.BreakingLemmas.{fails_after}
+use Rattle.snap_fix.proofs.FixAllLemmas.{mends_in_last}
 use Rattle.snap_fix.proofs.FixCallLemmas.{fix_calls_of, fix_calls_of_writing}
 use Rattle.snap_fix.proofs.FixCountLemmas.{count_append}
 use Rattle.snap_fix.proofs.FixEventLemmas.{io_no_file, none_finishing, none_finishing_first, none_opening, parity_io_no_file}
@@ -59,6 +60,8 @@ use Rattle.snap_fix.proofs.FixIntoLemmas.{folder_gained, vault_gained}
 use Rattle.snap_fix.proofs.FixStartLemmas.{begun_underway, stripes_ascending, underway_begun}
 use Rattle.snap_fix.proofs.FixVaultLemmas.{fixes_vault, flag_is, holds_synced, mends_synced, rose_on, syncs_are}
 use Rattle.snap_fix.proofs.FolderCallLemmas.{makes_any}
+use Rattle.snap_fix.proofs.FolderFailsLemmas.{fails_gained, in_column_any}
+use Rattle.snap_fix.proofs.KeptStartsLemmas.{files_any}
 use Rattle.snap_fix.proofs.PresentLemmas.{StartsFitFolders, present_at_first, starts_fit_first}
 
 -- ---- which events were told
@@ -149,7 +152,7 @@ module _ {W R : Type 0} (view : W → SinkView) (standing : R → ReportView) (s
           unread = broke.unread;
           unread_cells_of = λ d within. rose_listed d _ _ within (broke.unread_cells_of d within);
           spare = broke.spare;
-          vault = broke.vault;
+          vault = mends_in_last fault plan (facts_of broke.stripes) broke.readings old.vault vault_mid broke.ran;
           first = opening ++ broke.first;
           off = inl (record {
             rest = broke.rest;
@@ -159,7 +162,7 @@ module _ {W R : Type 0} (view : W → SinkView) (standing : R → ReportView) (s
           });
           told = told_then view standing stands table.columns opening broke.first old.lines opened_lines lines_mid old.reports opened_reports reports_mid opened broke.told;
           folders = broke.folders ∙ begun.as_many;
-          calls = fix_calls_of_writing plan starts broke.stripes mids folders_mid broke.makes;
+          calls = fix_calls_of_writing plan starts broke.stripes mids folders_mid (files_any plan fault starts broke.stripes mids folders_mid broke.makes);
           broke = broke_opened plan fault broke.first mids folders_mid old.vault vault_mid broke.broke;
         }
 
@@ -292,8 +295,10 @@ module _ {W R : Type 0} (view : W → SinkView) (standing : R → ReportView) (s
             let more = count_append (is_io_of disk) mended broke.first in
             let none = none_opening (is_io_of disk) (io_no_file disk) plan in
             let no_more = none_finishing_first (is_io_of disk) (io_no_file disk) plan broke.finishes broke.first broke.rest broke.events in
-            let before = fixed.io disk broke.within in
-            let rose = broke.rose in
+            let fails = broke.fails in
+            let makes = in_column_any disk (length table.columns) (λ (d : ℕ). FinishesOne plan d starts_mid states_mid) folders_mid folders_new fails in
+            let before = fixed.io disk fails.within in
+            let rose = fails.here.rose in
             record {
               lists = begun.lists;
               mids = mids;
@@ -307,7 +312,7 @@ module _ {W R : Type 0} (view : W → SinkView) (standing : R → ReportView) (s
               readings = readings;
               finds = finds;
               unread = rose_on (unread_in readings) old.vault.faults vault_mid.faults vault_new.faults fixed.fixes.unread synced.syncs.some.goes_on.later;
-              unread_cells_of = λ d within. rose_through d _ _ within (fixed.unread d within) (broke.makes d within).goes_on.later;
+              unread_cells_of = λ d within. rose_through d _ _ within (fixed.unread d within) (makes d within).goes_on.later;
               spare = fixed.fixes.spare;
               vault = mends_synced plan (facts_of stripes) old.vault vault_mid vault_new fixed.fixes.vault synced.syncs.some synced.syncs.drafts synced.syncs.changes;
               first = opening ++ (mended ++ broke.first);
@@ -323,20 +328,21 @@ module _ {W R : Type 0} (view : W → SinkView) (standing : R → ReportView) (s
                     rest = broke.rest;
                     events = sym (append_assoc opening mended broke.first);
                     finished_are = broke.events;
-                    makes = broke.makes;
+                    makes = fails;
                     vault = all_synced levels levels_are written_are none_written formed synced;
                   };
                 },
               );
               told = told_with broke.first broke.told;
               folders = broke.folders ∙ writes.underway.folders ∙ begun.as_many;
-              calls = fix_calls_of plan starts stripes mids folders_new all_written writes broke.makes;
+              calls = fix_calls_of plan starts stripes mids folders_new all_written writes makes;
               broke = (
-                broke.within,
+                fails.within,
                 record {
                   rose = omega (arith, sum, more, none, no_more, before, rose);
                   call = folder_gained (WellCall (IsMendCall plan starts disk stripes)) (AnyCall (FinishesOne plan disk starts_mid states_mid))
-                      (folder_at mids disk) (folder_at folders_mid disk) (folder_at folders_new disk) (writes.makes disk broke.within) (broke.makes disk broke.within) broke.call;
+                      (folder_at mids disk) (folder_at folders_mid disk) (folder_at folders_new disk) (writes.makes disk fails.within) (makes disk fails.within)
+                      (fails_gained (FinishesOne plan disk starts_mid states_mid) fails.here);
                 },
               );
             }

@@ -30,9 +30,10 @@ use Rattle.snap_fix.specs.Mended.{AnswersFit, Mended, all_mended_events, mended_
 use Rattle.snap_fix.specs.Plan.{FixPlan}
 use Rattle.snap_fix.specs.State.{AnyCall, FolderMakes}
 use Rattle.snap_fix.specs.Underway.{FixUnderway, IsMendCall, stripe_calls, stripe_reads}
-use Rattle.snap_fix.proofs.FixAllLemmas.{answered_then, asked_then, breaks_in_last, events_append, facts_append, facts_then, fixes_none, fixes_then, levels_then, mends_then, precede, unread_then}
+use Rattle.snap_fix.proofs.FixAllLemmas.{answered_then, asked_then, breaks_in_last, events_append, facts_append, facts_then, fixes_none, fixes_then, levels_then, precede, unread_then}
 use Rattle.snap_fix.proofs.FixCountLemmas.{count_append, parity_io_in_stripe}
-use Rattle.snap_fix.proofs.KeptStartsLemmas.{any_then}
+use Rattle.snap_fix.proofs.FolderFailsLemmas.{columns_any}
+use Rattle.snap_fix.proofs.KeptStartsLemmas.{files_one, files_then}
 use Rattle.snap_fix.proofs.MendedVaultLemmas.{Precede}
 use Rattle.snap_fix.proofs.WindowLemmas.{slots_same}
 
@@ -189,18 +190,22 @@ module _ {W R : Type 0} (view : W → SinkView) (standing : R → ReportView) (s
           readings = so_far.fixes.readings ++ readings ∷ [];
           read = levels_then plan xs ys old.vault mid.vault so_far.fixes.readings (readings ∷ []) so_far.fixes.vault
               (before_it all ascending i within first one old mid so_far mended broke.number) so_far.fixes.read (broke.read.are, tt);
-          ran = breaks_in_last fault plan xs ys so_far.fixes.readings (readings ∷ []) old.vault mid.vault new.vault so_far.fixes.read so_far.fixes.ran (record {
+          ran = breaks_in_last fault plan xs ys so_far.fixes.readings (readings ∷ []) old.vault mid.vault new.vault so_far.fixes.read so_far.fixes.ran so_far.fixes.vault (record {
             earlier = [];
             last = mended.facts;
             stripes_are = refl;
             before = stripe_reads plan mended.facts readings;
             calls_are = append-nil (stripe_calls plan mended.facts readings);
             ran = broke.ran;
+            vault = broke.vault;
           });
           unread = unread_then so_far.fixes.readings (readings ∷ []) old.vault.faults mid.vault.faults new.vault.faults so_far.fixes.unread (omega (arith, broke.read.unread));
           spare = asked_then plan xs ys old.spare mid.spare new.spare so_far.fixes.spare broke.spare;
-          vault = mends_then plan xs ys old.vault mid.vault new.vault so_far.fixes.vault broke.vault;
-          makes = λ d below. any_then plan old.starts mid.starts so_far.fixes.stood d xs ys (so_far.fixes.makes d below) (broke.makes d below);
+          makes = files_then plan fault old.starts mid.starts so_far.fixes.stood xs ys old.folders mid.folders new.folders so_far.fixes.makes
+              (files_one plan fault mid.starts mended mid.folders new.folders broke.makes);
           broke = broke_more fault xs front broke.first (count_by has_failed readings) one old mid new refl (omega (arith, few, fewer)) so_far.fixes
-              (λ d below. (AnyCall (IsMendCall plan mid.starts d ys), broke.makes d below)) broke.vault.calls broke.broke;
+              (λ d below. (
+                AnyCall (IsMendCall plan mid.starts d ys),
+                columns_any fault (length plan.table.columns) (λ (k : ℕ). IsMendCall plan mid.starts k ys) mid.folders new.folders broke.makes d below,
+              )) broke.vault.calls broke.broke;
         }

@@ -24,7 +24,7 @@ use Rattle.snap_fix.specs.declared.fixing.Totals.{Totals}
 use Rattle.snap_fix.specs.declared.state.FileState.{FileState}
 use Rattle.snap_fix.specs.Checking.{IsWorkFor, plan_for}
 use Rattle.snap_fix.specs.Facts.{StripeFacts}
-use Rattle.snap_fix.specs.FixRun.{AreAscending, BreaksInto, BreaksStripes, BreaksWindow, FixesAll, FixesInto, FixesStripes, FixesWindow, HasBroken, HasBrokenInto, KeepsFixWork, with_folders}
+use Rattle.snap_fix.specs.FixRun.{AreAscending, BreaksFiles, BreaksInto, BreaksStripes, BreaksWindow, FixesAll, FixesInto, FixesStripes, FixesWindow, HasBroken, HasBrokenInto, KeepsFixWork, with_folders}
 use Rattle.snap_fix.specs.Fixing.{AreReadThen, AreTotals, FixScene, IsReadThen, SceneFits, facts_of, mended_at, no_mended}
 use Rattle.snap_fix.specs.Looking.{facts_at, no_facts, numbers_of, unread_cells}
 use Rattle.snap_fix.specs.Marks.{slots_at}
@@ -32,12 +32,12 @@ use Rattle.snap_fix.specs.Mended.{Mended, all_mended_events}
 use Rattle.snap_fix.specs.Plan.{EntriesFit, FixPlan}
 use Rattle.snap_fix.specs.State.{AnyCall, WellCall, FolderMakes}
 use Rattle.snap_fix.specs.Underway.{AreFixable, AreUnderway, FixUnderway, IsMendCall}
-use Rattle.snap_fix.proofs.FixAllLemmas.{answered_then, asked_then, breaks_in_last, events_append, facts_append, facts_then, fixes_none, fixes_then, levels_then, mends_then, precede, unread_then}
+use Rattle.snap_fix.proofs.FixAllLemmas.{answered_then, asked_then, breaks_in_last, events_append, facts_append, facts_then, fixes_none, fixes_then, levels_then, precede, unread_then}
 use Rattle.snap_fix.proofs.FixCountLemmas.{count_append, io_in_cells}
 use Rattle.snap_fix.proofs.FixIntoLemmas.{count_first, folder_gained, vault_gained}
 use Rattle.snap_fix.proofs.FixReadLemmas.{cell_read, cells_unread, underway_read, window_makes}
-use Rattle.snap_fix.proofs.FolderCallLemmas.{makes_any, makes_then}
-use Rattle.snap_fix.proofs.KeptStartsLemmas.{any_then}
+use Rattle.snap_fix.proofs.FolderCallLemmas.{makes_then}
+use Rattle.snap_fix.proofs.KeptStartsLemmas.{files_any, files_then}
 
 -- what follows of an answer, whichever it is
 pub if_ok : {T E : Type 0} (result : Result T E) (P Q : T → Type 0) → ((x : T) → P x → Q x) → IfOk result P → IfOk result Q
@@ -209,8 +209,22 @@ module _ {W R : Type 0} (view : W → SinkView) (standing : R → ReportView) (s
 
     module _ (first : List ℕ) (one : Totals) (old : FixScene W R) (so_far : FixesStripes view standing stands plan first old mid one) (new : FixScene W R) (fault : RunFault)
         (into : BreaksInto view standing stands plan numbers window (with_folders mid mids) new fault) where
-      since : (d : ℕ) → d < length plan.table.columns → FolderMakes (AnyCall (IsMendCall plan mid.starts d into.stripes)) (folder_at mid.folders d) (folder_at new.folders d)
-      since d below = makes_then (AnyCall (IsMendCall plan mid.starts d into.stripes)) (makes_any (IsMendCall plan mid.starts d into.stripes) (reads into.stripes d below)) (into.makes d below)
+      -- the calls for the stripes, the reading of the window among them
+      since : BreaksFiles plan mid.starts fault into.stripes mid.folders new.folders
+      since = record {
+        earlier = into.makes.earlier;
+        last = into.makes.last;
+        stripes_are = into.makes.stripes_are;
+        mids = into.makes.mids;
+        well = λ d below. makes_then (WellCall (IsMendCall plan mid.starts d into.makes.earlier)) (reads into.makes.earlier d below) (into.makes.well d below);
+        breaks = into.makes.breaks;
+      }
+
+      since_any : (d : ℕ) → d < length plan.table.columns → FolderMakes (AnyCall (IsMendCall plan mid.starts d into.stripes)) (folder_at mid.folders d) (folder_at new.folders d)
+      since_any = files_any plan fault mid.starts into.stripes mid.folders new.folders since
+
+      into_any : (d : ℕ) → d < length plan.table.columns → FolderMakes (AnyCall (IsMendCall plan mid.starts d into.stripes)) (folder_at mids d) (folder_at new.folders d)
+      into_any = files_any plan fault mid.starts into.stripes mids new.folders into.makes
 
       -- the failed readings of the window count too, and those before it
       broke_then : (by : RunFault) → HasBrokenInto plan by into.first mids new.folders mid.vault new.vault
@@ -228,9 +242,9 @@ module _ {W R : Type 0} (view : W → SinkView) (standing : R → ReportView) (s
               let rose = broke.rose in
               omega (arith, counted, told, xs_few, ys_few, both, before, rose);
           call = folder_gained (WellCall (IsMendCall plan old.starts disk so_far.stripes)) (AnyCall (IsMendCall plan mid.starts disk into.stripes))
-              (folder_at old.folders disk) (folder_at mid.folders disk) (folder_at new.folders disk) (so_far.fixes.makes disk within) (since disk within)
+              (folder_at old.folders disk) (folder_at mid.folders disk) (folder_at new.folders disk) (so_far.fixes.makes disk within) (since_any disk within)
               (folder_gained (WellCall (IsMendCall plan mid.starts disk into.stripes)) (AnyCall (IsMendCall plan mid.starts disk into.stripes))
-              (folder_at mid.folders disk) (folder_at mids disk) (folder_at new.folders disk) (reads into.stripes disk within) (into.makes disk within) broke.call);
+              (folder_at mid.folders disk) (folder_at mids disk) (folder_at new.folders disk) (reads into.stripes disk within) (into_any disk within) broke.call);
         },
       )
       broke_then Vault broke = record {
@@ -239,7 +253,7 @@ module _ {W R : Type 0} (view : W → SinkView) (standing : R → ReportView) (s
             let before = so_far.fixes.parity_io in
             let rose = broke.rose in
             omega (arith, counted, before, rose);
-        call = vault_gained old.vault mid.vault new.vault so_far.fixes.vault.calls into.vault.calls broke.call;
+        call = vault_gained old.vault mid.vault new.vault so_far.fixes.vault.calls into.ran.vault.calls broke.call;
       }
       broke_then Memory broke = broke
 
@@ -268,13 +282,12 @@ module _ {W R : Type 0} (view : W → SinkView) (standing : R → ReportView) (s
             cells = read_more first one old so_far ys into.behind into.numbers_are into.slots;
             readings = so_far.fixes.readings ++ into.readings;
             read = levels_then plan xs ys old.vault mid.vault so_far.fixes.readings into.readings so_far.fixes.vault before so_far.fixes.read into.read;
-            ran = breaks_in_last fault plan xs ys so_far.fixes.readings into.readings old.vault mid.vault new.vault so_far.fixes.read so_far.fixes.ran into.ran;
+            ran = breaks_in_last fault plan xs ys so_far.fixes.readings into.readings old.vault mid.vault new.vault so_far.fixes.read so_far.fixes.ran so_far.fixes.vault into.ran;
             unread = unread_then so_far.fixes.readings into.readings old.vault.faults mid.vault.faults new.vault.faults so_far.fixes.unread into.unread;
             unread_cells_of = λ d below.
-                unread_since first one old so_far ys into.behind into.numbers_are into.slots d (folder_at new.folders d).faults below (into.makes d below).goes_on.later;
+                unread_since first one old so_far ys into.behind into.numbers_are into.slots d (folder_at new.folders d).faults below (into_any d below).goes_on.later;
             spare = asked_then plan xs ys old.spare mid.spare new.spare so_far.fixes.spare into.spare;
-            vault = mends_then plan xs ys old.vault mid.vault new.vault so_far.fixes.vault into.vault;
-            makes = λ d below. any_then plan old.starts mid.starts so_far.fixes.stood d xs ys (so_far.fixes.makes d below) (since d below);
+            makes = files_then plan fault old.starts mid.starts so_far.fixes.stood xs ys old.folders mid.folders new.folders so_far.fixes.makes since;
             broke = broke_then fault into.broke;
           }
 

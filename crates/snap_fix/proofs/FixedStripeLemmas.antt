@@ -2,9 +2,9 @@
 use Rattle.std.proofs.Common.{◌≡◌, ℕ, ◌<◌, ◌≤◌, ◌^◌, List, [], ◌∷◌, ◌++◌, length, Bool, refl, sym, ap, ◌∙◌, subst, append_assoc, arith}
 use Rattle.std.specs.Vec.{with_items}
 use Rattle.std.proofs.lemmas.List.{with_items_is}
+use Rattle.disk_model.specs.Folder.{FolderCall}
 use Rattle.disk_model.specs.Sink.{SinkView}
 use Rattle.disk_model.specs.Vault.{VaultView, GoesOn}
-use Rattle.disk_model.proofs.VaultLemmas.{changes_start, no_calls}
 use Rattle.snap_report.specs.Report.{ReportView}
 use Rattle.snap_report.specs.Told.{Told}
 use Rattle.snap_report.specs.declared.answer.RunFault.TheVariants as fault
@@ -31,12 +31,11 @@ use Rattle.snap_fix.specs.Plan.{FixPlan, is_searched}
 use Rattle.snap_fix.specs.Repairing.{MendsFiles, MendsNotFiles, levels_outside, outside}
 use Rattle.snap_fix.specs.Room.{IsRoomFor}
 use Rattle.snap_fix.specs.Spare.{IsSpareFor}
-use Rattle.snap_fix.specs.Underway.{IsMendedLevel, KeepsLevels, ShowsFacts, stripe_reads}
+use Rattle.snap_fix.specs.Underway.{IsMendCall, ShowsFacts, stripe_reads}
 use Rattle.snap_fix.proofs.FixedCountLemmas.{totals_of, writes_one}
-use Rattle.snap_fix.proofs.FixedParityLemmas.{drafts_same}
-use Rattle.snap_fix.proofs.FixedVaultLemmas.{any_makes_as, fails_stripe, mends_vault, mends_zeros, ran_stripe, read_broke, reading_calls, reads_stripe, vault_broke, well_makes_any, well_makes_as, were_read}
+use Rattle.snap_fix.proofs.FixedVaultLemmas.{call_as, fails_stripe, mends_vault, mends_zeros, ran_stripe, read_broke, reading_calls, reads_mend, reads_stripe, vault_broke, well_makes_as, were_read}
+use Rattle.snap_fix.proofs.FolderFailsLemmas.{fails_gained, in_column_wider}
 use Rattle.snap_fix.proofs.WindowLemmas.{length_tried, levels_one}
-use Rattle.snap_fix.proofs.WrittenLevelLemmas.{keeps_nothing}
 
 -- room with another sum in its block
 pub room_then : (plan : FixPlan) (room : Room) (items : List ℕ) → length items ≡ length room.block.items → IsRoomFor plan.table room
@@ -175,7 +174,7 @@ module _ {W R : Type 0} (view : W → SinkView) (standing : R → ReportView) (s
       ran = fails_stripe plan facts old.vault vault new.vault parity.calls.goes_on.later levels_read_of parity.ran;
       spare = asks;
       vault = mends_vault plan facts (is_searched plan stripe) stripe mid.levels old.vault vault new.vault reads parity.calls parity.drafts parity.changes;
-      makes = λ d within. well_makes_any plan old.starts d facts [] files.answers (folder_at old.folders d) (folder_at new.folders d) (files.makes facts refl shown d within);
+      makes = λ d within. well_makes_as plan old.starts d facts [] files.answers (folder_at old.folders d) (folder_at new.folders d) (files.makes facts refl shown d within);
       broke = vault_broke plan facts (is_searched plan stripe) stripe mid.levels old.vault vault new.vault reads _ parity.calls
           (read_broke plan facts old.vault vault new.vault parity.calls.goes_on.later parity.rose levels_read_of) parity.call;
     }
@@ -194,6 +193,8 @@ module _ {W R : Type 0} (view : W → SinkView) (standing : R → ReportView) (s
       let rest : List Event = part.2 in
       let levels : List Event = all_level_news plan facts in
       let then_read : ReadsAlone new.vault = subst ReadsAlone (sym same) read_alone in
+      let Call : List Bool → ℕ → FolderCall → Type 0 = λ its d. IsMendCall plan old.starts d (record { facts = facts; answers = its } ∷ []) in
+      let fails = files.fails facts refl shown in
       record {
         mended = record { facts = facts; answers = answers };
         number = refl;
@@ -211,10 +212,7 @@ module _ {W R : Type 0} (view : W → SinkView) (standing : R → ReportView) (s
         spare = asks;
         read = then_read.read;
         ran = then_read.ran;
-        vault = subst (MendsVault plan (facts ∷ []) old.vault) (sym same)
-            (mends_vault plan facts (is_searched plan stripe) stripe mid.levels old.vault vault vault reads (no_calls vault) (drafts_same vault)
-            (changes_start (KeepsLevels plan.table.shape.block_size (IsMendedLevel plan (facts ∷ []))) vault
-            (keeps_nothing plan.table.shape.block_size (IsMendedLevel plan (facts ∷ [])))));
-        makes = λ d within. any_makes_as plan old.starts d facts [] answers (folder_at old.folders d) (folder_at new.folders d) (files.makes facts refl shown d within);
-        broke = (files.within, record { rose = files.rose; call = files.call });
+        vault = subst (MendsVault plan [] old.vault) (sym same) (reads_mend plan [] (is_searched plan stripe) stripe mid.levels old.vault vault reads);
+        makes = in_column_wider disk (length plan.table.columns) (Call []) old.folders new.folders fails (Call answers) (λ d. call_as plan old.starts d facts [] answers);
+        broke = (fails.within, record { rose = fails.here.rose; call = fails_gained (Call [] disk) fails.here });
       }

@@ -7,7 +7,7 @@ use Rattle.disk_model.specs.Cause.{Rose, RoseBy}
 use Rattle.disk_model.specs.Files.{Files, Stays}
 use Rattle.disk_model.specs.Folder.{FolderView, FolderCall, ListFiles, Look, ReadAt, Make, WriteAt, SetSize, SetStamp, Rename}
 use Rattle.disk_model.specs.Vault.{VaultView, VaultDone, GoesOn, SomeCalls, ChangesBy, DraftsStay}
-use Rattle.disk_model.proofs.VaultLemmas.{calls_then, stays_then}
+use Rattle.disk_model.proofs.VaultLemmas.{calls_then, changes_start, stays_then}
 use Rattle.parity_writer.specs.LevelReading.{LevelReading, calls_of, has_failed}
 use Rattle.parity_writer.specs.LevelsValue.{LevelsValue}
 use Rattle.snap_report.specs.Answer.{Gained}
@@ -19,7 +19,7 @@ use Rattle.snap_fix.specs.Fixing.{LevelsWereRead, MendsVault, VaultBroke}
 use Rattle.snap_fix.specs.Looking.{AreAllLevelsOf, LevelsAreRead, level_reads, unread_in}
 use Rattle.snap_fix.specs.Mended.{Mended}
 use Rattle.snap_fix.specs.Plan.{FixPlan}
-use Rattle.snap_fix.specs.State.{AnyCall, WellCall, FolderMakes}
+use Rattle.snap_fix.specs.State.{WellCall, FolderMakes}
 use Rattle.snap_fix.specs.Underway.{AddsZeros, IsMendCall, IsMendedLevel, KeepsLevels, WritesCell, done_well, stripe_calls, stripe_reads, wrong_writes}
 use Rattle.snap_fix.proofs.BreakingLemmas.{fails_after}
 use Rattle.snap_fix.proofs.FolderCallLemmas.{makes_wider, well_wider}
@@ -39,6 +39,19 @@ reading_stays false stripe levels old new reads = reads.changes
 reading_drafts : (searched : Bool) (stripe : ℕ) (levels : LevelsValue) (old new : VaultView) → ReadsTried searched stripe levels old new → DraftsStay old new
 reading_drafts true stripe levels old new reads = reads.drafts
 reading_drafts false stripe levels old new reads = reads.drafts
+
+-- of no stripe was anything written
+pub reads_mend : (plan : FixPlan) (stripes : List StripeFacts) (searched : Bool) (stripe : ℕ) (levels : LevelsValue) (old new : VaultView)
+    → ReadsTried searched stripe levels old new → MendsVault plan stripes old new
+reads_mend plan stripes searched stripe levels old new reads =
+    let Step = KeepsLevels plan.table.shape.block_size (IsMendedLevel plan stripes) in
+    let nothing = keeps_nothing plan.table.shape.block_size (IsMendedLevel plan stripes) in
+    let calls : SomeCalls old new = reading_calls searched stripe levels old new reads in
+    record {
+      calls = calls;
+      drafts = reading_drafts searched stripe levels old new reads;
+      changes = stays_then Step old new new calls.goes_on.tells (reading_stays searched stripe levels old new reads) (changes_start Step new nothing) nothing;
+    }
 
 -- the levels of one stripe were read, and then its count of faults may have risen further
 were_read_by : (plan : FixPlan) (facts : StripeFacts) (old mid new : VaultView) → mid.faults ≤ new.faults
@@ -161,7 +174,7 @@ module _ (plan : FixPlan) (facts : StripeFacts) (searched : Bool) (stripe : ℕ)
 
 -- ---- the calls of a folder, whatever is said of the files that were gone
 
-call_as : (plan : FixPlan) (starts : StartsValue) (d : ℕ) (facts : StripeFacts) (one other : List Bool) (call : FolderCall)
+pub call_as : (plan : FixPlan) (starts : StartsValue) (d : ℕ) (facts : StripeFacts) (one other : List Bool) (call : FolderCall)
     → IsMendCall plan starts d (record { facts = facts; answers = one } ∷ []) call → IsMendCall plan starts d (record { facts = facts; answers = other } ∷ []) call
 call_as plan starts d facts one other ListFiles is = is
 call_as plan starts d facts one other (Look path lost) is = tt
@@ -189,12 +202,3 @@ module _ (plan : FixPlan) (starts : StartsValue) (d : ℕ) (facts : StripeFacts)
   pub well_makes_as : (old new : FolderView) → FolderMakes (WellCall (CallBy one)) old new → FolderMakes (WellCall (CallBy other)) old new
   well_makes_as old new makes =
       makes_wider (WellCall (CallBy one)) (WellCall (CallBy other)) (well_wider (CallBy one) (CallBy other) (call_as plan starts d facts one other)) makes
-
-  pub any_makes_as : (old new : FolderView) → FolderMakes (AnyCall (CallBy one)) old new → FolderMakes (AnyCall (CallBy other)) old new
-  any_makes_as old new makes =
-      makes_wider (AnyCall (CallBy one)) (AnyCall (CallBy other)) (λ done is. call_as plan starts d facts one other done.call is) makes
-
-  -- where none failed, they are such calls all the same
-  pub well_makes_any : (old new : FolderView) → FolderMakes (WellCall (CallBy one)) old new → FolderMakes (AnyCall (CallBy other)) old new
-  well_makes_any old new makes =
-      makes_wider (WellCall (CallBy one)) (AnyCall (CallBy other)) (λ done is. call_as plan starts d facts one other done.call is.0) makes

@@ -89,12 +89,9 @@ makes_any_wider P Q wider one = makes_wider (AnyCall P) (AnyCall Q) (λ done is.
 pub makes_any : (P : FolderCall → Type 0) {old new : FolderView} → FolderMakes (WellCall P) old new → FolderMakes (AnyCall P) old new
 makes_any P one = makes_wider (WellCall P) (AnyCall P) (λ done is. is.0) one
 
--- one call that writes: it did not fail, or may have
+-- one call that writes and did not fail
 pub makes_well_write : (P : FolderCall → Type 0) {call : FolderCall} {old new : FolderView} → IsFolder new → IsFolderWrite call false old new → P call → FolderMakes (WellCall P) old new
 makes_well_write P {call = call} formed wrote is = makes_write (WellCall P) formed wrote (is, well_answer call)
-
-pub makes_any_write : (P : FolderCall → Type 0) {call : FolderCall} {failed : Bool} {old new : FolderView} → IsFolder new → IsFolderWrite call failed old new → P call → FolderMakes (AnyCall P) old new
-makes_any_write P formed wrote is = makes_write (AnyCall P) formed wrote is
 
 -- ---- the readings of cells
 

@@ -1,24 +1,23 @@
 -- What each call of a mended record makes of its folder, and what comes of several.
-use Rattle.std.proofs.Common.{append_assoc, ◌||◌, ◌≡◌, inl, inr, ℕ, ◌+◌, max, List, [], ◌∷◌, ◌++◌, length, Bool, true, false, IsTrue, if◌then◌else◌, Result, Ok, Err, refl, sym, ◌∙◌, ap, subst, arith}
+use Rattle.std.proofs.Common.{◌≡◌, inl, inr, ℕ, ◌+◌, max, List, [], ◌∷◌, length, Bool, true, false, IsTrue, if◌then◌else◌, Result, Ok, Err, refl, sym, ◌∙◌, ap, subst}
 use Rattle.std.proofs.lemmas.List.{append-nil}
 use Rattle.std.specs.Prelude.{IfErr}
 use Rattle.std.specs.Result.{IsErrAnd}
-use Rattle.std.specs.List.{list_any}
-use Rattle.disk_model.specs.Folder.{FolderView, FolderCall, FolderDone, Make, WriteAt, Rename, IsFolder, MissingExactly, file_failed}
+use Rattle.disk_model.specs.Folder.{FolderView, FolderCall, Make, WriteAt, Rename, IsFolder, MissingExactly, file_failed}
 use Rattle.disk_model.specs.Tree.{Tree, file_of, path_of}
 use Rattle.disk_model.specs.Writing.{IsFolderWrite}
 use Rattle.disk_model.specs.declared.fault.FileFault.{FileFault}
 use Rattle.disk_model.specs.declared.fault.FileFault.TheVariants.{Failed, Missing}
 use Rattle.disk_model.proofs.TreeLemmas.{own_name}
-use Rattle.snap_report.specs.Answer.{broke_folder}
 use Rattle.stripe_reader.specs.declared.starts.Start.{Start}
 use Rattle.stripe_reader.specs.declared.starts.Place.{Place}
 use Rattle.stripe_reader.specs.declared.starts.Place.TheVariants.{Lost, Nowhere}
 use Rattle.snap_fix.specs.declared.state.FileState.{FileState}
-use Rattle.snap_fix.specs.Mending.{IsSetUpCall, IsBlockCall, CanSetUp, GoesOnBy, SetsUp, WritesBytes, BreaksOff, EndsBy}
+use Rattle.snap_fix.specs.Mending.{IsSetUpCall, IsBlockCall, CanSetUp, GoesOnBy, SetsUp, WritesBytes, EndsBy}
 use Rattle.snap_fix.specs.Order.{FolderWrites, put_calls, set_up_calls}
-use Rattle.snap_fix.specs.State.{AnyCall, WellCall, Write, FolderMakes, HoldsRecord, StaysPlace, stands}
-use Rattle.snap_fix.proofs.FolderCallLemmas.{makes_none, makes_then, makes_well_write, makes_any_write, makes_any, makes_well_wider, others_same, others_then, others_changed, others_made, others_renamed}
+use Rattle.snap_fix.specs.State.{WellCall, Write, FolderMakes, HoldsRecord, StaysPlace, stands}
+use Rattle.snap_fix.proofs.FolderCallLemmas.{makes_none, makes_then, makes_well_write, makes_well_wider, others_same, others_then, others_changed, others_made, others_renamed}
+use Rattle.snap_fix.proofs.FolderFailsLemmas.{fails_one, fails_then}
 use Rattle.snap_fix.proofs.MendedRecordLemmas.{plain_start, touched_state, written_state, lost_there, plain_there, renamed_back, made_anew, written_more}
 use Rattle.snap_fix.proofs.OrderLemmas.{writes_none, writes_one, writes_then}
 
@@ -109,49 +108,13 @@ module _ (path : List ℕ) (start : Start) (state : FileState) (old : FolderView
       clash : IsTrue old.tells → ⊥
       clash told = let same : IsTrue false = subst IsTrue untold told in absurd cc
 
--- ---- calls that fail
-
-fails_one : (call : FolderCall) → broke_folder (record { call = call; failed = true }) ≡ true → IsTrue (list_any broke_folder (record { call = call; failed = true } ∷ []))
-fails_one call broke = rw broke cc
-
--- a call failed
-pub breaks_off : (P : FolderCall → Type 0) (call : FolderCall) (old new : FolderView) → P call → broke_folder (record { call = call; failed = true }) ≡ true → IsFolder new → IsFolderWrite call true old new → BreaksOff P old new
-breaks_off P call old new is broke formed wrote = record {
-  rose = wrote.called.cause cc;
-  call = λ tells. record { gained = _; now_is = wrote.called.goes_on.calls.more tells; one = fails_one call broke };
-  makes = makes_any_write P formed wrote is;
-}
-
--- after others that went well
-pub breaks_then : (P : FolderCall → Type 0) (old mid new : FolderView) → FolderMakes (WellCall P) old mid → BreaksOff P mid new → BreaksOff P old new
-breaks_then P old mid new makes broke = record {
-  rose = let more = makes.goes_on.later in let rose = broke.rose in omega arith;
-  call = λ tells.
-      let told : IsTrue mid.tells_calls = broke.makes.goes_on.calls.told tells in
-      let gained = broke.call tells in
-      record {
-        gained = makes.done ++ gained.gained;
-        now_is = gained.now_is ∙ ap (λ (cs : List FolderDone). cs ++ gained.gained) (makes.goes_on.calls.more told) ∙ append_assoc old.calls makes.done gained.gained;
-        one = any_later makes.done gained.gained gained.one;
-      };
-  makes = makes_then (AnyCall P) (makes_any P makes) broke.makes;
-}
-  where
-    any_later : (front back : List FolderDone) → IsTrue (list_any broke_folder back) → IsTrue (list_any broke_folder (front ++ back))
-    any_later [] back one = one
-    any_later (done ∷ front) back one = or_right (broke_folder done) (list_any broke_folder (front ++ back)) (any_later front back one)
-      where
-        or_right : (a b : Bool) → IsTrue b → IsTrue (a || b)
-        or_right true b is = cc
-        or_right false b is = is
-
 -- ---- the answers of the two functions
 
 module _ (path : List ℕ) (start : Start) (state : FileState) (old : FolderView) (can : CanSetUp path start state old) where
   -- the file under the other name was gone, or renaming it failed
   pub rename_ends : (fault : FileFault) (new : FolderView) → IsFolder new → start.place ≡ Lost → IsFolderWrite (Rename path false) (file_failed {T = Unit {0}} (Err fault)) old new
       → MissingExactly {T = Unit {0}} (Err fault) old (path_of path true) → EndsBy fault (IsSetUpCall start.place path) path start state old start state new
-  rename_ends Failed new formed lost call missing = breaks_off (IsSetUpCall start.place path) (Rename path false) old new (inl (lost, refl)) refl formed call
+  rename_ends Failed new formed lost call missing = fails_one (IsSetUpCall start.place path) (Rename path false) old new (inl (lost, refl)) refl formed call
   rename_ends Missing new formed lost call missing =
       let untold = not_told old.tells (λ told. let far = can.so_far told in lost_there start state far.writes path far.first old.tree far.holds lost (missing told)) in
       record {
@@ -161,7 +124,7 @@ module _ (path : List ℕ) (start : Start) (state : FileState) (old : FolderView
 
   -- making it failed
   pub make_fails : (new : FolderView) → IsFolder new → start.place ≡ Nowhere → IsFolderWrite (Make path) true old new → EndsBy Failed (IsSetUpCall start.place path) path start state old start state new
-  make_fails new formed nowhere call = breaks_off (IsSetUpCall start.place path) (Make path) old new (inr (nowhere, refl)) refl formed call
+  make_fails new formed nowhere call = fails_one (IsSetUpCall start.place path) (Make path) old new (inr (nowhere, refl)) refl formed call
 
   module _ (start_mid : Start) (state_mid : FileState) (mid : FolderView) (set : SetsUp path start state old start_mid state_mid mid) (at : ℕ) (bytes : List ℕ) where
     abbrev Block : FolderCall → Type 0
@@ -201,7 +164,7 @@ module _ (path : List ℕ) (start : Start) (state : FileState) (old : FolderView
     -- the file was gone, or the write failed
     pub write_ends : (fault : FileFault) (new : FolderView) → IsFolder new → IsFolderWrite (WriteAt path at bytes) (file_failed {T = Unit {0}} (Err fault)) mid new
         → MissingExactly {T = Unit {0}} (Err fault) mid path → EndsBy fault Block path start state old start_mid state_mid new
-    write_ends Failed new formed call missing = breaks_then Block old mid new set_makes (breaks_off Block (WriteAt path at bytes) mid new (inl refl) refl formed call)
+    write_ends Failed new formed call missing = fails_then Block old mid new set_makes (fails_one Block (WriteAt path at bytes) mid new (inl refl) refl formed call)
     write_ends Missing new formed call missing = record {
       untold = untold;
       goes_on = goes_untold path start state old Block start_mid state_mid new untold (makes_then (WellCall Block) set_makes (makes_well_write Block formed call (inl refl)))

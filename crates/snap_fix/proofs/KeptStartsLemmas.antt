@@ -1,16 +1,21 @@
 -- Where files stand after some stripes and then others were written, and which calls are made for them.
-use Rattle.std.proofs.Common.{◌≡◌, ◌≢◌, inl, inr, ℕ, List, ◌++◌, true, false, refl, ◌∙◌}
+use Rattle.std.proofs.Common.{◌≡◌, ◌≢◌, inl, inr, ℕ, ◌<◌, List, [], ◌∷◌, ◌++◌, length, true, false, refl, sym, ap, ◌∙◌, subst, append_assoc}
 use Rattle.std.specs.List.{Contains}
 use Rattle.std.proofs.lemmas.List.Elements.{Contains-append_left, Contains-append_right}
 use Rattle.disk_model.specs.Folder.{FolderView, FolderCall, ListFiles, Look, ReadAt, Make, WriteAt, SetSize, SetStamp, Rename}
+use Rattle.snap_report.specs.declared.answer.RunFault.{RunFault}
+use Rattle.stripe_reader.specs.Columns.{folder_at}
 use Rattle.stripe_reader.specs.Starts.{StartsValue, start_in, starts_at}
 use Rattle.stripe_reader.specs.declared.starts.Place.{Place}
 use Rattle.stripe_reader.specs.declared.starts.Place.TheVariants.{Plain, Lost, Nowhere}
+use Rattle.snap_fix.specs.Breaking.{BreaksColumns}
+use Rattle.snap_fix.specs.FixRun.{BreaksFiles}
 use Rattle.snap_fix.specs.Mended.{Mended}
 use Rattle.snap_fix.specs.Plan.{FixPlan}
 use Rattle.snap_fix.specs.State.{AnyCall, WellCall, FolderMakes, KeepsStarts, StaysPlace}
 use Rattle.snap_fix.specs.Underway.{IsForPlace, IsMendCall}
-use Rattle.snap_fix.proofs.FolderCallLemmas.{makes_any, makes_any_wider, makes_then, makes_well_wider}
+use Rattle.snap_fix.proofs.FolderCallLemmas.{makes_any, makes_any_wider, makes_none, makes_then, makes_well_wider}
+use Rattle.snap_fix.proofs.FolderFailsLemmas.{columns_any, columns_wider}
 
 -- ---- where files stand
 
@@ -61,11 +66,45 @@ module _ (plan : FixPlan) (before after : StartsValue) (stood : KeepsStarts befo
       (makes_well_wider (IsMendCall plan before d xs) (IsMendCall plan before d (xs ++ ys)) (wider plan before before (stood_none before) d xs (xs ++ ys) (Contains-append_left xs ys)) one)
       (makes_well_wider (IsMendCall plan after d ys) (IsMendCall plan before d (xs ++ ys)) (wider plan before after stood d ys (xs ++ ys) (Contains-append_right xs ys)) two)
 
-  -- one of the later calls may have
-  pub any_then : {old mid new : FolderView} → FolderMakes (WellCall (IsMendCall plan before d xs)) old mid → FolderMakes (AnyCall (IsMendCall plan after d ys)) mid new
-      → FolderMakes (AnyCall (IsMendCall plan before d (xs ++ ys))) old new
-  any_then one two =
-      makes_then (AnyCall (IsMendCall plan before d (xs ++ ys)))
-      (makes_any_wider (IsMendCall plan before d xs) (IsMendCall plan before d (xs ++ ys)) (wider plan before before (stood_none before) d xs (xs ++ ys) (Contains-append_left xs ys))
-      (makes_any (IsMendCall plan before d xs) one))
-      (makes_any_wider (IsMendCall plan after d ys) (IsMendCall plan before d (xs ++ ys)) (wider plan before after stood d ys (xs ++ ys) (Contains-append_right xs ys)) two)
+-- ---- where they break off
+
+module _ (plan : FixPlan) (fault : RunFault) where
+  -- in the only stripe
+  pub files_one : (starts : StartsValue) (mended : Mended) (olds news : List FolderView)
+      → BreaksColumns fault (length plan.table.columns) (λ (d : ℕ). IsMendCall plan starts d (mended ∷ [])) olds news → BreaksFiles plan starts fault (mended ∷ []) olds news
+  files_one starts mended olds news breaks = record {
+    earlier = [];
+    last = mended;
+    stripes_are = refl;
+    mids = olds;
+    well = λ d below. makes_none (WellCall (IsMendCall plan starts d [])) (folder_at olds d);
+    breaks = breaks;
+  }
+
+  -- after other stripes
+  pub files_then : (before after : StartsValue) → KeepsStarts before after → (xs ys : List Mended) (olds mids news : List FolderView)
+      → ((d : ℕ) → d < length plan.table.columns → FolderMakes (WellCall (IsMendCall plan before d xs)) (folder_at olds d) (folder_at mids d))
+      → BreaksFiles plan after fault ys mids news → BreaksFiles plan before fault (xs ++ ys) olds news
+  files_then before after stood xs ys olds mids news first broke = record {
+    earlier = xs ++ broke.earlier;
+    last = broke.last;
+    stripes_are = ap (λ (stripes : List Mended). xs ++ stripes) broke.stripes_are ∙ sym (append_assoc xs broke.earlier (broke.last ∷ []));
+    mids = broke.mids;
+    well = λ d below. well_then plan before after stood d xs broke.earlier (first d below) (broke.well d below);
+    breaks = columns_wider fault (length plan.table.columns) (λ (d : ℕ). IsMendCall plan after d (broke.last ∷ [])) (λ (d : ℕ). IsMendCall plan before d (broke.last ∷ [])) broke.mids news
+        (λ d. wider plan before after stood d (broke.last ∷ []) (broke.last ∷ []) (λ mended is. is)) broke.breaks;
+  }
+
+  -- they are such calls all the same
+  pub files_any : (starts : StartsValue) (stripes : List Mended) (olds news : List FolderView) → BreaksFiles plan starts fault stripes olds news
+      → (d : ℕ) → d < length plan.table.columns → FolderMakes (AnyCall (IsMendCall plan starts d stripes)) (folder_at olds d) (folder_at news d)
+  files_any starts stripes olds news broke d below =
+      let last = broke.last ∷ [] in
+      let all = broke.earlier ++ last in
+      let same = stood_none starts in
+      subst (λ (its : List Mended). FolderMakes (AnyCall (IsMendCall plan starts d its)) (folder_at olds d) (folder_at news d)) (sym broke.stripes_are)
+      (makes_then (AnyCall (IsMendCall plan starts d all))
+      (makes_any_wider (IsMendCall plan starts d broke.earlier) (IsMendCall plan starts d all) (wider plan starts starts same d broke.earlier all (Contains-append_left broke.earlier last))
+      (makes_any (IsMendCall plan starts d broke.earlier) (broke.well d below)))
+      (makes_any_wider (IsMendCall plan starts d last) (IsMendCall plan starts d all) (wider plan starts starts same d last all (Contains-append_right broke.earlier last))
+      (columns_any fault (length plan.table.columns) (λ (k : ℕ). IsMendCall plan starts k last) broke.mids news broke.breaks d below)))

@@ -29,6 +29,7 @@ pub mod TellingLemmas
 pub mod StripeLemmas
 pub mod FindingLemmas
 pub mod FolderCallLemmas
+pub mod FolderFailsLemmas
 pub mod StartsKeptLemmas
 pub mod WritesLemmas
 pub mod MendedRecordLemmas

@@ -14,7 +14,8 @@ use Rattle.stripe_reader.specs.declared.starts.Start.{Start}
 use Rattle.stripe_reader.specs.declared.starts.Place.{Place}
 use Rattle.stripe_reader.specs.declared.starts.Place.TheVariants.{Plain, Lost, Nowhere}
 use Rattle.snap_fix.specs.declared.state.FileState.{FileState}
-use Rattle.snap_fix.specs.Mending.{IsBlockCall, CanSetUp, CanWrite, WritesBytes, FindsNone, EndsBy, MendsCell, MendsNot, BreaksOff, block_start, cell_path, with_write, with_place}
+use Rattle.snap_fix.specs.Breaking.{FolderFails}
+use Rattle.snap_fix.specs.Mending.{IsBlockCall, CanSetUp, CanWrite, WritesBytes, FindsNone, EndsBy, MendsCell, MendsNot, block_start, cell_path, with_write, with_place}
 use Rattle.snap_fix.specs.Plan.{records_in}
 use Rattle.snap_fix.specs.State.{Write, HoldsBy, HoldsRecord, HoldsColumn, place_by, place_in, place_then, stands, state_in}
 use Rattle.snap_fix.proofs.RecordPathsLemmas.{ArePaths, table_paths}
@@ -178,10 +179,8 @@ module _ (table : TableValue) (d : ℕ) (cell : Cell) (bytes : List ℕ) (starts
           }
 
       -- a call failed
-      mends_not : BreaksOff BlockGiven folder folder_new → MendsNot table d cell bytes starts folder folder_new
-      mends_not given =
-          let broke = of_cell (λ p n s t. BreaksOff (IsBlockCall s.place p n bytes) folder folder_new) given in
-          record { rose = broke.rose; call = broke.call; makes = broke.makes }
+      mends_not : FolderFails BlockGiven folder folder_new → MendsNot table d cell bytes starts folder folder_new
+      mends_not given = of_cell (λ p n s t. FolderFails (IsBlockCall s.place p n bytes) folder folder_new) given
 
       pub mends : Mends table d cell bytes starts states folder path_given at_given start_given state_given start_new state_new folder_new starts_new states_new
       mends = record {

@@ -95,11 +95,12 @@ module _ (plan : FixPlan) where
   abbrev Grown : List StripeFacts → ℕ → ℕ → Type 0
   Grown stripes level at = (stripe : ℕ) × IsMendedLevel plan stripes level stripe × (at < stripe * size)
 
-  pub mends_none : (v : VaultView) → MendsVault plan [] v v
-  mends_none v = record {
+  -- nothing was written
+  pub mends_nothing : (stripes : List StripeFacts) (v : VaultView) → MendsVault plan stripes v v
+  mends_nothing stripes v = record {
     calls = no_calls v;
     drafts = record { state = refl; bytes = λ told. refl };
-    changes = changes_start (Step []) v (λ files. record { contents = refl; bytes = λ level at x outside has. has; grown = λ level at x outside has. inl has });
+    changes = changes_start (Step stripes) v (λ files. record { contents = refl; bytes = λ level at x outside has. has; grown = λ level at x outside has. inl has });
   }
 
   module _ (xs ys : List StripeFacts) where

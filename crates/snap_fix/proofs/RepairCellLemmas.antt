@@ -30,7 +30,8 @@ use Rattle.snap_fix.specs.Order.{FolderWrites, block_calls}
 use Rattle.snap_fix.specs.State.{WellCall, Write, HoldsTold, FolderMakes, KeepsStarts, has_some, size_after, state_in}
 use Rattle.snap_fix.specs.StripeOrder.{stripe_writes}
 use Rattle.snap_fix.specs.Underway.{IsForRecord, IsMendCall, IsColumnUnderway, ShowsFacts, is_damaged_mark, is_given_mark}
-use Rattle.snap_fix.proofs.FolderCallLemmas.{makes_none, makes_some, makes_well_wider, makes_any_wider, some_none}
+use Rattle.snap_fix.proofs.FolderCallLemmas.{makes_none, makes_some, makes_well_wider, some_none}
+use Rattle.snap_fix.proofs.FolderFailsLemmas.{fails_wider}
 use Rattle.snap_fix.proofs.MendedFactsLemmas.{and_parts, block_known, repaired_shown, lost_shown, writes_same, writes_more, loses_by}
 use Rattle.snap_fix.proofs.RepairLemmas.{RecordGoesOn, record_still, column_lost, underway_more, state_same, state_other, row_same, states_fit-with, starts_fit-with}
 use Rattle.snap_fix.proofs.StartsKeptLemmas.{keeps_starts_same, keeps_starts_with}
@@ -272,11 +273,9 @@ module _ {W R : Type 0} (view : W → SinkView) (standing : R → ReportView) (s
       pub column_not : (new : ColumnOutside W R) → WritesNotBlockOf view standing stands plan.table d cell bytes old new
           → MendsNotColumn view standing stands plan stripe i d window marks known old new
       column_not new fails = record {
-        rose = fails.rose;
-        call = fails.call;
         told = fails.told;
-        makes = λ facts is shows. makes_any_wider (IsBlockCall place (cell_path plan.table d cell) (block_start plan.table cell) bytes)
-            (IsMendCall plan old.starts d (record { facts = facts; answers = [] } ∷ [])) (call_of facts is shows) fails.makes;
+        fails = λ facts is shows. fails_wider (IsBlockCall place (cell_path plan.table d cell) (block_start plan.table cell) bytes)
+            (IsMendCall plan old.starts d (record { facts = facts; answers = [] } ∷ [])) (call_of facts is shows) fails.fails;
       }
 
       -- it was written, or its file was gone

@@ -4,10 +4,8 @@ use Rattle.std.specs.Prelude.{count_by}
 use Rattle.std.specs.List.{range_with_len}
 use Rattle.std.proofs.lemmas.Bool.{cases_eq, cases_lt}
 use Rattle.std.proofs.lemmas.List.{append-nil, length-set, get_or-set_same, get_or-set_other, get_or_append_left, get_or-append_right, get_or-replicate, get_or_push}
-use Rattle.disk_model.specs.Cause.{Rose}
-use Rattle.disk_model.specs.Folder.{FolderView}
+use Rattle.disk_model.specs.Folder.{FolderView, FolderCall}
 use Rattle.disk_model.specs.Sink.{SinkView}
-use Rattle.snap_report.specs.Answer.{Gained, broke_folder}
 use Rattle.snap_report.specs.Report.{ReportView}
 use Rattle.snap_report.specs.Told.{Told}
 use Rattle.snap_report.specs.declared.events.Event.{Event}
@@ -17,6 +15,7 @@ use Rattle.stripe_reader.specs.Starts.{StartsFit, starts_at}
 use Rattle.stripe_reader.specs.WindowValue.{WindowValue}
 use Rattle.snap_fix.specs.declared.marking.CellMark.{CellMark}
 use Rattle.snap_fix.specs.declared.repairing.Repaired.{Repaired}
+use Rattle.snap_fix.specs.Breaking.{FolderFails}
 use Rattle.snap_fix.specs.Counts.{AreCounts}
 use Rattle.snap_fix.specs.Facts.{StripeFacts}
 use Rattle.snap_fix.specs.Mended.{Mended, answer_of, cell_news, is_repaired, is_written}
@@ -24,13 +23,13 @@ use Rattle.snap_fix.specs.Mending.{StatesFit}
 use Rattle.snap_fix.specs.Plan.{FixPlan}
 use Rattle.snap_fix.specs.Repairing.{FilesOutside, CanMend, MendsFiles, MendsNotFiles}
 use Rattle.snap_fix.specs.RepairSteps.{column_outside, IsMendedAs, CanMendColumn, MendsColumn, MendsNotColumn}
-use Rattle.snap_fix.specs.State.{AnyCall, WellCall, FolderMakes, KeepsStarts}
+use Rattle.snap_fix.specs.State.{WellCall, FolderMakes, KeepsStarts}
 use Rattle.snap_fix.specs.Underway.{IsFixable, IsColumnUnderway, IsMendCall, ShowsFacts}
-use Rattle.snap_fix.proofs.FolderCallLemmas.{makes_none, makes_any}
+use Rattle.snap_fix.proofs.FolderFailsLemmas.{fails_wider}
 use Rattle.snap_fix.proofs.MendedCounts.{count_to-more, events_split}
 use Rattle.snap_fix.proofs.RepairCellLemmas.{none_written}
 use Rattle.snap_fix.proofs.RepairLemmas.{bare, underway_same}
-use Rattle.snap_fix.proofs.StartsKeptLemmas.{keeps_starts_same, keeps_starts_then, makes_well_before, makes_any_before}
+use Rattle.snap_fix.proofs.StartsKeptLemmas.{keeps_starts_same, keeps_starts_then, makes_well_before, mend_call_before}
 use Rattle.snap_fix.proofs.TellingLemmas.{Joins, events_to, events_to-more, told_as}
 
 module _ {W R : Type 0} (view : W → SinkView) (standing : R → ReportView) (stands : R → List Event → Type 0)
@@ -217,11 +216,6 @@ module _ {W R : Type 0} (view : W → SinkView) (standing : R → ReportView) (s
         (column_outside mid.starts mid.states folder mid.lines mid.reports) (column_outside new.starts new.states folder_new new.lines new.reports)
         → MendsNotFiles view standing stands plan stripe i window marks known old new d
     files_not repaired within so_far fails = record {
-      within = within;
-      rose = subst (λ (v : FolderView). Rose (folder_at old.folders d).faults v.faults) (sym here_new)
-          (subst (λ (v : FolderView). Rose v.faults folder_new.faults) was fails.rose);
-      call = subst (λ (v : FolderView). IsTrue v.tells_calls → Gained broke_folder (folder_at old.folders d).calls v.calls) (sym here_new)
-          (subst (λ (v : FolderView). IsTrue folder_new.tells_calls → Gained broke_folder v.calls folder_new.calls) was fails.call);
       folders = many_new ∙ so_far.folders;
       events = λ facts is shows.
           let mended : Mended = record { facts = facts; answers = answers } in
@@ -237,7 +231,18 @@ module _ {W R : Type 0} (view : W → SinkView) (standing : R → ReportView) (s
                 (told_then view standing stands plan.table.columns (events_to (cell_news plan mended) d) [] old.lines mid.lines new.lines old.reports mid.reports new.reports
                 (so_far.told mended shown) fails.told),
           );
-      makes = λ facts is shows k below. makes_of facts is shows k below (cases_eq k d) (cases_lt k d);
+      fails = λ facts is shows.
+          let Call : ℕ → FolderCall → Type 0 = λ k. IsMendCall plan old.starts k (bare facts ∷ []) in
+          record {
+            within = within;
+            before = λ k near.
+                subst (FolderMakes (WellCall (Call k)) (folder_at old.folders k)) (sym (other_new k (λ same. omega (arith, same, near)))) ((so_far.done k near).makes facts is shows);
+            here =
+                subst (FolderFails (Call d) (folder_at old.folders d)) (sym here_new)
+                (subst (λ (v : FolderView). FolderFails (Call d) v folder_new) was
+                (fails_wider (IsMendCall plan mid.starts d (bare facts ∷ [])) (Call d) (mend_call_before plan old.starts mid.starts d (bare facts ∷ []) so_far.stood) (fails.fails facts is shows)));
+            behind = λ k past below. other_new k (λ same. omega (arith, same, past)) ∙ (so_far.left k (omega (arith, past))).same_folder;
+          };
     }
       where
         was : folder ≡ folder_at old.folders d
@@ -260,20 +265,6 @@ module _ {W R : Type 0} (view : W → SinkView) (standing : R → ReportView) (s
             ap (λ (bs : List Bool). get_or bs k false) are
             ∙ get_or-append_right so_far.answers rest d k false so_far.as_many far
             ∙ get_or-replicate (length plan.table.columns) (k - d) true false (omega (arith, far, below))
-
-        makes_of : (facts : StripeFacts) → facts.stripe ≡ stripe → Shows facts → (k : ℕ) → k < length plan.table.columns → (k ≡ d) ⊎ (k ≡ d → ⊥) → (k < d) ⊎ (d ≤ k)
-            → FolderMakes (AnyCall (IsMendCall plan old.starts k (bare facts ∷ []))) (folder_at old.folders k) (folder_at new.folders k)
-        makes_of facts is shows k below (inl same) side =
-            subst (λ (n : ℕ). FolderMakes (AnyCall (IsMendCall plan old.starts n (bare facts ∷ []))) (folder_at old.folders n) (folder_at new.folders n)) (sym same)
-            (subst (FolderMakes (AnyCall (IsMendCall plan old.starts d (bare facts ∷ []))) (folder_at old.folders d)) (sym here_new)
-            (subst (λ (v : FolderView). FolderMakes (AnyCall (IsMendCall plan old.starts d (bare facts ∷ []))) v folder_new) was
-            (makes_any_before plan old.starts mid.starts d (bare facts ∷ []) so_far.stood folder folder_new (fails.makes facts is shows))))
-        makes_of facts is shows k below (inr other) (inl near) =
-            subst (FolderMakes (AnyCall (IsMendCall plan old.starts k (bare facts ∷ []))) (folder_at old.folders k)) (sym (other_new k other))
-            (makes_any (IsMendCall plan old.starts k (bare facts ∷ [])) ((so_far.done k near).makes facts is shows))
-        makes_of facts is shows k below (inr other) (inr far) =
-            subst (FolderMakes (AnyCall (IsMendCall plan old.starts k (bare facts ∷ []))) (folder_at old.folders k)) (sym (other_new k other ∙ (so_far.left k far).same_folder))
-            (makes_none (AnyCall (IsMendCall plan old.starts k (bare facts ∷ []))) (folder_at old.folders k))
 
   -- all columns
   pub files_all : (d : ℕ) (new : FilesOutside W R) (repaired : Repaired) → length plan.table.columns ≡ d → FilesSoFar d new repaired

@@ -10,9 +10,9 @@ use Rattle.stripe_reader.specs.declared.starts.Place.TheVariants.{Plain, Lost, N
 use Rattle.snap_fix.specs.Mended.{Mended}
 use Rattle.snap_fix.specs.Mending.{with_place}
 use Rattle.snap_fix.specs.Plan.{FixPlan}
-use Rattle.snap_fix.specs.State.{AnyCall, WellCall, FolderMakes, StaysPlace, KeepsStarts}
+use Rattle.snap_fix.specs.State.{WellCall, FolderMakes, StaysPlace, KeepsStarts}
 use Rattle.snap_fix.specs.Underway.{WritesOneOf, IsMendCall, IsForPlace}
-use Rattle.snap_fix.proofs.FolderCallLemmas.{makes_well_wider, makes_any_wider}
+use Rattle.snap_fix.proofs.FolderCallLemmas.{makes_well_wider}
 
 -- ---- places
 
@@ -96,6 +96,3 @@ module _ (plan : FixPlan) (before after : StartsValue) (d : ℕ) (stripes : List
 
   pub makes_well_before : (old new : FolderView) → FolderMakes (WellCall (IsMendCall plan after d stripes)) old new → FolderMakes (WellCall (IsMendCall plan before d stripes)) old new
   makes_well_before old new makes = makes_well_wider (IsMendCall plan after d stripes) (IsMendCall plan before d stripes) mend_call_before makes
-
-  pub makes_any_before : (old new : FolderView) → FolderMakes (AnyCall (IsMendCall plan after d stripes)) old new → FolderMakes (AnyCall (IsMendCall plan before d stripes)) old new
-  makes_any_before old new makes = makes_any_wider (IsMendCall plan after d stripes) (IsMendCall plan before d stripes) mend_call_before makes

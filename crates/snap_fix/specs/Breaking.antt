@@ -1,9 +1,18 @@
--- Which calls of a vault end a fix where they fail, and which were made before.
-use Rattle.std.specs.Prelude.{◌≡◌, List, [], ◌∷◌, ◌++◌, Bool, true, false, if◌then◌else◌}
+-- Which calls of a vault or of a folder end a fix where they fail, and which were made before.
+use Rattle.std.specs.Prelude.{◌≡◌, ℕ, ◌<◌, List, [], ◌∷◌, ◌++◌, Bool, true, false, if◌then◌else◌, IsTrue, All}
+use Rattle.disk_model.specs.Cause.{Rose}
+use Rattle.disk_model.specs.Folder.{FolderView, FolderCall, FolderDone, FolderGoesOn}
 use Rattle.disk_model.specs.Ran.{vault_done}
+use Rattle.disk_model.specs.Stopped.{MayBeLeft}
+use Rattle.disk_model.specs.Tree.{IsTree}
 use Rattle.disk_model.specs.Vault.{VaultView, VaultCall, VaultDone, GoesOn, ParityLen, ParityRead, ParityWrite, ParitySetLen, ParitySync, ContentSize, ContentRead, DraftBegin, DraftAppend, DraftSeal, Publish}
+use Rattle.snap_report.specs.Answer.{is_reading}
 use Rattle.snap_report.specs.declared.answer.RunFault.{RunFault}
 use Rattle.snap_report.specs.declared.answer.RunFault.TheVariants.{Folder, Vault, Memory}
+use Rattle.stripe_reader.specs.Columns.{folder_at}
+use Rattle.snap_fix.specs.State.{WellCall, FolderMakes}
+
+-- ---- of a vault
 
 -- parity is written or synced
 abbrev pub writes_parity : VaultCall → Bool
@@ -43,3 +52,39 @@ abbrev pub BreaksAfter : RunFault → List VaultDone → List VaultDone → Vaul
 BreaksAfter (Folder disk) before others old new = GoesOn old new before
 BreaksAfter Vault before others old new = FailsAfter before others old new
 BreaksAfter Memory before others old new = ⊥
+
+-- ---- of a folder
+
+-- Such calls that went well, and then one more, the last, which does not read and failed.
+pub record FailsLast (P : FolderCall → Type 0) (done : List FolderDone) : Type 0 where
+  pub front : List FolderDone
+  pub each : All (WellCall P) front
+  pub call : FolderCall
+  pub is : P call
+  pub writes : is_reading call ≡ false
+  pub done_is : done ≡ front ++ record { call = call; failed = true } ∷ []
+
+-- Just such calls were made of a folder, and its count of faults rose. Where it tells its files, what it holds then is among what a stop
+-- within these calls may leave.
+pub record FolderFails (P : FolderCall → Type 0) (old new : FolderView) : Type 0 where
+  pub rose : Rose old.faults new.faults
+  pub done : List FolderDone
+  pub fails : FailsLast P done
+  pub goes_on : FolderGoesOn old new done
+  pub left : IsTrue old.tells → IsTree old.tree → MayBeLeft old.keeps_stamps done old.tree new.tree
+
+-- ---- of the folders of all columns, which are come to one after another
+
+-- The folder of a column failed: of those before it only such calls were made as went well, of it such calls and then the one that failed,
+-- and those behind it are as they were.
+pub record FailsInColumn (disk columns : ℕ) (P : ℕ → FolderCall → Type 0) (olds news : List FolderView) : Type 0 where
+  pub within : disk < columns
+  pub before : (d : ℕ) → d < disk → FolderMakes (WellCall (P d)) (folder_at olds d) (folder_at news d)
+  pub here : FolderFails (P disk) (folder_at olds disk) (folder_at news disk)
+  pub behind : (d : ℕ) → disk < d → d < columns → folder_at news d ≡ folder_at olds d
+
+-- A fix broke off at the folders or behind them: where the vault failed, only such calls were made as went well.
+abbrev pub BreaksColumns : RunFault → ℕ → (ℕ → FolderCall → Type 0) → List FolderView → List FolderView → Type 0
+BreaksColumns (Folder disk) columns P olds news = FailsInColumn disk columns P olds news
+BreaksColumns Vault columns P olds news = (d : ℕ) → d < columns → FolderMakes (WellCall (P d)) (folder_at olds d) (folder_at news d)
+BreaksColumns Memory columns P olds news = ⊥

@@ -9,8 +9,8 @@ use Rattle.disk_model.specs.Sink.{SinkView}
 use Rattle.disk_model.specs.Tree.{Tree, file_of, path_of}
 use Rattle.disk_model.specs.Vault.{VaultView, VaultCall, ParitySync, SomeCalls, ChangesBy, DraftsStay, Holds, state_of}
 use Rattle.file_table.specs.Table.{record_at}
-use Rattle.snap_report.specs.Answer.{Gained, broke_folder}
-use Rattle.snap_fix.specs.Breaking.{FailsAfter, broke_parity}
+use Rattle.snap_report.specs.Answer.{Gained}
+use Rattle.snap_fix.specs.Breaking.{FailsAfter, FailsInColumn, broke_parity}
 use Rattle.snap_report.specs.Report.{ReportView}
 use Rattle.snap_report.specs.Told.{Told}
 use Rattle.snap_report.specs.declared.events.Event.{Event}
@@ -28,7 +28,7 @@ use Rattle.snap_fix.specs.Mending.{StatesFit, IsFree}
 use Rattle.snap_fix.specs.Order.{FolderWrites}
 use Rattle.snap_fix.specs.Plan.{FixPlan, EntriesFit, entry_at, records_in}
 use Rattle.snap_fix.specs.Repairing.{FilesOutside}
-use Rattle.snap_fix.specs.State.{AnyCall, WellCall, FolderMakes, no_state, record_path}
+use Rattle.snap_fix.specs.State.{WellCall, FolderMakes, no_state, record_path}
 use Rattle.snap_fix.specs.Underway.{done_well}
 
 -- ---- levels
@@ -217,15 +217,12 @@ pub record FinishesAll {W R : Type 0} (view : W → SinkView) (standing : R → 
   pub told : Told view standing stands plan.table.columns (all_finish_news plan finishes) old.lines new.lines old.reports new.reports
   pub counts_are : AreCounts (all_finish_news plan finishes) counts
 
--- The folder of a column failed. Only finishing calls were made, and a prefix was told of what is told where none fails.
+-- The folder of a column failed. Only finishing calls were made, none behind the one that failed, and a prefix was told of what is told
+-- where none fails.
 pub record FinishesNotAll {W R : Type 0} (view : W → SinkView) (standing : R → ReportView) (stands : R → List Event → Type 0)
     (plan : FixPlan) (old new : FilesOutside W R) (disk : ℕ) : Type 0 where
-  pub within : disk < length plan.table.columns
-  pub rose : Rose (folder_at old.folders disk).faults (folder_at new.folders disk).faults
-  pub call : IsTrue (folder_at new.folders disk).tells_calls → Gained broke_folder (folder_at old.folders disk).calls (folder_at new.folders disk).calls
   pub folders : length new.folders ≡ length old.folders
-  pub makes : (d : ℕ) → d < length plan.table.columns
-      → FolderMakes (AnyCall (FinishesOne plan d old.starts old.states)) (folder_at old.folders d) (folder_at new.folders d)
+  pub fails : FailsInColumn disk (length plan.table.columns) (λ (d : ℕ). FinishesOne plan d old.starts old.states) old.folders new.folders
   pub finishes : List (List Finish)
   pub are : AreDone plan old.starts old.states old.folders finishes
   pub first : List Event

@@ -1,11 +1,9 @@
 -- The end of a fix, record by record and column by column.
 use Rattle.std.specs.Prelude.{◌≡◌, ◌≢◌, ◌⊎◌, ℕ, ◌<◌, List, [], ◌∷◌, ◌++◌, length, Bool, true, false, IsTrue}
-use Rattle.disk_model.specs.Cause.{Rose}
 use Rattle.disk_model.specs.Folder.{FolderView, FolderCall}
 use Rattle.disk_model.specs.Sink.{SinkView}
 use Rattle.disk_model.specs.Tree.{file_of, path_of}
 use Rattle.file_table.specs.Valid.{IsValid}
-use Rattle.snap_report.specs.Answer.{Gained, broke_folder}
 use Rattle.snap_report.specs.Report.{ReportView}
 use Rattle.snap_report.specs.Told.{Told}
 use Rattle.snap_report.specs.declared.events.Event.{Event}
@@ -17,12 +15,13 @@ use Rattle.snap_fix.specs.declared.counts.Counts.{Counts}
 use Rattle.snap_fix.specs.declared.finishing.Finish.{Finish}
 use Rattle.snap_fix.specs.declared.finishing.Finish.TheVariants.{Kept, Restored, Unstamped, Renamed, Gone}
 use Rattle.snap_fix.specs.declared.state.FileState.{FileState}
+use Rattle.snap_fix.specs.Breaking.{FolderFails}
 use Rattle.snap_fix.specs.Counts.{AreCounts}
 use Rattle.snap_fix.specs.Ending.{CanFinishFile, CanFinishColumn, FinishesFiles, FinishesFile, HoldsEnd, StandsEnd, IsCallOf, IsDone, column_news, finish_at, is_finished, news_of, record_calls, stamp_news, states_at}
 use Rattle.snap_fix.specs.Mending.{StatesFit}
 use Rattle.snap_fix.specs.Order.{FolderWrites}
 use Rattle.snap_fix.specs.Plan.{FixPlan, EntriesFit, records_in}
-use Rattle.snap_fix.specs.State.{AnyCall, WellCall, FolderMakes, record_path, state_in}
+use Rattle.snap_fix.specs.State.{WellCall, FolderMakes, record_path, state_in}
 
 -- what is written, and told, for one column: as of a run, with the folder of the column alone
 pub record ColumnOutside (W R : Type 0) : Type 0 where
@@ -87,12 +86,10 @@ pub record EndsRecord {W R : Type 0} (view : W → SinkView) (standing : R → R
   pub told : Told view standing stands plan.table.columns (news_of plan d i finish) old.lines new.lines old.reports new.reports
   pub counts_are : AreCounts (news_of plan d i finish) counts
 
--- one of its calls failed, and nothing was told
+-- its calls were made up to one that failed, and nothing was told
 pub record EndsNotRecord {W R : Type 0} (view : W → SinkView) (standing : R → ReportView) (stands : R → List Event → Type 0)
     (plan : FixPlan) (d i : ℕ) (old new : ColumnOutside W R) : Type 0 where
-  pub rose : Rose old.folder.faults new.folder.faults
-  pub call : IsTrue new.folder.tells_calls → Gained broke_folder old.folder.calls new.folder.calls
-  pub makes : FolderMakes (AnyCall (FinishesThis plan d i (starts_at old.starts.columns d) (states_at old.states d))) old.folder new.folder
+  pub fails : FolderFails (FinishesThis plan d i (starts_at old.starts.columns d) (states_at old.states d)) old.folder new.folder
   pub told : Told view standing stands plan.table.columns [] old.lines new.lines old.reports new.reports
 
 -- ---- one column
@@ -118,12 +115,10 @@ pub record EndsColumn {W R : Type 0} (view : W → SinkView) (standing : R → R
   pub told : Told view standing stands plan.table.columns (column_news plan d done) old.lines new.lines old.reports new.reports
   pub counts_are : AreCounts (column_news plan d done) counts
 
--- The folder failed, and a prefix was told of what is told where it does not.
+-- The folder failed, in the last of such calls, and a prefix was told of what is told where it does not.
 pub record EndsNotColumn {W R : Type 0} (view : W → SinkView) (standing : R → ReportView) (stands : R → List Event → Type 0)
     (plan : FixPlan) (d : ℕ) (old new : ColumnOutside W R) : Type 0 where
-  pub rose : Rose old.folder.faults new.folder.faults
-  pub call : IsTrue new.folder.tells_calls → Gained broke_folder old.folder.calls new.folder.calls
-  pub makes : FolderMakes (AnyCall (FinishesFile plan d (starts_at old.starts.columns d) (states_at old.states d))) old.folder new.folder
+  pub fails : FolderFails (FinishesFile plan d (starts_at old.starts.columns d) (states_at old.states d)) old.folder new.folder
   pub done : List Finish
   pub is : (i : ℕ) → i < length (records_in plan.table d) → is_finished plan d i ≡ true
       → IsDone plan d (starts_at old.starts.columns d) (states_at old.states d) old.folder i (finish_at done i)

@@ -13,8 +13,9 @@ use Rattle.stripe_reader.specs.declared.starts.Place.{Place}
 use Rattle.stripe_reader.specs.declared.starts.Place.TheVariants.{Lost, Nowhere}
 use Rattle.snap_fix.specs.declared.finishing.Finish.{Finish}
 use Rattle.snap_fix.specs.declared.state.FileState.{FileState}
+use Rattle.snap_fix.specs.Breaking.{FolderFails}
 use Rattle.snap_fix.specs.Finishing.{FitsTree, HoldsFinished, bytes_now, lost_after, size_calls}
-use Rattle.snap_fix.specs.Mending.{BreaksOff, IsFree, IsSetUpCall}
+use Rattle.snap_fix.specs.Mending.{IsFree, IsSetUpCall}
 use Rattle.snap_fix.specs.Order.{FolderWrites, put_calls}
 use Rattle.snap_fix.specs.State.{WellCall, FolderMakes, OthersStay, stands}
 
@@ -58,14 +59,14 @@ IsLostCall start state path call = (stands start.place state.touched ≡ true) �
 
 -- ---- what it ends with
 
--- such calls were made, and the last of them found no file, which does not happen where the folder tells its files
+-- such calls were made, one at least, and a file was gone, which does not happen where the folder tells its files
 pub record FindsNoFile (P : FolderCall → Type 0) (old new : FolderView) : Type 0 where
   pub untold : old.tells ≡ false
   pub makes : FolderMakes (WellCall P) old new
   pub last : (call : FolderCall) × P call
 
 abbrev pub BreaksBy : FileFault → (FolderCall → Type 0) → FolderView → FolderView → Type 0
-BreaksBy Failed = BreaksOff
+BreaksBy Failed = FolderFails
 BreaksBy Missing = FindsNoFile
 
 -- a file with these bytes stands under the path, and this one under its other name

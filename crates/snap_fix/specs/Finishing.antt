@@ -2,13 +2,11 @@
 use Rattle.std.specs.Prelude.{◌≡◌, ◌≢◌, ◌⊎◌, ℕ, ◌<◌, ◌==◌, ◌&&◌, ◌||◌, not, List, [], ◌∷◌, ◌++◌, length, Bool, true, false, if◌then◌else◌, Option, None, Some, IsTrue}
 use Rattle.std.specs.Ordering.{int_eq}
 use Rattle.disk_model.specs.Bytes.{resized}
-use Rattle.disk_model.specs.Cause.{Rose}
 use Rattle.disk_model.specs.Folder.{FolderView, FolderCall, Make, SetSize, SetStamp, Rename}
 use Rattle.disk_model.specs.Tree.{Tree, File, file_of, meta_of, path_of, IsTree}
 use Rattle.disk_model.specs.declared.meta.Meta.{Meta}
 use Rattle.disk_model.specs.declared.meta.Stamp.{Stamp}
 use Rattle.file_table.specs.Table.{TableValue, record_at}
-use Rattle.snap_report.specs.Answer.{Gained, broke_folder}
 use Rattle.stripe_reader.specs.Starts.{StartsValue, StartsFit, starts_at, start_in}
 use Rattle.stripe_reader.specs.declared.starts.Start.{Start}
 use Rattle.stripe_reader.specs.declared.starts.Place.{Place}
@@ -16,11 +14,12 @@ use Rattle.stripe_reader.specs.declared.starts.Place.TheVariants.{Plain, Lost, N
 use Rattle.snap_fix.specs.declared.finishing.Finish.{Finish}
 use Rattle.snap_fix.specs.declared.finishing.Finish.TheVariants.{Kept, Restored, Unstamped, Renamed, Gone}
 use Rattle.snap_fix.specs.declared.state.FileState.{FileState}
+use Rattle.snap_fix.specs.Breaking.{FolderFails}
 use Rattle.snap_fix.specs.Mending.{StatesFit, IsFree}
 use Rattle.snap_fix.specs.Order.{FolderWrites, put_calls}
 use Rattle.snap_fix.specs.Plan.{records_in}
 pub use Rattle.snap_fix.specs.State.{OthersStay, stands}
-use Rattle.snap_fix.specs.State.{AnyCall, WellCall, FolderMakes, bytes_placed, record_path, state_in}
+use Rattle.snap_fix.specs.State.{WellCall, FolderMakes, bytes_placed, record_path, state_in}
 
 -- ---- what is done, by what is known of the file
 
@@ -161,8 +160,8 @@ pub record FinishesRecord (table : TableValue) (d i : ℕ) (listed : Option Meta
   pub wrote : IsTrue folder.tells → FolderWrites (finish_calls (state_in states d i).lost listed (start_in (starts_at starts.columns d) i) (state_in states d i)
       (record_path (records_in table d) i) (record_at table.columns d i).meta) folder folder_new
 
--- one of its calls failed
-pub record FinishesNot (table : TableValue) (d i : ℕ) (listed : Option Meta) (starts : StartsValue) (states : List (List FileState)) (folder folder_new : FolderView) : Type 0 where
-  pub rose : Rose folder.faults folder_new.faults
-  pub call : IsTrue folder_new.tells_calls → Gained broke_folder folder.calls folder_new.calls
-  pub makes : FolderMakes (AnyCall (IsFinishCall (state_in states d i).lost listed (start_in (starts_at starts.columns d) i) (state_in states d i) (record_path (records_in table d) i) (record_at table.columns d i).meta)) folder folder_new
+-- its calls were made up to one that failed
+abbrev pub FinishesNot : TableValue → ℕ → ℕ → Option Meta → StartsValue → List (List FileState) → FolderView → FolderView → Type 0
+FinishesNot table d i listed starts states folder folder_new =
+    FolderFails (IsFinishCall (state_in states d i).lost listed (start_in (starts_at starts.columns d) i) (state_in states d i)
+    (record_path (records_in table d) i) (record_at table.columns d i).meta) folder folder_new

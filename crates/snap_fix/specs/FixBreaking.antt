@@ -20,30 +20,30 @@ use Rattle.snap_fix.specs.declared.finishing.Finish.{Finish}
 use Rattle.snap_fix.specs.declared.scope.Mode.{Mode}
 use Rattle.snap_fix.specs.Asking.{AsksSpare}
 use Rattle.snap_fix.specs.Beginning.{BeginsNot}
-use Rattle.snap_fix.specs.Breaking.{FailsAfter}
+use Rattle.snap_fix.specs.Breaking.{FailsAfter, FailsInColumn}
 use Rattle.snap_fix.specs.Course.{IsPlan, Outside}
 use Rattle.snap_fix.specs.Ending.{AreDone, FinishesOne, all_finish_news}
 use Rattle.snap_fix.specs.Findings.{opening_events}
 use Rattle.snap_fix.specs.FixCourse.{FixFinds, FixesVault, MakeFixCalls, WritesFiles, Written, mend_syncs}
-use Rattle.snap_fix.specs.FixRun.{BreaksInLast, HasBroken, HoldAllWrong}
+use Rattle.snap_fix.specs.FixRun.{BreaksFiles, BreaksInLast, HasBroken, HoldAllWrong}
 use Rattle.snap_fix.specs.Fixing.{MendsVault, facts_of}
 use Rattle.snap_fix.specs.Looking.{numbers_of, unread_cells, unread_in}
 use Rattle.snap_fix.specs.Mended.{Mended, all_mended_events}
 use Rattle.snap_fix.specs.Plan.{FixPlan, starts_of, stripes_of}
-use Rattle.snap_fix.specs.State.{AnyCall, FolderMakes}
-use Rattle.snap_fix.specs.Underway.{IsMendCall, done_well, mend_calls}
+use Rattle.snap_fix.specs.Underway.{done_well, mend_calls}
 
 -- what is told before files are finished
 abbrev pub written_events : FixPlan → List Mended → List Event
 written_events plan stripes = opening_events plan ++ all_mended_events plan stripes
 
--- While blocks were written: a prefix of the events of its stripes was told, and only calls that write their blocks were made. Of the vault
--- all calls for these stripes were made, up to the writes of the last one.
+-- While blocks were written: a prefix of the events of its stripes was told. Of the folders only calls that write their blocks were made,
+-- which went well but for the last one of a folder that failed, in the last stripe. Of the vault all calls for these stripes were made, up
+-- to the writes of the last one.
 pub record BreaksWriting (plan : FixPlan) (starts : StartsValue) (fault : RunFault) (stripes : List Mended) (readings : List (List LevelReading))
     (first : List Event) (firsts news : List FolderView) (old new : VaultView) : Type 0 where
   pub rest : List Event
   pub events : written_events plan stripes ≡ first ++ rest
-  pub makes : (d : ℕ) → d < length plan.table.columns → FolderMakes (AnyCall (IsMendCall plan starts d stripes)) (folder_at firsts d) (folder_at news d)
+  pub makes : BreaksFiles plan starts fault stripes firsts news
   pub ran : BreaksInLast plan fault (facts_of stripes) readings old new
 
 -- While levels were synced: all calls for its stripes were made of the vault, then the first syncs and one that failed. All that was written
@@ -56,8 +56,9 @@ pub record BreaksSyncing (plan : FixPlan) (stripes : List Mended) (readings : Li
   pub folders : news ≡ written.folders
 
 -- While files were finished: the vault is as a fix leaves it that ends, so each level that was written was synced before. All that was written
--- was told, and then a prefix of what is told of the files. Only calls that finish files were made.
-pub record BreaksFinishing (plan : FixPlan) (stripes : List Mended) (readings : List (List LevelReading)) (first : List Event)
+-- was told, and then a prefix of what is told of the files. Column after column only calls that finish files were made, which went well but
+-- for the last one of the folder that failed; those behind it are as they were once all blocks were written.
+pub record BreaksFinishing (disk : ℕ) (plan : FixPlan) (stripes : List Mended) (readings : List (List LevelReading)) (first : List Event)
     (written : Written) (news : List FolderView) (old new : VaultView) : Type 0 where
   pub finishes : List (List Finish)
   pub are : AreDone plan written.starts written.states written.folders finishes
@@ -65,14 +66,13 @@ pub record BreaksFinishing (plan : FixPlan) (stripes : List Mended) (readings : 
   pub rest : List Event
   pub events : first ≡ written_events plan stripes ++ finished
   pub finished_are : all_finish_news plan finishes ≡ finished ++ rest
-  pub makes : (d : ℕ) → d < length plan.table.columns
-      → FolderMakes (AnyCall (FinishesOne plan d written.starts written.states)) (folder_at written.folders d) (folder_at news d)
+  pub makes : FailsInColumn disk (length plan.table.columns) (λ (d : ℕ). FinishesOne plan d written.starts written.states) written.folders news
   pub vault : FixesVault plan stripes readings old new
 
 -- by what failed
 abbrev pub BreaksEnding : RunFault → FixPlan → List Mended → List (List LevelReading) → List Event → Written → List FolderView
     → VaultView → VaultView → Type 0
-BreaksEnding (Folder disk) plan stripes readings first written news old new = BreaksFinishing plan stripes readings first written news old new
+BreaksEnding (Folder disk) plan stripes readings first written news old new = BreaksFinishing disk plan stripes readings first written news old new
 BreaksEnding Vault plan stripes readings first written news old new = BreaksSyncing plan stripes readings first written news old new
 BreaksEnding Memory plan stripes readings first written news old new = ⊥
 

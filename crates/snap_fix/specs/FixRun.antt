@@ -7,27 +7,28 @@ use Rattle.disk_model.specs.Vault.{VaultView, VaultDone, GoesOn, Reads}
 use Rattle.parity_writer.specs.LevelReading.{LevelReading}
 use Rattle.file_table.specs.Table.{TableValue}
 use Rattle.snap_report.specs.Answer.{Gained, broke_folder, is_io_of, is_parity_io}
-use Rattle.snap_fix.specs.Breaking.{BreaksAfter, broke_parity}
+use Rattle.snap_fix.specs.Breaking.{BreaksAfter, BreaksColumns, broke_parity}
 use Rattle.snap_report.specs.Report.{ReportView}
 use Rattle.snap_report.specs.Told.{Told}
 use Rattle.snap_report.specs.declared.answer.RunFault.{RunFault}
 use Rattle.snap_report.specs.declared.answer.RunFault.TheVariants.{Folder, Vault, Memory}
 use Rattle.snap_report.specs.declared.events.Event.{Event}
 use Rattle.stripe_reader.specs.Columns.{ReadsWindow, folder_at}
+use Rattle.stripe_reader.specs.Starts.{StartsValue}
 use Rattle.stripe_reader.specs.WindowValue.{WindowValue}
 use Rattle.snap_fix.specs.declared.beginning.Work.{Work}
 use Rattle.snap_fix.specs.declared.fixing.Totals.{Totals}
 use Rattle.snap_fix.specs.Asking.{AsksSpare}
 use Rattle.snap_fix.specs.Checking.{plan_for}
 use Rattle.snap_fix.specs.Facts.{StripeFacts}
-use Rattle.snap_fix.specs.Fixing.{AreTotals, AreReadThen, FixScene, FolderBroke, MendsVault, SceneFits, Writes, facts_of}
+use Rattle.snap_fix.specs.Fixing.{AreTotals, AreReadThen, FixScene, FolderBroke, MendsVault, SceneFits, Writes, facts_of, levels_begun}
 use Rattle.snap_fix.specs.Known.{AreFacts}
 use Rattle.snap_fix.specs.Looking.{AreAllLevelsOf, numbers_of, facts_at, unread_cells, unread_in}
 use Rattle.snap_fix.specs.Marks.{slots_at}
 use Rattle.snap_fix.specs.Mended.{Mended, AnswersFit, all_mended_events}
 use Rattle.snap_fix.specs.Plan.{FixPlan}
 use Rattle.snap_fix.specs.Room.{IsRoomFor}
-use Rattle.snap_fix.specs.State.{AnyCall, WellCall, FolderMakes, KeepsStarts}
+use Rattle.snap_fix.specs.State.{WellCall, FolderMakes, KeepsStarts}
 use Rattle.snap_fix.specs.Underway.{AddsZeros, AreFixable, AreUnderway, HoldsWrong, IsMendCall, IsMendedLevel, done_well, mend_calls, wrong_writes}
 
 -- the stripes are looked at in ascending order, none twice
@@ -117,7 +118,7 @@ HasBroken plan Vault told olds news old new = VaultFailedBy told old new
 HasBroken plan Memory told olds news old new = ⊥
 
 -- Of the vault all calls for these stripes were made, but for the writes of the last one: where a folder failed, none of them, and where a call
--- of the vault did, the first ones and that.
+-- of the vault did, the first ones and that. So only wrong levels of these stripes changed, and of the last one only where the vault failed.
 pub record BreaksInLast (plan : FixPlan) (fault : RunFault) (stripes : List StripeFacts) (readings : List (List LevelReading))
     (old new : VaultView) : Type 0 where
   pub earlier : List StripeFacts
@@ -126,6 +127,17 @@ pub record BreaksInLast (plan : FixPlan) (fault : RunFault) (stripes : List Stri
   pub before : List VaultDone
   pub calls_are : mend_calls plan stripes readings ≡ before ++ done_well (wrong_writes plan last)
   pub ran : BreaksAfter fault before (done_well (wrong_writes plan last)) old new
+  pub vault : MendsVault plan (levels_begun fault earlier last) old new
+
+-- Of the folders only calls that went well were made for the stripes before the last one, and then for that one: where a folder failed, up to
+-- the call of it that did, and where a call of the vault did, only such as went well.
+pub record BreaksFiles (plan : FixPlan) (starts : StartsValue) (fault : RunFault) (stripes : List Mended) (olds news : List FolderView) : Type 0 where
+  pub earlier : List Mended
+  pub last : Mended
+  pub stripes_are : stripes ≡ earlier ++ last ∷ []
+  pub mids : List FolderView
+  pub well : (d : ℕ) → d < length plan.table.columns → FolderMakes (WellCall (IsMendCall plan starts d earlier)) (folder_at olds d) (folder_at mids d)
+  pub breaks : BreaksColumns fault (length plan.table.columns) (λ (d : ℕ). IsMendCall plan starts d (last ∷ [])) mids news
 
 -- Some first stripes were written anew, and the one after them broke off: a prefix of their events was told, and only calls were made
 -- that they ask for.
@@ -150,8 +162,7 @@ pub record BreaksStripes {W R : Type 0} (view : W → SinkView) (standing : R �
   pub unread_cells_of : (d : ℕ) → d < length plan.table.columns
       → RoseBy (unread_cells d (facts_of stripes)) (folder_at old.folders d).faults (folder_at new.folders d).faults
   pub spare : AsksSpare plan (facts_of stripes) old.spare new.spare
-  pub vault : MendsVault plan (facts_of stripes) old.vault new.vault
-  pub makes : (d : ℕ) → d < length plan.table.columns → FolderMakes (AnyCall (IsMendCall plan old.starts d stripes)) (folder_at old.folders d) (folder_at new.folders d)
+  pub makes : BreaksFiles plan old.starts fault stripes old.folders new.folders
   pub broke : HasBroken plan fault first old.folders new.folders old.vault new.vault
 
 -- The same within a window, which was read before: the failed readings that were told of its cells were counted then.
@@ -178,8 +189,7 @@ pub record BreaksInto {W R : Type 0} (view : W → SinkView) (standing : R → R
   pub ran : BreaksInLast plan fault (facts_of stripes) readings old.vault new.vault
   pub unread : RoseBy (unread_in readings) old.vault.faults new.vault.faults
   pub spare : AsksSpare plan (facts_of stripes) old.spare new.spare
-  pub vault : MendsVault plan (facts_of stripes) old.vault new.vault
-  pub makes : (d : ℕ) → d < length plan.table.columns → FolderMakes (AnyCall (IsMendCall plan old.starts d stripes)) (folder_at old.folders d) (folder_at new.folders d)
+  pub makes : BreaksFiles plan old.starts fault stripes old.folders new.folders
   pub broke : HasBrokenInto plan fault first old.folders new.folders old.vault new.vault
 
 -- Some stripes of the work were read into the window, and then it broke off.

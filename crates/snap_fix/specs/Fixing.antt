@@ -8,7 +8,7 @@ use Rattle.disk_model.specs.Vault.{VaultView, GoesOn, SomeCalls, ChangesBy, Draf
 use Rattle.file_table.specs.declared.shape.Shape.{Shape}
 use Rattle.parity_writer.specs.LevelReading.{LevelReading, has_failed}
 use Rattle.snap_report.specs.Answer.{Gained, broke_folder}
-use Rattle.snap_fix.specs.Breaking.{BreaksAfter, broke_parity}
+use Rattle.snap_fix.specs.Breaking.{BreaksAfter, BreaksColumns, broke_parity}
 use Rattle.snap_report.specs.Report.{ReportView}
 use Rattle.snap_report.specs.Told.{Told}
 use Rattle.snap_report.specs.declared.answer.RunFault.{RunFault}
@@ -35,7 +35,7 @@ use Rattle.snap_fix.specs.Mending.{StatesFit}
 use Rattle.snap_fix.specs.Plan.{FixPlan}
 use Rattle.snap_fix.specs.Room.{IsRoomFor}
 use Rattle.snap_fix.specs.Spare.{SpareView, IsSpareFor}
-use Rattle.snap_fix.specs.State.{AnyCall, WellCall, FolderMakes, KeepsStarts}
+use Rattle.snap_fix.specs.State.{WellCall, FolderMakes, KeepsStarts}
 use Rattle.snap_fix.specs.Underway.{AreFixable, AreUnderway, IsMendCall, AddsZeros, KeepsLevels, IsMendedLevel, HoldsWrong, done_well, stripe_calls, stripe_reads, wrong_writes}
 
 -- all that a fix works on: where files stand, what was done to them, which levels were written, the folders, the vault, the spare, the
@@ -197,8 +197,15 @@ IsBrokenBy plan (Folder disk) unread olds news old new = (disk < length plan.tab
 IsBrokenBy plan Vault unread olds news old new = VaultBroke unread old new
 IsBrokenBy plan Memory unread olds news old new = ⊥
 
--- A stripe that broke off: the facts of it stand, a prefix of its events was told, and only calls were made that it asks for. Its levels were
--- read; where a call of the vault failed, it is the write of a wrong one, and else none was written.
+-- the stripes whose levels were begun to be written: where a folder failed, not those of the last one
+abbrev pub levels_begun : RunFault → List StripeFacts → StripeFacts → List StripeFacts
+levels_begun (Folder disk) earlier last = earlier
+levels_begun Vault earlier last = earlier ++ last ∷ []
+levels_begun Memory earlier last = earlier
+
+-- A stripe that broke off: the facts of it stand, a prefix of its events was told, and only calls were made that it asks for, none of a
+-- folder behind one that failed. Its levels were read; where a call of the vault failed, it is the write of a wrong one, and else none
+-- was written.
 pub record BreaksStripe {W R : Type 0} (view : W → SinkView) (standing : R → ReportView) (stands : R → List Event → Type 0)
     (plan : FixPlan) (stripe i : ℕ) (before : Room) (old new : FixScene W R) (fault : RunFault) : Type 0 where
   pub mended : Mended
@@ -214,6 +221,6 @@ pub record BreaksStripe {W R : Type 0} (view : W → SinkView) (standing : R →
   pub read : LevelsWereRead plan mended.facts old.vault new.vault
   pub ran : BreaksAfter fault (stripe_reads plan mended.facts read.readings) (done_well (wrong_writes plan mended.facts)) old.vault new.vault
   pub spare : AsksSpare plan (mended.facts ∷ []) old.spare new.spare
-  pub vault : MendsVault plan (mended.facts ∷ []) old.vault new.vault
-  pub makes : (d : ℕ) → d < length plan.table.columns → FolderMakes (AnyCall (IsMendCall plan old.starts d (mended ∷ []))) (folder_at old.folders d) (folder_at new.folders d)
+  pub vault : MendsVault plan (levels_begun fault [] mended.facts) old.vault new.vault
+  pub makes : BreaksColumns fault (length plan.table.columns) (λ (d : ℕ). IsMendCall plan old.starts d (mended ∷ [])) old.folders new.folders
   pub broke : IsBrokenBy plan fault (count_by has_failed read.readings) old.folders new.folders old.vault new.vault

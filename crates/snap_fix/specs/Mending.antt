@@ -1,22 +1,21 @@
 -- A block of a file is written anew.
 use Rattle.std.specs.Prelude.{◌≡◌, ◌≢◌, ◌⊎◌, ℕ, ◌*◌, ◌<◌, List, [], ◌∷◌, ◌++◌, length, get_or, slice_set, Bool, true, false, if◌then◌else◌, None, IsTrue}
-use Rattle.disk_model.specs.Cause.{Rose}
 use Rattle.disk_model.specs.Folder.{FolderView, FolderCall, Make, WriteAt, Rename, MayHold}
 use Rattle.disk_model.specs.Tree.{Tree, file_of, path_of, is_directory_of, IsApart, IsTree}
 use Rattle.disk_model.specs.declared.fault.FileFault.{FileFault}
 use Rattle.disk_model.specs.declared.fault.FileFault.TheVariants.{Failed, Missing}
 use Rattle.file_table.specs.Table.{TableValue, record_at}
 use Rattle.file_table.specs.declared.block.Cell.{Cell}
-use Rattle.snap_report.specs.Answer.{Gained, broke_folder}
 use Rattle.stripe_reader.specs.Reading.{block_length}
 use Rattle.stripe_reader.specs.Starts.{StartsValue, StartsFit, starts_at, start_in}
 use Rattle.stripe_reader.specs.declared.starts.Start.{Start}
 use Rattle.stripe_reader.specs.declared.starts.Place.{Place}
 use Rattle.stripe_reader.specs.declared.starts.Place.TheVariants.{Lost, Nowhere}
 use Rattle.snap_fix.specs.declared.state.FileState.{FileState}
+use Rattle.snap_fix.specs.Breaking.{FolderFails}
 use Rattle.snap_fix.specs.Order.{FolderWrites, block_calls, put_calls}
 use Rattle.snap_fix.specs.Plan.{records_in}
-use Rattle.snap_fix.specs.State.{AnyCall, WellCall, Write, HoldsRecord, HoldsColumn, HoldsTold, FolderMakes, OthersStay, StaysPlace, record_path, size_after, state_in, stands}
+use Rattle.snap_fix.specs.State.{WellCall, Write, HoldsRecord, HoldsColumn, HoldsTold, FolderMakes, OthersStay, StaysPlace, record_path, size_after, state_in, stands}
 
 -- there is a state for each record of each column
 pub record StatesFit (table : TableValue) (states : List (List FileState)) : Type 0 where
@@ -101,12 +100,6 @@ pub record WritesBytes (path : List ℕ) (at : ℕ) (bytes : List ℕ) (start : 
   pub touched : state_new.touched ≡ true
   pub wrote : FolderWrites (block_calls start.place state.touched path at bytes) folder folder_new
 
--- such calls were made, and the last of them failed
-pub record BreaksOff (P : FolderCall → Type 0) (folder folder_new : FolderView) : Type 0 where
-  pub rose : Rose folder.faults folder_new.faults
-  pub call : IsTrue folder_new.tells_calls → Gained broke_folder folder.calls folder_new.calls
-  pub makes : FolderMakes (AnyCall P) folder folder_new
-
 -- its file was gone, which does not happen where the folder tells its files
 pub record FindsNone (P : FolderCall → Type 0) (path : List ℕ) (start : Start) (state : FileState) (folder : FolderView)
     (start_new : Start) (state_new : FileState) (folder_new : FolderView) : Type 0 where
@@ -114,7 +107,7 @@ pub record FindsNone (P : FolderCall → Type 0) (path : List ℕ) (start : Star
   pub goes_on : GoesOnBy P [] path start state folder start_new state_new folder_new
 
 abbrev pub EndsBy : FileFault → (FolderCall → Type 0) → List ℕ → Start → FileState → FolderView → Start → FileState → FolderView → Type 0
-EndsBy Failed P path start state folder start_new state_new folder_new = BreaksOff P folder folder_new
+EndsBy Failed P path start state folder start_new state_new folder_new = FolderFails P folder folder_new
 EndsBy Missing P path start state folder start_new state_new folder_new = FindsNone P path start state folder start_new state_new folder_new
 
 -- ---- of a column
@@ -160,8 +153,7 @@ pub record MendsCell (table : TableValue) (d : ℕ) (cell : Cell) (bytes : List 
       → HoldsTold (records_in table d) (starts_at starts.columns d) (get_or states d []) writes first folder
       → HoldsTold (records_in table d) (starts_at starts_new.columns d) (get_or states_new d []) (mended_writes table cell bytes written writes) first folder_new
 
--- one of its calls failed
-pub record MendsNot (table : TableValue) (d : ℕ) (cell : Cell) (bytes : List ℕ) (starts : StartsValue) (folder folder_new : FolderView) : Type 0 where
-  pub rose : Rose folder.faults folder_new.faults
-  pub call : IsTrue folder_new.tells_calls → Gained broke_folder folder.calls folder_new.calls
-  pub makes : FolderMakes (AnyCall (IsBlockCall (start_in (starts_at starts.columns d) cell.rec).place (cell_path table d cell) (block_start table cell) bytes)) folder folder_new
+-- its calls were made up to one that failed
+abbrev pub MendsNot : TableValue → ℕ → Cell → List ℕ → StartsValue → FolderView → FolderView → Type 0
+MendsNot table d cell bytes starts folder folder_new =
+    FolderFails (IsBlockCall (start_in (starts_at starts.columns d) cell.rec).place (cell_path table d cell) (block_start table cell) bytes) folder folder_new

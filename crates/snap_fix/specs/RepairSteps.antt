@@ -12,8 +12,8 @@ use Rattle.disk_model.specs.Vault.{GoesOn, ParityWrite, SomeCalls, ChangesBy, Dr
 use Rattle.file_table.specs.Table.{Column, TableValue}
 use Rattle.file_table.specs.declared.block.Cell.{Cell}
 use Rattle.parity_writer.specs.Parity.{Row, HasLevel}
-use Rattle.snap_report.specs.Answer.{Gained, broke_folder}
-use Rattle.snap_fix.specs.Breaking.{broke_parity}
+use Rattle.snap_report.specs.Answer.{Gained}
+use Rattle.snap_fix.specs.Breaking.{FolderFails, broke_parity}
 use Rattle.snap_report.specs.Report.{ReportView}
 use Rattle.snap_report.specs.Told.{Told}
 use Rattle.snap_report.specs.declared.events.Event.{Event}
@@ -34,7 +34,7 @@ use Rattle.snap_fix.specs.Mending.{StatesFit, IsFree, IsBlockCall, block_start, 
 use Rattle.snap_fix.specs.Order.{FolderWrites, block_calls}
 use Rattle.snap_fix.specs.Plan.{FixPlan, cell_at, records_in, selects_cell}
 use Rattle.snap_fix.specs.Repairing.{LevelsOutside}
-use Rattle.snap_fix.specs.State.{AnyCall, WellCall, Write, HoldsTold, FolderMakes, KeepsStarts, StaysPlace, size_after, state_in}
+use Rattle.snap_fix.specs.State.{WellCall, Write, HoldsTold, FolderMakes, KeepsStarts, StaysPlace, size_after, state_in}
 use Rattle.snap_fix.specs.Underway.{IsFixable, IsColumnUnderway, IsMendCall, ShowsFacts, done_well, is_damaged_mark, is_given_mark}
 
 -- ---- one cell
@@ -111,15 +111,13 @@ pub record MendsColumn {W R : Type 0} (view : W → SinkView) (standing : R → 
       → (stripes : List Mended) (first : FolderView) → IsFixable plan d first → IsColumnUnderway plan d stripes first old.folder old.starts old.states
       → IsColumnUnderway plan d (stripes ++ mended ∷ []) first new.folder new.starts new.states
 
--- A call of its folder failed, and nothing was told.
+-- A call of its folder failed, the last of such calls, and nothing was told.
 pub record MendsNotColumn {W R : Type 0} (view : W → SinkView) (standing : R → ReportView) (stands : R → List Event → Type 0)
     (plan : FixPlan) (stripe i d : ℕ) (window : WindowValue) (marks : List CellMark) (known : Bool)
     (old new : ColumnOutside W R) : Type 0 where
-  pub rose : Rose old.folder.faults new.folder.faults
-  pub call : IsTrue new.folder.tells_calls → Gained broke_folder old.folder.calls new.folder.calls
   pub told : Told view standing stands plan.table.columns [] old.lines new.lines old.reports new.reports
-  pub makes : (facts : StripeFacts) → facts.stripe ≡ stripe → ShowsFacts plan facts i marks known window
-      → FolderMakes (AnyCall (IsMendCall plan old.starts d (record { facts = facts; answers = [] } ∷ []))) old.folder new.folder
+  pub fails : (facts : StripeFacts) → facts.stripe ≡ stripe → ShowsFacts plan facts i marks known window
+      → FolderFails (IsMendCall plan old.starts d (record { facts = facts; answers = [] } ∷ [])) old.folder new.folder
 
 -- The block of a cell was written, and that told; or its file was gone, and that it is lost was.
 pub record WritesBlockOf {W R : Type 0} (view : W → SinkView) (standing : R → ReportView) (stands : R → List Event → Type 0)
@@ -147,13 +145,11 @@ pub record WritesBlockOf {W R : Type 0} (view : W → SinkView) (standing : R �
       → HoldsTold (records_in table d) (starts_at old.starts.columns d) (get_or old.states d []) writes first old.folder
       → HoldsTold (records_in table d) (starts_at new.starts.columns d) (get_or new.states d []) (mended_writes table cell bytes written writes) first new.folder
 
--- A call failed, and nothing was told.
+-- A call failed, the last of such calls, and nothing was told.
 pub record WritesNotBlockOf {W R : Type 0} (view : W → SinkView) (standing : R → ReportView) (stands : R → List Event → Type 0)
     (table : TableValue) (d : ℕ) (cell : Cell) (bytes : List ℕ) (old new : ColumnOutside W R) : Type 0 where
-  pub rose : Rose old.folder.faults new.folder.faults
-  pub call : IsTrue new.folder.tells_calls → Gained broke_folder old.folder.calls new.folder.calls
   pub told : Told view standing stands table.columns [] old.lines new.lines old.reports new.reports
-  pub makes : FolderMakes (AnyCall (IsBlockCall (start_in (starts_at old.starts.columns d) cell.rec).place (cell_path table d cell) (block_start table cell) bytes))
+  pub fails : FolderFails (IsBlockCall (start_in (starts_at old.starts.columns d) cell.rec).place (cell_path table d cell) (block_start table cell) bytes)
       old.folder new.folder
 
 -- ---- one level

@@ -5,8 +5,8 @@ use Rattle.disk_model.specs.Folder.{FolderView}
 use Rattle.disk_model.specs.Sink.{SinkView}
 use Rattle.disk_model.specs.Vault.{VaultView, GoesOn, SomeCalls, ChangesBy, DraftsStay, Reads}
 use Rattle.parity_writer.specs.LevelsValue.{LevelsValue}
-use Rattle.snap_report.specs.Answer.{Gained, broke_folder}
-use Rattle.snap_fix.specs.Breaking.{FailsAfter, broke_parity}
+use Rattle.snap_report.specs.Answer.{Gained}
+use Rattle.snap_fix.specs.Breaking.{FailsAfter, FailsInColumn, broke_parity}
 use Rattle.snap_report.specs.Report.{ReportView}
 use Rattle.snap_report.specs.Told.{Told}
 use Rattle.snap_report.specs.declared.events.Event.{Event}
@@ -23,7 +23,7 @@ use Rattle.snap_fix.specs.Marks.{row_if}
 use Rattle.snap_fix.specs.Mended.{Mended, AnswersFit, all_cell_news, all_level_news, is_wrong_level, written_in, wrong_in}
 use Rattle.snap_fix.specs.Mending.{StatesFit}
 use Rattle.snap_fix.specs.Plan.{FixPlan}
-use Rattle.snap_fix.specs.State.{AnyCall, WellCall, FolderMakes, KeepsStarts}
+use Rattle.snap_fix.specs.State.{WellCall, FolderMakes, KeepsStarts}
 use Rattle.snap_fix.specs.Underway.{AreFixable, AreUnderway, FixUnderway, IsMendCall, ShowsFacts, KeepsLevels, AddsZeros, IsMendedLevel, HoldsWrong, done_well, wrong_writes}
 
 -- ---- files
@@ -76,20 +76,17 @@ pub record MendsFiles {W R : Type 0} (view : W → SinkView) (standing : R → R
       → (stripes : List Mended) (firsts : List FolderView) → AreFixable plan firsts → AreUnderway plan stripes firsts old.folders old.starts old.states
       → AreUnderway plan (stripes ++ record { facts = facts; answers = answers } ∷ []) firsts new.folders new.starts new.states
 
--- The folder of a column failed: its count rose, and a call of it failed that neither looks nor reads. Some events were told.
+-- The folder of a column failed, in a call that neither looks nor reads, and no more calls were made. Some events were told.
 pub record MendsNotFiles {W R : Type 0} (view : W → SinkView) (standing : R → ReportView) (stands : R → List Event → Type 0)
     (plan : FixPlan) (stripe i : ℕ) (window : WindowValue) (marks : List CellMark) (known : Bool)
     (old new : FilesOutside W R) (disk : ℕ) : Type 0 where
-  pub within : disk < length plan.table.columns
-  pub rose : Rose (folder_at old.folders disk).faults (folder_at new.folders disk).faults
-  pub call : IsTrue (folder_at new.folders disk).tells_calls → Gained broke_folder (folder_at old.folders disk).calls (folder_at new.folders disk).calls
   pub folders : length new.folders ≡ length old.folders
   pub events : (facts : StripeFacts) → facts.stripe ≡ stripe → ShowsFacts plan facts i marks known window
       → (answers : List Bool) × (first : List Event) × (rest : List Event) × (all_cell_news plan (record { facts = facts; answers = answers }) ≡ first ++ rest)
       × AnswersFit plan old.folders (record { facts = facts; answers = answers })
       × Told view standing stands plan.table.columns first old.lines new.lines old.reports new.reports
-  pub makes : (facts : StripeFacts) → facts.stripe ≡ stripe → ShowsFacts plan facts i marks known window → (d : ℕ) → d < length plan.table.columns
-      → FolderMakes (AnyCall (IsMendCall plan old.starts d (record { facts = facts; answers = [] } ∷ []))) (folder_at old.folders d) (folder_at new.folders d)
+  pub fails : (facts : StripeFacts) → facts.stripe ≡ stripe → ShowsFacts plan facts i marks known window
+      → FailsInColumn disk (length plan.table.columns) (λ (d : ℕ). IsMendCall plan old.starts d (record { facts = facts; answers = [] } ∷ [])) old.folders new.folders
 
 -- ---- levels
 

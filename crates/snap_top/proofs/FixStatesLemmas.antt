@@ -81,6 +81,7 @@ writing_of plan starts fault stripes readings first firsts news old new off =
         before = last.before;
         calls_are = last.calls_are;
         ran = breaks_after_of fault last.before _ old new last.ran;
+        vault = mends_of plan _ old new last.vault;
       };
     }
 

@@ -13,6 +13,5 @@ returns-clause-written g c =
 
 pub returns-in_err-written-clause-failed : goal.returns-in_err-written-clause-failed
 returns-in_err-written-clause-failed g c =
-    let fails = c.in_err-written.ensures.failed in
     handed_on c.from_residual.result _ c.in_err-written.field-0.0 c.from_residual.ensures.1
-    (record { rose = fails.rose; call = fails.call; told = told_nothing _ _ _ _ _ _; makes = fails.makes })
+    (record { told = told_nothing _ _ _ _ _ _; fails = c.in_err-written.ensures.failed })
