@@ -10,8 +10,11 @@ pub mod HistoryLemmas
 pub mod UndamagedLemmas
 pub mod KnownLemmas
 pub mod LoadLemmas
+pub mod LostEvents
+pub mod LostLemmas
 pub mod MatchingLemmas
 pub mod MomentLemmas
+pub mod NamingLemmas
 pub mod OfFixLemmas
 pub mod OfSyncLemmas
 pub mod OpeningLemmas

@@ -93,7 +93,7 @@ fix_did (answers.Broken runs.Vault) selection task table before after left did d
 fix_did (answers.Broken runs.Memory) selection task table before after left did does = inl does.did_is
 
 -- a check only reads
-check_did : (answer : Answer) (mode : Mode) (selection : Selection) (task : Task) (table : TableValue) (before after : World) (left : Left) (did : Did) → ChecksBy answer mode selection task table before after left did → did ≡ reads_only
+pub check_did : (answer : Answer) (mode : Mode) (selection : Selection) (task : Task) (table : TableValue) (before after : World) (left : Left) (did : Did) → ChecksBy answer mode selection task table before after left did → did ≡ reads_only
 check_did answers.Clean mode selection task table before after left did does = does.did_is
 check_did answers.Found mode selection task table before after left did does = does.did_is
 check_did answers.OutputFailed mode selection task table before after left did does = does.did_is
@@ -132,7 +132,7 @@ module _ (block_size : ℕ) (held read : VaultView) (tells : IsTrue held.tells �
   reading_held stripe r (Some bytes) is =
       (is.0, λ told. is.1 (tells told) ∙ ap (λ (fs : Files). read_from (parity_of fs r) (stripe * block_size) block_size) (files told))
 
-  levels_held : (stripes : List StripeFacts) (readings : List (List LevelReading)) → AreAllLevelsOf block_size read stripes readings → AreAllLevelsOf block_size held stripes readings
+  pub levels_held : (stripes : List StripeFacts) (readings : List (List LevelReading)) → AreAllLevelsOf block_size read stripes readings → AreAllLevelsOf block_size held stripes readings
   levels_held [] [] are = tt
   levels_held [] (of ∷ readings) are = absurd are
   levels_held (facts ∷ stripes) [] are = absurd are

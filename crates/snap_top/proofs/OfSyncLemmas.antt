@@ -144,6 +144,15 @@ module _ (before : Entry) (exit : Exit) (tells : IsTrue before.opener.tells) (te
     pub start_folders : one.start.folders ≡ before.opener.folders
     start_folders = ap (λ (w : World). w.folders) one.reads.others ∙ given_folders
 
+    pub start_tells : IsTrue one.start.vault.tells
+    start_tells = one.reads.vault.calls.goes_on.tells ∙ given_tells
+
+    pub start_files : one.start.vault.files ≡ before.opener.vault.files
+    start_files = one.reads.vault.files given_tells ∙ given_files
+
+    pub start_out : one.start.out ≡ before.out
+    start_out = ap (λ (w : World). w.out) one.reads.others ∙ ran.given_out
+
     -- the table that its command began with
     pub table_loaded : IsLoadedFrom (copies_of before.opener.vault) one.table before.opener.vault.files
     table_loaded = subst (λ (n : ℕ). IsLoadedFrom n one.table before.opener.vault.files) given_copies

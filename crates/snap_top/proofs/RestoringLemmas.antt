@@ -1,18 +1,15 @@
 -- A fix that is done restores what can be had of the snapshot, and tells what can't.
-use Rattle.std.proofs.Common.{◌≡◌, ◌↔◌, inr, ⊎_elim, ℕ, ◌<◌, ◌≤◌, List, [], ◌++◌, length, get_or, count_by, AllPairs, Bool, true, false, IsTrue, Option, None, is_some, sym, ap, ◌∙◌, subst, arith}
+use Rattle.std.proofs.Common.{◌≡◌, ◌↔◌, inr, ⊎_elim, ℕ, ◌<◌, ◌≤◌, List, [], ◌++◌, length, count_by, Bool, true, false, IsTrue, Option, None, is_some, sym, ap, ◌∙◌, subst, arith}
 use Rattle.std.specs.Prelude.{sum_by, not}
-use Rattle.std.specs.List.{Contains, range_with_len}
-use Rattle.std.proofs.lemmas.Bool.{and_left, cases_lt}
-use Rattle.std.proofs.lemmas.List.{get_or-map, get_or_default, length-map}
+use Rattle.std.specs.List.{Contains}
+use Rattle.std.proofs.lemmas.Bool.{and_left}
 use Rattle.std.proofs.lemmas.List.Elements.{All-contains}
-use Rattle.std.proofs.lemmas.List.FromFn.{get_or-range_with_len, length-range_with_len}
-use Rattle.std.proofs.lemmas.List.Kept.{AllPairs-filter}
 use Rattle.cauchy.specs.Matrix.{byte_of}
 use Rattle.cauchy.specs.Recovery.{AreBytes}
 use Rattle.disk_model.specs.Cause.{RoseBy}
 use Rattle.disk_model.specs.Files.{Files}
 use Rattle.disk_model.specs.Folder.{FolderView}
-use Rattle.disk_model.specs.Vault.{VaultState, Holds, copies_of}
+use Rattle.disk_model.specs.Vault.{Holds, copies_of}
 use Rattle.file_table.specs.Table.{TableValue}
 use Rattle.file_table.specs.Valid.{IsValid}
 use Rattle.file_table.specs.declared.block.Cell.{Cell}
@@ -35,7 +32,7 @@ use Rattle.snap_fix.specs.Genuine.{AreGenuine, AreGenuineOf, HasGenuineFacts, Is
 use Rattle.snap_fix.specs.Known.{AreFacts, IsTried}
 use Rattle.snap_fix.specs.Looking.{numbers_of, unread_in}
 use Rattle.snap_fix.specs.Mended.{Mended, has_lost, is_written, known_block, known_by, wrong_in, written_in}
-use Rattle.snap_fix.specs.Plan.{FixPlan, entry_at, is_audit, is_looked_at, is_searched, is_synced, starts_of, stripes_of}
+use Rattle.snap_fix.specs.Plan.{FixPlan, entry_at, is_audit, is_searched, is_synced, starts_of, stripes_of}
 use Rattle.snap_fix.specs.Restored.{CanBeHad, HasFixed, HoldsCell, IsDamagedCell, IsUnknownCell}
 use Rattle.snap_fix.specs.Underway.{AddsZeros, IsMendedLevel, KeepsLevels}
 use Rattle.snap_report.specs.Answer.{status_of as answer_status}
@@ -54,9 +51,10 @@ use Rattle.snap_top.specs.End.{status_of}
 use Rattle.snap_top.specs.Ended.{IsEndStatus, has_ended}
 use Rattle.snap_top.specs.Fix.{FixRun, LeavesFixed, MayStandFixed}
 use Rattle.snap_top.specs.Fixing.{FixEnds, FixesBy, fix_of as run_fixed}
+use Rattle.snap_top.specs.Lost.{IsDamagedOfSynced, IsToldLost, NamesPending}
 use Rattle.snap_top.specs.Moment.{IsFixOf, TellsAll}
 use Rattle.snap_top.specs.Opening.{asked_by}
-use Rattle.snap_top.specs.Restoring.{EndsFixed, FixesEnd, IsDamagedOfSynced, Restores, events_in}
+use Rattle.snap_top.specs.Restoring.{EndsFixed, FixesEnd, Restores, events_in}
 use Rattle.snap_top.specs.Run.{Entry, Exit, IsAnswered, IsRun, Ran}
 use Rattle.snap_top.specs.Task.{Task, Did, Left, stands_after}
 use Rattle.snap_top.specs.Views.{World, world_of}
@@ -64,8 +62,9 @@ use Rattle.snap_top.specs.declared.end.End.{End}
 use Rattle.snap_top.specs.declared.end.Ending.TheVariants.{Answered}
 use Rattle.snap_top.proofs.CompleteLemmas.{same_ok}
 use Rattle.snap_top.proofs.EndedLemmas.{IsDoneAnswer, done_status, goes_to_its_end, only_read, output_rose, well_as}
+use Rattle.snap_top.proofs.LostLemmas.{AreAscending, FactsAreGenuine, contains_facts, mended_of, same_facts, stripes_ascending}
 use Rattle.snap_top.proofs.OfFixLemmas.{HasFixCourse, all_looked_at, fix_of, genuine_by}
-use Rattle.snap_top.proofs.OfSyncLemmas.{given_files, given_is}
+use Rattle.snap_top.proofs.OfSyncLemmas.{start_files as files_held, start_out as out_held, start_tells as tells_held}
 
 -- ---- what snap_fix says of a fix that ended
 
@@ -100,63 +99,10 @@ BlocksAreKnown = (plan : FixPlan) (starts : StartsValue) (firsts : List FolderVi
     → HasGenuineFacts plan starts firsts snapshot facts → AreBytes snapshot → TellsIntactLevels plan facts snapshot is_intact
     → (is_some (known_block facts d) ≡ true) ↔ CanBeHad plan facts is_intact d
 
-abbrev pub FactsAreGenuine : Type 0
-FactsAreGenuine = (plan : FixPlan) (starts : StartsValue) (firsts : List FolderView) (read : Files) (snapshot : Snapshot) (is_changed : ℕ → ℕ → Bool) (stripes : List StripeFacts) (facts : StripeFacts)
-    → AreGenuineOf plan starts firsts read snapshot is_changed stripes → Contains stripes facts → is_searched plan facts.stripe ≡ true → HasGenuineFacts plan starts firsts (snapshot facts.stripe) facts
+-- ---- counts
 
--- ---- counts, and facts of one of the stripes
-
-none_left : (n : ℕ) → (at_most n ≡ 0) ↔ (n ≡ 0)
+pub none_left : (n : ℕ) → (at_most n ≡ 0) ↔ (n ≡ 0)
 none_left n = (λ none. omega (arith, none), λ none. omega (arith, none))
-
-pub contains_facts : (stripes : List Mended) (mended : Mended) → Contains stripes mended → Contains (facts_of stripes) mended.facts
-contains_facts stripes mended one =
-    let facts : Mended → StripeFacts = λ (it : Mended). it.facts in
-    (one.0, omega (arith, length-map stripes facts, one.1), get_or-map facts stripes one.0 mended mended.facts one.1 ∙ ap facts one.2)
-
--- ---- no stripe is looked at twice
-
-abbrev AreAscending : List ℕ → Type 0
-AreAscending numbers = AllPairs (λ (a b : ℕ). a < b) numbers
-
-range_ascending : (n : ℕ) → AreAscending (range_with_len 0 n)
-range_ascending n i j d less below =
-    let near : j < n = omega (arith, below, length-range_with_len 0 n) in
-    let earlier : i < n = omega (arith, less, near) in
-    let first = get_or-range_with_len 0 n i d earlier in
-    let second = get_or-range_with_len 0 n j d near in
-    omega (arith, first, second, less)
-
-stripes_ascending : (plan : FixPlan) → AreAscending (stripes_of plan)
-stripes_ascending plan = AllPairs-filter (λ (a b : ℕ). a < b) (is_looked_at plan) (range_with_len 0 (length plan.table.infos)) (range_ascending (length plan.table.infos))
-
-number_at : (stripes : List Mended) (mended : Mended) (one : Contains stripes mended) → get_or (numbers_of (facts_of stripes)) one.0 0 ≡ mended.facts.stripe
-unfolding contains_facts
-number_at stripes mended one =
-    let number : StripeFacts → ℕ = λ (facts : StripeFacts). facts.stripe in
-    let at = contains_facts stripes mended one in
-    get_or-map number (facts_of stripes) one.0 mended.facts 0 at.1 ∙ ap number at.2
-
--- so there is one of each number
-same_mended : (stripes : List Mended) → AreAscending (numbers_of (facts_of stripes)) → (one other : Mended) → Contains stripes one → Contains stripes other → one.facts.stripe ≡ other.facts.stripe → one ≡ other
-same_mended stripes ascending one other first second same =
-    ⊎_elim
-    (λ less. absurd (apart first.0 second.0 one.facts.stripe other.facts.stripe less second.1 (number_at stripes one first) (number_at stripes other second) same))
-    (λ not_less. ⊎_elim
-    (λ less. absurd (apart second.0 first.0 other.facts.stripe one.facts.stripe less first.1 (number_at stripes other second) (number_at stripes one first) (sym same)))
-    (λ not_more.
-    let here : first.0 ≡ second.0 = omega (arith, not_less, not_more) in
-    sym first.2 ∙ get_or_default stripes first.0 one other first.1 ∙ ap (λ (k : ℕ). get_or stripes k other) here ∙ second.2)
-    (cases_lt second.0 first.0))
-    (cases_lt first.0 second.0)
-  where
-    as_many : length (numbers_of (facts_of stripes)) ≡ length stripes
-    as_many = length-map (facts_of stripes) (λ (facts : StripeFacts). facts.stripe) ∙ length-map stripes (λ (it : Mended). it.facts)
-
-    apart : (i j a b : ℕ) → i < j → j < length stripes → get_or (numbers_of (facts_of stripes)) i 0 ≡ a → get_or (numbers_of (facts_of stripes)) j 0 ≡ b → a ≡ b → ⊥
-    apart i j a b less within a_is b_is same_number =
-        let before = ascending i j 0 less (omega (arith, within, as_many)) in
-        omega (arith, before, a_is, b_is, same_number)
 
 -- ---- what is known of a block
 
@@ -174,7 +120,7 @@ not_had plan facts is_intact d none few = ⊎_elim
     (λ enough. few enough)
 
 -- a count that rose since the table was loaded rose since the opening
-rose_from : (n held given start last : ℕ) → given ≡ held → given ≤ start → RoseBy n start last → RoseBy n held last
+pub rose_from : (n held given start last : ℕ) → given ≡ held → given ≤ start → RoseBy n start last → RoseBy n held last
 rose_from n held given start last same later rose = omega (arith, same, later, rose)
 
 -- ---- a fix that went to its end, by what it did
@@ -220,21 +166,24 @@ module _ (restored : CellsAreRestored) (lost : CellsAreLost) (unknown_lost : Unk
     abbrev all : List Event
     all = events_in run ends.finishes
 
+    abbrev all_facts : List StripeFacts
+    all_facts = facts_of run.stripes
+
+    abbrev IsHeld : Row → ℕ → Cell → Type 0
+    IsHeld row d cell = HoldsCell run.plan.table d cell (has_lost run.plan run.stripes d cell.rec) (byte_of row d) (folder_at run.ended d).tree
+
     is_fix : IsFixOf before exit run
     is_fix = fix_of before exit tells.tells tells.tells_vault setup (Answered answer named) told ran left one course_of
 
     -- what it began with is what the opener held
-    given_tells : IsTrue ran.given.vault.tells
-    given_tells = ap (λ (s : VaultState). s.tells) (given_is before exit tells.tells tells.tells_vault setup (Answered answer named) told ran) ∙ tells.tells_vault
-
     start_tells : IsTrue one.start.vault.tells
-    start_tells = one.reads.vault.calls.goes_on.tells ∙ given_tells
+    start_tells = tells_held before exit tells.tells tells.tells_vault setup (Answered answer named) told ran left one
 
     start_files : one.start.vault.files ≡ old
-    start_files = one.reads.vault.files given_tells ∙ given_files before exit tells.tells tells.tells_vault setup (Answered answer named) told ran
+    start_files = files_held before exit tells.tells tells.tells_vault setup (Answered answer named) told ran left one
 
     start_out : one.start.out ≡ before.out
-    start_out = ap (λ (w : World). w.out) one.reads.others ∙ ran.given_out
+    start_out = out_held before exit tells.tells tells.tells_vault setup (Answered answer named) told ran left one
 
     fixed : HasFixed run.plan starts run.stripes ends.finishes run.listed run.ended
     fixed = record {
@@ -290,40 +239,51 @@ module _ (restored : CellsAreRestored) (lost : CellsAreLost) (unknown_lost : Unk
         well_as status ends.prints.failed (λ zero. none.0 (sym ends.counted_is ∙ zero), λ nothing. ends.counted_is ∙ none.1 nothing)
         (done_status left.counted status ends.prints.failed (status_is ∙ ap answer_status ends.prints.answer_is))
 
-    ascending : AreAscending (numbers_of (facts_of run.stripes))
+    ascending : AreAscending (numbers_of all_facts)
     ascending = subst AreAscending (sym ends.numbers) (stripes_ascending run.plan)
 
     restores : (snapshot : Snapshot) (is_changed : ℕ → ℕ → Bool) → Sound run.loaded old snapshot is_changed → AreGenuine run.plan snapshot (facts_of run.stripes) → Restores run ends.finishes snapshot
     restores snapshot is_changed sound supposed = record {
-      restored = λ mended d cell is_intact it free enough.
-          restored run.plan starts run.stripes ends.finishes run.listed run.ended mended d cell (snapshot mended.facts.stripe) is_intact
-          fixed it.is (facts_at mended d cell is_intact it) it.bytes it.tells free (listed_tells d it.is.column) (inr enough);
-      named = λ mended d cell is_intact it few.
-          let no_gift : gift_of mended.facts d ≡ None
-          = All-contains (λ (facts : StripeFacts). (k : ℕ) → gift_of facts k ≡ None) (facts_of run.stripes) mended.facts ends.course.no_gifts (contains_facts run.stripes mended it.is.one) d in
-          (lost run.plan starts run.stripes ends.finishes run.listed mended d cell (snapshot mended.facts.stripe) is_intact
-          it.is (facts_at mended d cell is_intact it) it.bytes it.tells (not_had run.plan mended.facts is_intact d no_gift few)).1;
-      only = λ mended d cell is_intact it enough told_lost.
-          let other : IsUnknownCell run.plan run.stripes mended.facts.stripe d cell
-          = lost_unknown run.plan starts run.stripes ends.finishes run.listed run.ended mended.facts.stripe d cell fixed (listed_tells d it.is.column) told_lost in
-          let same : other.mended ≡ mended = same_mended run.stripes ascending other.mended mended other.is.one it.is.one other.number in
-          let had : is_some (known_block mended.facts d) ≡ true
-          = (known run.plan starts run.listed (snapshot mended.facts.stripe) mended.facts is_intact d (facts_at mended d cell is_intact it) it.bytes it.tells).1 (inr enough) in
-          let clash : false ≡ true = sym other.unknown ∙ ap (λ (it : Mended). is_some (known_block it.facts d)) same ∙ had in cc;
+      restored = λ facts d cell is_intact it free enough.
+          let of = mended_of run.plan run.stripes facts d cell it.is in
+          subst (λ (other : StripeFacts). IsDamagedOfSynced run.plan all_facts snapshot other d cell is_intact → IsRestorableStripe run.plan other is_intact → IsHeld (snapshot other.stripe) d cell) of.facts_are
+          (λ there enough_there. restored run.plan starts run.stripes ends.finishes run.listed run.ended of.mended d cell (snapshot of.mended.facts.stripe) is_intact
+          fixed of.is (genuine_at of.mended.facts d cell is_intact there) there.bytes there.tells free (listed_tells d of.is.column) (inr enough_there)) it enough;
+      named = λ facts d cell is_intact it. (not_told facts d cell is_intact it, few_told facts d cell is_intact it);
     }
       where
-        genuine : AreGenuineOf run.plan starts run.listed old snapshot is_changed (facts_of run.stripes)
+        genuine : AreGenuineOf run.plan starts run.listed old snapshot is_changed all_facts
         genuine = genuine_by (copies_of before.opener.vault) before.opener.vault run snapshot is_changed tells.tells_vault is_fix.over sound supposed
 
-        facts_at : (mended : Mended) (d : ℕ) (cell : Cell) (is_intact : ℕ → Bool) → IsDamagedOfSynced run snapshot mended d cell is_intact → HasGenuineFacts run.plan starts run.listed (snapshot mended.facts.stripe) mended.facts
-        facts_at mended d cell is_intact it =
-            genuine_facts run.plan starts run.listed old snapshot is_changed (facts_of run.stripes) mended.facts genuine (contains_facts run.stripes mended it.is.one) it.synced
+        genuine_at : (facts : StripeFacts) (d : ℕ) (cell : Cell) (is_intact : ℕ → Bool) → IsDamagedOfSynced run.plan all_facts snapshot facts d cell is_intact → HasGenuineFacts run.plan starts run.listed (snapshot facts.stripe) facts
+        genuine_at facts d cell is_intact it = genuine_facts run.plan starts run.listed old snapshot is_changed all_facts facts genuine it.is.one it.synced
 
-    pending : (mended : Mended) (d : ℕ) (cell : Cell) → IsDamagedCell run.plan run.stripes mended d cell → is_synced run.plan mended.facts.stripe ≡ false
-        → Contains all (events.Lost mended.facts.stripe d cell.rec cell.index)
-    pending mended d cell it unsynced =
-        let are : AreFacts run.plan mended.facts = All-contains (AreFacts run.plan) (facts_of run.stripes) mended.facts fixed.are (contains_facts run.stripes mended it.one) in
-        (unknown_lost run.plan run.stripes ends.finishes mended d cell it (ap is_audit ends.course.plan_is.scope.mode_is) (none_known run.plan mended.facts d are unsynced)).1
+        not_told : (facts : StripeFacts) (d : ℕ) (cell : Cell) (is_intact : ℕ → Bool) → IsDamagedOfSynced run.plan all_facts snapshot facts d cell is_intact → IsToldLost all facts d cell → ¬ (IsRestorableStripe run.plan facts is_intact)
+        not_told facts d cell is_intact it told_lost enough =
+            let other : IsUnknownCell run.plan run.stripes facts.stripe d cell
+            = lost_unknown run.plan starts run.stripes ends.finishes run.listed run.ended facts.stripe d cell fixed (listed_tells d it.is.column) told_lost in
+            let same : other.mended.facts ≡ facts = same_facts all_facts ascending other.mended.facts facts (contains_facts run.stripes other.mended other.is.one) it.is.one other.number in
+            let had : is_some (known_block facts d) ≡ true
+            = (known run.plan starts run.listed (snapshot facts.stripe) facts is_intact d (genuine_at facts d cell is_intact it) it.bytes it.tells).1 (inr enough) in
+            let clash : false ≡ true = sym other.unknown ∙ ap (λ (it' : StripeFacts). is_some (known_block it' d)) same ∙ had in cc
+
+        few_told : (facts : StripeFacts) (d : ℕ) (cell : Cell) (is_intact : ℕ → Bool) → IsDamagedOfSynced run.plan all_facts snapshot facts d cell is_intact → ¬ (IsRestorableStripe run.plan facts is_intact) → IsToldLost all facts d cell
+        few_told facts d cell is_intact it few =
+            let of = mended_of run.plan run.stripes facts d cell it.is in
+            subst (λ (other : StripeFacts). IsDamagedOfSynced run.plan all_facts snapshot other d cell is_intact → ¬ (IsRestorableStripe run.plan other is_intact) → IsToldLost all other d cell) of.facts_are
+            (λ there few_there.
+            let no_gift : gift_of of.mended.facts d ≡ None
+            = All-contains (λ (other : StripeFacts). (k : ℕ) → gift_of other k ≡ None) all_facts of.mended.facts ends.course.no_gifts there.is.one d in
+            (lost run.plan starts run.stripes ends.finishes run.listed of.mended d cell (snapshot of.mended.facts.stripe) is_intact
+            of.is (genuine_at of.mended.facts d cell is_intact there) there.bytes there.tells (not_had run.plan of.mended.facts is_intact d no_gift few_there)).1) it few
+
+    pending : NamesPending run.plan all_facts all
+    pending facts d cell it unsynced =
+        let of = mended_of run.plan run.stripes facts d cell it in
+        let are : AreFacts run.plan facts = All-contains (AreFacts run.plan) all_facts facts fixed.are it.one in
+        let unknown : is_some (known_block of.mended.facts d) ≡ false = ap (λ (other : StripeFacts). is_some (known_block other d)) of.facts_are ∙ none_known run.plan facts d are unsynced in
+        subst (λ (other : StripeFacts). IsToldLost all other d cell) of.facts_are
+        (unknown_lost run.plan run.stripes ends.finishes of.mended d cell of.is (ap is_audit ends.course.plan_is.scope.mode_is) unknown).1
 
     ended_fixed : EndsFixed before exit status
     ended_fixed = record {

@@ -35,7 +35,7 @@ use Rattle.snap_top.specs.Run.{Entry, Exit}
 use Rattle.snap_top.specs.Undamaged.{IsRecoverable, IsUndamaged, is_read, was_read}
 use Rattle.snap_top.proofs.OfFixLemmas.{levels_in}
 use Rattle.snap_top.specs.Views.{folder_at}
-use Rattle.snap_top.proofs.RestoringLemmas.{contains_facts}
+use Rattle.snap_top.proofs.LostLemmas.{contains_facts, damaged_in}
 use Rattle.snap_top.proofs.StoppingLemmas.{both_no_less}
 
 -- what parity_writer says of a level that was read
@@ -166,6 +166,6 @@ restored_by_counting holds before exit run finishes snapshot is_changed mended d
     let as_many = length-filter (is_intact run.plan facts row) (whole_levels facts.levels) in
     let enough = can.enough in
     let restorable : IsRestorableStripe run.plan facts (is_intact run.plan facts row) = omega (arith, counted, as_many, enough) in
-    restores.restored mended d cell (is_intact run.plan facts row)
-    (record { is = can.is; synced = can.searched; bytes = can.bytes; tells = tells_intact run.plan facts row })
+    restores.restored facts d cell (is_intact run.plan facts row)
+    (record { is = damaged_in run.plan run.stripes mended d cell can.is; synced = can.searched; bytes = can.bytes; tells = tells_intact run.plan facts row })
     can.free restorable

@@ -1,4 +1,4 @@
--- When a sync or a fix went to its end, and the status that it has then.
+-- When a sync, a check or a fix went to its end, and the status that it has then.
 use Rattle.std.specs.Prelude.{◌≡◌, ◌↔◌, ◌⊎◌, ℕ, ◌≤◌, List, Bool, true, false, IsTrue, not}
 use Rattle.snap_config.specs.Setup.{SetupValue}
 use Rattle.snap_report.specs.declared.events.Event.{Event}
@@ -23,8 +23,9 @@ pub record HasEnded (before : Entry) (exit : Exit) (status : ℕ) : Type 0 where
   pub status_is : status ≡ ending_status ending
   pub ended : has_ended ran.did ≡ true
 
--- How it shows that a sync or a fix went to its end. Its status is 0 or 1. Or it is 3, and neither the opener nor a folder nor the vault failed
--- so that a run ends: then the output failed, and nothing else. Or what the run did says so.
+-- How it shows that a sync, a check or a fix went to its end. Its status is 0 or 1. Or it is 3, and neither the opener
+-- nor a folder nor the vault failed so that a run ends: then the output failed, and nothing else. Or what the run did
+-- says so, which it does of a sync and a fix.
 pub data WentToItsEnd (before : Entry) (exit : Exit) (status : ℕ) : Type 0 where
   ByStatus : status ≤ 1 → WentToItsEnd before exit status
   ByFaults : status ≡ 3 → NothingBroke before exit → WentToItsEnd before exit status

@@ -1,4 +1,5 @@
 pub mod Array
+pub mod Check
 pub mod Checking
 pub mod Complete
 pub mod Does
@@ -8,7 +9,9 @@ pub mod Fix
 pub mod Fixing
 pub mod History
 pub mod Known
+pub mod Lost
 pub mod Moment
+pub mod Naming
 pub mod Opening
 pub mod Restoring
 pub mod Resumed

@@ -1,7 +1,6 @@
 -- What a run leaves that was asked to fix an array.
-use Rattle.std.specs.Prelude.{◌≡◌, ℕ, ◌<◌, List, ◌++◌, length, Bool, true, false, Contains, IsTrue, Ok, count_by, sum_by}
+use Rattle.std.specs.Prelude.{◌≡◌, ℕ, ◌<◌, List, ◌++◌, length, Bool, false, IsTrue, Ok, count_by, sum_by}
 use Rattle.cauchy.specs.Matrix.{byte_of}
-use Rattle.cauchy.specs.Recovery.{AreBytes}
 use Rattle.disk_model.specs.Cause.{Rose, RoseBy}
 use Rattle.disk_model.specs.Vault.{Holds}
 use Rattle.file_table.specs.declared.block.Cell.{Cell}
@@ -13,21 +12,22 @@ use Rattle.snap_fix.specs.Counts.{at_most}
 use Rattle.snap_fix.specs.Ending.{Finishes}
 use Rattle.snap_fix.specs.FixCourse.{fix_events}
 use Rattle.snap_fix.specs.Fixing.{facts_of}
-use Rattle.snap_fix.specs.Genuine.{AreGenuine, IsRestorableStripe, TellsIntactLevels}
+use Rattle.snap_fix.specs.Facts.{StripeFacts}
+use Rattle.snap_fix.specs.Genuine.{AreGenuine, IsRestorableStripe}
 use Rattle.snap_fix.specs.Looking.{unread_cells, unread_in}
-use Rattle.snap_fix.specs.Mended.{Mended, has_lost, wrong_in, written_in}
-use Rattle.snap_fix.specs.Plan.{entry_at, is_searched, is_synced, starts_of}
-use Rattle.snap_fix.specs.Restored.{HasFixed, HoldsCell, IsDamagedCell}
+use Rattle.snap_fix.specs.Mended.{has_lost, wrong_in, written_in}
+use Rattle.snap_fix.specs.Plan.{entry_at, starts_of}
+use Rattle.snap_fix.specs.Restored.{HasFixed, HoldsCell}
 use Rattle.snap_fix.specs.Underway.{AddsZeros, IsMendedLevel}
 use Rattle.snap_report.specs.EndLines.{fix_text}
 use Rattle.snap_report.specs.EventLines.{lines_of}
 use Rattle.snap_report.specs.Kind.{is_left}
 use Rattle.snap_report.specs.Telling.{Tells, between}
 use Rattle.snap_report.specs.declared.events.Event.{Event}
-use Rattle.snap_report.specs.declared.events.Event.TheVariants as events
 use Rattle.stripe_reader.specs.Columns.{folder_at}
 use Rattle.snap_top.specs.Ended.{IsEndStatus, WentToItsEnd}
 use Rattle.snap_top.specs.Fix.{FixRun, LeavesFixed, MayStandFixed}
+use Rattle.snap_top.specs.Lost.{IsDamagedOfSynced, NamesLost, NamesPending}
 use Rattle.snap_top.specs.Moment.{IsFixOf, TellsAll}
 use Rattle.snap_top.specs.Opening.{asked_by}
 use Rattle.snap_top.specs.Run.{Entry, Exit}
@@ -36,27 +36,17 @@ use Rattle.snap_top.specs.Run.{Entry, Exit}
 abbrev pub events_in : FixRun → Finishes → List Event
 events_in run finishes = fix_events run.plan run.stripes finishes
 
--- A selected damaged cell of a stripe that was synced, and which of its levels that were read whole hold the sums of the snapshot's row,
--- a row of bytes.
-pub record IsDamagedOfSynced (run : FixRun) (snapshot : Snapshot) (mended : Mended) (d : ℕ) (cell : Cell) (is_intact : ℕ → Bool) : Type 0 where
-  pub is : IsDamagedCell run.plan run.stripes mended d cell
-  pub synced : is_searched run.plan mended.facts.stripe ≡ true
-  pub bytes : AreBytes (snapshot mended.facts.stripe)
-  pub tells : TellsIntactLevels run.plan mended.facts (snapshot mended.facts.stripe) is_intact
-
--- Where no hash is met by chance: such a cell of a record that isn't blocked has the snapshot's block, at its real length, where no more
--- cells of its stripe are damaged than levels are intact. It stands under PATH, or under PATH`.unrecoverable` where its record has a lost
--- block. Where more cells are damaged, it is told to be lost; where no more are, it is not.
+-- Where no hash is met by chance: a selected damaged cell of a synced stripe, of a record that isn't blocked, has the
+-- snapshot's block, at its real length, where no more cells of its stripe are damaged than levels are intact. It stands
+-- under PATH, or under PATH`.unrecoverable` where its record has a lost block. Such a cell, also of a blocked record, is
+-- told to be lost exactly where more cells of its stripe are damaged.
 pub record Restores (run : FixRun) (finishes : Finishes) (snapshot : Snapshot) : Type 0 where
-  pub restored : (mended : Mended) (d : ℕ) (cell : Cell) (is_intact : ℕ → Bool) → IsDamagedOfSynced run snapshot mended d cell is_intact
-      → (entry_at run.plan d cell.rec).blocked ≡ false → IsRestorableStripe run.plan mended.facts is_intact
-      → HoldsCell run.plan.table d cell (has_lost run.plan run.stripes d cell.rec) (byte_of (snapshot mended.facts.stripe) d) (folder_at run.ended d).tree
-  pub named : (mended : Mended) (d : ℕ) (cell : Cell) (is_intact : ℕ → Bool) → IsDamagedOfSynced run snapshot mended d cell is_intact
-      → ¬ (IsRestorableStripe run.plan mended.facts is_intact)
-      → Contains (events_in run finishes) (events.Lost mended.facts.stripe d cell.rec cell.index)
-  pub only : (mended : Mended) (d : ℕ) (cell : Cell) (is_intact : ℕ → Bool) → IsDamagedOfSynced run snapshot mended d cell is_intact
-      → IsRestorableStripe run.plan mended.facts is_intact
-      → ¬ (Contains (events_in run finishes) (events.Lost mended.facts.stripe d cell.rec cell.index))
+  pub restored : (facts : StripeFacts) (d : ℕ) (cell : Cell) (is_intact : ℕ → Bool)
+      → IsDamagedOfSynced run.plan (facts_of run.stripes) snapshot facts d cell is_intact
+      → (entry_at run.plan d cell.rec).blocked ≡ false → IsRestorableStripe run.plan facts is_intact
+      → HoldsCell run.plan.table d cell (has_lost run.plan run.stripes d cell.rec) (byte_of (snapshot facts.stripe) d)
+      (folder_at run.ended d).tree
+  pub named : NamesLost run.plan (facts_of run.stripes) snapshot (events_in run finishes)
 
 -- A fix that went to its end: it looked at all stripes with something selected, and what it did to the files is what follows of that. What it could
 -- not read was counted as a fault. Its levels hold the sums of the rows that are known, also in each image; its copies and all other bytes
@@ -80,9 +70,7 @@ pub record EndsFixed (before : Entry) (exit : Exit) (status : ℕ) : Type 0 wher
       (between false before.out) (between output_failed exit.after.out)
   pub status_is : IsEndStatus status output_failed (count_by is_left (events_in run finishes) ≡ 0)
   pub output : IsTrue output_failed → Rose before.out.faults exit.after.out.faults
-  pub pending : (mended : Mended) (d : ℕ) (cell : Cell) → IsDamagedCell run.plan run.stripes mended d cell
-      → is_synced run.plan mended.facts.stripe ≡ false
-      → Contains (events_in run finishes) (events.Lost mended.facts.stripe d cell.rec cell.index)
+  pub pending : NamesPending run.plan (facts_of run.stripes) (events_in run finishes)
   pub restores : (snapshot : Snapshot) (is_changed : ℕ → ℕ → Bool)
       → Sound run.loaded before.opener.vault.files snapshot is_changed
       → AreGenuine run.plan snapshot (facts_of run.stripes) → Restores run finishes snapshot

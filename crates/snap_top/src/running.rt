@@ -5,6 +5,7 @@ ghost use Rattle.snap_config.specs.Setup.{IsSetup, setup_value};
 ghost use Rattle.snap_config.specs.Words.{IsWay};
 ghost use Rattle.snap_top.specs.Complete.{IsSilent, RefusalsTouchNothing, SmoothRunsAreDone};
 ghost use Rattle.snap_top.specs.Moment.{EveryMomentIsSound, SyncsEndInPart};
+ghost use Rattle.snap_top.specs.Naming.{ChecksEnd};
 ghost use Rattle.snap_top.specs.Restoring.{FixesEnd};
 ghost use Rattle.snap_top.specs.Task.{IsBuilt, task_of};
 ghost use Rattle.snap_top.specs.Run.{BeginsWith, BeginsNot, Works, Ran, RanWith, EndsWith, at_entry, exit_of};
@@ -21,7 +22,7 @@ use array_scan::laws::a_layout_keeps_its_stripes;
 use content_file::load;
 use disk_model::{Folder, Opener, Sink, Vault};
 use file_table::Table;
-use snap_fix::laws::{a_fix_keeps_what_is_sound, a_fix_restores};
+use snap_fix::laws::{a_fix_keeps_what_is_sound, a_fix_restores, a_known_row_is_the_snapshots};
 use snap_report::Report;
 use snap_sync::laws::{a_sync_is_a_part_sync, every_moment_is_sound, what_is_pending_is_found};
 use std::alloc::Global;
@@ -179,6 +180,9 @@ pub fn run<R: Threads + Sync, O: Opener, W: Sink, E: Sink>(
     ensures synced { SyncsEndInPart (at_entry (map string_bytes words.now) (O.view opener.old) (W.view out.old) now seed)
         (exit_of O.Folder.view O.Vault.view (O.view opener.new) result.folders.items result.vault (W.view out.new))
         result.status }
+    ensures checked { ChecksEnd (at_entry (map string_bytes words.now) (O.view opener.old) (W.view out.old) now seed)
+        (exit_of O.Folder.view O.Vault.view (O.view opener.new) result.folders.items result.vault (W.view out.new))
+        result.status }
     ensures fixed { FixesEnd (at_entry (map string_bytes words.now) (O.view opener.old) (W.view out.old) now seed)
         (exit_of O.Folder.view O.Vault.view (O.view opener.new) result.folders.items result.vault (W.view out.new))
         result.status }
@@ -192,6 +196,7 @@ pub fn run<R: Threads + Sync, O: Opener, W: Sink, E: Sink>(
     every_moment_is_sound();
     a_fix_keeps_what_is_sound();
     a_fix_restores();
+    a_known_row_is_the_snapshots();
     let Ended {
         end,
         folders,

@@ -1,6 +1,7 @@
 use Rattle.std.proofs.Common.{arith}
 use Rattle.snap_top.proofs.CompleteLemmas.{smooth_is_done}
 use Rattle.snap_top.proofs.MomentLemmas.{every_moment}
+use Rattle.snap_top.proofs.NamingLemmas.{checks_end}
 use Rattle.snap_top.proofs.PartLemmas.{syncs_end_in_part}
 use Rattle.snap_top.proofs.RefusalLemmas.{refusal_touches_nothing}
 use Rattle.snap_top.proofs.RestoringLemmas.{fixes_end}
@@ -34,3 +35,8 @@ returns-clause-fixed g c =
     let ran = c.work-end.ensures in
     let restores = c.a_fix_restores.ensures in
     fixes_end restores.restored restores.unrestored restores.lost restores.told restores.known c.a_fix_keeps_what_is_sound.ensures.facts _ _ c.work-end.result.end ran.told _ c.status.ensures ran.ran
+
+pub returns-clause-checked : goal.returns-clause-checked
+returns-clause-checked g c =
+    let ran = c.work-end.ensures in
+    checks_end c.a_known_row_is_the_snapshots.ensures.restorable c.a_fix_keeps_what_is_sound.ensures.facts _ _ c.work-end.result.end ran.told _ c.status.ensures ran.ran

@@ -1,0 +1,292 @@
+-- A check that is done tells which damaged cells are lost.
+use Rattle.std.proofs.Common.{◌≡◌, ◌↔◌, ⊎_elim, ℕ, ◌<◌, ◌&&◌, List, ◌++◌, length, get_or, count_by, Bool, true, false, IsTrue, Option, None, is_some, refl, sym, ap, ◌∙◌, subst, arith}
+use Rattle.std.specs.Prelude.{not}
+use Rattle.std.proofs.lemmas.Bool.{and_from, and_left, and_parts}
+use Rattle.std.proofs.lemmas.List.{get_or-map, length-map}
+use Rattle.std.proofs.lemmas.List.Elements.{All-contains}
+use Rattle.cauchy.specs.Recovery.{AreBytes}
+use Rattle.disk_model.specs.Cause.{RoseBy}
+use Rattle.disk_model.specs.Files.{Files}
+use Rattle.disk_model.specs.Folder.{FolderView}
+use Rattle.file_table.specs.Table.{TableValue}
+use Rattle.file_table.specs.Valid.{IsValid}
+use Rattle.file_table.specs.declared.block.Cell.{Cell}
+use Rattle.parity_writer.specs.Parity.{Row}
+use Rattle.parity_writer.specs.Sound.{Snapshot, Sound}
+use Rattle.stripe_reader.specs.Column.{IsReadingOf, no_task}
+use Rattle.stripe_reader.specs.Columns.{folder_at}
+use Rattle.stripe_reader.specs.Reading.{CellReading, NoBlock, Task, task_at, tasks_at}
+use Rattle.stripe_reader.specs.Slot.{kept}
+use Rattle.stripe_reader.specs.SlotValue.{SlotValue}
+use Rattle.stripe_reader.specs.Starts.{StartsValue}
+use Rattle.stripe_reader.specs.WindowValue.{no_slot}
+use Rattle.snap_config.specs.Setup.{SetupValue}
+use Rattle.snap_config.specs.declared.options.Command.{Command}
+use Rattle.snap_config.specs.declared.options.Command.TheVariants as commands
+use Rattle.snap_config.specs.declared.options.Options.{Options}
+use Rattle.snap_config.specs.declared.options.Selection.{Selection}
+use Rattle.snap_fix.specs.Counts.{at_most}
+use Rattle.snap_fix.specs.Facts.{StripeFacts, gift_of, is_missing, slot_of}
+use Rattle.snap_fix.specs.Findings.{is_lost}
+use Rattle.snap_fix.specs.Fixing.{ArePresent}
+use Rattle.snap_fix.specs.Genuine.{AreGenuine, AreGenuineOf, HasGenuineFacts, IsRestorableStripe, TellsIntactLevels}
+use Rattle.snap_fix.specs.Known.{AreFacts, IsTried}
+use Rattle.snap_fix.specs.Looking.{AreRead, numbers_of, unread_in}
+use Rattle.snap_fix.specs.Plan.{FixPlan, is_audit, is_searched, is_synced, selects_cell, starts_of}
+use Rattle.snap_fix.specs.declared.scope.Mode.TheVariants as modes
+use Rattle.snap_report.specs.Answer.{status_of as answer_status}
+use Rattle.snap_report.specs.EndLines.{check_text}
+use Rattle.snap_report.specs.EventLines.{lines_of}
+use Rattle.snap_report.specs.Kind.{is_finding}
+use Rattle.snap_report.specs.Telling.{Tells, between}
+use Rattle.snap_report.specs.declared.answer.Answer.{Answer}
+use Rattle.snap_report.specs.declared.answer.Answer.TheVariants as answers
+use Rattle.snap_report.specs.declared.answer.RunFault.TheVariants as runs
+use Rattle.snap_report.specs.declared.events.Event.{Event}
+use Rattle.snap_top.specs.Check.{CheckRun}
+use Rattle.snap_top.specs.Checking.{CheckEnds, ChecksBy}
+use Rattle.snap_top.specs.Does.{DoesCommand}
+use Rattle.snap_top.specs.End.{status_of}
+use Rattle.snap_top.specs.Ended.{IsEndStatus}
+use Rattle.snap_top.specs.Lost.{IsDamagedIn, IsToldLost, NamesLost, NamesPending}
+use Rattle.snap_top.specs.Moment.{TellsAll}
+use Rattle.snap_top.specs.Naming.{ChecksEnd, EndsChecked, IsCheckOf, events_found}
+use Rattle.snap_top.specs.Opening.{asked_by}
+use Rattle.snap_top.specs.Run.{Entry, Exit, IsAnswered, IsRun, Ran}
+use Rattle.snap_top.specs.Task.{Left}
+use Rattle.snap_top.specs.Views.{view_of, world_of}
+use Rattle.snap_top.specs.declared.end.End.{End}
+use Rattle.snap_top.specs.declared.end.Ending.TheVariants.{Answered}
+use Rattle.snap_top.proofs.CompleteLemmas.{same_ok}
+use Rattle.snap_top.proofs.EndedLemmas.{IsDoneAnswer, done_status, goes_to_its_end, only_read, output_rose, well_as}
+use Rattle.snap_top.proofs.LostEvents.{lost_is_told, told_is_lost}
+use Rattle.snap_top.proofs.LostLemmas.{AreAscending, FactsAreGenuine, same_facts, stripes_ascending}
+use Rattle.snap_top.proofs.OfFixLemmas.{check_did, levels_held, levels_in}
+use Rattle.snap_top.proofs.OfSyncLemmas.{configured_for, start_files as files_held, start_folders, start_out as out_held, start_tells as tells_held, table_begins, table_loaded}
+use Rattle.snap_top.proofs.RestoringLemmas.{none_left, rose_from}
+
+-- what snap_fix says of a row: it is known exactly where its stripe is restorable
+abbrev pub RowsAreKnown : Type 0
+RowsAreKnown = (plan : FixPlan) (starts : StartsValue) (firsts : List FolderView) (snapshot : Row) (facts : StripeFacts) (is_intact : ℕ → Bool)
+    → HasGenuineFacts plan starts firsts snapshot facts → AreBytes snapshot → TellsIntactLevels plan facts snapshot is_intact
+    → (is_some facts.row ≡ true) ↔ IsRestorableStripe plan facts is_intact
+
+-- ---- what was read of the folders stood there when they were listed
+
+module _ (plan : FixPlan) (starts : StartsValue) (stripes : List StripeFacts) (olds news : List FolderView) (read : AreRead plan starts stripes olds news)
+    (many : length olds ≡ length plan.table.columns) where
+  are_present : ArePresent plan starts olds stripes
+  are_present k other within d below =
+      let its = read.each d (omega (arith, many, below)) in
+      let facts : StripeFacts = get_or stripes k other in
+      let number : StripeFacts → ℕ = λ (it : StripeFacts). it.stripe in
+      let slot_at : StripeFacts → SlotValue = λ (it : StripeFacts). slot_of it d in
+      let task_of : ℕ → Task = task_at plan.table starts d in
+      let reading : CellReading = get_or its.readings k NoBlock in
+      let as_many = its.as_many in
+      let few : k < length (numbers_of stripes) = omega (arith, within, length-map stripes number) in
+      let near : k < length its.readings = omega (arith, few, as_many, length-map (numbers_of stripes) task_of) in
+      let slot_is : slot_of facts d ≡ kept plan.table.shape reading =
+      sym (get_or-map slot_at stripes k other no_slot within)
+      ∙ ap (λ (slots : List SlotValue). get_or slots k no_slot) its.are_kept
+      ∙ get_or-map (kept plan.table.shape) its.readings k NoBlock no_slot near in
+      let task_is : get_or (tasks_at plan.table starts d (numbers_of stripes)) k no_task ≡ task_of facts.stripe =
+      get_or-map task_of (numbers_of stripes) k 0 no_task few ∙ ap task_of (get_or-map number stripes k other 0 within) in
+      record {
+        reading = reading;
+        is_of = subst (λ (task : Task). IsReadingOf (folder_at olds d) task reading) task_is
+            (its.are_of k (omega (arith, few, length-map (numbers_of stripes) task_of)));
+        found = ap (λ (slot : SlotValue). slot.cell.found) slot_is;
+        got = ap (λ (slot : SlotValue). slot.cell.got) slot_is;
+        digest = ap (λ (slot : SlotValue). slot.digest) slot_is;
+        block = ap (λ (slot : SlotValue). slot.block) slot_is;
+      }
+
+-- ---- which cells are lost
+
+no_row : (plan : FixPlan) (facts : StripeFacts) → AreFacts plan facts → is_synced plan facts.stripe ≡ false → is_some facts.row ≡ false
+no_row plan facts are pending =
+    let unsearched : is_searched plan facts.stripe ≡ false = and_left (is_synced plan facts.stripe) (not (is_audit plan.scope.mode)) pending in
+    let none : IsTried plan facts false = subst (IsTried plan facts) unsearched are.tried in
+    ap (λ (row : Option Row). is_some row) none.2
+
+-- a selected damaged cell that was not given is lost where the row is not known
+lost_where : (plan : FixPlan) (stripes : List StripeFacts) (facts : StripeFacts) (d : ℕ) (cell : Cell) → IsDamagedIn plan stripes facts d cell → gift_of facts d ≡ None → is_some facts.row ≡ false
+    → is_lost plan facts.stripe (is_missing plan facts d) (is_some facts.row) d ≡ true
+lost_where plan stripes facts d cell it none unknown =
+    and_from _ _ (and_from _ _ it.selected (and_from _ _ it.damaged (ap (λ (gift : Option (List ℕ)). not (is_some gift)) none))) (ap not unknown)
+
+-- and no cell is lost where the row is known
+unknown_where : (plan : FixPlan) (facts : StripeFacts) (d : ℕ) → is_lost plan facts.stripe (is_missing plan facts d) (is_some facts.row) d ≡ true → is_some facts.row ≡ true → ⊥
+unknown_where plan facts d lost known =
+    let none = (and_parts (selects_cell plan facts.stripe d && is_missing plan facts d) (not (is_some facts.row)) lost).1 in
+    let clash : false ≡ true = sym (ap not known) ∙ none in cc
+
+not_known : (b : Bool) → (b ≡ true → ⊥) → b ≡ false
+not_known true never = absurd (never refl)
+not_known false never = refl
+
+-- ---- a check that went to its end
+
+module _ (rows : RowsAreKnown) (genuine_facts : FactsAreGenuine) (before : Entry) (exit : Exit) (tells : TellsAll before) where
+  module _ (setup : SetupValue) (answer : Answer) (named : Option TableValue) (told : List Event) (ran : IsRun before exit setup (Answered answer named) told) (left : Left)
+      (one : IsAnswered ran.task ran.given (world_of exit.after) left ran.did) (selection : Selection) (command : ran.task.command ≡ commands.Check selection) (status : ℕ) (status_is : status ≡ answer_status left.answer)
+      (ends : CheckEnds modes.Check selection ran.task one.table one.start (world_of exit.after) left ran.did) where
+    abbrev run : CheckRun
+    run = record {
+      selection = selection;
+      setup = ran.task.setup;
+      loaded = one.table;
+      lists = ends.lists;
+      plan = ends.plan;
+      stripes = ends.stripes;
+      readings = ends.levels.readings;
+      folders = one.start.folders;
+      listed = ends.listed;
+      ended = exit.after.folders;
+    }
+
+    abbrev old : Files
+    old = before.opener.vault.files
+
+    abbrev all : List Event
+    all = events_found run
+
+    start_tells : IsTrue one.start.vault.tells
+    start_tells = tells_held before exit tells.tells tells.tells_vault setup (Answered answer named) told ran left one
+
+    start_files : one.start.vault.files ≡ old
+    start_files = files_held before exit tells.tells tells.tells_vault setup (Answered answer named) told ran left one
+
+    start_out : one.start.out ≡ before.out
+    start_out = out_held before exit tells.tells tells.tells_vault setup (Answered answer named) told ran left one
+
+    is_check : IsCheckOf before exit run
+    is_check = record {
+      readers = ran.task.readers;
+      configured = configured_for before exit tells.tells tells.tells_vault setup (Answered answer named) told ran (commands.Check selection) command;
+      folders_are = start_folders before exit tells.tells tells.tells_vault setup (Answered answer named) told ran left one;
+      ended_is = refl;
+      over = record {
+        valid = one.valid;
+        is_loaded = table_loaded before exit tells.tells tells.tells_vault setup (Answered answer named) told ran left one;
+        columns = one.columns;
+        as_many = ends.as_many;
+        listed = ends.lists_are;
+        plan_is = ends.plan_is;
+        numbers = ends.numbers;
+        are = ends.are;
+        read = ends.read;
+        levels = levels_held run.plan.table.shape.block_size before.opener.vault (view_of one.start.vault) (λ held. start_tells) (λ held. start_files)
+            run.stripes run.readings ends.levels.are;
+        no_gifts = ends.no_gifts;
+      };
+      from = table_begins before exit tells.tells tells.tells_vault setup (Answered answer named) told ran left one (record { done = _; goes_on = ends.levels.goes_on });
+    }
+
+    unread_levels : RoseBy (unread_in run.readings) before.opener.vault.faults exit.after.vault.faults
+    unread_levels = rose_from (unread_in run.readings) before.opener.vault.faults ran.given.vault.faults one.start.vault.faults exit.after.vault.faults
+        ran.is_given.state.faults one.reads.vault.calls.goes_on.later ends.levels.unread
+
+    printed : Tells (lines_of run.loaded.columns all ++ check_text (at_most (count_by is_finding all))) (between false before.out) (between ends.prints.failed exit.after.out)
+    printed =
+        subst (λ (n : ℕ). Tells (lines_of run.loaded.columns all ++ check_text n) (between false before.out) (between ends.prints.failed exit.after.out)) ends.counted_is
+        (subst (λ out. Tells (lines_of run.loaded.columns all ++ check_text left.counted) (between false out) (between ends.prints.failed exit.after.out)) start_out ends.prints.told)
+
+    status_well : IsEndStatus status ends.prints.failed (count_by is_finding all ≡ 0)
+    status_well =
+        let none = none_left (count_by is_finding all) in
+        well_as status ends.prints.failed (λ zero. none.0 (sym ends.counted_is ∙ zero), λ nothing. ends.counted_is ∙ none.1 nothing)
+        (done_status left.counted status ends.prints.failed (status_is ∙ ap answer_status ends.prints.answer_is))
+
+    parity : is_audit run.plan.scope.mode ≡ false
+    parity = ap is_audit ends.plan_is.scope.mode_is
+
+    no_gift : (facts : StripeFacts) (d : ℕ) (cell : Cell) → IsDamagedIn run.plan run.stripes facts d cell → gift_of facts d ≡ None
+    no_gift facts d cell it = All-contains (λ (other : StripeFacts). (k : ℕ) → gift_of other k ≡ None) run.stripes facts ends.no_gifts it.one d
+
+    told_where : (facts : StripeFacts) (d : ℕ) (cell : Cell) (it : IsDamagedIn run.plan run.stripes facts d cell) → is_some facts.row ≡ false → IsToldLost all facts d cell
+    told_where facts d cell it unknown =
+        lost_is_told run.plan run.stripes facts d cell it parity (lost_where run.plan run.stripes facts d cell it (no_gift facts d cell it) unknown)
+
+    pending : NamesPending run.plan run.stripes all
+    pending facts d cell it unsynced =
+        told_where facts d cell it (no_row run.plan facts (All-contains (AreFacts run.plan) run.stripes facts ends.are it.one) unsynced)
+
+    ascending : AreAscending (numbers_of run.stripes)
+    ascending = subst AreAscending (sym ends.numbers) (stripes_ascending run.plan)
+
+    names : (snapshot : Snapshot) (is_changed : ℕ → ℕ → Bool) → Sound run.loaded old snapshot is_changed → AreGenuine run.plan snapshot run.stripes → NamesLost run.plan run.stripes snapshot all
+    names snapshot is_changed sound supposed facts d cell is_intact it = (not_told, few_told)
+      where
+        table_is : run.loaded ≡ run.plan.table
+        table_is = sym ends.plan_is.table_is
+
+        columns : length run.listed ≡ length run.plan.table.columns
+        columns = ends.as_many ∙ one.columns ∙ ap (λ (t : TableValue). length t.columns) table_is
+
+        genuine : AreGenuineOf run.plan (starts_of run.loaded run.lists) run.listed old snapshot is_changed run.stripes
+        genuine = record {
+          valid = subst IsValid table_is one.valid;
+          are = ends.are;
+          present = are_present run.plan (starts_of run.loaded run.lists) run.stripes run.listed run.ended ends.read columns;
+          levels = levels_in run.plan.table.shape.block_size before.opener.vault run.stripes run.readings tells.tells_vault is_check.over.levels;
+          sound = subst (λ (t : TableValue). Sound t old snapshot is_changed) table_is sound;
+          genuine = supposed;
+        }
+
+        known : (is_some facts.row ≡ true) ↔ IsRestorableStripe run.plan facts is_intact
+        known = rows run.plan (starts_of run.loaded run.lists) run.listed (snapshot facts.stripe) facts is_intact
+            (genuine_facts run.plan (starts_of run.loaded run.lists) run.listed old snapshot is_changed run.stripes facts genuine it.is.one it.synced) it.bytes it.tells
+
+        not_told : IsToldLost all facts d cell → ¬ (IsRestorableStripe run.plan facts is_intact)
+        not_told is_told enough =
+            let lost = told_is_lost run.plan run.stripes facts.stripe d cell.rec cell.index is_told in
+            let same : lost.facts ≡ facts = same_facts run.stripes ascending lost.facts facts lost.one it.is.one lost.number in
+            unknown_where run.plan lost.facts d lost.lost (ap (λ (other : StripeFacts). is_some other.row) same ∙ known.1 enough)
+
+        few_told : ¬ (IsRestorableStripe run.plan facts is_intact) → IsToldLost all facts d cell
+        few_told few = told_where facts d cell it.is (not_known (is_some facts.row) (λ is. few (known.0 is)))
+
+    ended_checked : EndsChecked before exit status
+    ended_checked = record {
+      run = run;
+      is_check = is_check;
+      unread_levels = unread_levels;
+      output_failed = ends.prints.failed;
+      printed = printed;
+      status_is = status_well;
+      output = output_rose before exit setup (Answered answer named) told ran left one ends.prints.failed ends.prints.answer_is;
+      pending = pending;
+      named = names;
+    }
+
+  -- by the answer
+  by_answer : (setup : SetupValue) (answer : Answer) (named : Option TableValue) (told : List Event) (ran : IsRun before exit setup (Answered answer named) told) (left_answer : Answer) (left_named : Option TableValue) (counted : ℕ)
+      → (let left : Left = record { answer = left_answer; named = left_named; counted = counted; told = told } in
+      (one : IsAnswered ran.task ran.given (world_of exit.after) left ran.did) (selection : Selection) (command : ran.task.command ≡ commands.Check selection) (status : ℕ) → status ≡ answer_status left_answer → IsDoneAnswer left_answer
+      → ChecksBy left_answer modes.Check selection ran.task one.table one.start (world_of exit.after) left ran.did → EndsChecked before exit status)
+  by_answer setup answer named told ran answers.Clean left_named counted one selection command status is done ends = ended_checked setup answer named told ran _ one selection command status is ends
+  by_answer setup answer named told ran answers.Found left_named counted one selection command status is done ends = ended_checked setup answer named told ran _ one selection command status is ends
+  by_answer setup answer named told ran answers.OutputFailed left_named counted one selection command status is done ends = ended_checked setup answer named told ran _ one selection command status is ends
+  by_answer setup answer named told ran (answers.Zeroed disk rec) left_named counted one selection command status is done ends = absurd done
+  by_answer setup answer named told ran (answers.Emptied disk) left_named counted one selection command status is done ends = absurd done
+  by_answer setup answer named told ran (answers.Full _ _) left_named counted one selection command status is done ends = absurd done
+  by_answer setup answer named told ran (answers.Broken (runs.Folder disk)) left_named counted one selection command status is done ends = absurd done
+  by_answer setup answer named told ran (answers.Broken runs.Vault) left_named counted one selection command status is done ends = absurd done
+  by_answer setup answer named told ran (answers.Broken runs.Memory) left_named counted one selection command status is done ends = absurd done
+
+-- of each run
+pub checks_end : RowsAreKnown → FactsAreGenuine → (before : Entry) (exit : Exit) (end : End) (told : List Event) (status : ℕ) → status ≡ status_of end → Ran before exit end told → ChecksEnd before exit status
+checks_end rows genuine_facts before exit end told status is ran tells went asked selection words command =
+    let to = goes_to_its_end before exit end told status tells.tells is ran went in
+    let configured = to.ran.is_given.configured in
+    let left : Left = record { answer = to.answer; named = to.named; counted = to.ran.goes.0; told = to.told } in
+    let one : IsAnswered to.ran.task to.ran.given (world_of exit.after) left to.ran.did = to.ran.goes.1 in
+    let same : configured.asked ≡ asked = same_ok (asked_by before.texts) configured.asked asked configured.read words in
+    let command_is : to.ran.task.command ≡ commands.Check selection = configured.command_is ∙ ap (λ (a : Options). a.command) same ∙ command in
+    let does : DoesCommand (commands.Check selection) to.ran.task one.table one.start (world_of exit.after) left to.ran.did
+    = subst (λ (c : Command). DoesCommand c to.ran.task one.table one.start (world_of exit.after) left to.ran.did) command_is one.does in
+    let reads = check_did to.answer modes.Check selection to.ran.task one.table one.start (world_of exit.after) left to.ran.did does in
+    let done : IsDoneAnswer to.answer = ⊎_elim (λ done. done) (λ ended. absurd (only_read to.ran.did reads ended)) to.how in
+    by_answer rows genuine_facts before exit tells to.setup to.answer to.named to.told to.ran to.answer to.named to.ran.goes.0 one selection command_is status to.status_is done does

@@ -1,0 +1,49 @@
+-- The check of a run as a whole, said without what else the run touches.
+use Rattle.std.specs.Prelude.{◌≡◌, ℕ, List, length, All, None}
+use Rattle.array_scan.specs.Kept.{ListedFile}
+use Rattle.array_scan.specs.Listings.{ListsAll}
+use Rattle.disk_model.specs.Folder.{FolderView}
+use Rattle.disk_model.specs.Vault.{VaultView}
+use Rattle.file_table.specs.Table.{TableValue}
+use Rattle.file_table.specs.Valid.{IsValid}
+use Rattle.parity_writer.specs.LevelReading.{LevelReading}
+use Rattle.snap_config.specs.Setup.{SetupValue}
+use Rattle.snap_config.specs.declared.options.Selection.{Selection}
+use Rattle.snap_fix.specs.Course.{IsPlan}
+use Rattle.snap_fix.specs.Facts.{StripeFacts, gift_of}
+use Rattle.snap_fix.specs.Known.{AreFacts}
+use Rattle.snap_fix.specs.Looking.{AreAllLevelsOf, AreRead, numbers_of}
+use Rattle.snap_fix.specs.Plan.{FixPlan, names_of, starts_of, stripes_of}
+use Rattle.snap_fix.specs.declared.scope.Mode.TheVariants as modes
+use Rattle.snap_sync.specs.Soundness.{IsLoadedFrom}
+
+-- What it was asked for, and by which configuration; the table that it began with; what the folders listed, and the
+-- plan by that; what is known of the stripes that were looked at, and what was read of their levels; and the folders at
+-- the beginning, once they were listed, and at the end.
+pub record CheckRun : Type 0 where
+  pub selection : Selection
+  pub setup : SetupValue
+  pub loaded : TableValue
+  pub lists : List (List ListedFile)
+  pub plan : FixPlan
+  pub stripes : List StripeFacts
+  pub readings : List (List LevelReading)
+  pub folders : List FolderView
+  pub listed : List FolderView
+  pub ended : List FolderView
+
+-- It was from a table that was loaded of so many copies of the vault's files; the folders were listed; all stripes that
+-- have something selected were looked at; and what is known of them is what was read of the folders and of the vault.
+-- No block came from elsewhere.
+pub record ChecksOver (copies : ℕ) (vault : VaultView) (run : CheckRun) : Type 0 where
+  pub valid : IsValid run.loaded
+  pub is_loaded : IsLoadedFrom copies run.loaded vault.files
+  pub columns : length run.folders ≡ length run.loaded.columns
+  pub as_many : length run.listed ≡ length run.folders
+  pub listed : ListsAll run.folders run.listed run.lists
+  pub plan_is : IsPlan modes.Check run.selection (names_of run.setup) run.loaded run.lists run.plan
+  pub numbers : numbers_of run.stripes ≡ stripes_of run.plan
+  pub are : All (AreFacts run.plan) run.stripes
+  pub read : AreRead run.plan (starts_of run.loaded run.lists) run.stripes run.listed run.ended
+  pub levels : AreAllLevelsOf run.plan.table.shape.block_size vault run.stripes run.readings
+  pub no_gifts : All (λ (facts : StripeFacts). (d : ℕ) → gift_of facts d ≡ None) run.stripes
