@@ -38,9 +38,9 @@ use Rattle.snap_fix.specs.Course.{IsPlan, Outside, outside}
 use Rattle.snap_fix.specs.Breaking.{FailsAfter}
 use Rattle.snap_fix.specs.Ending.{FinishesAll, FinishesNotAll, FinishesOne, SyncsNot, SyncsWritten, all_finish_news, written_syncs}
 use Rattle.snap_fix.specs.Findings.{opening_events}
-use Rattle.snap_fix.specs.FixBreaking.{FixBreaks}
+use Rattle.snap_fix.specs.FixBreaking.{BreaksFiles, FixBreaks}
 use Rattle.snap_fix.specs.FixCourse.{FixFinds, Fixes, FixesVault, WritesFiles, Written, fix_events, mend_syncs}
-use Rattle.snap_fix.specs.FixRun.{AreAscending, BreaksStripes, FixesStripes, HasBroken}
+use Rattle.snap_fix.specs.FixRun.{AreAscending, BreaksFolders, BreaksStripes, FixesStripes, HasBroken}
 use Rattle.snap_fix.specs.Fixing.{AreReadThen, FixScene, facts_of, fix_scene, was_written}
 use Rattle.snap_fix.specs.Known.{AreFacts}
 use Rattle.snap_fix.specs.Looking.{AreAllLevelsOf, numbers_of, unread_in}
@@ -122,6 +122,17 @@ module _ {W R : Type 0} (view : W → SinkView) (standing : R → ReportView) (s
       let ascending = AllPairs-left (λ (a b : ℕ). a < b) (numbers_of (facts_of stripes)) behind (subst AreAscending numbers (stripes_ascending plan)) in
       record { are = are; cells = present_at_first plan starts mids stripes valid ascending are start_fit read; levels = levels; answered = answered }
 
+  -- all blocks of the stripes before the one that broke off were written
+  files_of : (stripes : List Mended) (news : List FolderView) (by : RunFault) → BreaksFolders plan starts states by stripes mids news → BreaksFiles plan starts by stripes mids news
+  files_of stripes news by broke = record {
+    earlier = broke.earlier;
+    last = broke.last;
+    stripes_are = broke.stripes_are;
+    written = record { starts = broke.starts; states = broke.states; folders = broke.mids };
+    writes = record { stood = broke.stood; underway = broke.underway [] mids fixable underway_start; makes = broke.makes };
+    breaks = broke.breaks;
+  }
+
   module _ (opened : Told view standing stands table.columns opening old.lines opened_lines old.reports opened_reports) (written : List Bool)
       (starts_mid : StartsValue) (states_mid : List (List FileState)) (written_mid : List Bool) (folders_mid : List FolderView) (vault_mid : VaultView) (spare_mid : SpareView)
       (lines_mid : Lines W) (reports_mid : List R) where
@@ -157,12 +168,12 @@ module _ {W R : Type 0} (view : W → SinkView) (standing : R → ReportView) (s
           off = inl (record {
             rest = broke.rest;
             events = in_stripes opening (all_mended_events plan broke.stripes) broke.first broke.rest broke.events;
-            makes = broke.makes;
+            makes = files_of broke.stripes folders_mid fault broke.makes;
             ran = broke.ran;
           });
           told = told_then view standing stands table.columns opening broke.first old.lines opened_lines lines_mid old.reports opened_reports reports_mid opened broke.told;
           folders = broke.folders ∙ begun.as_many;
-          calls = fix_calls_of_writing plan starts broke.stripes mids folders_mid (files_any plan fault starts broke.stripes mids folders_mid broke.makes);
+          calls = fix_calls_of_writing plan starts broke.stripes mids folders_mid (files_any plan fault starts states broke.stripes mids folders_mid broke.makes);
           broke = broke_opened plan fault broke.first mids folders_mid old.vault vault_mid broke.broke;
         }
 

@@ -201,8 +201,8 @@ module _ {W R : Type 0} (view : W → SinkView) (standing : R → ReportView) (s
           });
           unread = unread_then so_far.fixes.readings (readings ∷ []) old.vault.faults mid.vault.faults new.vault.faults so_far.fixes.unread (omega (arith, broke.read.unread));
           spare = asked_then plan xs ys old.spare mid.spare new.spare so_far.fixes.spare broke.spare;
-          makes = files_then plan fault old.starts mid.starts so_far.fixes.stood xs ys old.folders mid.folders new.folders so_far.fixes.makes
-              (files_one plan fault mid.starts mended mid.folders new.folders broke.makes);
+          makes = files_then plan fault old.starts mid.starts old.states mid.states so_far.fixes.stood xs ys old.folders mid.folders new.folders so_far.fixes.makes so_far.fixes.underway
+              (files_one plan fault mid.starts mid.states mended mid.folders new.folders broke.makes);
           broke = broke_more fault xs front broke.first (count_by has_failed readings) one old mid new refl (omega (arith, few, fewer)) so_far.fixes
               (λ d below. (
                 AnyCall (IsMendCall plan mid.starts d ys),

@@ -24,7 +24,7 @@ use Rattle.snap_fix.specs.declared.fixing.Totals.{Totals}
 use Rattle.snap_fix.specs.declared.state.FileState.{FileState}
 use Rattle.snap_fix.specs.Checking.{IsWorkFor, plan_for}
 use Rattle.snap_fix.specs.Facts.{StripeFacts}
-use Rattle.snap_fix.specs.FixRun.{AreAscending, BreaksFiles, BreaksInto, BreaksStripes, BreaksWindow, FixesAll, FixesInto, FixesStripes, FixesWindow, HasBroken, HasBrokenInto, KeepsFixWork, with_folders}
+use Rattle.snap_fix.specs.FixRun.{AreAscending, BreaksFolders, BreaksInto, BreaksStripes, BreaksWindow, FixesAll, FixesInto, FixesStripes, FixesWindow, HasBroken, HasBrokenInto, KeepsFixWork, with_folders}
 use Rattle.snap_fix.specs.Fixing.{AreReadThen, AreTotals, FixScene, IsReadThen, SceneFits, facts_of, mended_at, no_mended}
 use Rattle.snap_fix.specs.Looking.{facts_at, no_facts, numbers_of, unread_cells}
 use Rattle.snap_fix.specs.Marks.{slots_at}
@@ -210,21 +210,26 @@ module _ {W R : Type 0} (view : W → SinkView) (standing : R → ReportView) (s
     module _ (first : List ℕ) (one : Totals) (old : FixScene W R) (so_far : FixesStripes view standing stands plan first old mid one) (new : FixScene W R) (fault : RunFault)
         (into : BreaksInto view standing stands plan numbers window (with_folders mid mids) new fault) where
       -- the calls for the stripes, the reading of the window among them
-      since : BreaksFiles plan mid.starts fault into.stripes mid.folders new.folders
+      since : BreaksFolders plan mid.starts mid.states fault into.stripes mid.folders new.folders
       since = record {
         earlier = into.makes.earlier;
         last = into.makes.last;
         stripes_are = into.makes.stripes_are;
+        starts = into.makes.starts;
+        stood = into.makes.stood;
+        states = into.makes.states;
         mids = into.makes.mids;
-        well = λ d below. makes_then (WellCall (IsMendCall plan mid.starts d into.makes.earlier)) (reads into.makes.earlier d below) (into.makes.well d below);
+        makes = λ d below. makes_then (WellCall (IsMendCall plan mid.starts d into.makes.earlier)) (reads into.makes.earlier d below) (into.makes.makes d below);
+        underway = λ earlier firsts fixable is. into.makes.underway earlier firsts fixable
+            (underway_read plan mid.starts numbers before window mid.folders mids read fits.folders earlier firsts mid.starts mid.states is);
         breaks = into.makes.breaks;
       }
 
       since_any : (d : ℕ) → d < length plan.table.columns → FolderMakes (AnyCall (IsMendCall plan mid.starts d into.stripes)) (folder_at mid.folders d) (folder_at new.folders d)
-      since_any = files_any plan fault mid.starts into.stripes mid.folders new.folders since
+      since_any = files_any plan fault mid.starts mid.states into.stripes mid.folders new.folders since
 
       into_any : (d : ℕ) → d < length plan.table.columns → FolderMakes (AnyCall (IsMendCall plan mid.starts d into.stripes)) (folder_at mids d) (folder_at new.folders d)
-      into_any = files_any plan fault mid.starts into.stripes mids new.folders into.makes
+      into_any = files_any plan fault mid.starts mid.states into.stripes mids new.folders into.makes
 
       -- the failed readings of the window count too, and those before it
       broke_then : (by : RunFault) → HasBrokenInto plan by into.first mids new.folders mid.vault new.vault
@@ -287,7 +292,7 @@ module _ {W R : Type 0} (view : W → SinkView) (standing : R → ReportView) (s
             unread_cells_of = λ d below.
                 unread_since first one old so_far ys into.behind into.numbers_are into.slots d (folder_at new.folders d).faults below (into_any d below).goes_on.later;
             spare = asked_then plan xs ys old.spare mid.spare new.spare so_far.fixes.spare into.spare;
-            makes = files_then plan fault old.starts mid.starts so_far.fixes.stood xs ys old.folders mid.folders new.folders so_far.fixes.makes since;
+            makes = files_then plan fault old.starts mid.starts old.states mid.states so_far.fixes.stood xs ys old.folders mid.folders new.folders so_far.fixes.makes so_far.fixes.underway since;
             broke = broke_then fault into.broke;
           }
 

@@ -124,12 +124,6 @@ module _ (disk columns : ℕ) (P : ℕ → FolderCall → Type 0) (olds news : L
     ]
   ]
 
-pub columns_wider : (fault : RunFault) (columns : ℕ) (P Q : ℕ → FolderCall → Type 0) (olds news : List FolderView) → ((d : ℕ) (call : FolderCall) → P d call → Q d call)
-    → BreaksColumns fault columns P olds news → BreaksColumns fault columns Q olds news
-columns_wider (Folder disk) columns P Q olds news wider one = in_column_wider disk columns P olds news one Q wider
-columns_wider Vault columns P Q olds news wider one = λ d below. makes_well_wider (P d) (Q d) (wider d) (one d below)
-columns_wider Memory columns P Q olds news wider one = one
-
 pub columns_any : (fault : RunFault) (columns : ℕ) (P : ℕ → FolderCall → Type 0) (olds news : List FolderView) → BreaksColumns fault columns P olds news
     → (d : ℕ) → d < columns → FolderMakes (AnyCall (P d)) (folder_at olds d) (folder_at news d)
 columns_any (Folder disk) columns P olds news one d below = in_column_any disk columns P olds news one d below

@@ -1,6 +1,7 @@
 -- Where files stand after some stripes and then others were written, and which calls are made for them.
 use Rattle.std.proofs.Common.{◌≡◌, ◌≢◌, inl, inr, ℕ, ◌<◌, List, [], ◌∷◌, ◌++◌, length, true, false, refl, sym, ap, ◌∙◌, subst, append_assoc}
 use Rattle.std.specs.List.{Contains}
+use Rattle.std.proofs.lemmas.List.{append-nil}
 use Rattle.std.proofs.lemmas.List.Elements.{Contains-append_left, Contains-append_right}
 use Rattle.disk_model.specs.Folder.{FolderView, FolderCall, ListFiles, Look, ReadAt, Make, WriteAt, SetSize, SetStamp, Rename}
 use Rattle.snap_report.specs.declared.answer.RunFault.{RunFault}
@@ -8,14 +9,15 @@ use Rattle.stripe_reader.specs.Columns.{folder_at}
 use Rattle.stripe_reader.specs.Starts.{StartsValue, start_in, starts_at}
 use Rattle.stripe_reader.specs.declared.starts.Place.{Place}
 use Rattle.stripe_reader.specs.declared.starts.Place.TheVariants.{Plain, Lost, Nowhere}
+use Rattle.snap_fix.specs.declared.state.FileState.{FileState}
 use Rattle.snap_fix.specs.Breaking.{BreaksColumns}
-use Rattle.snap_fix.specs.FixRun.{BreaksFiles}
+use Rattle.snap_fix.specs.FixRun.{BreaksFolders}
 use Rattle.snap_fix.specs.Mended.{Mended}
 use Rattle.snap_fix.specs.Plan.{FixPlan}
 use Rattle.snap_fix.specs.State.{AnyCall, WellCall, FolderMakes, KeepsStarts, StaysPlace}
-use Rattle.snap_fix.specs.Underway.{IsForPlace, IsMendCall}
+use Rattle.snap_fix.specs.Underway.{AreFixable, AreUnderway, IsForPlace, IsMendCall}
 use Rattle.snap_fix.proofs.FolderCallLemmas.{makes_any, makes_any_wider, makes_none, makes_then, makes_well_wider}
-use Rattle.snap_fix.proofs.FolderFailsLemmas.{columns_any, columns_wider}
+use Rattle.snap_fix.proofs.FolderFailsLemmas.{columns_any}
 
 -- ---- where files stand
 
@@ -70,41 +72,51 @@ module _ (plan : FixPlan) (before after : StartsValue) (stood : KeepsStarts befo
 
 module _ (plan : FixPlan) (fault : RunFault) where
   -- in the only stripe
-  pub files_one : (starts : StartsValue) (mended : Mended) (olds news : List FolderView)
-      → BreaksColumns fault (length plan.table.columns) (λ (d : ℕ). IsMendCall plan starts d (mended ∷ [])) olds news → BreaksFiles plan starts fault (mended ∷ []) olds news
-  files_one starts mended olds news breaks = record {
+  pub files_one : (starts : StartsValue) (states : List (List FileState)) (mended : Mended) (olds news : List FolderView)
+      → BreaksColumns fault (length plan.table.columns) (λ (d : ℕ). IsMendCall plan starts d (mended ∷ [])) olds news → BreaksFolders plan starts states fault (mended ∷ []) olds news
+  files_one starts states mended olds news breaks = record {
     earlier = [];
     last = mended;
     stripes_are = refl;
+    starts = starts;
+    stood = stood_none starts;
+    states = states;
     mids = olds;
-    well = λ d below. makes_none (WellCall (IsMendCall plan starts d [])) (folder_at olds d);
+    makes = λ d below. makes_none (WellCall (IsMendCall plan starts d [])) (folder_at olds d);
+    underway = λ before firsts fixable is. subst (λ (stripes : List Mended). AreUnderway plan stripes firsts olds starts states) (sym (append-nil before)) is;
     breaks = breaks;
   }
 
   -- after other stripes
-  pub files_then : (before after : StartsValue) → KeepsStarts before after → (xs ys : List Mended) (olds mids news : List FolderView)
+  pub files_then : (before after : StartsValue) (before_states after_states : List (List FileState)) → KeepsStarts before after → (xs ys : List Mended) (olds mids news : List FolderView)
       → ((d : ℕ) → d < length plan.table.columns → FolderMakes (WellCall (IsMendCall plan before d xs)) (folder_at olds d) (folder_at mids d))
-      → BreaksFiles plan after fault ys mids news → BreaksFiles plan before fault (xs ++ ys) olds news
-  files_then before after stood xs ys olds mids news first broke = record {
+      → ((earlier : List Mended) (firsts : List FolderView) → AreFixable plan firsts → AreUnderway plan earlier firsts olds before before_states → AreUnderway plan (earlier ++ xs) firsts mids after after_states)
+      → BreaksFolders plan after after_states fault ys mids news → BreaksFolders plan before before_states fault (xs ++ ys) olds news
+  files_then before after before_states after_states stood xs ys olds mids news first underway broke = record {
     earlier = xs ++ broke.earlier;
     last = broke.last;
     stripes_are = ap (λ (stripes : List Mended). xs ++ stripes) broke.stripes_are ∙ sym (append_assoc xs broke.earlier (broke.last ∷ []));
+    starts = broke.starts;
+    stood = stood_then before after broke.starts stood broke.stood;
+    states = broke.states;
     mids = broke.mids;
-    well = λ d below. well_then plan before after stood d xs broke.earlier (first d below) (broke.well d below);
-    breaks = columns_wider fault (length plan.table.columns) (λ (d : ℕ). IsMendCall plan after d (broke.last ∷ [])) (λ (d : ℕ). IsMendCall plan before d (broke.last ∷ [])) broke.mids news
-        (λ d. wider plan before after stood d (broke.last ∷ []) (broke.last ∷ []) (λ mended is. is)) broke.breaks;
+    makes = λ d below. well_then plan before after stood d xs broke.earlier (first d below) (broke.makes d below);
+    underway = λ earlier firsts fixable is.
+        subst (λ (stripes : List Mended). AreUnderway plan stripes firsts broke.mids broke.starts broke.states) (append_assoc earlier xs broke.earlier)
+        (broke.underway (earlier ++ xs) firsts fixable (underway earlier firsts fixable is));
+    breaks = broke.breaks;
   }
 
   -- they are such calls all the same
-  pub files_any : (starts : StartsValue) (stripes : List Mended) (olds news : List FolderView) → BreaksFiles plan starts fault stripes olds news
+  pub files_any : (starts : StartsValue) (states : List (List FileState)) (stripes : List Mended) (olds news : List FolderView) → BreaksFolders plan starts states fault stripes olds news
       → (d : ℕ) → d < length plan.table.columns → FolderMakes (AnyCall (IsMendCall plan starts d stripes)) (folder_at olds d) (folder_at news d)
-  files_any starts stripes olds news broke d below =
+  files_any starts states stripes olds news broke d below =
       let last = broke.last ∷ [] in
       let all = broke.earlier ++ last in
       let same = stood_none starts in
       subst (λ (its : List Mended). FolderMakes (AnyCall (IsMendCall plan starts d its)) (folder_at olds d) (folder_at news d)) (sym broke.stripes_are)
       (makes_then (AnyCall (IsMendCall plan starts d all))
       (makes_any_wider (IsMendCall plan starts d broke.earlier) (IsMendCall plan starts d all) (wider plan starts starts same d broke.earlier all (Contains-append_left broke.earlier last))
-      (makes_any (IsMendCall plan starts d broke.earlier) (broke.well d below)))
-      (makes_any_wider (IsMendCall plan starts d last) (IsMendCall plan starts d all) (wider plan starts starts same d last all (Contains-append_right broke.earlier last))
-      (columns_any fault (length plan.table.columns) (λ (k : ℕ). IsMendCall plan starts k last) broke.mids news broke.breaks d below)))
+      (makes_any (IsMendCall plan starts d broke.earlier) (broke.makes d below)))
+      (makes_any_wider (IsMendCall plan broke.starts d last) (IsMendCall plan starts d all) (wider plan starts broke.starts broke.stood d last all (Contains-append_right broke.earlier last))
+      (columns_any fault (length plan.table.columns) (λ (k : ℕ). IsMendCall plan broke.starts k last) broke.mids news broke.breaks d below)))

@@ -1,5 +1,5 @@
 -- How a fix breaks off: while blocks are written, or, once all are, while levels are synced or files finished.
-use Rattle.std.specs.Prelude.{◌≡◌, ◌⊎◌, ℕ, ◌<◌, List, [], ◌++◌, length}
+use Rattle.std.specs.Prelude.{◌≡◌, ◌⊎◌, ℕ, ◌<◌, List, [], ◌∷◌, ◌++◌, length}
 use Rattle.array_scan.specs.Kept.{ListedFile}
 use Rattle.array_scan.specs.Listings.{ListsAll}
 use Rattle.disk_model.specs.Cause.{RoseBy}
@@ -20,25 +20,35 @@ use Rattle.snap_fix.specs.declared.finishing.Finish.{Finish}
 use Rattle.snap_fix.specs.declared.scope.Mode.{Mode}
 use Rattle.snap_fix.specs.Asking.{AsksSpare}
 use Rattle.snap_fix.specs.Beginning.{BeginsNot}
-use Rattle.snap_fix.specs.Breaking.{FailsAfter, FailsInColumn}
+use Rattle.snap_fix.specs.Breaking.{BreaksColumns, FailsAfter, FailsInColumn}
 use Rattle.snap_fix.specs.Course.{IsPlan, Outside}
 use Rattle.snap_fix.specs.Ending.{AreDone, FinishesOne, all_finish_news}
 use Rattle.snap_fix.specs.Findings.{opening_events}
 use Rattle.snap_fix.specs.FixCourse.{FixFinds, FixesVault, MakeFixCalls, WritesFiles, Written, mend_syncs}
-use Rattle.snap_fix.specs.FixRun.{BreaksFiles, BreaksInLast, HasBroken, HoldAllWrong}
+use Rattle.snap_fix.specs.FixRun.{BreaksInLast, HasBroken, HoldAllWrong}
 use Rattle.snap_fix.specs.Fixing.{MendsVault, facts_of}
 use Rattle.snap_fix.specs.Looking.{numbers_of, unread_cells, unread_in}
 use Rattle.snap_fix.specs.Mended.{Mended, all_mended_events}
 use Rattle.snap_fix.specs.Plan.{FixPlan, starts_of, stripes_of}
-use Rattle.snap_fix.specs.Underway.{done_well, mend_calls}
+use Rattle.snap_fix.specs.Underway.{IsMendCall, done_well, mend_calls}
 
 -- what is told before files are finished
 abbrev pub written_events : FixPlan → List Mended → List Event
 written_events plan stripes = opening_events plan ++ all_mended_events plan stripes
 
+-- Of the folders: all blocks of the stripes before the last one were written, and then calls for that one were made, by where files stood
+-- then: where a folder failed, up to the call of it that did, and where a call of the vault did, only such as went well.
+pub record BreaksFiles (plan : FixPlan) (starts : StartsValue) (fault : RunFault) (stripes : List Mended) (firsts news : List FolderView) : Type 0 where
+  pub earlier : List Mended
+  pub last : Mended
+  pub stripes_are : stripes ≡ earlier ++ last ∷ []
+  pub written : Written
+  pub writes : WritesFiles plan starts earlier firsts written
+  pub breaks : BreaksColumns fault (length plan.table.columns) (λ (d : ℕ). IsMendCall plan written.starts d (last ∷ [])) written.folders news
+
 -- While blocks were written: a prefix of the events of its stripes was told. Of the folders only calls that write their blocks were made,
--- which went well but for the last one of a folder that failed, in the last stripe. Of the vault all calls for these stripes were made, up
--- to the writes of the last one.
+-- which went well but for the last one of a folder that failed, in the last stripe, and all blocks of the stripes before it were written. Of
+-- the vault all calls for these stripes were made, up to the writes of the last one.
 pub record BreaksWriting (plan : FixPlan) (starts : StartsValue) (fault : RunFault) (stripes : List Mended) (readings : List (List LevelReading))
     (first : List Event) (firsts news : List FolderView) (old new : VaultView) : Type 0 where
   pub rest : List Event

@@ -18,6 +18,7 @@ use Rattle.stripe_reader.specs.Starts.{StartsValue}
 use Rattle.stripe_reader.specs.WindowValue.{WindowValue}
 use Rattle.snap_fix.specs.declared.beginning.Work.{Work}
 use Rattle.snap_fix.specs.declared.fixing.Totals.{Totals}
+use Rattle.snap_fix.specs.declared.state.FileState.{FileState}
 use Rattle.snap_fix.specs.Asking.{AsksSpare}
 use Rattle.snap_fix.specs.Checking.{plan_for}
 use Rattle.snap_fix.specs.Facts.{StripeFacts}
@@ -129,14 +130,22 @@ pub record BreaksInLast (plan : FixPlan) (fault : RunFault) (stripes : List Stri
   pub ran : BreaksAfter fault before (done_well (wrong_writes plan last)) old new
   pub vault : MendsVault plan (levels_begun fault earlier last) old new
 
--- Of the folders only calls that went well were made for the stripes before the last one, and then for that one: where a folder failed, up to
--- the call of it that did, and where a call of the vault did, only such as went well.
-pub record BreaksFiles (plan : FixPlan) (starts : StartsValue) (fault : RunFault) (stripes : List Mended) (olds news : List FolderView) : Type 0 where
+-- Of the folders only calls that went well were made for the stripes before the last one, and whatever the fix did before, it went on with
+-- them. Then calls were made for the last one, by where files stood then: where a folder failed, up to the call of it that did, and where a
+-- call of the vault did, only such as went well.
+pub record BreaksFolders (plan : FixPlan) (begun : StartsValue) (begun_states : List (List FileState)) (fault : RunFault)
+    (stripes : List Mended) (olds news : List FolderView) : Type 0 where
   pub earlier : List Mended
   pub last : Mended
   pub stripes_are : stripes ≡ earlier ++ last ∷ []
+  pub starts : StartsValue
+  pub stood : KeepsStarts begun starts
+  pub states : List (List FileState)
   pub mids : List FolderView
-  pub well : (d : ℕ) → d < length plan.table.columns → FolderMakes (WellCall (IsMendCall plan starts d earlier)) (folder_at olds d) (folder_at mids d)
+  pub makes : (d : ℕ) → d < length plan.table.columns → FolderMakes (WellCall (IsMendCall plan begun d earlier)) (folder_at olds d) (folder_at mids d)
+  pub underway : (before : List Mended) (firsts : List FolderView) → AreFixable plan firsts
+      → AreUnderway plan before firsts olds begun begun_states
+      → AreUnderway plan (before ++ earlier) firsts mids starts states
   pub breaks : BreaksColumns fault (length plan.table.columns) (λ (d : ℕ). IsMendCall plan starts d (last ∷ [])) mids news
 
 -- Some first stripes were written anew, and the one after them broke off: a prefix of their events was told, and only calls were made
@@ -162,7 +171,7 @@ pub record BreaksStripes {W R : Type 0} (view : W → SinkView) (standing : R �
   pub unread_cells_of : (d : ℕ) → d < length plan.table.columns
       → RoseBy (unread_cells d (facts_of stripes)) (folder_at old.folders d).faults (folder_at new.folders d).faults
   pub spare : AsksSpare plan (facts_of stripes) old.spare new.spare
-  pub makes : BreaksFiles plan old.starts fault stripes old.folders new.folders
+  pub makes : BreaksFolders plan old.starts old.states fault stripes old.folders new.folders
   pub broke : HasBroken plan fault first old.folders new.folders old.vault new.vault
 
 -- The same within a window, which was read before: the failed readings that were told of its cells were counted then.
@@ -189,7 +198,7 @@ pub record BreaksInto {W R : Type 0} (view : W → SinkView) (standing : R → R
   pub ran : BreaksInLast plan fault (facts_of stripes) readings old.vault new.vault
   pub unread : RoseBy (unread_in readings) old.vault.faults new.vault.faults
   pub spare : AsksSpare plan (facts_of stripes) old.spare new.spare
-  pub makes : BreaksFiles plan old.starts fault stripes old.folders new.folders
+  pub makes : BreaksFolders plan old.starts old.states fault stripes old.folders new.folders
   pub broke : HasBrokenInto plan fault first old.folders new.folders old.vault new.vault
 
 -- Some stripes of the work were read into the window, and then it broke off.
