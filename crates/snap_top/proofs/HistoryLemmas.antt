@@ -1,17 +1,26 @@
 -- The copies stay sound over a history.
-use Rattle.std.proofs.Common.{⊎_elim, ℕ, ◌+◌, ◌*◌, List, [], ◌∷◌, Bool, refl, sym, ◌∙◌, subst, arith}
+use Rattle.std.proofs.Common.{⊎_elim, ℕ, suc, ◌+◌, ◌*◌, ◌==◌, List, [], ◌∷◌, length, take, Bool, true, false, All, IfSome, Option, None, Some, if◌then◌else◌, refl, sym, ◌∙◌, subst, arith}
+use Rattle.std.proofs.lemmas.List.Elements.{All-take}
+use Rattle.cauchy.specs.Recovery.{AreBytes}
 use Rattle.content_file.specs.Spelling.{spelling}
 use Rattle.disk_model.specs.Files.{Files}
 use Rattle.disk_model.specs.Folder.{FolderView}
 use Rattle.disk_model.specs.Opener.{OpenerView}
 use Rattle.disk_model.specs.Sink.{SinkView}
 use Rattle.disk_model.specs.Vault.{VaultView, copies_of}
+use Rattle.file_table.specs.Table.{TableValue}
+use Rattle.parity_writer.specs.Parity.{Row, Rows, no_rows, with_row}
 use Rattle.parity_writer.specs.Sound.{Snapshot, Sound}
-use Rattle.snap_sync.specs.Soundness.{AreSound}
-use Rattle.snap_top.specs.History.{AreSoundBy, Changes, IsChange, IsHistory, LastSynced, Runs, StaysSound, Step, synced_by}
-use Rattle.snap_top.specs.Moment.{IsSoundAlways, IsSupposed}
+use Rattle.snap_sync.specs.Closing.{rows_with}
+use Rattle.snap_sync.specs.Images.{rows_after}
+use Rattle.snap_sync.specs.Part.{AllTell}
+use Rattle.snap_sync.specs.Reading.{StripeReading, is_verified, row_of}
+use Rattle.snap_sync.specs.Soundness.{AreSound, row_or}
+use Rattle.snap_top.specs.History.{AreSoundBy, Changes, IsChange, IsHistory, IsOfBytes, LastSynced, Runs, StaysSound, Step, synced_by}
+use Rattle.snap_top.specs.Moment.{IsDidOf, IsSoundAlways, IsSoundAtEnd, IsSupposed}
 use Rattle.snap_top.specs.Resumed.{end_of, entry_of}
 use Rattle.snap_top.specs.Run.{Entry, Exit}
+use Rattle.snap_top.specs.Task.{Did, fixes, reads_only, syncs}
 use Rattle.snap_top.proofs.OfFixLemmas.{loaded_sound}
 
 -- a change from outside keeps what it doesn't count as changed
@@ -31,18 +40,53 @@ change_sound copies copies_then is_changed is_changed_then old new snapshot chan
           stays.bytes (stripe * table.shape.block_size + i) _ (omega arith) (omega (arith, less)) (sound.sums stripe level synced within (change.counted stripe level unchanged) i less);
     }
 
+-- ---- rows of bytes
+
+abbrev HasBytes : Option Row → Type 0
+HasBytes found = IfSome found AreBytes
+
+-- those that a sync closes are, where all that it read are
+rows_bytes : (start : TableValue) (readings : List StripeReading) (rows : Rows) → All (λ (reading : StripeReading). AreBytes (row_of reading)) readings → ((stripe : ℕ) → HasBytes (rows stripe)) → (stripe : ℕ) → HasBytes (rows_with start readings rows stripe)
+rows_bytes start [] rows all were stripe = were stripe
+rows_bytes start (x ∷ xs) rows all were stripe =
+    rows_bytes start xs (if is_verified start x then with_row x.stripe (row_of x) rows else rows) (λ k d within. all (suc k) d (omega (arith, within))) (λ s. by (is_verified start x) s) stripe
+  where
+    one : (same : Bool) (s : ℕ) → HasBytes (if same then Some (row_of x) else rows s)
+    one true s = all 0 x (omega arith)
+    one false s = were s
+
+    by : (b : Bool) (s : ℕ) → HasBytes ((if b then with_row x.stripe (row_of x) rows else rows) s)
+    by true s = one (s == x.stripe) s
+    by false s = were s
+
+snapshot_bytes : (found : Option Row) (row : Row) → HasBytes found → AreBytes row → AreBytes (row_or found row)
+snapshot_bytes None row has bytes = bytes
+snapshot_bytes (Some read) row has bytes = has
+
+-- a snapshot stays of bytes over a run
+stays_of_bytes : (before : Entry) (exit : Exit) (did : Did) (count : ℕ) (last : LastSynced) → IsDidOf before exit did → AllTell before.opener.folders → IsOfBytes last.snapshot → IsOfBytes (synced_by did count last).snapshot
+stays_of_bytes before exit reads_only count last is tell bytes stripe = bytes stripe
+stays_of_bytes before exit (fixes failed run) count last is tell bytes stripe = bytes stripe
+stays_of_bytes before exit (syncs failed run) count last is tell bytes stripe =
+    snapshot_bytes (rows_after run.plan run.readings count stripe) (last.snapshot stripe)
+    (rows_bytes run.plan.start (take count run.readings) no_rows
+    (All-take (λ (reading : StripeReading). AreBytes (row_of reading)) count run.readings (is.bytes (subst AllTell (sym is.folders_are) tell))) (λ s. tt) stripe)
+    (bytes stripe)
+
+-- ---- a history
+
 module _ {O F V W : Type 0} (opener_view : O → OpenerView) (folder_view : F → FolderView) (vault_view : V → VaultView) (sink_view : W → SinkView) where
   stays_sound : (copies : ℕ) (steps : List (Step O F V W)) (files : Files) (last : LastSynced) → IsHistory opener_view folder_view vault_view sink_view copies steps files → AreSoundBy copies files last
       → StaysSound opener_view folder_view vault_view sink_view copies steps files last
   stays_sound copies [] files last history are = tt
   stays_sound copies (Changes copies_then left is_changed ∷ steps) files last history are = λ change.
-      let then : AreSoundBy copies_then left (record { snapshot = last.snapshot; is_changed = is_changed }) = change_sound copies copies_then last.is_changed is_changed files left last.snapshot change are in
-      (then, stays_sound copies_then steps left (record { snapshot = last.snapshot; is_changed = is_changed }) history then)
+      let after : AreSoundBy copies_then left (record { snapshot = last.snapshot; is_changed = is_changed }) = change_sound copies copies_then last.is_changed is_changed files left last.snapshot change are in
+      (after, stays_sound copies_then steps left (record { snapshot = last.snapshot; is_changed = is_changed }) history after)
   stays_sound copies (Runs stop ∷ steps) files last history are =
       let before : Entry = entry_of opener_view sink_view stop.run in
       let exit : Exit = end_of opener_view folder_view vault_view sink_view stop.run in
       let runs = history.0 in
-      let always : IsSoundAlways before exit = runs.sound runs.fresh in
+      let always : IsSoundAlways before exit stop.run.status = runs.sound runs.fresh in
       let here : AreSound (copies_of before.opener.vault) before.opener.vault.files last.snapshot last.is_changed
       = subst (λ (n : ℕ). AreSound n before.opener.vault.files last.snapshot last.is_changed) (sym runs.copies_are)
       (subst (λ (fs : Files). AreSound copies fs last.snapshot last.is_changed) (sym runs.files_are) are) in
@@ -54,9 +98,33 @@ module _ {O F V W : Type 0} (opener_view : O → OpenerView) (folder_view : F �
             = subst (λ (n : ℕ). IsSupposed always.did n before.opener.vault.files last.snapshot) (sym runs.copies_are)
             (subst (λ (fs : Files). IsSupposed always.did copies fs last.snapshot) (sym runs.files_are) supposed) in
             let next = always.sound stop.left last.snapshot last.is_changed runs.stands here supposed_here in
-            let then : AreSoundBy copies stop.left (synced_by always.did next.count last)
+            let after : AreSoundBy copies stop.left (synced_by always.did next.count last)
             = subst (λ (n : ℕ). AreSoundBy n stop.left (synced_by always.did next.count last)) runs.copies_are next.sound in
-            record { count = next.count; sound = then; goes_on = stays_sound copies steps stop.left (synced_by always.did next.count last) history.1 then };
+            record {
+              count = next.count;
+              within = next.within;
+              once = record {
+                sound = after;
+                bytes = stays_of_bytes before exit always.did next.count last always.is_did;
+                goes_on = stays_sound copies steps stop.left (synced_by always.did next.count last) history.1 after;
+              };
+            };
+        synced = λ asked stands.
+            let ended : IsSoundAtEnd before exit = always.synced asked in
+            let did : Did = syncs false ended.run in
+            let count : ℕ = length ended.run.readings in
+            let after : AreSoundBy copies stop.left (synced_by did count last)
+            = subst (λ (n : ℕ). AreSoundBy n stop.left (synced_by did count last)) runs.copies_are (ended.sound stop.left last.snapshot last.is_changed stands here) in
+            record {
+              run = ended.run;
+              is_sync = ended.is_sync;
+              all = ended.all;
+              once = record {
+                sound = after;
+                bytes = stays_of_bytes before exit did count last ended.is_sync;
+                goes_on = stays_sound copies steps stop.left (synced_by did count last) history.1 after;
+              };
+            };
         restores = λ ends genuine.
             let over = ends.is_fix.over in
             ends.restores last.snapshot last.is_changed

@@ -1,3 +1,4 @@
+pub mod BytesLemmas
 pub mod CheckedLemmas
 pub mod CompleteLemmas
 pub mod DoneLemmas
@@ -26,5 +27,7 @@ pub mod ResumedRuns
 pub mod RunLemmas
 pub mod SilentLemmas
 pub mod StoppingLemmas
+pub mod SyncEndLemmas
 pub mod SyncLemmas
+pub mod SyncedLemmas
 pub mod ViewsLemmas

@@ -1,5 +1,5 @@
 -- What stands at each moment of a run is sound.
-use Rattle.std.proofs.Common.{◌≡◌, ◌⊎◌, inl, inr, ⊎_elim, ℕ, ◌<◌, ◌^◌, List, ◌++◌, length, get_or, Bool, IsTrue, Option, None, Some, refl, sym, ap, ◌∙◌, subst, arith}
+use Rattle.std.proofs.Common.{◌≡◌, ◌⊎◌, inl, inr, ⊎_elim, ℕ, ◌<◌, ◌^◌, List, length, get_or, Bool, IsTrue, Option, None, Some, refl, sym, ap, ◌∙◌, subst, arith}
 use Rattle.content_file.specs.Spelling.{spelling}
 use Rattle.disk_model.specs.Files.{Files, content_of}
 use Rattle.disk_model.specs.Folder.{FolderView}
@@ -16,13 +16,12 @@ use Rattle.snap_fix.specs.Genuine.{AreGenuineOf}
 use Rattle.snap_fix.specs.Plan.{FixPlan, starts_of}
 use Rattle.snap_fix.specs.Underway.{IsMendedLevel, KeepsLevels}
 use Rattle.snap_report.specs.declared.events.Event.{Event}
-use Rattle.snap_sync.specs.Calls.{SyncPlan}
 use Rattle.snap_sync.specs.Images.{MayStand, rows_after}
 use Rattle.snap_sync.specs.Part.{AreOfPartSyncs, IsToldRun, SyncRun, layout_by, run_trees}
-use Rattle.snap_sync.specs.Reading.{StripeReading, ReadsFirst}
-use Rattle.snap_sync.specs.Soundness.{AreSound, AreSoundAfter, StandsOn, changed_without, snapshot_with}
+use Rattle.snap_sync.specs.Soundness.{AreSound, changed_without, snapshot_with}
 use Rattle.snap_top.specs.Fix.{FixRun, MayStandFixed}
-use Rattle.snap_top.specs.Moment.{EveryMomentIsSound, HoldsFresh, ChangesNothing, IsFixOf, IsSoundAlways, IsSyncOf, StandsIn}
+use Rattle.snap_top.specs.End.{status_of}
+use Rattle.snap_top.specs.Moment.{EveryMomentIsSound, HoldsFresh, ChangesNothing, IsFixOf, IsSoundAlways, IsSoundAtEnd, IsSyncOf, StandsIn, SyncsToItsEnd}
 use Rattle.snap_top.specs.Opening.{asked_by}
 use Rattle.snap_top.specs.Run.{Entry, Exit, Ran}
 use Rattle.snap_top.specs.Task.{Did, fixes, reads_only, syncs, may_stand}
@@ -33,7 +32,10 @@ use Rattle.snap_config.specs.declared.options.Options.{Options}
 use Rattle.snap_top.proofs.CompleteLemmas.{same_ok}
 use Rattle.snap_top.proofs.OfFixLemmas.{HasFix, HasSync, genuine_of, run_did}
 use Rattle.snap_top.proofs.OfSyncLemmas.{KeepsItsStripes}
+use Rattle.snap_top.proofs.BytesLemmas.{AreFormed}
 use Rattle.snap_top.proofs.RunLemmas.{stands_still}
+use Rattle.snap_top.proofs.SyncEndLemmas.{sound_at_end, sync_ended}
+use Rattle.snap_top.proofs.SyncedLemmas.{MomentsAreSound, OneTable}
 
 -- ---- what snap_sync says of its moments
 
@@ -44,11 +46,6 @@ abbrev pub CopiesAreOfPartSyncs : Type 0
 CopiesAreOfPartSyncs = (run : SyncRun) (files new : Files) → IsToldRun run → MayStand run.plan run.readings files new
     → AreOfPartSyncs run.plan.start (run_trees run) run.plan.now run.plan.copies files new
 
-abbrev pub MomentsAreSound : Type 0
-MomentsAreSound = (plan : SyncPlan) (loaded : TableValue) (readings ahead : List StripeReading) (olds news : List FolderView) (old new : Files) (snapshot : Snapshot) (is_changed : ℕ → ℕ → Bool)
-    → length olds ≡ length plan.start.columns → ReadsFirst plan.start (readings ++ ahead) olds news → StandsOn plan loaded old → AreSound plan.copies old snapshot is_changed
-    → MayStand plan readings old new → AreSoundAfter plan readings new snapshot is_changed
-
 -- ---- and snap_fix of those of a fix
 
 abbrev pub FixKeepsSound : Type 0
@@ -58,7 +55,7 @@ FixKeepsSound = (plan : FixPlan) (starts : StartsValue) (firsts : List FolderVie
 
 -- ---- what stands at a moment
 
-module _ (before : Entry) (exit : Exit) (fresh : HoldsFresh before) where
+module _ (before : Entry) (exit : Exit) (status : ℕ) (fresh : HoldsFresh before) (synced : SyncsToItsEnd before exit status → IsSoundAtEnd before exit) where
   abbrev old : Files
   old = before.opener.vault.files
 
@@ -79,7 +76,7 @@ module _ (before : Entry) (exit : Exit) (fresh : HoldsFresh before) where
       fresh.settled (sym (same.tells_images fresh.tells) ∙ at.0) files ((same.since fresh.tells before.opener.vault.images.moment files).0 at.1)
 
   -- a run that only reads
-  pub sound_reading : ((files : Files) → StandsIn before exit files → files ≡ old) → IsSoundAlways before exit
+  pub sound_reading : ((files : Files) → StandsIn before exit files → files ≡ old) → IsSoundAlways before exit status
   sound_reading still = record {
     did = reads_only;
     is_did = tt;
@@ -88,12 +85,14 @@ module _ (before : Entry) (exit : Exit) (fresh : HoldsFresh before) where
     copies = still;
     sound = λ files snapshot is_changed at are supposed. record {
       count = 0;
+      within = omega arith;
       sound = subst (λ (fs : Files). AreSound (copies_of before.opener.vault) fs snapshot is_changed) (sym (still files at)) are;
     };
+    synced = synced;
   }
 
   -- a fix
-  sound_fixing : FixKeepsSound → (failed : Bool) (run : FixRun) → IsFixOf before exit run → ((files : Files) → StandsIn before exit files → MayStandFixed run old files) → IsSoundAlways before exit
+  sound_fixing : FixKeepsSound → (failed : Bool) (run : FixRun) → IsFixOf before exit run → ((files : Files) → StandsIn before exit files → MayStandFixed run old files) → IsSoundAlways before exit status
   sound_fixing keeps_sound failed run is moments =
       let over = is.over in
       record {
@@ -109,17 +108,19 @@ module _ (before : Entry) (exit : Exit) (fresh : HoldsFresh before) where
             let genuine = genuine_of (copies_of before.opener.vault) before.opener.vault run snapshot is_changed fresh.tells_vault over supposed are in
             record {
               count = 0;
+              within = omega arith;
               sound = λ copy table below valid spells.
                   let spelled : content_of old copy ≡ Some (spelling table) = ap (λ (contents : List (Option (List ℕ))). get_or contents copy None) (sym kept.contents) ∙ spells in
                   let size : table.shape.block_size ≡ run.plan.table.shape.block_size
                   = supposed.one_size copy table below valid spelled ∙ ap (λ (t : TableValue). t.shape.block_size) (sym over.plan_is.table_is) in
                   keeps_sound run.plan (starts_of run.loaded run.lists) run.listed old snapshot is_changed (facts_of run.stripes) table old files genuine size kept (are copy table below valid spelled);
             };
+        synced = synced;
       }
 
   module _ (laid : LayoutIsOfTrees) (of_parts : CopiesAreOfPartSyncs) (sound : MomentsAreSound) (keeps_sound : FixKeepsSound) where
     -- a sync
-    sound_syncing : (failed : Bool) (run : SyncRun) → IsSyncOf before exit run → ((files : Files) → StandsIn before exit files → MayStand run.plan run.readings old files) → IsSoundAlways before exit
+    sound_syncing : (failed : Bool) (run : SyncRun) → IsSyncOf before exit run → ((files : Files) → StandsIn before exit files → MayStand run.plan run.readings old files) → IsSoundAlways before exit status
     sound_syncing failed run is moments =
         let over = is.over in
         record {
@@ -140,12 +141,14 @@ module _ (before : Entry) (exit : Exit) (fresh : HoldsFresh before) where
               let rows : Rows = rows_after run.plan run.readings after.count in
               record {
                 count = after.count;
+                within = after.within;
                 sound = subst (λ (n : ℕ). AreSound n files (snapshot_with rows snapshot) (changed_without rows is_changed)) over.copies_are after.sound;
               };
+          synced = synced;
         }
 
     -- a run that opened its array
-    sound_run : (did : Did) → ChangesBy (may_stand did) before.opener.vault exit.after.vault → (did ≡ reads_only) ⊎ (HasSync before exit did ⊎ HasFix before exit did) → IsSoundAlways before exit
+    sound_run : (did : Did) → ChangesBy (may_stand did) before.opener.vault exit.after.vault → (did ≡ reads_only) ⊎ (HasSync before exit did ⊎ HasFix before exit did) → IsSoundAlways before exit status
     sound_run did changes (inl read) = sound_reading (stands_by reads_only (subst (λ d. ChangesBy (may_stand d) before.opener.vault exit.after.vault) read changes))
     sound_run did changes (inr (inl sync)) =
         sound_syncing sync.failed sync.run sync.is_sync (stands_by (syncs sync.failed sync.run) (subst (λ d. ChangesBy (may_stand d) before.opener.vault exit.after.vault) sync.did_is changes))
@@ -153,8 +156,16 @@ module _ (before : Entry) (exit : Exit) (fresh : HoldsFresh before) where
         sound_fixing keeps_sound fix.failed fix.run fix.is_fix (stands_by (fixes fix.failed fix.run) (subst (λ d. ChangesBy (may_stand d) before.opener.vault exit.after.vault) fix.did_is changes))
 
 -- of each run
-pub every_moment : LayoutIsOfTrees → CopiesAreOfPartSyncs → MomentsAreSound → FixKeepsSound → KeepsItsStripes → (before : Entry) (exit : Exit) (end : End) (told : List Event) → before.moment < 2 ^ 64
-    → Ran before exit end told → EveryMomentIsSound before exit
-every_moment laid of_parts sound keeps_sound keeps before exit (Refused why) told in_time ran fresh = sound_reading before exit fresh (stands_same before exit fresh ran.vault)
-every_moment laid of_parts sound keeps_sound keeps before exit (Worked setup ending) told in_time ran fresh =
-    sound_run before exit fresh laid of_parts sound keeps_sound ran.did (ran.changes fresh.tells) (run_did before exit fresh.tells fresh.tells_vault keeps in_time (setup_value setup) ending told ran)
+pub every_moment : LayoutIsOfTrees → CopiesAreOfPartSyncs → MomentsAreSound → FixKeepsSound → KeepsItsStripes → OneTable → (before : Entry) (exit : Exit) (end : End) (told : List Event) (status : ℕ)
+    → before.moment < 2 ^ 64 → AreFormed exit → status ≡ status_of end → Ran before exit end told → EveryMomentIsSound before exit status
+every_moment laid of_parts sound keeps_sound keeps one_table before exit end told status in_time formed is ran fresh = by end ran at_end
+  where
+    at_end : SyncsToItsEnd before exit status → IsSoundAtEnd before exit
+    at_end asked =
+        sound_at_end keeps before exit fresh.tells fresh.tells_vault in_time formed status (sync_ended before exit end told status fresh.tells is ran asked) one_table sound
+
+    by : (end : End) → Ran before exit end told → (SyncsToItsEnd before exit status → IsSoundAtEnd before exit) → IsSoundAlways before exit status
+    by (Refused why) ran synced = sound_reading before exit status fresh synced (stands_same before exit status fresh synced ran.vault)
+    by (Worked setup ending) ran synced =
+        sound_run before exit status fresh synced laid of_parts sound keeps_sound ran.did (ran.changes fresh.tells)
+        (run_did before exit fresh.tells fresh.tells_vault keeps in_time formed (setup_value setup) ending told ran)

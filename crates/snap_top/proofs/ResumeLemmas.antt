@@ -23,12 +23,10 @@ use Rattle.snap_sync.specs.Resumed.{EndsAs, IsFoundAt}
 use Rattle.snap_sync.specs.Soundness.{AreSound, AreSoundAfter, StandsOn, changed_without, snapshot_with}
 use Rattle.snap_top.specs.Array.{empty_table}
 use Rattle.snap_top.specs.Sync.{AreStopped, BeginsFrom, HasNoCopy, IsFirstContent, IsOfArray, Stop, SyncsFrom}
-use Rattle.snap_top.proofs.MomentLemmas.{LayoutIsOfTrees, MomentsAreSound}
+use Rattle.snap_top.proofs.MomentLemmas.{LayoutIsOfTrees}
+use Rattle.snap_top.proofs.SyncedLemmas.{MomentsAreSound, OneTable}
 
 -- ---- what the crates below say
-
-abbrev pub OneTable : Type 0
-OneTable = (a b : TableValue) → IsValid a → IsValid b → spelling a ≡ spelling b → a ≡ b
 
 abbrev pub SavesValid : Type 0
 SavesValid = (plan : SyncPlan) (readings ahead : List StripeReading) (olds news : List FolderView) (count : ℕ) → length olds ≡ length plan.start.columns

@@ -7,7 +7,7 @@ use Rattle.disk_model.specs.Folder.{FolderView}
 use Rattle.disk_model.specs.Opener.{OpenerView}
 use Rattle.disk_model.specs.Sink.{SinkView}
 use Rattle.disk_model.specs.Tree.{Tree}
-use Rattle.disk_model.specs.Vault.{VaultView, Holds, copies_of}
+use Rattle.disk_model.specs.Vault.{VaultView, copies_of}
 use Rattle.file_table.specs.Table.{TableValue}
 use Rattle.parity_writer.specs.Sound.{Snapshot}
 use Rattle.snap_config.specs.Config.{read_setup}
@@ -22,12 +22,13 @@ use Rattle.snap_top.specs.Array.{empty_table}
 use Rattle.snap_top.specs.Ended.{ByStatus}
 use Rattle.snap_top.specs.Moment.{EndsInPart, IsDidOf, IsSoundAlways, IsSyncOf}
 use Rattle.snap_top.specs.Opening.{asked_by}
-use Rattle.snap_top.specs.Resumed.{AreStoppedRuns, AsksForSync, EndAlike, EndsClean, IsBetween, IsStopped, RunOf, StandsAfter, StoppedRun, end_of, entry_of}
+use Rattle.snap_top.specs.Resumed.{AreStoppedRuns, AsksForSync, EndAlike, EndsClean, IsBetween, IsStopped, RunOf, StoppedRun, end_of, entry_of}
 use Rattle.snap_top.specs.Run.{Entry, Exit}
 use Rattle.snap_top.specs.Sync.{AreStopped, IsOfArray, Stop, SyncsFrom}
 use Rattle.snap_top.specs.Task.{Did, fixes, reads_only, syncs, may_stand, end_table}
 use Rattle.snap_top.proofs.CompleteLemmas.{same_ok}
 use Rattle.snap_top.proofs.ResumeLemmas.{FullKeepsShape, by_shape}
+use Rattle.snap_top.proofs.SyncEndLemmas.{stands_then}
 
 abbrev pub SyncsAreResumed : Type 0
 SyncsAreResumed = (setup : SetupValue) (trees : List Tree) (seed : List ℕ) (copies : ℕ) (stops : List Stop) (files left : Files) (whole last : SyncRun) (snapshot : Snapshot) (is_changed : ℕ → ℕ → Bool) (now again : ℕ)
@@ -86,11 +87,6 @@ by_did setup trees seed files before exit asks old left (fixes failed run) is mo
     let clash : commands.Fix run.selection ≡ commands.Sync asks.way = is.configured.command_is ∙ ap (λ (a : Options). a.command) same ∙ asks.command_is in
     absurd cc
 
--- what holds in a vault at the end of a run, holds of what stands then
-stands_after : (P : Files → Type 0) (exit : Exit) (files : Files) → Holds P exit.after.vault → StandsAfter exit files → P files
-stands_after P exit files holds (inl reads) = subst P (sym reads.1) (holds.reads reads.0)
-stands_after P exit files holds (inr left) = holds.leaves left.0 files left.1
-
 module _ {O F V W : Type 0} (opener_view : O → OpenerView) (folder_view : F → FolderView) (vault_view : V → VaultView) (sink_view : W → SinkView) (setup : SetupValue) (trees : List Tree) (seed : List ℕ) where
   abbrev copies_here : ℕ
   copies_here = length setup.contents
@@ -104,7 +100,7 @@ module _ {O F V W : Type 0} (opener_view : O → OpenerView) (folder_view : F �
       let before : Entry = entry_of opener_view sink_view stop.run in
       let exit : Exit = end_of opener_view folder_view vault_view sink_view stop.run in
       let asks = stopped.asks in
-      let always : IsSoundAlways before exit = stopped.sound (record { tells = asks.tells.tells; tells_vault = asks.tells.tells_vault; settled = asks.settled }) in
+      let always : IsSoundAlways before exit stop.run.status = stopped.sound (record { tells = asks.tells.tells; tells_vault = asks.tells.tells_vault; settled = asks.settled }) in
       ⊎_elim
       (λ still. (rest.0, subst (λ (fs : Files). AreStopped setup trees seed copies_here rest.0 fs left) (still ∙ asks.files_are) rest.1))
       (λ did. (
@@ -125,7 +121,7 @@ module _ {O F V W : Type 0} (opener_view : O → OpenerView) (folder_view : F �
   between_before stop files left between rest =
       let before : Entry = entry_of opener_view sink_view stop.run in
       let exit : Exit = end_of opener_view folder_view vault_view sink_view stop.run in
-      let always : IsSoundAlways before exit = between.sound between.fresh in
+      let always : IsSoundAlways before exit stop.run.status = between.sound between.fresh in
       let still : stop.left ≡ before.opener.vault.files
       = subst (λ (did : Did). may_stand did before.opener.vault.files stop.left) (always.reads between.asked between.words between.command_is) (always.moments stop.left between.stands) in
       (rest.0, subst (λ (fs : Files). AreStopped setup trees seed copies_here rest.0 fs left) (still ∙ between.files_are) rest.1)
@@ -156,7 +152,7 @@ module _ {O F V W : Type 0} (opener_view : O → OpenerView) (folder_view : F �
       let sync : SyncRun = part.run in
       let of : IsOfArray setup trees sync = of_array setup trees seed files before exit clean.asks sync part.is_sync in
       let full : IsFullSync sync.setup sync.loaded (run_trees sync) sync.plan.now before.opener.vault.files (end_table sync) left
-      = stands_after (λ (new : Files). IsFullSync sync.setup sync.loaded (run_trees sync) sync.plan.now before.opener.vault.files (end_table sync) new) exit left (part.full (all_verified files run left clean)) clean.stands in
+      = stands_then (λ (new : Files). IsFullSync sync.setup sync.loaded (run_trees sync) sync.plan.now before.opener.vault.files (end_table sync) new) exit left part.tells (part.full (all_verified files run left clean)) clean.stands in
       subst (λ (fs : Files). IsFullSync setup sync.loaded trees sync.plan.now fs (end_table sync) left) clean.asks.files_are
       (subst (λ (ts : List Tree). IsFullSync setup sync.loaded ts sync.plan.now before.opener.vault.files (end_table sync) left) of.trees_are
       (subst (λ (s : SetupValue). IsFullSync s sync.loaded (run_trees sync) sync.plan.now before.opener.vault.files (end_table sync) left) of.setup_is full))
@@ -168,7 +164,7 @@ module _ {O F V W : Type 0} (opener_view : O → OpenerView) (folder_view : F �
       let exit : Exit = end_of opener_view folder_view vault_view sink_view run in
       let part = ends_in_part files run left clean in
       subst (λ (n : ℕ). HasSaved n (spelling (end_table part.run)) left) (same_copies setup trees seed files before exit clean.asks part.run part.is_sync)
-      (stands_after (HasSaved (copies_of before.opener.vault) (spelling (end_table part.run))) exit left part.saved clean.stands)
+      (stands_then (HasSaved (copies_of before.opener.vault) (spelling (end_table part.run))) exit left part.tells part.saved clean.stands)
 
   ends_alike : SyncsAreResumed → FullKeepsShape → (stops : List (StoppedRun O F V W)) (files left one other : Files) (whole last : RunOf O F V W) (snapshot : Snapshot) (is_changed : ℕ → ℕ → Bool)
       → EndsClean opener_view folder_view vault_view sink_view setup trees seed files whole one → AreSound copies_here files snapshot is_changed
@@ -179,7 +175,7 @@ module _ {O F V W : Type 0} (opener_view : O → OpenerView) (folder_view : F �
       let first = ends_in_part files whole one clean in
       let second = ends_in_part left last other later in
       let shapes = keeps first.run.setup first.run.loaded (run_trees first.run) first.run.plan.now (end_table first.run) (entry_of opener_view sink_view whole).opener.vault.files one
-      (stands_after _ (end_of opener_view folder_view vault_view sink_view whole) one (first.full (all_verified files whole one clean)) clean.stands) in
+      (stands_then _ (end_of opener_view folder_view vault_view sink_view whole) one first.tells (first.full (all_verified files whole one clean)) clean.stands) in
       let same : (first.run.plan.start.shape ≡ (end_table first.run).shape) × (length first.run.plan.start.infos ≡ length (end_table first.run).infos)
       = (ap (λ (t : TableValue). t.shape) first.laid ∙ sym shapes.0, ap (λ (t : TableValue). length t.infos) first.laid ∙ sym shapes.1) in
       record {

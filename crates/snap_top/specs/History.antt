@@ -1,5 +1,7 @@
 -- Runs of any commands, one after another, each of which ended or was stopped at some moment, and what others do to the vault in between.
-use Rattle.std.specs.Prelude.{◌≡◌, ◌⊎◌, ℕ, ◌+◌, ◌*◌, ◌<◌, ◌≤◌, List, [], ◌∷◌, Bool, false, Some}
+use Rattle.std.specs.Prelude.{◌≡◌, ◌⊎◌, ℕ, ◌+◌, ◌*◌, ◌<◌, ◌≤◌, List, [], ◌∷◌, length, Bool, false, Some}
+use Rattle.array_scan.specs.Layout.{pending_stripes}
+use Rattle.cauchy.specs.Recovery.{AreBytes}
 use Rattle.content_file.specs.Spelling.{spelling}
 use Rattle.disk_model.specs.Files.{Files, content_of, parity_of}
 use Rattle.disk_model.specs.Folder.{FolderView}
@@ -12,12 +14,16 @@ use Rattle.parity_writer.specs.Keeps.{HasByte}
 use Rattle.parity_writer.specs.Sound.{Snapshot}
 use Rattle.snap_fix.specs.Fixing.{facts_of}
 use Rattle.snap_fix.specs.Genuine.{AreGenuine}
+use Rattle.snap_sync.specs.Part.{AllTell, SyncRun}
+use Rattle.snap_sync.specs.Reading.{stripes_of}
 use Rattle.snap_sync.specs.Soundness.{AreSound, changed_without, snapshot_with}
-use Rattle.snap_top.specs.Moment.{EveryMomentIsSound, HoldsFresh, IsDidOf, IsSupposed, StandsIn, rows_closed}
+use Rattle.snap_top.specs.Moment.{EveryMomentIsSound, HoldsFresh, IsDidOf, IsSupposed, IsSyncOf, StandsAfter, StandsIn, SyncsToItsEnd}
+use Rattle.snap_top.specs.Moment.{rows_closed, stripes_read}
 use Rattle.snap_top.specs.Restoring.{EndsFixed, Restores}
 use Rattle.snap_top.specs.Resumed.{StoppedRun, end_of, entry_of}
+use Rattle.snap_top.specs.Run.{Entry, Exit}
 use Rattle.snap_top.specs.Sync.{HoldsNoContent}
-use Rattle.snap_top.specs.Task.{Did}
+use Rattle.snap_top.specs.Task.{Did, syncs}
 
 -- The snapshot: of each stripe the row that was last synced. And which levels of which stripes were changed from outside since then.
 pub record LastSynced : Type 0 where
@@ -47,7 +53,7 @@ pub record IsChange (copies copies_then : ℕ) (is_changed is_changed_then : ℕ
 
 -- ---- a history
 
--- what was last synced once so many of the stripes that a run read are closed: their rows, and nothing of their stripes is changed any more
+-- what was last synced once a run read so many stripes: the rows of those that it has closed by then, and nothing of these is changed any more
 abbrev pub synced_by : Did → ℕ → LastSynced → LastSynced
 synced_by did count last = record {
   snapshot = snapshot_with (rows_closed did count) last.snapshot;
@@ -58,11 +64,28 @@ synced_by did count last = record {
 abbrev pub AreSoundBy : ℕ → Files → LastSynced → Type 0
 AreSoundBy copies files last = AreSound copies files last.snapshot last.is_changed
 
--- Sound once so many of the stripes that a run read were closed, and then goes on so.
-pub record IsSoundOnce (did : Did) (copies : ℕ) (left : Files) (last : LastSynced) (GoesOn : LastSynced → Type 0) : Type 0 where
-  pub count : ℕ
+-- each row of a snapshot is of bytes
+abbrev pub IsOfBytes : Snapshot → Type 0
+IsOfBytes snapshot = (stripe : ℕ) → AreBytes (snapshot stripe)
+
+-- Sound once a run read so many stripes, and then goes on so. Where its folders tell their trees, a snapshot of bytes stays one.
+pub record IsSoundOnce (before : Entry) (did : Did) (count copies : ℕ) (left : Files) (last : LastSynced) (GoesOn : LastSynced → Type 0) : Type 0 where
   pub sound : AreSoundBy copies left (synced_by did count last)
+  pub bytes : AllTell before.opener.folders → IsOfBytes last.snapshot → IsOfBytes (synced_by did count last).snapshot
   pub goes_on : GoesOn (synced_by did count last)
+
+-- At a moment of a run this is some number, and which is open.
+pub record IsSoundThen (before : Entry) (did : Did) (copies : ℕ) (left : Files) (last : LastSynced) (GoesOn : LastSynced → Type 0) : Type 0 where
+  pub count : ℕ
+  pub within : count ≤ stripes_read did
+  pub once : IsSoundOnce before did count copies left last GoesOn
+
+-- At the end of a sync it is all, and these are the pending stripes of its layout.
+pub record IsSoundSynced (before : Entry) (exit : Exit) (copies : ℕ) (left : Files) (last : LastSynced) (GoesOn : LastSynced → Type 0) : Type 0 where
+  pub run : SyncRun
+  pub is_sync : IsSyncOf before exit run
+  pub all : stripes_of run.readings ≡ pending_stripes run.plan.start.infos
+  pub once : IsSoundOnce before (syncs false run) (length run.readings) copies left last GoesOn
 
 module _ {O F V W : Type 0} (opener_view : O → OpenerView) (folder_view : F → FolderView) (vault_view : V → VaultView) (sink_view : W → SinkView) where
   -- a run over a vault of so many copies, opened anew, that holds these files; it leaves others at some moment, or at its end
@@ -70,16 +93,20 @@ module _ {O F V W : Type 0} (opener_view : O → OpenerView) (folder_view : F �
     pub fresh : HoldsFresh (entry_of opener_view sink_view stop.run)
     pub copies_are : copies_of (entry_of opener_view sink_view stop.run).opener.vault ≡ copies
     pub files_are : (entry_of opener_view sink_view stop.run).opener.vault.files ≡ files
-    pub sound : EveryMomentIsSound (entry_of opener_view sink_view stop.run) (end_of opener_view folder_view vault_view sink_view stop.run)
+    pub sound : EveryMomentIsSound (entry_of opener_view sink_view stop.run) (end_of opener_view folder_view vault_view sink_view stop.run) stop.run.status
     pub stands : StandsIn (entry_of opener_view sink_view stop.run) (end_of opener_view folder_view vault_view sink_view stop.run) stop.left
 
   -- Sound after a run. What it did is to read, to sync or to fix. Unless a fix met a hash by chance, or a content file has blocks of another size, the
-  -- copies that it left are sound with the rows that it had closed by then, and so it goes on from there. A fix that went to its end, and met no hash by
-  -- chance, restores the blocks of the snapshot.
+  -- copies that it left are sound with the rows that it had closed by then, and so it goes on from there. Where it was asked for a sync and went to its
+  -- end, and this is what stands then, these are the rows of all that it closed. A fix that went to its end, and met no hash by chance, restores the
+  -- blocks of the snapshot.
   pub record IsSoundAfter (copies : ℕ) (files : Files) (last : LastSynced) (stop : StoppedRun O F V W) (GoesOn : LastSynced → Type 0) : Type 0 where
     pub did : Did
     pub is_did : IsDidOf (entry_of opener_view sink_view stop.run) (end_of opener_view folder_view vault_view sink_view stop.run) did
-    pub sound : IsSupposed did copies files last.snapshot → IsSoundOnce did copies stop.left last GoesOn
+    pub sound : IsSupposed did copies files last.snapshot → IsSoundThen (entry_of opener_view sink_view stop.run) did copies stop.left last GoesOn
+    pub synced : SyncsToItsEnd (entry_of opener_view sink_view stop.run) (end_of opener_view folder_view vault_view sink_view stop.run) stop.run.status
+        → StandsAfter (end_of opener_view folder_view vault_view sink_view stop.run) stop.left
+        → IsSoundSynced (entry_of opener_view sink_view stop.run) (end_of opener_view folder_view vault_view sink_view stop.run) copies stop.left last GoesOn
     pub restores : (ends : EndsFixed (entry_of opener_view sink_view stop.run) (end_of opener_view folder_view vault_view sink_view stop.run) stop.run.status)
         → AreGenuine ends.run.plan last.snapshot (facts_of ends.run.stripes) → Restores ends.run ends.finishes last.snapshot
 

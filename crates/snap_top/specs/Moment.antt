@@ -1,11 +1,13 @@
 -- What stands at each moment of a run, wherever it is stopped, and what a sync leaves at its end.
-use Rattle.std.specs.Prelude.{◌≡◌, ◌⊎◌, ℕ, length, All, Bool, false, IsTrue, Ok}
+use Rattle.std.specs.Prelude.{◌≡◌, ◌⊎◌, ℕ, ◌≤◌, length, All, Bool, false, IsTrue, Ok}
 use Rattle.array_scan.specs.Layout.{pending_stripes}
+use Rattle.cauchy.specs.Recovery.{AreBytes}
 use Rattle.content_file.specs.Load.{HasFailed}
 use Rattle.content_file.specs.Save.{HasSaved}
 use Rattle.content_file.specs.Spelling.{spelling}
 use Rattle.disk_model.specs.Cause.{Rose}
 use Rattle.disk_model.specs.Files.{Files}
+use Rattle.disk_model.specs.Moments.{MayLeave}
 use Rattle.disk_model.specs.Vault.{Holds, IsSettled, copies_of}
 use Rattle.parity_writer.specs.Parity.{Rows, no_rows}
 use Rattle.parity_writer.specs.Sound.{Snapshot}
@@ -17,7 +19,7 @@ use Rattle.snap_sync.specs.Ended.{IsFoundIn}
 use Rattle.snap_sync.specs.Findings.{events_of}
 use Rattle.snap_sync.specs.Images.{rows_after}
 use Rattle.snap_sync.specs.Part.{AllTell, AllVerified, AreOfPartSyncs, IsFullSync, IsPartSync, NoneRose, SyncRun, layout_by, readings_by, run_trees, verified_stripes}
-use Rattle.snap_sync.specs.Reading.{StripeReading, is_verified, stripes_of}
+use Rattle.snap_sync.specs.Reading.{StripeReading, is_verified, row_of, stripes_of}
 use Rattle.snap_sync.specs.Soundness.{AreSound, changed_without, snapshot_with}
 use Rattle.snap_top.specs.Ended.{IsEndStatus, WentToItsEnd}
 use Rattle.snap_top.specs.Opening.{IsConfigured, asked_by}
@@ -28,8 +30,9 @@ use Rattle.snap_top.specs.Task.{Did, fixes, reads_only, syncs, may_stand, end_ta
 
 -- ---- what a run did
 
--- The sync of a run: it is by the configuration that was asked for, over the folders and the vault that the opener held. Where no copy's reading
--- failed, the table that it loaded is that of the first copy that is a content file.
+-- The sync of a run: it is by the configuration that was asked for, over the folders and the vault that the opener held. Where these folders tell
+-- their trees, the rows that it read are of bytes. Where no copy's reading failed, the table that it loaded is that of the first copy that is a content
+-- file.
 pub record IsSyncOf (before : Entry) (exit : Exit) (run : SyncRun) : Type 0 where
   pub way : SyncWay
   pub readers : ℕ
@@ -39,6 +42,7 @@ pub record IsSyncOf (before : Entry) (exit : Exit) (run : SyncRun) : Type 0 wher
   pub moment_is : run.plan.now ≡ before.moment
   pub copies_are : copies_of before.opener.vault ≡ length run.setup.contents
   pub over : SyncsOver (copies_of before.opener.vault) before.opener.vault.files run
+  pub bytes : AllTell run.folders → All (λ (reading : StripeReading). AreBytes (row_of reading)) run.readings
   pub from : ((copy : ℕ) → ¬ (HasFailed before.opener.vault exit.after.vault copy))
       → SyncsFrom before.seed (copies_of before.opener.vault) before.opener.vault.files run
 
@@ -82,16 +86,33 @@ abbrev pub StandsIn : Entry → Exit → Files → Type 0
 StandsIn before exit files = (files ≡ exit.after.vault.files)
     ⊎ (IsTrue exit.after.vault.images.told × exit.after.vault.images.since before.opener.vault.images.moment files)
 
+-- the files of the vault as they read at the end of a run, or as a stop then might leave them
+abbrev pub StandsAfter : Exit → Files → Type 0
+StandsAfter exit files = (files ≡ exit.after.vault.files) ⊎ (IsTrue exit.after.vault.images.told × MayLeave exit.after.vault.images files)
+
+-- how many stripes a run read so as to close them
+abbrev pub stripes_read : Did → ℕ
+stripes_read reads_only = 0
+stripes_read (syncs failed run) = length run.readings
+stripes_read (fixes failed run) = 0
+
 -- the rows of the stripes that a run has closed once it read so many
 abbrev pub rows_closed : Did → ℕ → Rows
 rows_closed reads_only count = no_rows
 rows_closed (syncs failed run) count = rows_after run.plan run.readings count
 rows_closed (fixes failed run) count = no_rows
 
--- Sound at a moment of a run: with the rows that it has closed by then in the snapshot, and nothing of their stripes changed from outside.
+-- Sound once a run read so many stripes: with the rows of those that it has closed by then in the snapshot, and nothing of these stripes changed from
+-- outside.
+abbrev pub IsSoundWith : Did → ℕ → ℕ → Files → Snapshot → (ℕ → ℕ → Bool) → Type 0
+IsSoundWith did count copies files snapshot is_changed =
+    AreSound copies files (snapshot_with (rows_closed did count) snapshot) (changed_without (rows_closed did count) is_changed)
+
+-- Sound at a moment of a run: once it read some number of its stripes.
 pub record IsSoundIn (did : Did) (copies : ℕ) (files : Files) (snapshot : Snapshot) (is_changed : ℕ → ℕ → Bool) : Type 0 where
   pub count : ℕ
-  pub sound : AreSound copies files (snapshot_with (rows_closed did count) snapshot) (changed_without (rows_closed did count) is_changed)
+  pub within : count ≤ stripes_read did
+  pub sound : IsSoundWith did count copies files snapshot is_changed
 
 -- What the copies hold at a moment of a run: what they held at its beginning or, where the folders tell their trees, the table of a part sync of
 -- what was laid out of them.
@@ -107,9 +128,28 @@ IsSupposed reads_only copies files snapshot = Unit {0}
 IsSupposed (syncs failed run) copies files snapshot = Unit {0}
 IsSupposed (fixes failed run) copies files snapshot = IsGenuineFix run copies files snapshot
 
+-- A run was asked for a sync, and went to its end.
+pub record SyncsToItsEnd (before : Entry) (exit : Exit) (status : ℕ) : Type 0 where
+  pub asked : Options
+  pub way : SyncWay
+  pub words : asked_by before.texts ≡ Ok asked
+  pub command_is : asked.command ≡ commands.Sync way
+  pub went : WentToItsEnd before exit status
+
+-- Its sync read all pending stripes of its layout. Where all copies were sound at its beginning, those that it left are with the rows of all that it
+-- closed.
+pub record IsSoundAtEnd (before : Entry) (exit : Exit) : Type 0 where
+  pub run : SyncRun
+  pub is_sync : IsSyncOf before exit run
+  pub all : stripes_of run.readings ≡ pending_stripes run.plan.start.infos
+  pub sound : (files : Files) (snapshot : Snapshot) (is_changed : ℕ → ℕ → Bool) → StandsAfter exit files
+      → AreSound (copies_of before.opener.vault) before.opener.vault.files snapshot is_changed
+      → IsSoundWith (syncs false run) (length run.readings) (copies_of before.opener.vault) files snapshot is_changed
+
 -- Where all copies are sound at the beginning of a run, they are at each moment of it, whatever it answers. What a run did is to read, to sync, or to fix;
--- of a fix this rests on that no hash was met by chance, and that all content files have blocks of its size.
-pub record IsSoundAlways (before : Entry) (exit : Exit) : Type 0 where
+-- of a fix this rests on that no hash was met by chance, and that all content files have blocks of its size. How many of its stripes a sync has read at
+-- a moment is open; at its end it has read all.
+pub record IsSoundAlways (before : Entry) (exit : Exit) (status : ℕ) : Type 0 where
   pub did : Did
   pub is_did : IsDidOf before exit did
   pub reads : (asked : Options) → asked_by before.texts ≡ Ok asked → ChangesNothing asked.command → did ≡ reads_only
@@ -120,9 +160,10 @@ pub record IsSoundAlways (before : Entry) (exit : Exit) : Type 0 where
       → AreSound (copies_of before.opener.vault) before.opener.vault.files snapshot is_changed
       → IsSupposed did (copies_of before.opener.vault) before.opener.vault.files snapshot
       → IsSoundIn did (copies_of before.opener.vault) files snapshot is_changed
+  pub synced : SyncsToItsEnd before exit status → IsSoundAtEnd before exit
 
-abbrev pub EveryMomentIsSound : Entry → Exit → Type 0
-EveryMomentIsSound before exit = HoldsFresh before → IsSoundAlways before exit
+abbrev pub EveryMomentIsSound : Entry → Exit → ℕ → Type 0
+EveryMomentIsSound before exit status = HoldsFresh before → IsSoundAlways before exit status
 
 -- ---- the end of a sync
 
@@ -139,6 +180,7 @@ pub record TellsAll (before : Entry) : Type 0 where
 pub record EndsInPart (before : Entry) (exit : Exit) (status : ℕ) : Type 0 where
   pub run : SyncRun
   pub is_sync : IsSyncOf before exit run
+  pub tells : IsTrue exit.after.vault.tells
   pub all : stripes_of run.readings ≡ pending_stripes run.plan.start.infos
   pub laid : run.plan.start ≡ layout_by run.setup run.loaded (run_trees run)
   pub given : NoneRose run.folders exit.after.folders

@@ -1,11 +1,10 @@
 -- Syncs of runs that are stopped one after another, said by what `run` says of each of them. Runs that change nothing may stand between.
-use Rattle.std.specs.Prelude.{◌≡◌, ◌⊎◌, ℕ, List, [], ◌∷◌, length, take, Bool, IsTrue, Option, Ok}
+use Rattle.std.specs.Prelude.{◌≡◌, ◌⊎◌, ℕ, List, [], ◌∷◌, length, take, Bool, Option, Ok}
 use Rattle.content_file.specs.Load.{HasFailed}
 use Rattle.content_file.specs.Save.{HasSaved}
 use Rattle.content_file.specs.Spelling.{spelling}
 use Rattle.disk_model.specs.Files.{Files}
 use Rattle.disk_model.specs.Folder.{FolderView}
-use Rattle.disk_model.specs.Moments.{MayLeave}
 use Rattle.disk_model.specs.Opener.{OpenerView}
 use Rattle.disk_model.specs.Sink.{SinkView}
 use Rattle.disk_model.specs.Tree.{Tree}
@@ -18,7 +17,7 @@ use Rattle.snap_config.specs.declared.options.Options.{Options}
 use Rattle.snap_config.specs.declared.options.SyncWay.{SyncWay}
 use Rattle.snap_sync.specs.Part.{trees_of}
 use Rattle.snap_sync.specs.Resumed.{EndsAs}
-use Rattle.snap_top.specs.Moment.{ChangesNothing, EveryMomentIsSound, HoldsFresh, StandsIn, SyncsEndInPart, TellsAll}
+use Rattle.snap_top.specs.Moment.{ChangesNothing, EveryMomentIsSound, HoldsFresh, StandsAfter, StandsIn, SyncsEndInPart, TellsAll}
 use Rattle.snap_top.specs.Opening.{asked_by}
 use Rattle.snap_top.specs.Run.{Entry, Exit, at_entry, exit_of}
 use Rattle.snap_top.specs.Sync.{HasNoCopy}
@@ -67,11 +66,6 @@ pub record AsksForSync (setup : SetupValue) (trees : List Tree) (seed : List ℕ
   pub seed_is : HasNoCopy (length setup.contents) files → before.seed ≡ seed
   pub reads_well : (copy : ℕ) → ¬ (HasFailed before.opener.vault exit.after.vault copy)
 
--- the files of the vault as they read at the end of a run, or as a stop then might leave them
-abbrev pub StandsAfter : Exit → Files → Type 0
-StandsAfter exit files = (IsTrue exit.after.vault.tells × (files ≡ exit.after.vault.files))
-    ⊎ (IsTrue exit.after.vault.images.told × MayLeave exit.after.vault.images files)
-
 module _ {O F V W : Type 0} (opener_view : O → OpenerView) (folder_view : F → FolderView) (vault_view : V → VaultView) (sink_view : W → SinkView)
     (setup : SetupValue) (trees : List Tree) (seed : List ℕ) where
   -- such a sync ended with status 0, and this is what it left
@@ -84,7 +78,7 @@ module _ {O F V W : Type 0} (opener_view : O → OpenerView) (folder_view : F �
   -- such a sync was stopped at some moment, or ended with whatever status
   pub record IsStopped (files : Files) (stop : StoppedRun O F V W) : Type 0 where
     pub asks : AsksForSync setup trees seed files (entry_of opener_view sink_view stop.run) (end_of opener_view folder_view vault_view sink_view stop.run)
-    pub sound : EveryMomentIsSound (entry_of opener_view sink_view stop.run) (end_of opener_view folder_view vault_view sink_view stop.run)
+    pub sound : EveryMomentIsSound (entry_of opener_view sink_view stop.run) (end_of opener_view folder_view vault_view sink_view stop.run) stop.run.status
     pub stands : StandsIn (entry_of opener_view sink_view stop.run) (end_of opener_view folder_view vault_view sink_view stop.run) stop.left
 
   -- A run of a command that changes nothing, by whichever configuration and over whichever trees, was stopped at some moment or ended. The vault was
@@ -95,7 +89,7 @@ module _ {O F V W : Type 0} (opener_view : O → OpenerView) (folder_view : F �
     pub command_is : ChangesNothing asked.command
     pub fresh : HoldsFresh (entry_of opener_view sink_view stop.run)
     pub files_are : (entry_of opener_view sink_view stop.run).opener.vault.files ≡ files
-    pub sound : EveryMomentIsSound (entry_of opener_view sink_view stop.run) (end_of opener_view folder_view vault_view sink_view stop.run)
+    pub sound : EveryMomentIsSound (entry_of opener_view sink_view stop.run) (end_of opener_view folder_view vault_view sink_view stop.run) stop.run.status
     pub stands : StandsIn (entry_of opener_view sink_view stop.run) (end_of opener_view folder_view vault_view sink_view stop.run) stop.left
 
   -- one after another, each over what the one before it left

@@ -19,6 +19,7 @@ use crate::opening::{Session, open_all};
 use crate::saying::say;
 use crate::{End, Ending};
 use array_scan::laws::a_layout_keeps_its_stripes;
+use content_file::laws::one_table_has_a_spelling;
 use content_file::load;
 use disk_model::{Folder, Opener, Sink, Vault};
 use file_table::Table;
@@ -176,7 +177,8 @@ pub fn run<R: Threads + Sync, O: Opener, W: Sink, E: Sink>(
         result.status }
     ensures silent { IsSilent result.status (E.view err.old) (E.view err.new) }
     ensures sound { EveryMomentIsSound (at_entry (map string_bytes words.now) (O.view opener.old) (W.view out.old) now seed)
-        (exit_of O.Folder.view O.Vault.view (O.view opener.new) result.folders.items result.vault (W.view out.new)) }
+        (exit_of O.Folder.view O.Vault.view (O.view opener.new) result.folders.items result.vault (W.view out.new))
+        result.status }
     ensures synced { SyncsEndInPart (at_entry (map string_bytes words.now) (O.view opener.old) (W.view out.old) now seed)
         (exit_of O.Folder.view O.Vault.view (O.view opener.new) result.folders.items result.vault (W.view out.new))
         result.status }
@@ -194,6 +196,7 @@ pub fn run<R: Threads + Sync, O: Opener, W: Sink, E: Sink>(
     a_sync_is_a_part_sync();
     what_is_pending_is_found();
     every_moment_is_sound();
+    one_table_has_a_spelling();
     a_fix_keeps_what_is_sound();
     a_fix_restores();
     a_known_row_is_the_snapshots();
