@@ -1,5 +1,5 @@
 -- What the fix of a run does, from the table that it begins with.
-use Rattle.std.specs.Prelude.{◌≡◌, ◌⊎◌, ℕ, ◌<◌, List, [], ◌++◌, length, All, Bool, true, false, None, count_by, sum_by}
+use Rattle.std.specs.Prelude.{◌≡◌, ◌⊎◌, ℕ, ◌<◌, List, ◌++◌, length, All, Bool, true, false, None, count_by, sum_by}
 use Rattle.array_scan.specs.Kept.{ListedFile}
 use Rattle.array_scan.specs.Listings.{ListsAll}
 use Rattle.disk_model.specs.Cause.{RoseBy}
