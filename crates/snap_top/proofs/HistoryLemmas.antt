@@ -2,6 +2,7 @@
 use Rattle.std.proofs.Common.{⊎_elim, ℕ, suc, ◌+◌, ◌*◌, ◌==◌, List, [], ◌∷◌, length, take, Bool, true, false, All, IfSome, Option, None, Some, if◌then◌else◌, refl, sym, ◌∙◌, subst, arith}
 use Rattle.std.proofs.lemmas.List.Elements.{All-take}
 use Rattle.cauchy.specs.Recovery.{AreBytes}
+use Rattle.content_file.specs.Save.{HasSaved}
 use Rattle.content_file.specs.Spelling.{spelling}
 use Rattle.disk_model.specs.Files.{Files}
 use Rattle.disk_model.specs.Folder.{FolderView}
@@ -20,7 +21,7 @@ use Rattle.snap_top.specs.History.{AreSoundBy, Changes, IsChange, IsHistory, IsO
 use Rattle.snap_top.specs.Moment.{IsDidOf, IsSoundAlways, IsSoundAtEnd, IsSupposed}
 use Rattle.snap_top.specs.Resumed.{end_of, entry_of}
 use Rattle.snap_top.specs.Run.{Entry, Exit}
-use Rattle.snap_top.specs.Task.{Did, fixes, reads_only, syncs}
+use Rattle.snap_top.specs.Task.{Did, end_table, fixes, reads_only, syncs}
 use Rattle.snap_top.proofs.OfFixLemmas.{loaded_sound}
 
 -- a change from outside keeps what it doesn't count as changed
@@ -110,7 +111,7 @@ module _ {O F V W : Type 0} (opener_view : O → OpenerView) (folder_view : F �
               };
             };
         synced = λ asked stands.
-            let ended : IsSoundAtEnd before exit = always.synced asked in
+            let ended : IsSoundAtEnd before exit stop.run.status = always.synced asked in
             let did : Did = syncs false ended.run in
             let count : ℕ = length ended.run.readings in
             let after : AreSoundBy copies stop.left (synced_by did count last)
@@ -119,6 +120,8 @@ module _ {O F V W : Type 0} (opener_view : O → OpenerView) (folder_view : F �
               run = ended.run;
               is_sync = ended.is_sync;
               all = ended.all;
+              saved = subst (λ (n : ℕ). HasSaved n (spelling (end_table ended.run)) stop.left) runs.copies_are (ended.saved stop.left stands);
+              clean = ended.clean;
               once = record {
                 sound = after;
                 bytes = stays_of_bytes before exit did count last ended.is_sync;

@@ -34,7 +34,7 @@ use Rattle.snap_top.proofs.OfFixLemmas.{HasFix, HasSync, genuine_of, run_did}
 use Rattle.snap_top.proofs.OfSyncLemmas.{KeepsItsStripes}
 use Rattle.snap_top.proofs.BytesLemmas.{AreFormed}
 use Rattle.snap_top.proofs.RunLemmas.{stands_still}
-use Rattle.snap_top.proofs.SyncEndLemmas.{sound_at_end, sync_ended}
+use Rattle.snap_top.proofs.SyncEndLemmas.{FindsWhatIsPending, sound_at_end, sync_ended}
 use Rattle.snap_top.proofs.SyncedLemmas.{MomentsAreSound, OneTable}
 
 -- ---- what snap_sync says of its moments
@@ -55,7 +55,7 @@ FixKeepsSound = (plan : FixPlan) (starts : StartsValue) (firsts : List FolderVie
 
 -- ---- what stands at a moment
 
-module _ (before : Entry) (exit : Exit) (status : ℕ) (fresh : HoldsFresh before) (synced : SyncsToItsEnd before exit status → IsSoundAtEnd before exit) where
+module _ (before : Entry) (exit : Exit) (status : ℕ) (fresh : HoldsFresh before) (synced : SyncsToItsEnd before exit status → IsSoundAtEnd before exit status) where
   abbrev old : Files
   old = before.opener.vault.files
 
@@ -156,15 +156,15 @@ module _ (before : Entry) (exit : Exit) (status : ℕ) (fresh : HoldsFresh befor
         sound_fixing keeps_sound fix.failed fix.run fix.is_fix (stands_by (fixes fix.failed fix.run) (subst (λ d. ChangesBy (may_stand d) before.opener.vault exit.after.vault) fix.did_is changes))
 
 -- of each run
-pub every_moment : LayoutIsOfTrees → CopiesAreOfPartSyncs → MomentsAreSound → FixKeepsSound → KeepsItsStripes → OneTable → (before : Entry) (exit : Exit) (end : End) (told : List Event) (status : ℕ)
+pub every_moment : LayoutIsOfTrees → CopiesAreOfPartSyncs → MomentsAreSound → FixKeepsSound → KeepsItsStripes → OneTable → FindsWhatIsPending → (before : Entry) (exit : Exit) (end : End) (told : List Event) (status : ℕ)
     → before.moment < 2 ^ 64 → AreFormed exit → status ≡ status_of end → Ran before exit end told → EveryMomentIsSound before exit status
-every_moment laid of_parts sound keeps_sound keeps one_table before exit end told status in_time formed is ran fresh = by end ran at_end
+every_moment laid of_parts sound keeps_sound keeps one_table finds before exit end told status in_time formed is ran fresh = by end ran at_end
   where
-    at_end : SyncsToItsEnd before exit status → IsSoundAtEnd before exit
+    at_end : SyncsToItsEnd before exit status → IsSoundAtEnd before exit status
     at_end asked =
-        sound_at_end keeps before exit fresh.tells fresh.tells_vault in_time formed status (sync_ended before exit end told status fresh.tells is ran asked) one_table sound
+        sound_at_end keeps before exit fresh.tells fresh.tells_vault in_time formed status (sync_ended before exit end told status fresh.tells is ran asked) one_table sound finds
 
-    by : (end : End) → Ran before exit end told → (SyncsToItsEnd before exit status → IsSoundAtEnd before exit) → IsSoundAlways before exit status
+    by : (end : End) → Ran before exit end told → (SyncsToItsEnd before exit status → IsSoundAtEnd before exit status) → IsSoundAlways before exit status
     by (Refused why) ran synced = sound_reading before exit status fresh synced (stands_same before exit status fresh synced ran.vault)
     by (Worked setup ending) ran synced =
         sound_run before exit status fresh synced laid of_parts sound keeps_sound ran.did (ran.changes fresh.tells)

@@ -1,5 +1,5 @@
 -- A sync that is done is the part sync of its layout, and every copy spells its table.
-use Rattle.std.proofs.Common.{◌≡◌, ◌↔◌, All, ℕ, ◌^◌, ◌<◌, ◌≤◌, List, length, take, false, refl, sym, ap, ◌∙◌, subst, arith}
+use Rattle.std.proofs.Common.{◌≡◌, All, ℕ, ◌^◌, ◌<◌, ◌≤◌, List, length, take, false, sym, ap, ◌∙◌, subst, arith}
 use Rattle.std.proofs.lemmas.List.{take_all}
 use Rattle.array_scan.specs.Layout.{pending_stripes}
 use Rattle.content_file.specs.Save.{HasSaved}
@@ -7,27 +7,24 @@ use Rattle.content_file.specs.Spelling.{spelling}
 use Rattle.disk_model.specs.Files.{Files}
 use Rattle.disk_model.specs.Vault.{VaultView, Holds}
 use Rattle.file_table.specs.Table.{TableValue}
-use Rattle.snap_report.specs.Answer.{status_of as answer_status}
 use Rattle.snap_report.specs.declared.events.Event.{Event}
 use Rattle.snap_sync.specs.Closing.{closed}
-use Rattle.snap_sync.specs.Ended.{IsEndOf, IsFoundIn}
+use Rattle.snap_sync.specs.Ended.{IsFoundIn}
 use Rattle.snap_sync.specs.Findings.{events_of}
 use Rattle.snap_sync.specs.Images.{HasParityAfter}
 use Rattle.snap_sync.specs.Part.{AllTell, AllVerified, IsFullSync, IsPartSync, IsToldRun, NoneRose, SyncRun, readings_by, run_table, run_trees, run_verified, verified_stripes}
 use Rattle.snap_sync.specs.Reading.{StripeReading, is_verified, stripes_of}
-use Rattle.snap_sync.specs.declared.syncing.SyncEnd.{SyncEnd}
 use Rattle.snap_top.specs.End.{status_of}
-use Rattle.snap_top.specs.Ended.{IsEndStatus}
 use Rattle.snap_top.specs.Moment.{EndsInPart, IsSyncOf, SyncsEndInPart, TellsAll}
 use Rattle.snap_top.specs.Run.{Entry, Exit, Ran}
 use Rattle.snap_top.specs.Task.{LeavesSynced, end_table}
 use Rattle.snap_top.specs.declared.end.End.{End}
 use Rattle.snap_top.specs.declared.end.Ending.TheVariants.{Answered}
 use Rattle.snap_top.proofs.BytesLemmas.{AreFormed}
-use Rattle.snap_top.proofs.EndedLemmas.{done_status, output_rose, well_as}
+use Rattle.snap_top.proofs.EndedLemmas.{output_rose}
 use Rattle.snap_top.proofs.MomentLemmas.{LayoutIsOfTrees}
 use Rattle.snap_top.proofs.OfSyncLemmas.{KeepsItsStripes}
-use Rattle.snap_top.proofs.SyncEndLemmas.{HasEndedSync, all_of, is_sync as sync_is, run as run_ended, stands, still_tells, sync_ended}
+use Rattle.snap_top.proofs.SyncEndLemmas.{FindsWhatIsPending, HasEndedSync, all_of, is_sync as sync_is, run as run_ended, stands, status_well, still_tells, sync_ended}
 
 -- ---- what snap_sync says of a sync that ended
 
@@ -42,9 +39,6 @@ VerifiedIsFullSync = (run : SyncRun) (files new : Files) → IsToldRun run → l
 
 abbrev pub ReadIsGiven : Type 0
 ReadIsGiven = (run : SyncRun) → IsToldRun run → NoneRose run.folders run.ended → run.readings ≡ readings_by run.plan.start (run_trees run) (stripes_of run.readings)
-
-abbrev pub FindsWhatIsPending : Type 0
-FindsWhatIsPending = (start : TableValue) (now : ℕ) (readings : List StripeReading) (end : SyncEnd) → IsEndOf start now readings end → (end.findings ≡ 0) ↔ AllVerified start readings
 
 abbrev pub PendingIsFound : Type 0
 PendingIsFound = (start : TableValue) (readings : List StripeReading) → All (λ (reading : StripeReading). is_verified start reading ≡ false → IsFoundIn (events_of start readings) reading.stripe) readings
@@ -82,17 +76,6 @@ module _ (laid : LayoutIsOfTrees) (part : ReadIsPartSync) (full : VerifiedIsFull
   abbrev whole : take (length run.readings) run.readings ≡ run.readings
   whole = take_all (length run.readings) run.readings (omega arith)
 
-  status_well : IsEndStatus status sync.ends.prints.failed (AllVerified run.plan.start run.readings)
-  status_well =
-      let end : SyncEnd = record { table = end_table run; synced = sync.ends.synced; pending = sync.ends.pending; findings = sync.left.counted } in
-      let counts = finds run.plan.start run.plan.now run.readings end (record {
-        table_is = refl;
-        synced = sync.ends.synced_is;
-        pending = sync.ends.pending_is ∙ sym sync.ends.all;
-        findings = sync.ends.counted_is;
-      }) in
-      well_as status sync.ends.prints.failed counts (done_status sync.left.counted status sync.ends.prints.failed (sync.status_is ∙ ap answer_status sync.ends.prints.answer_is))
-
   ended_in_part : EndsInPart before exit status
   ended_in_part = record {
     run = run;
@@ -109,7 +92,7 @@ module _ (laid : LayoutIsOfTrees) (part : ReadIsPartSync) (full : VerifiedIsFull
     found = found run.plan.start run.readings;
     full = λ all_verified. holds_on (LeavesSynced run old) _ exit.after.vault (λ new synced. full run old new told_run sync.ends.all all_verified synced.parity) leaves;
     output_failed = sync.ends.prints.failed;
-    status_is = status_well;
+    status_is = status_well keeps before exit tells.tells tells.tells_vault in_time formed status sync finds;
     output = output_rose before exit sync.setup (Answered sync.answer sync.named) sync.told sync.ran sync.left sync.one sync.ends.prints.failed sync.ends.prints.answer_is;
   }
 

@@ -1,8 +1,10 @@
--- The sync of a run that went to its end: what it read and what it left, and that this is sound with the rows of all that it read.
-use Rattle.std.proofs.Common.{◌≡◌, inl, inr, ⊎_elim, ℕ, ◌+◌, ◌^◌, ◌<◌, List, ◌++◌, length, take, false, true, IsTrue, Option, sym, ap, ◌∙◌, subst, arith}
+-- The sync of a run that went to its end: what it read, its status and what it left, and that this is sound with the rows of all that it read.
+use Rattle.std.proofs.Common.{◌≡◌, ◌↔◌, inl, inr, ⊎_elim, ℕ, ◌+◌, ◌^◌, ◌<◌, List, ◌++◌, length, take, false, true, IsTrue, Option, refl, sym, ap, ◌∙◌, subst, arith}
 use Rattle.std.proofs.Math.Seq.{take-append_seam}
 use Rattle.std.proofs.lemmas.List.{length-append, length-map, map-append, take-take, take_all}
 use Rattle.array_scan.specs.Layout.{pending_stripes}
+use Rattle.content_file.specs.Save.{HasSaved}
+use Rattle.content_file.specs.Spelling.{spelling}
 use Rattle.disk_model.specs.Files.{Files}
 use Rattle.disk_model.specs.Vault.{Holds, VaultState, copies_of}
 use Rattle.file_table.specs.Table.{TableValue}
@@ -17,26 +19,32 @@ use Rattle.snap_report.specs.declared.answer.Answer.{Answer}
 use Rattle.snap_report.specs.declared.answer.Answer.TheVariants as answers
 use Rattle.snap_report.specs.declared.answer.RunFault.TheVariants as runs
 use Rattle.snap_report.specs.declared.events.Event.{Event}
+use Rattle.snap_sync.specs.Ended.{IsEndOf}
 use Rattle.snap_sync.specs.Images.{rows_after}
-use Rattle.snap_sync.specs.Part.{SyncRun}
+use Rattle.snap_sync.specs.Part.{AllVerified, SyncRun}
 use Rattle.snap_sync.specs.Reading.{StripeReading, stripes_of}
 use Rattle.snap_sync.specs.Soundness.{AreSound, changed_without, snapshot_with}
+use Rattle.snap_sync.specs.declared.syncing.SyncEnd.{SyncEnd}
 use Rattle.snap_top.specs.Does.{DoesCommand}
 use Rattle.snap_top.specs.End.{status_of}
-use Rattle.snap_top.specs.Ended.{has_ended}
+use Rattle.snap_top.specs.Ended.{IsEndStatus, has_ended}
 use Rattle.snap_top.specs.Moment.{IsSoundAtEnd, IsSyncOf, StandsAfter, SyncsToItsEnd}
 use Rattle.snap_top.specs.Opening.{asked_by}
 use Rattle.snap_top.specs.Run.{Entry, Exit, IsAnswered, IsRun, Ran}
 use Rattle.snap_top.specs.Syncing.{SyncEnds, SyncsBy, run_of}
-use Rattle.snap_top.specs.Task.{Task, Did, LeavesSynced, Left, stands_after}
+use Rattle.snap_top.specs.Task.{Task, Did, LeavesSynced, Left, end_table, stands_after}
 use Rattle.snap_top.specs.Views.{World, world_of}
 use Rattle.snap_top.specs.declared.end.End.{End}
 use Rattle.snap_top.specs.declared.end.Ending.TheVariants.{Answered}
 use Rattle.snap_top.proofs.BytesLemmas.{AreFormed}
 use Rattle.snap_top.proofs.CompleteLemmas.{same_ok}
-use Rattle.snap_top.proofs.EndedLemmas.{IsDoneAnswer, goes_to_its_end, only_read}
+use Rattle.snap_top.proofs.EndedLemmas.{IsDoneAnswer, done_status, goes_to_its_end, only_read, well_as}
 use Rattle.snap_top.proofs.OfSyncLemmas.{KeepsItsStripes, HasCourse, given_is, sync_of}
 use Rattle.snap_top.proofs.SyncedLemmas.{MomentsAreSound, OneTable, all_count}
+
+-- what snap_sync says of its findings
+abbrev pub FindsWhatIsPending : Type 0
+FindsWhatIsPending = (start : TableValue) (now : ℕ) (readings : List StripeReading) (end : SyncEnd) → IsEndOf start now readings end → (end.findings ≡ 0) ↔ AllVerified start readings
 
 -- what holds in a vault at the end of a run, holds of what stands then
 pub stands_then : (P : Files → Type 0) (exit : Exit) (files : Files) → IsTrue exit.after.vault.tells → Holds P exit.after.vault → StandsAfter exit files → P files
@@ -145,15 +153,33 @@ module _ (keeps : KeepsItsStripes) (before : Entry) (exit : Exit) (tells : IsTru
   pub still_tells : IsTrue exit.after.vault.tells
   still_tells = sync.ran.keeps.vault.goes_on.tells ∙ ap (λ (s : VaultState). s.tells) (given_is before exit tells tells_vault sync.setup (Answered sync.answer sync.named) sync.told sync.ran) ∙ tells_vault
 
+  -- what stands then
+  left_synced : (files : Files) → StandsAfter exit files → LeavesSynced run old files
+  left_synced files stand = stands_then (LeavesSynced run old) exit files still_tells stands stand
+
+  -- its status
+  pub status_well : FindsWhatIsPending → IsEndStatus status sync.ends.prints.failed (AllVerified run.plan.start run.readings)
+  status_well finds =
+      let end : SyncEnd = record { table = end_table run; synced = sync.ends.synced; pending = sync.ends.pending; findings = sync.left.counted } in
+      let counts = finds run.plan.start run.plan.now run.readings end (record {
+        table_is = refl;
+        synced = sync.ends.synced_is;
+        pending = sync.ends.pending_is ∙ sym sync.ends.all;
+        findings = sync.ends.counted_is;
+      }) in
+      well_as status sync.ends.prints.failed counts (done_status sync.left.counted status sync.ends.prints.failed (sync.status_is ∙ ap answer_status sync.ends.prints.answer_is))
+
   -- this is sound with the rows of all that it read
-  pub sound_at_end : OneTable → MomentsAreSound → IsSoundAtEnd before exit
-  sound_at_end one_table moments = record {
+  pub sound_at_end : OneTable → MomentsAreSound → FindsWhatIsPending → IsSoundAtEnd before exit status
+  sound_at_end one_table moments finds = record {
     run = run;
     is_sync = is_sync;
     all = all_of;
+    saved = λ files stand. subst (λ (n : ℕ). HasSaved n (spelling (end_table run)) files) is_sync.over.copies_are (left_synced files stand).saved;
+    clean = λ zero. ((status_well finds).clean.0 zero).1;
     sound = λ files snapshot is_changed stand are.
         let rows : Rows = rows_after run.plan run.readings (length run.readings) in
         subst (λ (n : ℕ). AreSound n files (snapshot_with rows snapshot) (changed_without rows is_changed)) is_sync.over.copies_are
-        (all_count one_table moments run (copies_of before.opener.vault) old files is_sync.over all_of (stands_then (LeavesSynced run old) exit files still_tells stands stand) snapshot is_changed
+        (all_count one_table moments run (copies_of before.opener.vault) old files is_sync.over all_of (left_synced files stand) snapshot is_changed
         (subst (λ (n : ℕ). AreSound n old snapshot is_changed) (sym is_sync.over.copies_are) are));
   }

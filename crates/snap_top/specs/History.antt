@@ -2,6 +2,7 @@
 use Rattle.std.specs.Prelude.{◌≡◌, ◌⊎◌, ℕ, ◌+◌, ◌*◌, ◌<◌, ◌≤◌, List, [], ◌∷◌, length, Bool, false, Some}
 use Rattle.array_scan.specs.Layout.{pending_stripes}
 use Rattle.cauchy.specs.Recovery.{AreBytes}
+use Rattle.content_file.specs.Save.{HasSaved}
 use Rattle.content_file.specs.Spelling.{spelling}
 use Rattle.disk_model.specs.Files.{Files, content_of, parity_of}
 use Rattle.disk_model.specs.Folder.{FolderView}
@@ -14,7 +15,7 @@ use Rattle.parity_writer.specs.Keeps.{HasByte}
 use Rattle.parity_writer.specs.Sound.{Snapshot}
 use Rattle.snap_fix.specs.Fixing.{facts_of}
 use Rattle.snap_fix.specs.Genuine.{AreGenuine}
-use Rattle.snap_sync.specs.Part.{AllTell, SyncRun}
+use Rattle.snap_sync.specs.Part.{AllTell, AllVerified, SyncRun}
 use Rattle.snap_sync.specs.Reading.{stripes_of}
 use Rattle.snap_sync.specs.Soundness.{AreSound, changed_without, snapshot_with}
 use Rattle.snap_top.specs.Moment.{EveryMomentIsSound, HoldsFresh, IsDidOf, IsSupposed, IsSyncOf, StandsAfter, StandsIn, SyncsToItsEnd}
@@ -23,7 +24,7 @@ use Rattle.snap_top.specs.Restoring.{EndsFixed, Restores}
 use Rattle.snap_top.specs.Resumed.{StoppedRun, end_of, entry_of}
 use Rattle.snap_top.specs.Run.{Entry, Exit}
 use Rattle.snap_top.specs.Sync.{HoldsNoContent}
-use Rattle.snap_top.specs.Task.{Did, syncs}
+use Rattle.snap_top.specs.Task.{Did, end_table, syncs}
 
 -- The snapshot: of each stripe the row that was last synced. And which levels of which stripes were changed from outside since then.
 pub record LastSynced : Type 0 where
@@ -80,11 +81,15 @@ pub record IsSoundThen (before : Entry) (did : Did) (copies : ℕ) (left : Files
   pub within : count ≤ stripes_read did
   pub once : IsSoundOnce before did count copies left last GoesOn
 
--- At the end of a sync it is all, and these are the pending stripes of its layout.
-pub record IsSoundSynced (before : Entry) (exit : Exit) (copies : ℕ) (left : Files) (last : LastSynced) (GoesOn : LastSynced → Type 0) : Type 0 where
+-- At the end of a sync it is all, and these are the pending stripes of its layout. Each copy spells the table that calls those synced whose rows
+-- count; with status 0 they are all.
+pub record IsSoundSynced (before : Entry) (exit : Exit) (status copies : ℕ) (left : Files) (last : LastSynced) (GoesOn : LastSynced → Type 0)
+    : Type 0 where
   pub run : SyncRun
   pub is_sync : IsSyncOf before exit run
   pub all : stripes_of run.readings ≡ pending_stripes run.plan.start.infos
+  pub saved : HasSaved copies (spelling (end_table run)) left
+  pub clean : status ≡ 0 → AllVerified run.plan.start run.readings
   pub once : IsSoundOnce before (syncs false run) (length run.readings) copies left last GoesOn
 
 module _ {O F V W : Type 0} (opener_view : O → OpenerView) (folder_view : F → FolderView) (vault_view : V → VaultView) (sink_view : W → SinkView) where
@@ -98,15 +103,16 @@ module _ {O F V W : Type 0} (opener_view : O → OpenerView) (folder_view : F �
 
   -- Sound after a run. What it did is to read, to sync or to fix. Unless a fix met a hash by chance, or a content file has blocks of another size, the
   -- copies that it left are sound with the rows that it had closed by then, and so it goes on from there. Where it was asked for a sync and went to its
-  -- end, and this is what stands then, these are the rows of all that it closed. A fix that went to its end, and met no hash by chance, restores the
-  -- blocks of the snapshot.
+  -- end, and this is what stands then, these are the rows of all that it closed, and each copy spells its table. A fix that went to its end, and met no
+  -- hash by chance, restores the blocks of the snapshot.
   pub record IsSoundAfter (copies : ℕ) (files : Files) (last : LastSynced) (stop : StoppedRun O F V W) (GoesOn : LastSynced → Type 0) : Type 0 where
     pub did : Did
     pub is_did : IsDidOf (entry_of opener_view sink_view stop.run) (end_of opener_view folder_view vault_view sink_view stop.run) did
     pub sound : IsSupposed did copies files last.snapshot → IsSoundThen (entry_of opener_view sink_view stop.run) did copies stop.left last GoesOn
     pub synced : SyncsToItsEnd (entry_of opener_view sink_view stop.run) (end_of opener_view folder_view vault_view sink_view stop.run) stop.run.status
         → StandsAfter (end_of opener_view folder_view vault_view sink_view stop.run) stop.left
-        → IsSoundSynced (entry_of opener_view sink_view stop.run) (end_of opener_view folder_view vault_view sink_view stop.run) copies stop.left last GoesOn
+        → IsSoundSynced (entry_of opener_view sink_view stop.run) (end_of opener_view folder_view vault_view sink_view stop.run) stop.run.status copies
+        stop.left last GoesOn
     pub restores : (ends : EndsFixed (entry_of opener_view sink_view stop.run) (end_of opener_view folder_view vault_view sink_view stop.run) stop.run.status)
         → AreGenuine ends.run.plan last.snapshot (facts_of ends.run.stripes) → Restores ends.run ends.finishes last.snapshot
 

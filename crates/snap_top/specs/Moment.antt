@@ -136,12 +136,15 @@ pub record SyncsToItsEnd (before : Entry) (exit : Exit) (status : ℕ) : Type 0 
   pub command_is : asked.command ≡ commands.Sync way
   pub went : WentToItsEnd before exit status
 
--- Its sync read all pending stripes of its layout. Where all copies were sound at its beginning, those that it left are with the rows of all that it
--- closed.
-pub record IsSoundAtEnd (before : Entry) (exit : Exit) : Type 0 where
+-- Its sync read all pending stripes of its layout, and each copy that it left spells its table. With status 0 all of them are verified. Where all
+-- copies were sound at its beginning, those that it left are with the rows of all that it closed.
+pub record IsSoundAtEnd (before : Entry) (exit : Exit) (status : ℕ) : Type 0 where
   pub run : SyncRun
   pub is_sync : IsSyncOf before exit run
   pub all : stripes_of run.readings ≡ pending_stripes run.plan.start.infos
+  pub saved : (files : Files) → StandsAfter exit files
+      → HasSaved (copies_of before.opener.vault) (spelling (end_table run)) files
+  pub clean : status ≡ 0 → AllVerified run.plan.start run.readings
   pub sound : (files : Files) (snapshot : Snapshot) (is_changed : ℕ → ℕ → Bool) → StandsAfter exit files
       → AreSound (copies_of before.opener.vault) before.opener.vault.files snapshot is_changed
       → IsSoundWith (syncs false run) (length run.readings) (copies_of before.opener.vault) files snapshot is_changed
@@ -160,7 +163,7 @@ pub record IsSoundAlways (before : Entry) (exit : Exit) (status : ℕ) : Type 0 
       → AreSound (copies_of before.opener.vault) before.opener.vault.files snapshot is_changed
       → IsSupposed did (copies_of before.opener.vault) before.opener.vault.files snapshot
       → IsSoundIn did (copies_of before.opener.vault) files snapshot is_changed
-  pub synced : SyncsToItsEnd before exit status → IsSoundAtEnd before exit
+  pub synced : SyncsToItsEnd before exit status → IsSoundAtEnd before exit status
 
 abbrev pub EveryMomentIsSound : Entry → Exit → ℕ → Type 0
 EveryMomentIsSound before exit status = HoldsFresh before → IsSoundAlways before exit status

@@ -82,10 +82,11 @@ pub fn stopped_runs_are_resumed<O: Opener, F: Folder, V: Vault, W: Sink>()
 /// moment, and changes of parity and copies from outside in between. Where the copies were sound before the first of
 /// them, they are sound after each: with the rows of the stripes that syncs have closed by then in the snapshot, as
 /// long as no fix met a recorded hash by chance, and all content files had blocks of its size. In what a sync left at
-/// its end these are all that it closed; where it was stopped, it is open how many of them are. And each fix that went
-/// to its end, and met no hash by chance, restores the blocks of the snapshot of its time, where they are of bytes.
-/// Rows of bytes stay so over syncs whose folders tell their trees. What is said of each run `run` says of it: of its
-/// moments and of the end of a sync in its clause `sound`, of a fix in its clause `fixed`.
+/// its end these are all that it closed, and each copy spells its table; with status 0 it closed all that were pending.
+/// Where it was stopped, it is open how many of them are. And each fix that went to its end, and met no hash by chance,
+/// restores the blocks of the snapshot of its time, where they are of bytes. Rows of bytes stay so over syncs whose
+/// folders tell their trees. What is said of each run `run` says of it: of its moments and of the end of a sync in its
+/// clause `sound`, of a fix in its clause `fixed`.
 pub fn copies_stay_sound<O: Opener, F: Folder, V: Vault, W: Sink>()
     ensures { (copies : ℕ) (steps : List (Step O F V W)) (files : Files) (last : LastSynced) →
         IsHistory O.view F.view V.view W.view copies steps files → AreSoundBy copies files last →

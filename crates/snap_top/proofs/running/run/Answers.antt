@@ -22,7 +22,7 @@ pub returns-clause-sound : goal.returns-clause-sound
 returns-clause-sound g c =
     let ran = c.work-end.ensures in
     let parts = c.a_sync_is_a_part_sync.ensures in
-    every_moment parts.laid parts.copies c.every_moment_is_sound.ensures c.a_fix_keeps_what_is_sound.ensures.sound c.a_layout_keeps_its_stripes.ensures c.one_table_has_a_spelling.ensures _ _ c.work-end.result.end ran.told _ (omega arith)
+    every_moment parts.laid parts.copies c.every_moment_is_sound.ensures c.a_fix_keeps_what_is_sound.ensures.sound c.a_layout_keeps_its_stripes.ensures c.one_table_has_a_spelling.ensures c.what_is_pending_is_found.ensures.findings _ _ c.work-end.result.end ran.told _ (omega arith)
     (folders_formed g.O.Folder.Folder.view g.O.Folder.Folder.well_formed c.work-end.result.folders.items) c.status.ensures ran.ran
 
 pub returns-clause-synced : goal.returns-clause-synced
