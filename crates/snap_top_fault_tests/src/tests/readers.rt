@@ -1,10 +1,10 @@
-// Any number of readers gives the same, and they read beside one another and beside the writer.
+// Any number of readers gives the same, and they read beside one another.
 ghost use Rattle.std.specs.Prelude.{IfOk, IfSome};
 ghost use Rattle.disk_model.specs.Vault.{IsSettled};
 ghost use Rattle.disk_memory.specs.Given.{HasNoDraft};
 ghost use Rattle.disk_memory.specs.Vault.{vault_view};
 
-use disk_memory::{GateFolder, GateVault, MemVault};
+use disk_memory::{GateFolder, MemVault};
 use snap_top_memory::arrays::{Array, Disk, EMPTY, Left, SYNC, folder, run_first, run_with, vault};
 use std::alloc::Global;
 use std::sync::atomic::AtomicBool;
@@ -117,67 +117,4 @@ fn two_disks_are_read_at_once(rt: HostRuntime) -> Result<(), Fail> {
     let found = reads_at_once(&rt, alloc, "check", synced, "check: 0 findings\n")?;
     assert!(rt; found.is_some(), "a check");
     Ok(())
-}
-
-// One file a stripe. A window has sixteen of them.
-const SEVENTEEN: Array = Array {
-    disks: &[&[
-        ("a", b"1", 1, 5),
-        ("b", b"1", 1, 5),
-        ("c", b"1", 1, 5),
-        ("d", b"1", 1, 5),
-        ("e", b"1", 1, 5),
-        ("f", b"1", 1, 5),
-        ("g", b"1", 1, 5),
-        ("h", b"1", 1, 5),
-        ("i", b"1", 1, 5),
-        ("j", b"1", 1, 5),
-        ("k", b"1", 1, 5),
-        ("l", b"1", 1, 5),
-        ("m", b"1", 1, 5),
-        ("n", b"1", 1, 5),
-        ("o", b"1", 1, 5),
-        ("p", b"1", 1, 5),
-        ("q", b"1", 1, 5),
-    ]],
-    ..EMPTY
-};
-
-// The number of the first write to parity in a sync of those files.
-fn first_write<R: Threads + Sync>(rt: &R, alloc: Global) -> Result<u64, Fail> {
-    let left = run_first(rt, alloc, SYNC, SEVENTEEN)?;
-    match &left.outcome.vault {
-        Some(vault) => Ok(vault.first_write()),
-        None => Err("no vault".into()),
-    }
-}
-
-// The writer begins with the first window while the last stripe is read: by the folder's 35th call, after it was listed, and
-// then each file looked at and read.
-#[test]
-fn one_window_is_written_while_the_next_is_read(rt: HostRuntime) -> Result<(), Fail> {
-    let alloc = rt.alloc();
-    let write = first_write(&rt, alloc)?;
-    for readers in ["1", "3", "16"] {
-        let one = AtomicBool::new(false);
-        let two = AtomicBool::new(false);
-        let mut folders = Vec::new(alloc);
-        let files = folder(alloc, SEVENTEEN.disks[0])?;
-        folders.push(GateFolder::new(files, 35, &one, &two))?;
-        let vault = GateVault::new(vault(alloc, SEVENTEEN)?, write, &two, &one);
-        let words = ["snapraid", "sync", "-c", "FILE", "--readers", readers];
-        let left = run_with(&rt, alloc, &words, SEVENTEEN.config, folders, vault)?;
-        assert!(rt; left.is(0, "sync: 17 stripes synced, 0 pending\n", ""));
-        assert!(rt; left.outcome.folders.iter().all(|folder| folder.saw()));
-        assert!(rt; saw(&left.outcome.vault));
-    }
-    Ok(())
-}
-
-// Whether the gated call of the vault saw the other gate's flag.
-fn saw(vault: &Option<GateVault>) -> bool {
-    match vault {
-        Some(vault) => vault.saw(),
-        None => false,
-    }
 }
