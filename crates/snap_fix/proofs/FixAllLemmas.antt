@@ -37,9 +37,10 @@ use Rattle.snap_fix.proofs.AskedLemmas.{asks_none, asks_then}
 use Rattle.snap_fix.proofs.BreakingLemmas.{breaks_then}
 use Rattle.snap_fix.proofs.FixCountLemmas.{count_append, parity_io_in_stripe}
 use Rattle.snap_fix.proofs.FolderCallLemmas.{makes_none}
-use Rattle.snap_fix.proofs.KeptStartsLemmas.{stood_none, stood_then, well_then}
+use Rattle.snap_fix.proofs.KeptStartsLemmas.{well_then}
 use Rattle.snap_fix.proofs.LookingLemmas.{vault_goes_on}
 use Rattle.snap_fix.proofs.MendedVaultLemmas.{Precede, all_levels_append, goes_on_none, holds_append, levels_before, mend_calls_append, mends_append, mends_nothing, zeros_append}
+use Rattle.snap_fix.proofs.StartsKeptLemmas.{keeps_starts_same, keeps_starts_then}
 
 -- ---- the facts and events of stripes, and then of others
 
@@ -191,7 +192,7 @@ module _ {W R : Type 0} (view : W → SinkView) (standing : R → ReportView) (s
     totals_are = none;
     written = writes_none plan s.written;
     answered = All-nil (AnswersFit plan s.folders);
-    stood = stood_none s.starts;
+    stood = keeps_starts_same s.starts;
     readings = [];
     read = tt;
     unread = omega arith;
@@ -250,7 +251,7 @@ module _ {W R : Type 0} (view : W → SinkView) (standing : R → ReportView) (s
         totals_are = and xs ys first.totals_are back.totals_are;
         written = writes_then plan xs ys old.written mid.written new.written first.written back.written;
         answered = answered_then plan xs ys old.folders mid.folders (λ d below. (first.makes d below).goes_on.tells) first.answered back.answered;
-        stood = stood_then old.starts mid.starts new.starts first.stood back.stood;
+        stood = keeps_starts_then old.starts mid.starts new.starts first.stood back.stood;
         readings = first.readings ++ back.readings;
         read = levels_then plan xs ys old.vault mid.vault first.readings back.readings first.vault before first.read back.read;
         unread = unread_then first.readings back.readings old.vault.faults mid.vault.faults new.vault.faults first.unread back.unread;

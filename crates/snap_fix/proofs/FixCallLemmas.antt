@@ -1,7 +1,9 @@
 -- All calls of a fix on a folder, while blocks are written and when files are finished, are those of a fix.
-use Rattle.std.proofs.Common.{◌≡◌, inl, inr, ⊎_elim, ℕ, ◌<◌, ◌&&◌, not, List, length, Bool, true, false, refl, sym, ◌∙◌, subst}
+use Rattle.std.proofs.Common.{◌≡◌, inl, inr, ⊎_elim, ℕ, ◌<◌, ◌&&◌, not, is_some, List, length, Bool, true, false, Option, Some, refl, sym, ap, ◌∙◌, subst}
 use Rattle.disk_model.specs.Folder.{FolderView, FolderCall, ListFiles, Look, ReadAt, Make, WriteAt, SetSize, SetStamp, Rename}
-use Rattle.file_table.specs.Table.{record_at}
+use Rattle.file_table.specs.Table.{column_at, record_at}
+use Rattle.file_table.specs.declared.block.Cell.{Cell}
+use Rattle.file_table.proofs.CellInLemmas.{cell_in-Some}
 use Rattle.stripe_reader.specs.Columns.{folder_at}
 use Rattle.stripe_reader.specs.Starts.{StartsValue, start_in, starts_at}
 use Rattle.stripe_reader.specs.declared.starts.Place.{Place}
@@ -10,26 +12,51 @@ use Rattle.stripe_reader.specs.declared.starts.Start.{Start}
 use Rattle.snap_fix.specs.declared.finishing.Finish.{Finish}
 use Rattle.snap_fix.specs.declared.state.FileState.{FileState}
 use Rattle.snap_fix.specs.Ending.{FinishesColumn, FinishesOne}
+use Rattle.snap_fix.specs.Facts.{StripeFacts, damaged_at}
 use Rattle.snap_fix.specs.Finishing.{IsFinishCall, IsWholeCall}
-use Rattle.snap_fix.specs.FixCourse.{IsFixCall, MakeFixCalls, WritesFiles, Written}
-use Rattle.snap_fix.specs.Mended.{Mended, has_lost}
-use Rattle.snap_fix.specs.Plan.{FixPlan, entry_at, records_in}
+use Rattle.snap_fix.specs.FixCourse.{IsFixCall, IsForPlace, IsForRecord, MakeFixCalls, WritesFiles, Written}
+use Rattle.snap_fix.specs.Mended.{Mended, has_lost, is_blocked_cell, is_repaired, known_block}
+use Rattle.snap_fix.specs.Plan.{FixPlan, cell_at, entry_at, has_selected, is_in_scope, records_in, selects_cell}
 use Rattle.snap_fix.specs.State.{AnyCall, FolderMakes, KeepsStarts, StaysPlace, record_path, state_in}
-use Rattle.snap_fix.specs.Underway.{IsForRecord, IsMendCall}
+use Rattle.snap_fix.specs.Underway.{IsMendCall, SetsUpOneOf}
 use Rattle.snap_fix.proofs.FolderCallLemmas.{makes_any, makes_any_wider, makes_then}
+use Rattle.snap_fix.proofs.MendedFactsLemmas.{and_parts}
+use Rattle.snap_fix.proofs.RepairMarkLemmas.{both, not_blocked}
+
+-- ---- the record of a cell that is written
+
+-- it is selected, and isn't blocked
+pub for_cell : (plan : FixPlan) (facts : StripeFacts) (d : ℕ) (cell : Cell) (path : List ℕ) → is_repaired plan facts d ≡ true
+    → cell_at plan facts.stripe d ≡ Some cell → path ≡ record_path (records_in plan.table d) cell.rec → IsForRecord plan d cell.rec path
+for_cell plan facts d cell path repaired cell_is path_is =
+    let here = cell_at plan facts.stripe d in
+    let parts = and_parts (selects_cell plan facts.stripe d) (damaged_at plan facts d) (is_some (known_block facts d)) (not (is_blocked_cell plan d here)) repaired in
+    record {
+      within = (cell_in-Some (column_at plan.table.columns d) facts.stripe cell cell_is).within;
+      path_is = path_is;
+      selected = both (is_in_scope plan facts.stripe) (entry_at plan d cell.rec).selected
+          (ap (λ (c : Option Cell). is_in_scope plan facts.stripe && has_selected plan d c) (sym cell_is) ∙ parts.0);
+      free = not_blocked (entry_at plan d cell.rec).blocked (ap (λ (c : Option Cell). not (is_blocked_cell plan d c)) (sym cell_is) ∙ parts.3);
+    }
 
 -- ---- while blocks are written
+
+for_place : (plan : FixPlan) (starts : StartsValue) (d : ℕ) (stripes : List Mended) (place : Place) (path : List ℕ)
+    → SetsUpOneOf plan starts d stripes place path → IsForPlace plan starts d place path
+for_place plan starts d stripes place path is =
+    let its = is.sets_up in
+    (its.cell.rec, for_cell plan is.mended.facts d its.cell path its.repaired its.cell_is its.path_is, its.stood)
 
 pub mend_is_fix : (plan : FixPlan) (starts : StartsValue) (d : ℕ) (stripes : List Mended) (call : FolderCall) → IsMendCall plan starts d stripes call → IsFixCall plan starts d stripes call
 mend_is_fix plan starts d stripes ListFiles is = is
 mend_is_fix plan starts d stripes (Look path lost) is = is
 mend_is_fix plan starts d stripes (ReadAt path lost at n) is = is
-mend_is_fix plan starts d stripes (Make path) is = is
+mend_is_fix plan starts d stripes (Make path) is = for_place plan starts d stripes Nowhere path is
 mend_is_fix plan starts d stripes (WriteAt path at bytes) is = is
 mend_is_fix plan starts d stripes (SetSize path size) is = absurd is
 mend_is_fix plan starts d stripes (SetStamp path stamp) is = absurd is
 mend_is_fix plan starts d stripes (Rename path true) is = absurd is
-mend_is_fix plan starts d stripes (Rename path false) is = is
+mend_is_fix plan starts d stripes (Rename path false) is = for_place plan starts d stripes Lost path is
 
 -- ---- when files are finished
 

@@ -12,6 +12,8 @@ use Rattle.parity_writer.specs.LevelReading.{LevelReading, calls_of, has_failed}
 use Rattle.parity_writer.specs.LevelsValue.{LevelsValue}
 use Rattle.snap_report.specs.Answer.{Gained}
 use Rattle.stripe_reader.specs.Starts.{StartsValue}
+use Rattle.stripe_reader.specs.declared.starts.Place.{Place}
+use Rattle.stripe_reader.specs.declared.starts.Place.TheVariants.{Lost, Nowhere}
 use Rattle.snap_fix.specs.Breaking.{FailsAfter, broke_parity}
 use Rattle.snap_fix.specs.Examining.{ReadsTried}
 use Rattle.snap_fix.specs.Facts.{StripeFacts}
@@ -20,7 +22,7 @@ use Rattle.snap_fix.specs.Looking.{AreAllLevelsOf, LevelsAreRead, level_reads, u
 use Rattle.snap_fix.specs.Mended.{Mended}
 use Rattle.snap_fix.specs.Plan.{FixPlan}
 use Rattle.snap_fix.specs.State.{WellCall, FolderMakes}
-use Rattle.snap_fix.specs.Underway.{AddsZeros, IsMendCall, IsMendedLevel, KeepsLevels, WritesCell, done_well, stripe_calls, stripe_reads, wrong_writes}
+use Rattle.snap_fix.specs.Underway.{AddsZeros, IsMendCall, IsMendedLevel, KeepsLevels, SetsUpCell, SetsUpOneOf, WritesCell, done_well, stripe_calls, stripe_reads, wrong_writes}
 use Rattle.snap_fix.proofs.BreakingLemmas.{fails_after}
 use Rattle.snap_fix.proofs.FolderCallLemmas.{makes_wider, well_wider}
 use Rattle.snap_fix.proofs.LookingLemmas.{vault_goes_on}
@@ -174,25 +176,35 @@ module _ (plan : FixPlan) (facts : StripeFacts) (searched : Bool) (stripe : ℕ)
 
 -- ---- the calls of a folder, whatever is said of the files that were gone
 
+-- the one stripe has these facts
+facts_are : (facts : StripeFacts) (answers : List Bool) (mended : Mended) → Contains (record { facts = facts; answers = answers } ∷ []) mended → facts ≡ mended.facts
+facts_are facts answers mended (zero, within, same) = ap (λ (it : Mended). it.facts) same
+facts_are facts answers mended (suc k, within, same) = absurd (omega (arith, within))
+
+sets_up_as : (plan : FixPlan) (starts : StartsValue) (d : ℕ) (facts : StripeFacts) (one other : List Bool) (place : Place) (path : List ℕ)
+    → SetsUpOneOf plan starts d (record { facts = facts; answers = one } ∷ []) place path
+    → SetsUpOneOf plan starts d (record { facts = facts; answers = other } ∷ []) place path
+sets_up_as plan starts d facts one other place path is = record {
+  mended = record { facts = facts; answers = other };
+  is_one = (0, omega arith, refl);
+  sets_up = subst (λ (its : StripeFacts). SetsUpCell plan starts d its place path) (sym (facts_are facts one is.mended is.is_one)) is.sets_up;
+}
+
 pub call_as : (plan : FixPlan) (starts : StartsValue) (d : ℕ) (facts : StripeFacts) (one other : List Bool) (call : FolderCall)
     → IsMendCall plan starts d (record { facts = facts; answers = one } ∷ []) call → IsMendCall plan starts d (record { facts = facts; answers = other } ∷ []) call
 call_as plan starts d facts one other ListFiles is = is
 call_as plan starts d facts one other (Look path lost) is = tt
 call_as plan starts d facts one other (ReadAt path lost at n) is = tt
-call_as plan starts d facts one other (Make path) is = is
-call_as plan starts d facts one other (WriteAt path at bytes) is = by is.is_one
-  where
-    by : Contains (record { facts = facts; answers = one } ∷ []) is.mended → IsMendCall plan starts d (record { facts = facts; answers = other } ∷ []) (WriteAt path at bytes)
-    by (zero, within, same) = record {
-      mended = record { facts = facts; answers = other };
-      is_one = (0, omega arith, refl);
-      writes = subst (λ (mended : Mended). WritesCell plan d mended.facts path at bytes) (sym same) is.writes;
-    }
-    by (suc k, within, same) = absurd (omega (arith, within))
+call_as plan starts d facts one other (Make path) is = sets_up_as plan starts d facts one other Nowhere path is
+call_as plan starts d facts one other (WriteAt path at bytes) is = record {
+  mended = record { facts = facts; answers = other };
+  is_one = (0, omega arith, refl);
+  writes = subst (λ (its : StripeFacts). WritesCell plan d its path at bytes) (sym (facts_are facts one is.mended is.is_one)) is.writes;
+}
 call_as plan starts d facts one other (SetSize path size) is = is
 call_as plan starts d facts one other (SetStamp path stamp) is = is
 call_as plan starts d facts one other (Rename path true) is = is
-call_as plan starts d facts one other (Rename path false) is = is
+call_as plan starts d facts one other (Rename path false) is = sets_up_as plan starts d facts one other Lost path is
 
 module _ (plan : FixPlan) (starts : StartsValue) (d : ℕ) (facts : StripeFacts) (one other : List Bool) where
   -- the calls of the stripe, by these answers

@@ -16,6 +16,7 @@ use Rattle.snap_report.proofs.ToldLemmas.{told_nothing}
 use Rattle.stripe_reader.specs.Starts.{StartsValue, StartsFit, starts_at, start_in}
 use Rattle.stripe_reader.specs.WindowValue.{WindowValue, slot_at}
 use Rattle.stripe_reader.specs.declared.starts.Place.{Place}
+use Rattle.stripe_reader.specs.declared.starts.Place.TheVariants.{Lost, Nowhere}
 use Rattle.snap_fix.specs.declared.marking.CellMark.{CellMark}
 use Rattle.snap_fix.specs.declared.repairing.Repaired.{Repaired}
 use Rattle.snap_fix.specs.declared.state.FileState.{FileState}
@@ -24,12 +25,12 @@ use Rattle.snap_fix.specs.Facts.{StripeFacts, damaged_at}
 use Rattle.snap_fix.specs.Marks.{mark_in}
 use Rattle.snap_fix.specs.Mended.{Mended, known_block, block_or_none, is_repaired, is_written, is_of, loses, column_writes, writes_in, answer_of, cell_news, mended_event, is_blocked_cell}
 use Rattle.snap_fix.specs.Mending.{StatesFit, IsBlockCall, CanWrite, block_start, cell_path, mended_writes, with_state}
-use Rattle.snap_fix.specs.Plan.{FixPlan, cell_at, entry_at, records_in, has_selected, is_in_scope, selects_cell}
+use Rattle.snap_fix.specs.Plan.{FixPlan, cell_at, entry_at, records_in, selects_cell}
 use Rattle.snap_fix.specs.RepairSteps.{ColumnOutside, IsMendedAs, CanMendColumn, MendsColumn, MendsNotColumn, WritesBlockOf, WritesNotBlockOf, is_repaired_by, is_lost_by}
 use Rattle.snap_fix.specs.Order.{FolderWrites, block_calls}
 use Rattle.snap_fix.specs.State.{WellCall, Write, HoldsTold, FolderMakes, KeepsStarts, has_some, size_after, state_in}
 use Rattle.snap_fix.specs.StripeOrder.{stripe_writes}
-use Rattle.snap_fix.specs.Underway.{IsForRecord, IsMendCall, IsColumnUnderway, ShowsFacts, is_damaged_mark, is_given_mark}
+use Rattle.snap_fix.specs.Underway.{IsMendCall, IsColumnUnderway, SetsUpOneOf, ShowsFacts, is_damaged_mark, is_given_mark}
 use Rattle.snap_fix.proofs.FolderCallLemmas.{makes_none, makes_some, makes_well_wider, some_none}
 use Rattle.snap_fix.proofs.FolderFailsLemmas.{fails_wider}
 use Rattle.snap_fix.proofs.MendedFactsLemmas.{and_parts, block_known, repaired_shown, lost_shown, writes_same, writes_more, loses_by}
@@ -38,7 +39,7 @@ use Rattle.snap_fix.proofs.StartsKeptLemmas.{keeps_starts_same, keeps_starts_wit
 use Rattle.snap_fix.proofs.StripeOrderLemmas.{cell_written, nothing_written}
 use Rattle.snap_fix.proofs.TellingLemmas.{told_as}
 use Rattle.snap_fix.proofs.WritesLemmas.{writes_in-none, writes_in-other, writes_in-here}
-use Rattle.snap_fix.proofs.RepairMarkLemmas.{and_false, or_true, or_swap, both, not_blocked, not_lost_by}
+use Rattle.snap_fix.proofs.RepairMarkLemmas.{and_false, or_true, or_swap, not_blocked, not_lost_by}
 
 -- no block of it was written
 abbrev pub none_written : Repaired
@@ -187,10 +188,6 @@ module _ {W R : Type 0} (view : W → SinkView) (standing : R → ReportView) (s
     abbrev parts : (selects_cell plan stripe d ≡ true) × (is_damaged_mark mark ≡ true) × ((is_given_mark mark || known) ≡ true) × (not (is_blocked_cell plan d (cell_at plan stripe d)) ≡ true)
     parts = and_parts (selects_cell plan stripe d) (is_damaged_mark mark) (is_given_mark mark || known) (not (is_blocked_cell plan d (cell_at plan stripe d))) goes
 
-    pub is_selected : (entry_at plan d cell.rec).selected ≡ true
-    is_selected = both (is_in_scope plan stripe) (entry_at plan d cell.rec).selected
-        (ap (λ (c : Option Cell). is_in_scope plan stripe && has_selected plan d c) (sym cell_is) ∙ parts.0)
-
     pub is_free : (entry_at plan d cell.rec).blocked ≡ false
     is_free = not_blocked (entry_at plan d cell.rec).blocked (ap (λ (c : Option Cell). not (is_blocked_cell plan d c)) (sym cell_is) ∙ parts.3)
 
@@ -251,16 +248,29 @@ module _ {W R : Type 0} (view : W → SinkView) (standing : R → ReportView) (s
           };
         })
         | inr up ↦ elim up [
-          | inl back ↦ subst Mends (sym back.1) (cell.rec, for_record, back.0)
-          | inr anew ↦ subst Mends (sym anew.1) (cell.rec, for_record, anew.0)
+          | inl back ↦ subst Mends (sym back.1) (sets_up Lost back.0)
+          | inr anew ↦ subst Mends (sym anew.1) (sets_up Nowhere anew.0)
         ]
       ]
         where
-          Mends : FolderCall → Type 0
-          Mends = IsMendCall plan old.starts d (record { facts = facts; answers = [] } ∷ [])
+          this : List Mended
+          this = record { facts = facts; answers = [] } ∷ []
 
-          for_record : IsForRecord plan d cell.rec (cell_path plan.table d cell)
-          for_record = record { within = rec; path_is = refl; selected = is_selected; free = is_free }
+          Mends : FolderCall → Type 0
+          Mends = IsMendCall plan old.starts d this
+
+          sets_up : (there : Place) → place ≡ there → SetsUpOneOf plan old.starts d this there (cell_path plan.table d cell)
+          sets_up there stood = record {
+            mended = record { facts = facts; answers = [] };
+            is_one = (0, omega arith, refl);
+            sets_up = record {
+              repaired = repaired_of facts is shows;
+              cell = cell;
+              cell_is = cell_of facts is;
+              path_is = refl;
+              stood = stood;
+            };
+          }
 
       calls_of : (facts : StripeFacts) → facts.stripe ≡ stripe → ShowsFacts plan facts i marks known window → (new : FolderView)
           → FolderMakes (WellCall (IsBlockCall place (cell_path plan.table d cell) (block_start plan.table cell) bytes)) old.folder new

@@ -1,5 +1,6 @@
 -- Where files are looked for while a fix goes on: a place stays, or a file that was renamed back is looked for under its own name.
 use Rattle.std.proofs.Common.{◌≡◌, ◌≢◌, ◌⊎◌, inl, inr, ℕ, ◌<◌, List, [], length, set, true, false, refl, sym, ap, ◌∙◌, subst}
+use Rattle.std.specs.List.{Contains}
 use Rattle.std.proofs.lemmas.Bool.{cases_eq}
 use Rattle.std.proofs.lemmas.List.{get_or-set_same, get_or-set_other}
 use Rattle.disk_model.specs.Folder.{FolderCall, FolderView, ListFiles, Look, ReadAt, Make, WriteAt, SetSize, SetStamp, Rename}
@@ -7,11 +8,12 @@ use Rattle.stripe_reader.specs.Starts.{StartsValue, no_start, starts_at, start_i
 use Rattle.stripe_reader.specs.declared.starts.Start.{Start}
 use Rattle.stripe_reader.specs.declared.starts.Place.{Place}
 use Rattle.stripe_reader.specs.declared.starts.Place.TheVariants.{Plain, Lost, Nowhere}
+use Rattle.snap_fix.specs.Facts.{StripeFacts}
 use Rattle.snap_fix.specs.Mended.{Mended}
 use Rattle.snap_fix.specs.Mending.{with_place}
 use Rattle.snap_fix.specs.Plan.{FixPlan}
 use Rattle.snap_fix.specs.State.{WellCall, FolderMakes, StaysPlace, KeepsStarts}
-use Rattle.snap_fix.specs.Underway.{WritesOneOf, IsMendCall, IsForPlace}
+use Rattle.snap_fix.specs.Underway.{IsMendCall, SetsUpCell, SetsUpOneOf}
 use Rattle.snap_fix.proofs.FolderCallLemmas.{makes_well_wider}
 
 -- ---- places
@@ -66,9 +68,15 @@ module _ (starts : StartsValue) (d i : ℕ) (place : Place) (column : d < length
 
 -- ---- calls by where files stood
 
-place_before : (plan : FixPlan) (before after : StartsValue) (d : ℕ) (place : Place) → place ≢ Plain → KeepsStarts before after
-    → (path : List ℕ) → IsForPlace plan after d place path → IsForPlace plan before d place path
-place_before plan before after d place apart stood path is = (is.0, is.1, stood_before _ _ place apart (stood d is.0).1 is.2)
+sets_up_before : (plan : FixPlan) (before after : StartsValue) (d : ℕ) (facts : StripeFacts) (place : Place) (path : List ℕ)
+    → place ≢ Plain → KeepsStarts before after → SetsUpCell plan after d facts place path → SetsUpCell plan before d facts place path
+sets_up_before plan before after d facts place path apart stood is = record {
+  repaired = is.repaired;
+  cell = is.cell;
+  cell_is = is.cell_is;
+  path_is = is.path_is;
+  stood = stood_before _ _ place apart (stood d is.cell.rec).1 is.stood;
+}
 
 nowhere_plain : Nowhere ≢ Plain
 nowhere_plain is = absurd cc
@@ -76,23 +84,30 @@ nowhere_plain is = absurd cc
 lost_plain : Lost ≢ Plain
 lost_plain is = absurd cc
 
--- A call by later starts is one by earlier starts, and one for some stripes is one for others, if its write is.
-pub mend_call_wider : (plan : FixPlan) (before after : StartsValue) (d : ℕ) (xs ys : List Mended) → KeepsStarts before after
-    → ((path : List ℕ) (at : ℕ) (bytes : List ℕ) → WritesOneOf plan d xs path at bytes → WritesOneOf plan d ys path at bytes)
-    → (call : FolderCall) → IsMendCall plan after d xs call → IsMendCall plan before d ys call
-mend_call_wider plan before after d xs ys stood wider ListFiles is = is
-mend_call_wider plan before after d xs ys stood wider (Look path lost) is = is
-mend_call_wider plan before after d xs ys stood wider (ReadAt path lost at n) is = is
-mend_call_wider plan before after d xs ys stood wider (Make path) is = place_before plan before after d Nowhere nowhere_plain stood path is
-mend_call_wider plan before after d xs ys stood wider (WriteAt path at bytes) is = wider path at bytes is
-mend_call_wider plan before after d xs ys stood wider (SetSize path size) is = is
-mend_call_wider plan before after d xs ys stood wider (SetStamp path stamp) is = is
-mend_call_wider plan before after d xs ys stood wider (Rename path true) is = is
-mend_call_wider plan before after d xs ys stood wider (Rename path false) is = place_before plan before after d Lost lost_plain stood path is
+-- A call by later starts is one by earlier starts, and one for some stripes is one for more.
+module _ (plan : FixPlan) (before after : StartsValue) (d : ℕ) (xs ys : List Mended) (stood : KeepsStarts before after)
+    (more : (mended : Mended) → Contains xs mended → Contains ys mended) where
+  one_before : (place : Place) (path : List ℕ) → place ≢ Plain → SetsUpOneOf plan after d xs place path → SetsUpOneOf plan before d ys place path
+  one_before place path apart is = record {
+    mended = is.mended;
+    is_one = more is.mended is.is_one;
+    sets_up = sets_up_before plan before after d is.mended.facts place path apart stood is.sets_up;
+  }
+
+  pub mend_call_wider : (call : FolderCall) → IsMendCall plan after d xs call → IsMendCall plan before d ys call
+  mend_call_wider ListFiles is = is
+  mend_call_wider (Look path lost) is = is
+  mend_call_wider (ReadAt path lost at n) is = is
+  mend_call_wider (Make path) is = one_before Nowhere path nowhere_plain is
+  mend_call_wider (WriteAt path at bytes) is = record { mended = is.mended; is_one = more is.mended is.is_one; writes = is.writes }
+  mend_call_wider (SetSize path size) is = is
+  mend_call_wider (SetStamp path stamp) is = is
+  mend_call_wider (Rename path true) is = is
+  mend_call_wider (Rename path false) is = one_before Lost path lost_plain is
 
 module _ (plan : FixPlan) (before after : StartsValue) (d : ℕ) (stripes : List Mended) (stood : KeepsStarts before after) where
   pub mend_call_before : (call : FolderCall) → IsMendCall plan after d stripes call → IsMendCall plan before d stripes call
-  mend_call_before = mend_call_wider plan before after d stripes stripes stood (λ path at bytes one. one)
+  mend_call_before = mend_call_wider plan before after d stripes stripes stood (λ mended one. one)
 
   pub makes_well_before : (old new : FolderView) → FolderMakes (WellCall (IsMendCall plan after d stripes)) old new → FolderMakes (WellCall (IsMendCall plan before d stripes)) old new
   makes_well_before old new makes = makes_well_wider (IsMendCall plan after d stripes) (IsMendCall plan before d stripes) mend_call_before makes

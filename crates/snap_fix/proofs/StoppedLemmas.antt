@@ -1,5 +1,5 @@
 -- What surely stands of the files of a folder, wherever a fix is stopped or breaks off.
-use Rattle.std.proofs.Common.{◌≡◌, ◌≢◌, ◌⊎◌, inl, inr, ⊎_elim, ℕ, ◌+◌, ◌<◌, ◌≤◌, ◌&&◌, not, is_some, List, [], length, get_or, IfSome, Bool, true, false, Option, None, Some, IsTrue, refl, sym, ap, ◌∙◌, subst, arith}
+use Rattle.std.proofs.Common.{◌≡◌, ◌≢◌, ◌⊎◌, inl, inr, ⊎_elim, ℕ, ◌+◌, ◌<◌, ◌≤◌, ◌&&◌, not, List, [], length, get_or, IfSome, Bool, true, false, Option, None, Some, IsTrue, refl, sym, ap, ◌∙◌, subst, arith}
 use Rattle.std.proofs.lemmas.Bool.{cases_eq, cases_lt}
 use Rattle.std.proofs.lemmas.List.{get_or-map}
 use Rattle.std.proofs.lemmas.List.FromFn.{get_or-map-range_with_len}
@@ -7,24 +7,21 @@ use Rattle.array_scan.specs.Kept.{ListedFile}
 use Rattle.disk_model.specs.Folder.{FolderCall, FolderDone, ListFiles, Look, ReadAt, Make, WriteAt, SetSize, SetStamp, Rename}
 use Rattle.disk_model.specs.Stopped.{EachCall, IsOwnOrApart, IsUntouchedBy, KeepsPlace, LeavesAlone, MayBeLeft, StandsKept, written_path}
 use Rattle.disk_model.specs.Tree.{Tree, File, file_of, listing_of, path_of}
-use Rattle.file_table.specs.Table.{Record, column_at, no_record, record_at}
-use Rattle.file_table.specs.declared.block.Cell.{Cell}
-use Rattle.file_table.proofs.CellInLemmas.{cell_in-Some}
+use Rattle.file_table.specs.Table.{Record, no_record, record_at}
 use Rattle.stripe_reader.specs.Starts.{StartsValue, no_start, start_in, starts_at}
 use Rattle.stripe_reader.specs.declared.starts.Place.{Place}
 use Rattle.stripe_reader.specs.declared.starts.Place.TheVariants.{Plain, Lost, Nowhere}
 use Rattle.stripe_reader.specs.declared.starts.Start.{Start}
 use Rattle.snap_fix.specs.Ending.{is_finished}
-use Rattle.snap_fix.specs.Facts.{damaged_at}
-use Rattle.snap_fix.specs.FixCourse.{IsFixCall}
-use Rattle.snap_fix.specs.Mended.{Mended, has_lost, is_blocked_cell, known_block}
+use Rattle.snap_fix.specs.FixCourse.{IsFixCall, IsForPlace, IsForRecord}
+use Rattle.snap_fix.specs.Mended.{Mended, has_lost}
 use Rattle.snap_fix.specs.Place.{start_of}
-use Rattle.snap_fix.specs.Plan.{FixPlan, cell_at, column_starts, entry_at, has_selected, is_in_scope, records_in, selects_cell, starts_of}
+use Rattle.snap_fix.specs.Plan.{FixPlan, column_starts, entry_at, records_in, starts_of}
 use Rattle.snap_fix.specs.State.{first_state, place_by, place_in, record_path}
 use Rattle.snap_fix.specs.Stopped.{FixStop, IsNoneOf, IsSpared, IsStop, StandInPlace, StandsSpared, file_or, file_placed, records_of}
-use Rattle.snap_fix.specs.Underway.{IsForPlace, IsForRecord, WritesOneOf}
+use Rattle.snap_fix.specs.Underway.{WritesOneOf}
+use Rattle.snap_fix.proofs.FixCallLemmas.{for_cell}
 use Rattle.snap_fix.proofs.FixTreeLemmas.{untouched}
-use Rattle.snap_fix.proofs.MendedFactsLemmas.{and_parts}
 use Rattle.snap_fix.proofs.RecordPathsLemmas.{ArePaths, names_distinct, table_paths}
 
 -- ---- where the files stood that a folder listed
@@ -53,32 +50,13 @@ both_set true false is free = refl
 both_set true true is free = absurd cc
 both_set false blocked is free = absurd cc
 
-second_set : (a b : Bool) → (a && b) ≡ true → b ≡ true
-second_set true b is = is
-second_set false b is = absurd cc
-
-not_set : (b : Bool) → not b ≡ true → b ≡ false
-not_set true is = absurd cc
-not_set false is = refl
-
 of_record : (plan : FixPlan) (d i : ℕ) (path : List ℕ) → IsForRecord plan d i path → IsFinishedPath plan d path
 of_record plan d i path is = (i, is.within, both_set (entry_at plan d i).selected (entry_at plan d i).blocked is.selected is.free, is.path_is)
 
 of_write : (plan : FixPlan) (d : ℕ) (stripes : List Mended) (path : List ℕ) (at : ℕ) (bytes : List ℕ) → WritesOneOf plan d stripes path at bytes → IsFinishedPath plan d path
 of_write plan d stripes path at bytes is =
     let its = is.writes in
-    let facts = is.mended.facts in
-    let cell = its.cell in
-    let here = cell_at plan facts.stripe d in
-    let parts = and_parts (selects_cell plan facts.stripe d) (damaged_at plan facts d) (is_some (known_block facts d)) (not (is_blocked_cell plan d here)) its.repaired in
-    let selected = second_set (is_in_scope plan facts.stripe) (entry_at plan d cell.rec).selected
-    (ap (λ (c : Option Cell). is_in_scope plan facts.stripe && has_selected plan d c) (sym its.cell_is) ∙ parts.0) in
-    let free = not_set (entry_at plan d cell.rec).blocked (ap (λ (c : Option Cell). not (is_blocked_cell plan d c)) (sym its.cell_is) ∙ parts.3) in (
-      cell.rec,
-      (cell_in-Some (column_at plan.table.columns d) facts.stripe cell its.cell_is).within,
-      both_set (entry_at plan d cell.rec).selected (entry_at plan d cell.rec).blocked selected free,
-      its.path_is,
-    )
+    of_record plan d its.cell.rec path (for_cell plan is.mended.facts d its.cell path its.repaired its.cell_is its.path_is)
 
 module _ (plan : FixPlan) (starts : StartsValue) (d : ℕ) (stripes : List Mended) where
   -- a call of a fix writes the file of such a record

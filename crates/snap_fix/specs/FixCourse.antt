@@ -21,7 +21,8 @@ use Rattle.snap_report.specs.State.{Puts, state_of}
 use Rattle.snap_report.specs.Telling.{Settled}
 use Rattle.snap_report.specs.declared.events.Event.{Event}
 use Rattle.stripe_reader.specs.Columns.{folder_at}
-use Rattle.stripe_reader.specs.Starts.{StartsValue, starts_at}
+use Rattle.stripe_reader.specs.Starts.{StartsValue, start_in, starts_at}
+use Rattle.stripe_reader.specs.declared.starts.Place.{Place}
 use Rattle.stripe_reader.specs.declared.starts.Place.TheVariants.{Lost, Nowhere}
 use Rattle.snap_fix.specs.declared.checks.FixEnd.{FixEnd}
 use Rattle.snap_fix.specs.declared.finishing.Finish.{Finish}
@@ -38,10 +39,10 @@ use Rattle.snap_fix.specs.Known.{AreFacts}
 use Rattle.snap_fix.specs.Looking.{AreAllLevelsOf, numbers_of, unread_cells, unread_in}
 use Rattle.snap_fix.specs.Mended.{AnswersFit, Mended, has_lost, all_mended_events, written_in, wrong_in}
 use Rattle.snap_fix.specs.Order.{FolderWrites}
-use Rattle.snap_fix.specs.Plan.{FixPlan, records_in, starts_of, stripes_of}
-use Rattle.snap_fix.specs.State.{AnyCall, WellCall, FolderMakes, KeepsStarts}
+use Rattle.snap_fix.specs.Plan.{FixPlan, entry_at, records_in, starts_of, stripes_of}
+use Rattle.snap_fix.specs.State.{AnyCall, WellCall, FolderMakes, KeepsStarts, record_path}
 use Rattle.snap_fix.specs.StripeOrder.{writes_after}
-use Rattle.snap_fix.specs.Underway.{AddsZeros, AreUnderway, IsForPlace, IsForRecord, IsMendCall, IsMendedLevel, WritesOneOf, done_well, mend_calls}
+use Rattle.snap_fix.specs.Underway.{AddsZeros, AreUnderway, IsMendCall, IsMendedLevel, WritesOneOf, done_well, mend_calls}
 
 -- the folders of all columns that have records are open
 abbrev pub AreOpen : TableValue → List FolderView → Type 0
@@ -84,9 +85,22 @@ pub record FixesVault (plan : FixPlan) (stripes : List Mended) (readings : List 
   pub holds : HoldAllWrong plan (facts_of stripes) new
   pub synced : (level : ℕ) → level < plan.table.shape.levels → was_written plan stripes level ≡ true → IsLevelSettled level new new
 
--- Any call of a fix of these stripes, once the folders are listed, by where files stood then: files are read; of the records that are selected and not
--- blocked, a file is made if there was none, renamed back if it had the other name, and its known blocks are written; one without a lost
--- block gets its recorded size and stamp, and one with a lost block is renamed.
+-- a record is selected, and isn't blocked
+pub record IsForRecord (plan : FixPlan) (d i : ℕ) (path : List ℕ) : Type 0 where
+  pub within : i < length (records_in plan.table d)
+  pub path_is : path ≡ record_path (records_in plan.table d) i
+  pub selected : (entry_at plan d i).selected ≡ true
+  pub free : (entry_at plan d i).blocked ≡ false
+
+-- so is one whose file stood in this place
+abbrev pub IsForPlace : FixPlan → StartsValue → ℕ → Place → List ℕ → Type 0
+IsForPlace plan starts d place path =
+    (i : ℕ) × IsForRecord plan d i path × ((start_in (starts_at starts.columns d) i).place ≡ place)
+
+-- Any call of a fix of these stripes, once the folders are listed, by where files stood then: files are read; of the
+-- records that are selected and not blocked, a file is made if there was none, renamed back if it had the other name, and
+-- its known blocks are written; one without a lost block gets its recorded size and stamp, and one with a lost block is
+-- renamed.
 abbrev pub IsForRecordOf : FixPlan → List Mended → ℕ → Bool → List ℕ → (Meta → Type 0) → Type 0
 IsForRecordOf plan stripes d lost path P = (i : ℕ) × IsForRecord plan d i path × (has_lost plan stripes d i ≡ lost)
     × P (record_at plan.table.columns d i).meta

@@ -46,17 +46,6 @@ AreFixable plan firsts = (d : ℕ) → d < length plan.table.columns → IsFixab
 
 -- ---- by which calls
 
--- a record is selected, and isn't blocked
-pub record IsForRecord (plan : FixPlan) (d i : ℕ) (path : List ℕ) : Type 0 where
-  pub within : i < length (records_in plan.table d)
-  pub path_is : path ≡ record_path (records_in plan.table d) i
-  pub selected : (entry_at plan d i).selected ≡ true
-  pub free : (entry_at plan d i).blocked ≡ false
-
--- so is one whose file stood in this place
-abbrev pub IsForPlace : FixPlan → StartsValue → ℕ → Place → List ℕ → Type 0
-IsForPlace plan starts d place path = (i : ℕ) × IsForRecord plan d i path × ((start_in (starts_at starts.columns d) i).place ≡ place)
-
 -- the write of a damaged cell's block, which is known, to the file of its record
 pub record WritesCell (plan : FixPlan) (d : ℕ) (facts : StripeFacts) (path : List ℕ) (at : ℕ) (bytes : List ℕ) : Type 0 where
   pub repaired : is_repaired plan facts d ≡ true
@@ -72,18 +61,32 @@ pub record WritesOneOf (plan : FixPlan) (d : ℕ) (stripes : List Mended) (path 
   pub is_one : Contains stripes mended
   pub writes : WritesCell plan d mended.facts path at bytes
 
--- The calls while blocks are written, by where files stood before: files are read; the file of a selected record that isn't blocked is
--- made if there was none, or renamed back if it had the other name; and blocks that are damaged and known are written.
+-- the file of a damaged cell, whose block is known, is put under PATH: it stood in this place
+pub record SetsUpCell (plan : FixPlan) (starts : StartsValue) (d : ℕ) (facts : StripeFacts) (place : Place) (path : List ℕ) : Type 0 where
+  pub repaired : is_repaired plan facts d ≡ true
+  pub cell : Cell
+  pub cell_is : cell_at plan facts.stripe d ≡ Some cell
+  pub path_is : path ≡ record_path (records_in plan.table d) cell.rec
+  pub stood : (start_in (starts_at starts.columns d) cell.rec).place ≡ place
+
+-- in one of the stripes
+pub record SetsUpOneOf (plan : FixPlan) (starts : StartsValue) (d : ℕ) (stripes : List Mended) (place : Place) (path : List ℕ) : Type 0 where
+  pub mended : Mended
+  pub is_one : Contains stripes mended
+  pub sets_up : SetsUpCell plan starts d mended.facts place path
+
+-- The calls while blocks of stripes are written, by where files stood before: files are read; of a cell that is damaged and known its file is
+-- made if there was none, or renamed back if it had the other name, and its block is written.
 abbrev pub IsMendCall : FixPlan → StartsValue → ℕ → List Mended → FolderCall → Type 0
 IsMendCall plan starts d stripes ListFiles = ⊥
 IsMendCall plan starts d stripes (Look path lost) = Unit {0}
 IsMendCall plan starts d stripes (ReadAt path lost at n) = Unit {0}
-IsMendCall plan starts d stripes (Make path) = IsForPlace plan starts d Nowhere path
+IsMendCall plan starts d stripes (Make path) = SetsUpOneOf plan starts d stripes Nowhere path
 IsMendCall plan starts d stripes (WriteAt path at bytes) = WritesOneOf plan d stripes path at bytes
 IsMendCall plan starts d stripes (SetSize path size) = ⊥
 IsMendCall plan starts d stripes (SetStamp path stamp) = ⊥
 IsMendCall plan starts d stripes (Rename path true) = ⊥
-IsMendCall plan starts d stripes (Rename path false) = IsForPlace plan starts d Lost path
+IsMendCall plan starts d stripes (Rename path false) = SetsUpOneOf plan starts d stripes Lost path
 
 -- ---- how far it is
 
