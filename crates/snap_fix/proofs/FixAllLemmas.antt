@@ -24,7 +24,7 @@ use Rattle.snap_fix.specs.declared.fixing.Totals.{Totals}
 use Rattle.snap_fix.specs.declared.room.Room.{Room}
 use Rattle.snap_fix.specs.Asking.{AsksSpare}
 use Rattle.snap_fix.specs.Facts.{StripeFacts}
-use Rattle.snap_fix.specs.FixRun.{AreAscending, BreaksInLast, FixesAll, HoldAllWrong}
+use Rattle.snap_fix.specs.FixRun.{AreAscending, BreaksInLast, FixesAll, HoldAllWrong, TellsInLast}
 use Rattle.snap_fix.specs.Fixing.{AreTotals, FixScene, FixesStripe, MendsVault, SceneFits, Writes, facts_of, levels_begun, was_written}
 use Rattle.snap_fix.specs.Known.{AreFacts}
 use Rattle.snap_fix.specs.Looking.{AreAllLevelsOf, numbers_of, unread_in}
@@ -39,7 +39,7 @@ use Rattle.snap_fix.proofs.FixCountLemmas.{count_append, parity_io_in_stripe}
 use Rattle.snap_fix.proofs.FolderCallLemmas.{makes_none}
 use Rattle.snap_fix.proofs.KeptStartsLemmas.{well_then}
 use Rattle.snap_fix.proofs.LookingLemmas.{vault_goes_on}
-use Rattle.snap_fix.proofs.MendedVaultLemmas.{Precede, all_levels_append, goes_on_none, holds_append, levels_before, mend_calls_append, mends_append, mends_nothing, zeros_append}
+use Rattle.snap_fix.proofs.MendedVaultLemmas.{Precede, all_levels_append, goes_on_none, holds_append, holds_still, levels_before, mend_calls_append, mends_append, mends_nothing, zeros_append}
 use Rattle.snap_fix.proofs.StartsKeptLemmas.{keeps_starts_same, keeps_starts_then}
 
 -- ---- the facts and events of stripes, and then of others
@@ -49,6 +49,10 @@ facts_append xs ys = map-append (λ (mended : Mended). mended.facts) xs ys
 
 pub events_append : (plan : FixPlan) (xs ys : List Mended) → all_mended_events plan (xs ++ ys) ≡ all_mended_events plan xs ++ all_mended_events plan ys
 events_append plan xs ys = flat_map-append (mended_events plan) xs ys
+
+-- the facts of stripes, and of the last one
+pub facts_last : (stripes earlier : List Mended) (last : Mended) → stripes ≡ earlier ++ last ∷ [] → facts_of stripes ≡ facts_of earlier ++ last.facts ∷ []
+facts_last stripes earlier last are = ap facts_of are ∙ facts_append earlier (last ∷ [])
 
 pub facts_then : (plan : FixPlan) (xs ys : List Mended) → All (AreFacts plan) (facts_of xs) → All (AreFacts plan) (facts_of ys) → All (AreFacts plan) (facts_of (xs ++ ys))
 facts_then plan xs ys one two = subst (All (AreFacts plan)) (sym (facts_append xs ys)) (All-append (AreFacts plan) (facts_of xs) (facts_of ys) one two)
@@ -158,29 +162,60 @@ begun_all (Folder disk) plan earlier last old new mends = mends_append plan earl
 begun_all Vault plan earlier last old new mends = mends
 begun_all Memory plan earlier last old new mends = mends_append plan earlier (last ∷ []) old new new mends (mends_nothing plan (last ∷ []) new)
 
-pub mends_in_last : (fault : RunFault) (plan : FixPlan) (stripes : List StripeFacts) (readings : List (List LevelReading)) (old new : VaultView) → BreaksInLast plan fault stripes readings old new
-    → MendsVault plan stripes old new
-mends_in_last fault plan stripes readings old new broke =
-    subst (λ (its : List StripeFacts). MendsVault plan its old new) (sym broke.stripes_are) (begun_all fault plan broke.earlier broke.last old new broke.vault)
+pub mends_in_last : (fault : RunFault) (plan : FixPlan) (earlier : List StripeFacts) (last : StripeFacts) (readings : List (List LevelReading)) (old new : VaultView)
+    → BreaksInLast plan fault earlier last readings old new → MendsVault plan (earlier ++ last ∷ []) old new
+mends_in_last fault plan earlier last readings old new broke = begun_all fault plan earlier last old new broke.vault
 
 -- the calls of some stripes up to the writes of the last one, after those of others
-pub breaks_in_last : (fault : RunFault) (plan : FixPlan) (xs ys : List Mended) (firsts more : List (List LevelReading)) (old mid new : VaultView)
-    → AreAllLevelsOf plan.table.shape.block_size old (facts_of xs) firsts → GoesOn old mid (mend_calls plan (facts_of xs) firsts) → MendsVault plan (facts_of xs) old mid
-    → BreaksInLast plan fault (facts_of ys) more mid new → BreaksInLast plan fault (facts_of (xs ++ ys)) (firsts ++ more) old new
-breaks_in_last fault plan xs ys firsts more old mid new read ran mends broke =
-    let calls = mend_calls plan (facts_of xs) firsts in
-    let writes = done_well (wrong_writes plan broke.last) in
+pub breaks_in_last : (fault : RunFault) (plan : FixPlan) (xs ys : List Mended) (last : Mended) (firsts more : List (List LevelReading)) (old mid new : VaultView)
+    → Precede (facts_of xs) (facts_of (ys ++ last ∷ [])) → AreAllLevelsOf plan.table.shape.block_size old (facts_of xs) firsts
+    → GoesOn old mid (mend_calls plan (facts_of xs) firsts) → MendsVault plan (facts_of xs) old mid → HoldAllWrong plan (facts_of xs) mid
+    → BreaksInLast plan fault (facts_of ys) last.facts more mid new → BreaksInLast plan fault (facts_of (xs ++ ys)) last.facts (firsts ++ more) old new
+breaks_in_last fault plan xs ys last firsts more old mid new before read ran mends holds broke =
+    let one = facts_of xs in
+    let two = facts_of ys in
+    let facts = facts_append xs ys in
+    let behind = two ++ last.facts ∷ [] in
+    let calls = mend_calls plan one firsts in
+    let writes = done_well (wrong_writes plan last.facts) in
+    let then : Precede one behind = subst (Precede one) (facts_append ys (last ∷ [])) before in
+    let mended = mends_in_last fault plan two last.facts more mid new broke in
     record {
-      earlier = facts_of xs ++ broke.earlier;
-      last = broke.last;
-      stripes_are = facts_append xs ys ∙ ap (λ (stripes : List StripeFacts). facts_of xs ++ stripes) broke.stripes_are ∙ sym (append_assoc (facts_of xs) broke.earlier (broke.last ∷ []));
       before = calls ++ broke.before;
-      calls_are = ap (λ (stripes : List StripeFacts). mend_calls plan stripes (firsts ++ more)) (facts_append xs ys)
-          ∙ mend_calls_append plan plan.table.shape.block_size old (facts_of xs) (facts_of ys) firsts more read
+      calls_are = ap (λ (stripes : List StripeFacts). mend_calls plan stripes (firsts ++ more))
+          (ap (λ (stripes : List StripeFacts). stripes ++ last.facts ∷ []) facts ∙ append_assoc one two (last.facts ∷ []))
+          ∙ mend_calls_append plan plan.table.shape.block_size old one behind firsts more read
           ∙ ap (λ (others : List VaultDone). calls ++ others) broke.calls_are ∙ sym (append_assoc calls broke.before writes);
       ran = breaks_then fault calls broke.before writes old mid new ran broke.ran;
-      vault = subst (λ (stripes : List StripeFacts). MendsVault plan stripes old new) (sym (begun_append fault (facts_of xs) broke.earlier broke.last))
-          (mends_append plan (facts_of xs) (levels_begun fault broke.earlier broke.last) old mid new mends broke.vault);
+      vault = subst (λ (stripes : List StripeFacts). MendsVault plan stripes old new)
+          (sym (ap (λ (stripes : List StripeFacts). levels_begun fault stripes last.facts) facts ∙ begun_append fault one two last.facts))
+          (mends_append plan one (levels_begun fault two last.facts) old mid new mends broke.vault);
+      holds = subst (λ (stripes : List StripeFacts). HoldAllWrong plan stripes new) (sym facts)
+          (λ told. All-append (λ (its : StripeFacts). HoldsWrong plan its new.files) one two (holds_still plan one behind mid new then mended holds told) (broke.holds told));
+    }
+
+-- ---- what was told where the last stripe broke off
+
+-- it is a prefix of all events
+pub tells_first : (plan : FixPlan) (stripes earlier : List Mended) (last : Mended) (first : List Event) → stripes ≡ earlier ++ last ∷ []
+    → (tells : TellsInLast plan earlier last first) → all_mended_events plan stripes ≡ first ++ tells.rest
+tells_first plan stripes earlier last first are tells =
+    let front = all_mended_events plan earlier in
+    ap (all_mended_events plan) are ∙ events_append plan earlier (last ∷ [])
+    ∙ ap (λ (events : List Event). front ++ events) (append-nil (mended_events plan last) ∙ tells.events)
+    ∙ sym (append_assoc front tells.some tells.rest) ∙ ap (λ (events : List Event). events ++ tells.rest) (sym tells.first_is)
+
+-- after the events of others
+pub tells_then : (plan : FixPlan) (xs earlier : List Mended) (last : Mended) (first : List Event) → TellsInLast plan earlier last first
+    → TellsInLast plan (xs ++ earlier) last (all_mended_events plan xs ++ first)
+tells_then plan xs earlier last first tells =
+    let front = all_mended_events plan xs in
+    record {
+      some = tells.some;
+      rest = tells.rest;
+      first_is = ap (λ (events : List Event). front ++ events) tells.first_is ∙ sym (append_assoc front (all_mended_events plan earlier) tells.some)
+          ∙ ap (λ (events : List Event). events ++ tells.some) (sym (events_append plan xs earlier));
+      events = tells.events;
     }
 
 module _ {W R : Type 0} (view : W → SinkView) (standing : R → ReportView) (stands : R → List Event → Type 0) (plan : FixPlan) where

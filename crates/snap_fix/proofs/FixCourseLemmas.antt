@@ -37,21 +37,22 @@ use Rattle.snap_fix.specs.Counts.{AreCounts}
 use Rattle.snap_fix.specs.Course.{IsPlan, Outside, outside}
 use Rattle.snap_fix.specs.Breaking.{FailsAfter}
 use Rattle.snap_fix.specs.Ending.{FinishesAll, FinishesNotAll, FinishesOne, SyncsNot, SyncsWritten, all_finish_news, written_syncs}
+use Rattle.snap_fix.specs.Facts.{StripeFacts}
 use Rattle.snap_fix.specs.Findings.{opening_events}
 use Rattle.snap_fix.specs.FixBreaking.{BreaksFiles, FixBreaks}
 use Rattle.snap_fix.specs.FixCourse.{FixFinds, Fixes, FixesVault, WritesFiles, Written, fix_events, mend_syncs}
 use Rattle.snap_fix.specs.FixRun.{AreAscending, BreaksFolders, BreaksStripes, FixesStripes, HasBroken}
-use Rattle.snap_fix.specs.Fixing.{AreReadThen, FixScene, facts_of, fix_scene, was_written}
+use Rattle.snap_fix.specs.Fixing.{AreReadThen, FixScene, MendsVault, facts_of, fix_scene, was_written}
 use Rattle.snap_fix.specs.Known.{AreFacts}
 use Rattle.snap_fix.specs.Looking.{AreAllLevelsOf, numbers_of, unread_in}
 use Rattle.snap_fix.specs.Mended.{AnswersFit, Mended, all_mended_events}
 use Rattle.snap_fix.specs.Plan.{FixPlan, starts_of, stripes_of}
 use Rattle.snap_fix.specs.Repairing.{outside as files_outside}
 use Rattle.snap_fix.specs.Spare.{SpareView}
-use Rattle.snap_fix.specs.State.{AnyCall, WellCall, first_states}
+use Rattle.snap_fix.specs.State.{AnyCall, FolderMakes, WellCall, first_states}
 use Rattle.snap_fix.specs.Underway.{AreFixable, AreUnderway, IsMendCall, done_well, mend_calls}
 use Rattle.snap_fix.proofs.BreakingLemmas.{fails_after}
-use Rattle.snap_fix.proofs.FixAllLemmas.{mends_in_last}
+use Rattle.snap_fix.proofs.FixAllLemmas.{facts_last, mends_in_last}
 use Rattle.snap_fix.proofs.FixCallLemmas.{fix_calls_of, fix_calls_of_writing}
 use Rattle.snap_fix.proofs.FixCountLemmas.{count_append}
 use Rattle.snap_fix.proofs.FixEventLemmas.{io_no_file, none_finishing, none_finishing_first, none_opening, parity_io_no_file}
@@ -65,9 +66,6 @@ use Rattle.snap_fix.proofs.KeptStartsLemmas.{files_any}
 use Rattle.snap_fix.proofs.PresentLemmas.{StartsFitFolders, present_at_first, starts_fit_first}
 
 -- ---- which events were told
-
-in_stripes : (os ms first rest : List Event) → ms ≡ first ++ rest → os ++ ms ≡ (os ++ first) ++ rest
-in_stripes os ms first rest is = ap (λ (es : List Event). os ++ es) is ∙ sym (append_assoc os first rest)
 
 -- the events before the stripes tell no failed reading
 broke_opened : (plan : FixPlan) (fault : RunFault) (first : List Event) (olds news : List FolderView) (old new : VaultView)
@@ -123,11 +121,9 @@ module _ {W R : Type 0} (view : W → SinkView) (standing : R → ReportView) (s
       record { are = are; cells = present_at_first plan starts mids stripes valid ascending are start_fit read; levels = levels; answered = answered }
 
   -- all blocks of the stripes before the one that broke off were written
-  files_of : (stripes : List Mended) (news : List FolderView) (by : RunFault) → BreaksFolders plan starts states by stripes mids news → BreaksFiles plan starts by stripes mids news
-  files_of stripes news by broke = record {
-    earlier = broke.earlier;
-    last = broke.last;
-    stripes_are = broke.stripes_are;
+  files_of : (earlier : List Mended) (last : Mended) (news : List FolderView) (by : RunFault) → BreaksFolders plan starts states by earlier last mids news
+      → BreaksFiles plan starts by earlier last mids news
+  files_of earlier last news by broke = record {
     written = record { starts = broke.starts; states = broke.states; folders = broke.mids };
     writes = record { stood = broke.stood; underway = broke.underway [] mids fixable underway_start; makes = broke.makes };
     breaks = broke.breaks;
@@ -163,17 +159,26 @@ module _ {W R : Type 0} (view : W → SinkView) (standing : R → ReportView) (s
           unread = broke.unread;
           unread_cells_of = λ d within. rose_listed d _ _ within (broke.unread_cells_of d within);
           spare = broke.spare;
-          vault = mends_in_last fault plan (facts_of broke.stripes) broke.readings old.vault vault_mid broke.ran;
+          vault = subst (λ (its : List StripeFacts). MendsVault plan its old.vault vault_mid) (sym (facts_last broke.stripes broke.earlier broke.last broke.stripes_are))
+              (mends_in_last fault plan (facts_of broke.earlier) broke.last.facts broke.readings old.vault vault_mid broke.ran);
           first = opening ++ broke.first;
           off = inl (record {
-            rest = broke.rest;
-            events = in_stripes opening (all_mended_events plan broke.stripes) broke.first broke.rest broke.events;
-            makes = files_of broke.stripes folders_mid fault broke.makes;
+            earlier = broke.earlier;
+            last = broke.last;
+            stripes_are = broke.stripes_are;
+            some = broke.tells.some;
+            rest = broke.tells.rest;
+            first_is = ap (λ (events : List Event). opening ++ events) broke.tells.first_is
+                ∙ sym (append_assoc opening (all_mended_events plan broke.earlier) broke.tells.some);
+            events = broke.tells.events;
+            makes = files_of broke.earlier broke.last folders_mid fault broke.makes;
             ran = broke.ran;
           });
           told = told_then view standing stands table.columns opening broke.first old.lines opened_lines lines_mid old.reports opened_reports reports_mid opened broke.told;
           folders = broke.folders ∙ begun.as_many;
-          calls = fix_calls_of_writing plan starts broke.stripes mids folders_mid (files_any plan fault starts states broke.stripes mids folders_mid broke.makes);
+          calls = fix_calls_of_writing plan starts broke.stripes mids folders_mid
+              (λ d within. subst (λ (its : List Mended). FolderMakes (AnyCall (IsMendCall plan starts d its)) (folder_at mids d) (folder_at folders_mid d)) (sym broke.stripes_are)
+              (files_any plan fault starts states broke.earlier broke.last mids folders_mid broke.makes d within));
           broke = broke_opened plan fault broke.first mids folders_mid old.vault vault_mid broke.broke;
         }
 

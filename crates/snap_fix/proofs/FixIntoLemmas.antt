@@ -21,7 +21,7 @@ use Rattle.stripe_reader.specs.WindowValue.{WindowValue, slot_at}
 use Rattle.snap_fix.specs.declared.fixing.Totals.{Totals}
 use Rattle.snap_fix.specs.declared.room.Room.{Room}
 use Rattle.snap_fix.specs.Facts.{StripeFacts}
-use Rattle.snap_fix.specs.FixRun.{AreAscending, BreaksInto, FixesAll, FixesInto, HasBrokenInto}
+use Rattle.snap_fix.specs.FixRun.{AreAscending, BreaksFolders, BreaksInLast, BreaksInto, FixesAll, FixesInto, HasBrokenInto}
 use Rattle.snap_fix.specs.Fixing.{AreTotals, BreaksStripe, FixScene, IsBrokenBy, SceneFits, facts_of}
 use Rattle.snap_fix.specs.Known.{AreFacts}
 use Rattle.snap_fix.specs.Looking.{facts_at, no_facts, numbers_of}
@@ -29,8 +29,8 @@ use Rattle.snap_fix.specs.Marks.{slots_at}
 use Rattle.snap_fix.specs.Mended.{AnswersFit, Mended, all_mended_events, mended_events}
 use Rattle.snap_fix.specs.Plan.{FixPlan}
 use Rattle.snap_fix.specs.State.{AnyCall, FolderMakes}
-use Rattle.snap_fix.specs.Underway.{FixUnderway, IsMendCall, stripe_calls, stripe_reads}
-use Rattle.snap_fix.proofs.FixAllLemmas.{answered_then, asked_then, breaks_in_last, events_append, facts_append, facts_then, fixes_none, fixes_then, levels_then, precede, unread_then}
+use Rattle.snap_fix.specs.Underway.{FixUnderway, HoldsWrong, IsMendCall, stripe_calls, stripe_reads}
+use Rattle.snap_fix.proofs.FixAllLemmas.{answered_then, asked_then, breaks_in_last, facts_append, facts_then, fixes_none, fixes_then, levels_then, precede, unread_then}
 use Rattle.snap_fix.proofs.FixCountLemmas.{count_append, parity_io_in_stripe}
 use Rattle.snap_fix.proofs.FolderFailsLemmas.{columns_any}
 use Rattle.snap_fix.proofs.KeptStartsLemmas.{files_one, files_then}
@@ -174,35 +174,39 @@ module _ {W R : Type 0} (view : W → SinkView) (standing : R → ReportView) (s
         let readings = broke.read.readings in
         let few = parity_io_in_stripe plan mended plan.table.shape.block_size readings broke.read.are.as_many broke.read.are.are_kept in
         let fewer = count_first is_parity_io (mended_events plan mended) broke.first broke.rest broke.events in
+        let before_last = before_it all ascending i within first one old mid so_far mended broke.number in
+        let none : xs ++ [] ≡ xs = append-nil xs in
         record {
+          earlier = xs;
+          last = mended;
           stripes = xs ++ ys;
+          stripes_are = refl;
           behind = drop (i + 1) all;
           numbers_are = sym (take-append-drop (i + 1) all) ∙ ap (λ (its : List ℕ). its ++ drop (i + 1) all) (sym (numbers_so all ascending i within first one old mid so_far mended broke.number));
           slots = slots_more all ascending i within first one old mid so_far mended before.window broke.slots lanes same;
           are = facts_then plan xs ys so_far.fixes.are (All-cons (AreFacts plan) mended.facts [] broke.are (All-nil (AreFacts plan)));
           first = front ++ broke.first;
-          rest = broke.rest;
-          events = events_append plan xs ys ∙ ap (λ (es : List Event). front ++ es) (append-nil (mended_events plan mended) ∙ broke.events) ∙ sym (append_assoc front broke.first broke.rest);
+          tells = record { some = broke.first; rest = broke.rest; first_is = refl; events = broke.events };
           told = told_then view standing stands plan.table.columns front broke.first old.lines mid.lines new.lines old.reports mid.reports new.reports so_far.fixes.told broke.told;
           folders = broke.folders ∙ so_far.fixes.fits.folders ∙ sym fits.folders;
           answered = answered_then plan xs ys old.folders mid.folders (λ d below. (so_far.fixes.makes d below).goes_on.tells) so_far.fixes.answered
               (All-cons (AnswersFit plan mid.folders) mended [] broke.answered (All-nil (AnswersFit plan mid.folders)));
           readings = so_far.fixes.readings ++ readings ∷ [];
-          read = levels_then plan xs ys old.vault mid.vault so_far.fixes.readings (readings ∷ []) so_far.fixes.vault
-              (before_it all ascending i within first one old mid so_far mended broke.number) so_far.fixes.read (broke.read.are, tt);
-          ran = breaks_in_last fault plan xs ys so_far.fixes.readings (readings ∷ []) old.vault mid.vault new.vault so_far.fixes.read so_far.fixes.ran so_far.fixes.vault (record {
-            earlier = [];
-            last = mended.facts;
-            stripes_are = refl;
-            before = stripe_reads plan mended.facts readings;
-            calls_are = append-nil (stripe_calls plan mended.facts readings);
-            ran = broke.ran;
-            vault = broke.vault;
-          });
+          read = levels_then plan xs ys old.vault mid.vault so_far.fixes.readings (readings ∷ []) so_far.fixes.vault before_last so_far.fixes.read (broke.read.are, tt);
+          ran = subst (λ (its : List Mended). BreaksInLast plan fault (facts_of its) mended.facts (so_far.fixes.readings ++ readings ∷ []) old.vault new.vault) none
+              (breaks_in_last fault plan xs [] mended so_far.fixes.readings (readings ∷ []) old.vault mid.vault new.vault before_last
+              so_far.fixes.read so_far.fixes.ran so_far.fixes.vault so_far.fixes.holds (record {
+                before = stripe_reads plan mended.facts readings;
+                calls_are = append-nil (stripe_calls plan mended.facts readings);
+                ran = broke.ran;
+                vault = broke.vault;
+                holds = λ told. All-nil (λ (facts : StripeFacts). HoldsWrong plan facts new.vault.files);
+              }));
           unread = unread_then so_far.fixes.readings (readings ∷ []) old.vault.faults mid.vault.faults new.vault.faults so_far.fixes.unread (omega (arith, broke.read.unread));
           spare = asked_then plan xs ys old.spare mid.spare new.spare so_far.fixes.spare broke.spare;
-          makes = files_then plan fault old.starts mid.starts old.states mid.states so_far.fixes.stood xs ys old.folders mid.folders new.folders so_far.fixes.makes so_far.fixes.underway
-              (files_one plan fault mid.starts mid.states mended mid.folders new.folders broke.makes);
+          makes = subst (λ (its : List Mended). BreaksFolders plan old.starts old.states fault its mended old.folders new.folders) none
+              (files_then plan fault old.starts mid.starts old.states mid.states so_far.fixes.stood xs [] mended old.folders mid.folders new.folders so_far.fixes.makes so_far.fixes.underway
+              (files_one plan fault mid.starts mid.states mended mid.folders new.folders broke.makes));
           broke = broke_more fault xs front broke.first (count_by has_failed readings) one old mid new refl (omega (arith, few, fewer)) so_far.fixes
               (λ d below. (
                 AnyCall (IsMendCall plan mid.starts d ys),

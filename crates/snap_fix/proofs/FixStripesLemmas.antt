@@ -1,5 +1,5 @@
 -- All stripes of a fix, window after window, and how that breaks off.
-use Rattle.std.proofs.Common.{◌≡◌, ◌⊎◌, inl, inr, ℕ, ◌+◌, ◌-◌, ◌<◌, ◌≤◌, List, [], ◌++◌, length, take, drop, get_or, All, Result, Ok, Err, refl, sym, ap, ap₂, ◌∙◌, subst, arith, append_assoc}
+use Rattle.std.proofs.Common.{◌≡◌, ◌⊎◌, inl, inr, ℕ, ◌+◌, ◌-◌, ◌<◌, ◌≤◌, List, [], ◌∷◌, ◌++◌, length, take, drop, get_or, All, Result, Ok, Err, refl, sym, ap, ap₂, ◌∙◌, subst, arith, append_assoc}
 use Rattle.std.specs.Prelude.{IfOk, IfErr}
 use Rattle.std.proofs.Math.ListN.{get_or-map as get_or-map-at}
 use Rattle.std.proofs.Math.Seq.{take-add, take-append_seam}
@@ -7,7 +7,7 @@ use Rattle.std.proofs.lemmas.Bool.{cases_lt}
 use Rattle.std.proofs.lemmas.List.{map-append, append-nil, length-map, length-append, get_or_append_left, get_or-append_right, take-append-le, take-append-drop}
 use Rattle.file_table.proofs.ListFacts.{AllPairs-take}
 use Rattle.disk_model.specs.Cause.{RoseBy}
-use Rattle.disk_model.specs.Folder.{FolderView}
+use Rattle.disk_model.specs.Folder.{FolderCall, FolderView}
 use Rattle.disk_model.specs.Sink.{SinkView}
 use Rattle.file_table.specs.Table.{TableValue}
 use Rattle.snap_report.specs.Answer.{is_io_of, is_parity_io}
@@ -32,12 +32,13 @@ use Rattle.snap_fix.specs.Mended.{Mended, all_mended_events}
 use Rattle.snap_fix.specs.Plan.{EntriesFit, FixPlan}
 use Rattle.snap_fix.specs.State.{AnyCall, WellCall, FolderMakes}
 use Rattle.snap_fix.specs.Underway.{AreFixable, AreUnderway, FixUnderway, IsMendCall}
-use Rattle.snap_fix.proofs.FixAllLemmas.{answered_then, asked_then, breaks_in_last, events_append, facts_append, facts_then, fixes_none, fixes_then, levels_then, precede, unread_then}
+use Rattle.snap_fix.proofs.FixAllLemmas.{answered_then, asked_then, breaks_in_last, facts_append, facts_then, fixes_none, fixes_then, levels_then, precede, tells_first, tells_then, unread_then}
 use Rattle.snap_fix.proofs.FixCountLemmas.{count_append, io_in_cells}
 use Rattle.snap_fix.proofs.FixIntoLemmas.{count_first, folder_gained, vault_gained}
 use Rattle.snap_fix.proofs.FixReadLemmas.{cell_read, cells_unread, underway_read, window_makes}
 use Rattle.snap_fix.proofs.FolderCallLemmas.{makes_then}
 use Rattle.snap_fix.proofs.KeptStartsLemmas.{files_any, files_then}
+use Rattle.snap_fix.proofs.MendedVaultLemmas.{Precede}
 
 -- what follows of an answer, whichever it is
 pub if_ok : {T E : Type 0} (result : Result T E) (P Q : T → Type 0) → ((x : T) → P x → Q x) → IfOk result P → IfOk result Q
@@ -210,26 +211,30 @@ module _ {W R : Type 0} (view : W → SinkView) (standing : R → ReportView) (s
     module _ (first : List ℕ) (one : Totals) (old : FixScene W R) (so_far : FixesStripes view standing stands plan first old mid one) (new : FixScene W R) (fault : RunFault)
         (into : BreaksInto view standing stands plan numbers window (with_folders mid mids) new fault) where
       -- the calls for the stripes, the reading of the window among them
-      since : BreaksFolders plan mid.starts mid.states fault into.stripes mid.folders new.folders
+      since : BreaksFolders plan mid.starts mid.states fault into.earlier into.last mid.folders new.folders
       since = record {
-        earlier = into.makes.earlier;
-        last = into.makes.last;
-        stripes_are = into.makes.stripes_are;
         starts = into.makes.starts;
         stood = into.makes.stood;
         states = into.makes.states;
         mids = into.makes.mids;
-        makes = λ d below. makes_then (WellCall (IsMendCall plan mid.starts d into.makes.earlier)) (reads into.makes.earlier d below) (into.makes.makes d below);
+        makes = λ d below. makes_then (WellCall (IsMendCall plan mid.starts d into.earlier)) (reads into.earlier d below) (into.makes.makes d below);
         underway = λ earlier firsts fixable is. into.makes.underway earlier firsts fixable
             (underway_read plan mid.starts numbers before window mid.folders mids read fits.folders earlier firsts mid.starts mid.states is);
         breaks = into.makes.breaks;
       }
 
-      since_any : (d : ℕ) → d < length plan.table.columns → FolderMakes (AnyCall (IsMendCall plan mid.starts d into.stripes)) (folder_at mid.folders d) (folder_at new.folders d)
-      since_any = files_any plan fault mid.starts mid.states into.stripes mid.folders new.folders since
+      abbrev Since : ℕ → FolderCall → Type 0
+      Since d = IsMendCall plan mid.starts d (into.earlier ++ into.last ∷ [])
 
-      into_any : (d : ℕ) → d < length plan.table.columns → FolderMakes (AnyCall (IsMendCall plan mid.starts d into.stripes)) (folder_at mids d) (folder_at new.folders d)
-      into_any = files_any plan fault mid.starts mid.states into.stripes mids new.folders into.makes
+      since_any : (d : ℕ) → d < length plan.table.columns → FolderMakes (AnyCall (Since d)) (folder_at mid.folders d) (folder_at new.folders d)
+      since_any = files_any plan fault mid.starts mid.states into.earlier into.last mid.folders new.folders since
+
+      into_any : (d : ℕ) → d < length plan.table.columns → FolderMakes (AnyCall (Since d)) (folder_at mids d) (folder_at new.folders d)
+      into_any = files_any plan fault mid.starts mid.states into.earlier into.last mids new.folders into.makes
+
+      -- what was told is a prefix of all events of the window
+      told_first : all_mended_events plan into.stripes ≡ into.first ++ into.tells.rest
+      told_first = tells_first plan into.stripes into.earlier into.last into.first into.stripes_are into.tells
 
       -- the failed readings of the window count too, and those before it
       broke_then : (by : RunFault) → HasBrokenInto plan by into.first mids new.folders mid.vault new.vault
@@ -239,16 +244,16 @@ module _ {W R : Type 0} (view : W → SinkView) (standing : R → ReportView) (s
         record {
           rose =
               let counted = count_append (is_io_of disk) (all_mended_events plan so_far.stripes) into.first in
-              let told = count_first (is_io_of disk) (all_mended_events plan into.stripes) into.first into.rest into.events in
+              let told = count_first (is_io_of disk) (all_mended_events plan into.stripes) into.first into.tells.rest told_first in
               let xs_few = io_in_cells plan disk so_far.stripes in
               let ys_few = io_in_cells plan disk into.stripes in
               let both = unread_both first one old so_far into.stripes into.behind into.numbers_are into.slots disk in
               let before = unread_since first one old so_far into.stripes into.behind into.numbers_are into.slots disk (folder_at mids disk).faults within (omega arith) in
               let rose = broke.rose in
               omega (arith, counted, told, xs_few, ys_few, both, before, rose);
-          call = folder_gained (WellCall (IsMendCall plan old.starts disk so_far.stripes)) (AnyCall (IsMendCall plan mid.starts disk into.stripes))
+          call = folder_gained (WellCall (IsMendCall plan old.starts disk so_far.stripes)) (AnyCall (Since disk))
               (folder_at old.folders disk) (folder_at mid.folders disk) (folder_at new.folders disk) (so_far.fixes.makes disk within) (since_any disk within)
-              (folder_gained (WellCall (IsMendCall plan mid.starts disk into.stripes)) (AnyCall (IsMendCall plan mid.starts disk into.stripes))
+              (folder_gained (WellCall (IsMendCall plan mid.starts disk into.stripes)) (AnyCall (Since disk))
               (folder_at mid.folders disk) (folder_at mids disk) (folder_at new.folders disk) (reads into.stripes disk within) (into_any disk within) broke.call);
         },
       )
@@ -271,28 +276,33 @@ module _ {W R : Type 0} (view : W → SinkView) (standing : R → ReportView) (s
           let left = drop (done + count) items in
           let both = numbers_both first one old so_far ys into.behind into.numbers_are into.slots items done count first_is numbers_is in
           let before = precede xs ys (ascend first one old so_far ys into.behind into.numbers_are into.slots items done count ascending first_is numbers_is) in
+          let before_last = subst (λ (its : List Mended). Precede (facts_of xs) (facts_of its)) into.stripes_are before in
           record {
+            earlier = xs ++ into.earlier;
+            last = into.last;
             stripes = xs ++ ys;
+            stripes_are = ap (λ (its : List Mended). xs ++ its) into.stripes_are ∙ sym (append_assoc xs into.earlier (into.last ∷ []));
             behind = into.behind ++ left;
             numbers_are = sym (take-append-drop (done + count) items) ∙ ap (λ (its : List ℕ). its ++ left) (sym both)
                 ∙ append_assoc (numbers_of (facts_of xs) ++ numbers_of (facts_of ys)) into.behind left
                 ∙ ap (λ (its : List ℕ). its ++ (into.behind ++ left)) (sym (numbers_append first one old so_far ys into.behind into.numbers_are into.slots));
             are = facts_then plan xs ys so_far.fixes.are into.are;
             first = front ++ into.first;
-            rest = into.rest;
-            events = events_append plan xs ys ∙ ap (λ (es : List Event). front ++ es) into.events ∙ sym (append_assoc front into.first into.rest);
+            tells = tells_then plan xs into.earlier into.last into.first into.tells;
             told = told_then view standing stands plan.table.columns front into.first old.lines mid.lines new.lines old.reports mid.reports new.reports so_far.fixes.told into.told;
             folders = into.folders ∙ read.folders ∙ so_far.fixes.fits.folders ∙ sym fits_old.folders;
             answered = answered_then plan xs ys old.folders mids (λ d below. told_as d below ∙ (so_far.fixes.makes d below).goes_on.tells) so_far.fixes.answered into.answered;
             cells = read_more first one old so_far ys into.behind into.numbers_are into.slots;
             readings = so_far.fixes.readings ++ into.readings;
             read = levels_then plan xs ys old.vault mid.vault so_far.fixes.readings into.readings so_far.fixes.vault before so_far.fixes.read into.read;
-            ran = breaks_in_last fault plan xs ys so_far.fixes.readings into.readings old.vault mid.vault new.vault so_far.fixes.read so_far.fixes.ran so_far.fixes.vault into.ran;
+            ran = breaks_in_last fault plan xs into.earlier into.last so_far.fixes.readings into.readings old.vault mid.vault new.vault before_last
+                so_far.fixes.read so_far.fixes.ran so_far.fixes.vault so_far.fixes.holds into.ran;
             unread = unread_then so_far.fixes.readings into.readings old.vault.faults mid.vault.faults new.vault.faults so_far.fixes.unread into.unread;
             unread_cells_of = λ d below.
                 unread_since first one old so_far ys into.behind into.numbers_are into.slots d (folder_at new.folders d).faults below (into_any d below).goes_on.later;
             spare = asked_then plan xs ys old.spare mid.spare new.spare so_far.fixes.spare into.spare;
-            makes = files_then plan fault old.starts mid.starts old.states mid.states so_far.fixes.stood xs ys old.folders mid.folders new.folders so_far.fixes.makes so_far.fixes.underway since;
+            makes = files_then plan fault old.starts mid.starts old.states mid.states so_far.fixes.stood xs into.earlier into.last
+                old.folders mid.folders new.folders so_far.fixes.makes so_far.fixes.underway since;
             broke = broke_then fault into.broke;
           }
 

@@ -1,5 +1,5 @@
--- Where files stand after some stripes and then others were written, and which calls are made for them.
-use Rattle.std.proofs.Common.{ℕ, ◌<◌, List, [], ◌∷◌, ◌++◌, length, refl, sym, ap, ◌∙◌, subst, append_assoc}
+-- Which calls the folders get for some stripes and then for others, and where these break off.
+use Rattle.std.proofs.Common.{ℕ, ◌<◌, List, [], ◌∷◌, ◌++◌, length, sym, subst, append_assoc}
 use Rattle.std.proofs.lemmas.List.{append-nil}
 use Rattle.std.proofs.lemmas.List.Elements.{Contains-append_left, Contains-append_right}
 use Rattle.disk_model.specs.Folder.{FolderView}
@@ -32,12 +32,9 @@ module _ (plan : FixPlan) (before after : StartsValue) (stood : KeepsStarts befo
 
 module _ (plan : FixPlan) (fault : RunFault) where
   -- in the only stripe
-  pub files_one : (starts : StartsValue) (states : List (List FileState)) (mended : Mended) (olds news : List FolderView)
-      → BreaksColumns fault (length plan.table.columns) (λ (d : ℕ). IsMendCall plan starts d (mended ∷ [])) olds news → BreaksFolders plan starts states fault (mended ∷ []) olds news
-  files_one starts states mended olds news breaks = record {
-    earlier = [];
-    last = mended;
-    stripes_are = refl;
+  pub files_one : (starts : StartsValue) (states : List (List FileState)) (last : Mended) (olds news : List FolderView)
+      → BreaksColumns fault (length plan.table.columns) (λ (d : ℕ). IsMendCall plan starts d (last ∷ [])) olds news → BreaksFolders plan starts states fault [] last olds news
+  files_one starts states last olds news breaks = record {
     starts = starts;
     stood = keeps_starts_same starts;
     states = states;
@@ -48,35 +45,34 @@ module _ (plan : FixPlan) (fault : RunFault) where
   }
 
   -- after other stripes
-  pub files_then : (before after : StartsValue) (before_states after_states : List (List FileState)) → KeepsStarts before after → (xs ys : List Mended) (olds mids news : List FolderView)
+  pub files_then : (before after : StartsValue) (before_states after_states : List (List FileState)) → KeepsStarts before after
+      → (xs ys : List Mended) (last : Mended) (olds mids news : List FolderView)
       → ((d : ℕ) → d < length plan.table.columns → FolderMakes (WellCall (IsMendCall plan before d xs)) (folder_at olds d) (folder_at mids d))
       → ((earlier : List Mended) (firsts : List FolderView) → AreFixable plan firsts → AreUnderway plan earlier firsts olds before before_states → AreUnderway plan (earlier ++ xs) firsts mids after after_states)
-      → BreaksFolders plan after after_states fault ys mids news → BreaksFolders plan before before_states fault (xs ++ ys) olds news
-  files_then before after before_states after_states stood xs ys olds mids news first underway broke = record {
-    earlier = xs ++ broke.earlier;
-    last = broke.last;
-    stripes_are = ap (λ (stripes : List Mended). xs ++ stripes) broke.stripes_are ∙ sym (append_assoc xs broke.earlier (broke.last ∷ []));
+      → BreaksFolders plan after after_states fault ys last mids news → BreaksFolders plan before before_states fault (xs ++ ys) last olds news
+  files_then before after before_states after_states stood xs ys last olds mids news first underway broke = record {
     starts = broke.starts;
     stood = keeps_starts_then before after broke.starts stood broke.stood;
     states = broke.states;
     mids = broke.mids;
-    makes = λ d below. well_then plan before after stood d xs broke.earlier (first d below) (broke.makes d below);
+    makes = λ d below. well_then plan before after stood d xs ys (first d below) (broke.makes d below);
     underway = λ earlier firsts fixable is.
-        subst (λ (stripes : List Mended). AreUnderway plan stripes firsts broke.mids broke.starts broke.states) (append_assoc earlier xs broke.earlier)
+        subst (λ (stripes : List Mended). AreUnderway plan stripes firsts broke.mids broke.starts broke.states) (append_assoc earlier xs ys)
         (broke.underway (earlier ++ xs) firsts fixable (underway earlier firsts fixable is));
     breaks = broke.breaks;
   }
 
   -- they are such calls all the same
-  pub files_any : (starts : StartsValue) (states : List (List FileState)) (stripes : List Mended) (olds news : List FolderView) → BreaksFolders plan starts states fault stripes olds news
-      → (d : ℕ) → d < length plan.table.columns → FolderMakes (AnyCall (IsMendCall plan starts d stripes)) (folder_at olds d) (folder_at news d)
-  files_any starts states stripes olds news broke d below =
-      let last = broke.last ∷ [] in
-      let all = broke.earlier ++ last in
-      let same = keeps_starts_same starts in
-      subst (λ (its : List Mended). FolderMakes (AnyCall (IsMendCall plan starts d its)) (folder_at olds d) (folder_at news d)) (sym broke.stripes_are)
-      (makes_then (AnyCall (IsMendCall plan starts d all))
-      (makes_any_wider (IsMendCall plan starts d broke.earlier) (IsMendCall plan starts d all) (mend_call_wider plan starts starts d broke.earlier all same (Contains-append_left broke.earlier last))
-      (makes_any (IsMendCall plan starts d broke.earlier) (broke.makes d below)))
-      (makes_any_wider (IsMendCall plan broke.starts d last) (IsMendCall plan starts d all) (mend_call_wider plan starts broke.starts d last all broke.stood (Contains-append_right broke.earlier last))
-      (columns_any fault (length plan.table.columns) (λ (k : ℕ). IsMendCall plan broke.starts k last) broke.mids news broke.breaks d below)))
+  pub files_any : (starts : StartsValue) (states : List (List FileState)) (earlier : List Mended) (last : Mended) (olds news : List FolderView)
+      → BreaksFolders plan starts states fault earlier last olds news
+      → (d : ℕ) → d < length plan.table.columns → FolderMakes (AnyCall (IsMendCall plan starts d (earlier ++ last ∷ []))) (folder_at olds d) (folder_at news d)
+  files_any starts states earlier last olds news broke d below =
+      let one = last ∷ [] in
+      let all = earlier ++ one in
+      makes_then (AnyCall (IsMendCall plan starts d all))
+      (makes_any_wider (IsMendCall plan starts d earlier) (IsMendCall plan starts d all)
+      (mend_call_wider plan starts starts d earlier all (keeps_starts_same starts) (Contains-append_left earlier one))
+      (makes_any (IsMendCall plan starts d earlier) (broke.makes d below)))
+      (makes_any_wider (IsMendCall plan broke.starts d one) (IsMendCall plan starts d all)
+      (mend_call_wider plan starts broke.starts d one all broke.stood (Contains-append_right earlier one))
+      (columns_any fault (length plan.table.columns) (λ (k : ℕ). IsMendCall plan broke.starts k one) broke.mids news broke.breaks d below))

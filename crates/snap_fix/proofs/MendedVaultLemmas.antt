@@ -153,11 +153,10 @@ module _ (plan : FixPlan) where
         by (inr far) = two level at x (right_outside level at outside) far has
 
     -- what the wrong levels of stripes hold stays where later ones are written
-    pub holds_append : (mid new : VaultView) → Precede xs ys → MendsVault plan ys mid new → HoldAllWrong plan xs mid → HoldAllWrong plan ys new → HoldAllWrong plan (xs ++ ys) new
-    holds_append mid new precede mends one two told =
+    pub holds_still : (mid new : VaultView) → Precede xs ys → MendsVault plan ys mid new → HoldAllWrong plan xs mid → HoldAllWrong plan xs new
+    holds_still mid new precede mends one told k d below =
         let before : IsTrue mid.tells = subst IsTrue mends.calls.goes_on.tells told in
-        All-append (λ (facts : StripeFacts). HoldsWrong plan facts new.files) xs ys
-        (λ k d below. stays (get_or xs k d) (Contains-get_or xs k d below) (mends.changes.reads before) (one before k d below)) (two told)
+        stays (get_or xs k d) (Contains-get_or xs k d below) (mends.changes.reads before) (one before k d below)
       where
         stays : (facts : StripeFacts) → Contains xs facts → Step ys mid.files new.files → HoldsWrong plan facts mid.files → HoldsWrong plan facts new.files
         stays facts first keeps holds r row wrong known i below =
@@ -166,6 +165,10 @@ module _ (plan : FixPlan) where
             let less = precede facts other first is_one in
             apart size size facts.stripe stripe i refl (λ same. omega (arith, less, number, same)) below)
             (holds r row wrong known i below)
+
+    pub holds_append : (mid new : VaultView) → Precede xs ys → MendsVault plan ys mid new → HoldAllWrong plan xs mid → HoldAllWrong plan ys new → HoldAllWrong plan (xs ++ ys) new
+    holds_append mid new precede mends one two told =
+        All-append (λ (facts : StripeFacts). HoldsWrong plan facts new.files) xs ys (holds_still mid new precede mends one told) (two told)
 
   -- ---- what was read later
 

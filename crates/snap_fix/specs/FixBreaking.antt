@@ -28,7 +28,7 @@ use Rattle.snap_fix.specs.FixCourse.{FixFinds, FixesVault, MakeFixCalls, WritesF
 use Rattle.snap_fix.specs.FixRun.{BreaksInLast, HasBroken, HoldAllWrong}
 use Rattle.snap_fix.specs.Fixing.{MendsVault, facts_of}
 use Rattle.snap_fix.specs.Looking.{numbers_of, unread_cells, unread_in}
-use Rattle.snap_fix.specs.Mended.{Mended, all_mended_events}
+use Rattle.snap_fix.specs.Mended.{Mended, all_mended_events, mended_events}
 use Rattle.snap_fix.specs.Plan.{FixPlan, starts_of, stripes_of}
 use Rattle.snap_fix.specs.Underway.{IsMendCall, done_well, mend_calls}
 
@@ -36,25 +36,32 @@ use Rattle.snap_fix.specs.Underway.{IsMendCall, done_well, mend_calls}
 abbrev pub written_events : FixPlan → List Mended → List Event
 written_events plan stripes = opening_events plan ++ all_mended_events plan stripes
 
--- Of the folders: all blocks of the stripes before the last one were written, and then calls for that one were made, by where files stood
--- then: where a folder failed, up to the call of it that did, and where a call of the vault did, only such as went well.
-pub record BreaksFiles (plan : FixPlan) (starts : StartsValue) (fault : RunFault) (stripes : List Mended) (firsts news : List FolderView) : Type 0 where
+-- Of the folders: all blocks of the stripes before the last one were written, and then calls for that one were made, by
+-- where files stood then: where a folder failed, up to the call of it that did, and where a call of the vault did, only
+-- such as went well.
+pub record BreaksFiles (plan : FixPlan) (starts : StartsValue) (fault : RunFault) (earlier : List Mended) (last : Mended)
+    (firsts news : List FolderView) : Type 0 where
+  pub written : Written
+  pub writes : WritesFiles plan starts earlier firsts written
+  pub breaks : BreaksColumns fault (length plan.table.columns) (λ (d : ℕ). IsMendCall plan written.starts d (last ∷ []))
+      written.folders news
+
+-- While blocks were written, in the last of its stripes: all events of the stripes before it were told, and a prefix of
+-- its own. Of the folders only calls that write their blocks were made, which went well but for the last one of a folder
+-- that failed, in the last stripe, and all blocks of the stripes before it were written. Of the vault all calls for these
+-- stripes were made, up to the writes of the last one.
+pub record BreaksWriting (plan : FixPlan) (starts : StartsValue) (fault : RunFault) (stripes : List Mended)
+    (readings : List (List LevelReading)) (first : List Event) (firsts news : List FolderView) (old new : VaultView)
+    : Type 0 where
   pub earlier : List Mended
   pub last : Mended
   pub stripes_are : stripes ≡ earlier ++ last ∷ []
-  pub written : Written
-  pub writes : WritesFiles plan starts earlier firsts written
-  pub breaks : BreaksColumns fault (length plan.table.columns) (λ (d : ℕ). IsMendCall plan written.starts d (last ∷ [])) written.folders news
-
--- While blocks were written: a prefix of the events of its stripes was told. Of the folders only calls that write their blocks were made,
--- which went well but for the last one of a folder that failed, in the last stripe, and all blocks of the stripes before it were written. Of
--- the vault all calls for these stripes were made, up to the writes of the last one.
-pub record BreaksWriting (plan : FixPlan) (starts : StartsValue) (fault : RunFault) (stripes : List Mended) (readings : List (List LevelReading))
-    (first : List Event) (firsts news : List FolderView) (old new : VaultView) : Type 0 where
+  pub some : List Event
   pub rest : List Event
-  pub events : written_events plan stripes ≡ first ++ rest
-  pub makes : BreaksFiles plan starts fault stripes firsts news
-  pub ran : BreaksInLast plan fault (facts_of stripes) readings old new
+  pub first_is : first ≡ written_events plan earlier ++ some
+  pub events : mended_events plan last ≡ some ++ rest
+  pub makes : BreaksFiles plan starts fault earlier last firsts news
+  pub ran : BreaksInLast plan fault (facts_of earlier) last.facts readings old new
 
 -- While levels were synced: all calls for its stripes were made of the vault, then the first syncs and one that failed. All that was written
 -- was told, wrong levels hold their sums, and the folders are as they were once all blocks were written.

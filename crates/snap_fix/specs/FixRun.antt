@@ -26,7 +26,7 @@ use Rattle.snap_fix.specs.Fixing.{AreTotals, AreReadThen, FixScene, FolderBroke,
 use Rattle.snap_fix.specs.Known.{AreFacts}
 use Rattle.snap_fix.specs.Looking.{AreAllLevelsOf, numbers_of, facts_at, unread_cells, unread_in}
 use Rattle.snap_fix.specs.Marks.{slots_at}
-use Rattle.snap_fix.specs.Mended.{Mended, AnswersFit, all_mended_events}
+use Rattle.snap_fix.specs.Mended.{Mended, AnswersFit, all_mended_events, mended_events}
 use Rattle.snap_fix.specs.Plan.{FixPlan}
 use Rattle.snap_fix.specs.Room.{IsRoomFor}
 use Rattle.snap_fix.specs.State.{WellCall, FolderMakes, KeepsStarts}
@@ -118,47 +118,53 @@ HasBroken plan (Folder disk) told olds news old new = (disk < length plan.table.
 HasBroken plan Vault told olds news old new = VaultFailedBy told old new
 HasBroken plan Memory told olds news old new = ⊥
 
--- Of the vault all calls for these stripes were made, but for the writes of the last one: where a folder failed, none of them, and where a call
--- of the vault did, the first ones and that. So only wrong levels of these stripes changed, and of the last one only where the vault failed.
-pub record BreaksInLast (plan : FixPlan) (fault : RunFault) (stripes : List StripeFacts) (readings : List (List LevelReading))
-    (old new : VaultView) : Type 0 where
-  pub earlier : List StripeFacts
-  pub last : StripeFacts
-  pub stripes_are : stripes ≡ earlier ++ last ∷ []
+-- Of the vault all calls for these stripes and the last one were made, but for the writes of the last one: where a folder
+-- failed, none of them, and where a call of the vault did, the first ones and that. So only wrong levels of these stripes
+-- changed, and of the last one only where the vault failed. Those of the stripes before it hold the sums of their rows.
+pub record BreaksInLast (plan : FixPlan) (fault : RunFault) (earlier : List StripeFacts) (last : StripeFacts)
+    (readings : List (List LevelReading)) (old new : VaultView) : Type 0 where
   pub before : List VaultDone
-  pub calls_are : mend_calls plan stripes readings ≡ before ++ done_well (wrong_writes plan last)
+  pub calls_are : mend_calls plan (earlier ++ last ∷ []) readings ≡ before ++ done_well (wrong_writes plan last)
   pub ran : BreaksAfter fault before (done_well (wrong_writes plan last)) old new
   pub vault : MendsVault plan (levels_begun fault earlier last) old new
+  pub holds : HoldAllWrong plan earlier new
 
--- Of the folders only calls that went well were made for the stripes before the last one, and whatever the fix did before, it went on with
--- them. Then calls were made for the last one, by where files stood then: where a folder failed, up to the call of it that did, and where a
--- call of the vault did, only such as went well.
+-- Of the folders only calls that went well were made for the stripes before the last one, and whatever the fix did before,
+-- it went on with them. Then calls were made for the last one, by where files stood then: where a folder failed, up to the
+-- call of it that did, and where a call of the vault did, only such as went well.
 pub record BreaksFolders (plan : FixPlan) (begun : StartsValue) (begun_states : List (List FileState)) (fault : RunFault)
-    (stripes : List Mended) (olds news : List FolderView) : Type 0 where
-  pub earlier : List Mended
-  pub last : Mended
-  pub stripes_are : stripes ≡ earlier ++ last ∷ []
+    (earlier : List Mended) (last : Mended) (olds news : List FolderView) : Type 0 where
   pub starts : StartsValue
   pub stood : KeepsStarts begun starts
   pub states : List (List FileState)
   pub mids : List FolderView
-  pub makes : (d : ℕ) → d < length plan.table.columns → FolderMakes (WellCall (IsMendCall plan begun d earlier)) (folder_at olds d) (folder_at mids d)
+  pub makes : (d : ℕ) → d < length plan.table.columns
+      → FolderMakes (WellCall (IsMendCall plan begun d earlier)) (folder_at olds d) (folder_at mids d)
   pub underway : (before : List Mended) (firsts : List FolderView) → AreFixable plan firsts
       → AreUnderway plan before firsts olds begun begun_states
       → AreUnderway plan (before ++ earlier) firsts mids starts states
   pub breaks : BreaksColumns fault (length plan.table.columns) (λ (d : ℕ). IsMendCall plan starts d (last ∷ [])) mids news
 
--- Some first stripes were written anew, and the one after them broke off: a prefix of their events was told, and only calls were made
--- that they ask for.
+-- These events are all those of the stripes before the last one, and a prefix of those of the last one.
+pub record TellsInLast (plan : FixPlan) (earlier : List Mended) (last : Mended) (first : List Event) : Type 0 where
+  pub some : List Event
+  pub rest : List Event
+  pub first_is : first ≡ all_mended_events plan earlier ++ some
+  pub events : mended_events plan last ≡ some ++ rest
+
+-- Some first stripes were written anew, and the one after them broke off: their events were told, and a prefix of its
+-- own, and only calls were made that they ask for.
 pub record BreaksStripes {W R : Type 0} (view : W → SinkView) (standing : R → ReportView) (stands : R → List Event → Type 0)
     (plan : FixPlan) (numbers : List ℕ) (old new : FixScene W R) (fault : RunFault) : Type 0 where
+  pub earlier : List Mended
+  pub last : Mended
   pub stripes : List Mended
+  pub stripes_are : stripes ≡ earlier ++ last ∷ []
   pub behind : List ℕ
   pub numbers_are : numbers ≡ numbers_of (facts_of stripes) ++ behind
   pub are : All (AreFacts plan) (facts_of stripes)
   pub first : List Event
-  pub rest : List Event
-  pub events : all_mended_events plan stripes ≡ first ++ rest
+  pub tells : TellsInLast plan earlier last first
   pub told : Told view standing stands plan.table.columns first old.lines new.lines old.reports new.reports
   pub folders : length new.folders ≡ length old.folders
   pub answered : All (AnswersFit plan old.folders) stripes
@@ -166,12 +172,12 @@ pub record BreaksStripes {W R : Type 0} (view : W → SinkView) (standing : R �
       → AreReadThen plan old.starts firsts stripes
   pub readings : List (List LevelReading)
   pub read : AreAllLevelsOf plan.table.shape.block_size old.vault (facts_of stripes) readings
-  pub ran : BreaksInLast plan fault (facts_of stripes) readings old.vault new.vault
+  pub ran : BreaksInLast plan fault (facts_of earlier) last.facts readings old.vault new.vault
   pub unread : RoseBy (unread_in readings) old.vault.faults new.vault.faults
   pub unread_cells_of : (d : ℕ) → d < length plan.table.columns
       → RoseBy (unread_cells d (facts_of stripes)) (folder_at old.folders d).faults (folder_at new.folders d).faults
   pub spare : AsksSpare plan (facts_of stripes) old.spare new.spare
-  pub makes : BreaksFolders plan old.starts old.states fault stripes old.folders new.folders
+  pub makes : BreaksFolders plan old.starts old.states fault earlier last old.folders new.folders
   pub broke : HasBroken plan fault first old.folders new.folders old.vault new.vault
 
 -- The same within a window, which was read before: the failed readings that were told of its cells were counted then.
@@ -182,23 +188,25 @@ HasBrokenInto plan Memory told olds news old new = ⊥
 
 pub record BreaksInto {W R : Type 0} (view : W → SinkView) (standing : R → ReportView) (stands : R → List Event → Type 0)
     (plan : FixPlan) (numbers : List ℕ) (window : WindowValue) (old new : FixScene W R) (fault : RunFault) : Type 0 where
+  pub earlier : List Mended
+  pub last : Mended
   pub stripes : List Mended
+  pub stripes_are : stripes ≡ earlier ++ last ∷ []
   pub behind : List ℕ
   pub numbers_are : numbers ≡ numbers_of (facts_of stripes) ++ behind
   pub slots : (k : ℕ) → k < length stripes → (facts_at (facts_of stripes) k).slots ≡ slots_at window k
   pub are : All (AreFacts plan) (facts_of stripes)
   pub first : List Event
-  pub rest : List Event
-  pub events : all_mended_events plan stripes ≡ first ++ rest
+  pub tells : TellsInLast plan earlier last first
   pub told : Told view standing stands plan.table.columns first old.lines new.lines old.reports new.reports
   pub folders : length new.folders ≡ length old.folders
   pub answered : All (AnswersFit plan old.folders) stripes
   pub readings : List (List LevelReading)
   pub read : AreAllLevelsOf plan.table.shape.block_size old.vault (facts_of stripes) readings
-  pub ran : BreaksInLast plan fault (facts_of stripes) readings old.vault new.vault
+  pub ran : BreaksInLast plan fault (facts_of earlier) last.facts readings old.vault new.vault
   pub unread : RoseBy (unread_in readings) old.vault.faults new.vault.faults
   pub spare : AsksSpare plan (facts_of stripes) old.spare new.spare
-  pub makes : BreaksFolders plan old.starts old.states fault stripes old.folders new.folders
+  pub makes : BreaksFolders plan old.starts old.states fault earlier last old.folders new.folders
   pub broke : HasBrokenInto plan fault first old.folders new.folders old.vault new.vault
 
 -- Some stripes of the work were read into the window, and then it broke off.

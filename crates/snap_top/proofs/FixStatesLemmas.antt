@@ -71,17 +71,20 @@ writing_of : (plan : FixPlan) (starts : StartsValue) (fault : RunFault) (stripes
 writing_of plan starts fault stripes readings first firsts news old new off =
     let last = off.ran in
     record {
+      earlier = off.earlier;
+      last = off.last;
+      stripes_are = off.stripes_are;
+      some = off.some;
       rest = off.rest;
+      first_is = off.first_is;
       events = off.events;
       makes = off.makes;
       ran = record {
-        earlier = last.earlier;
-        last = last.last;
-        stripes_are = last.stripes_are;
         before = last.before;
         calls_are = last.calls_are;
         ran = breaks_after_of fault last.before _ old new last.ran;
         vault = mends_of plan _ old new last.vault;
+        holds = last.holds;
       };
     }
 
