@@ -59,7 +59,7 @@ IsLostCall start state path call = (stands start.place state.touched ≡ true) �
 
 -- ---- what it ends with
 
--- such calls were made, one at least, and a file was gone, which does not happen where the folder tells its files
+-- there are such calls, only such were made, and a file was gone, which does not happen where the folder tells its files
 pub record FindsNoFile (P : FolderCall → Type 0) (old new : FolderView) : Type 0 where
   pub untold : old.tells ≡ false
   pub makes : FolderMakes (WellCall P) old new

@@ -39,17 +39,17 @@ written_events plan stripes = opening_events plan ++ all_mended_events plan stri
 -- Of the folders: all blocks of the stripes before the last one were written, and then calls for that one were made, by
 -- where files stood then: where a folder failed, up to the call of it that did, and where a call of the vault did, only
 -- such as went well.
-pub record BreaksFiles (plan : FixPlan) (starts : StartsValue) (fault : RunFault) (earlier : List Mended) (last : Mended)
-    (firsts news : List FolderView) : Type 0 where
+pub record BreaksFiles (plan : FixPlan) (starts : StartsValue) (fault : RunFault) (earlier : List Mended)
+    (last : Mended) (firsts news : List FolderView) : Type 0 where
   pub written : Written
   pub writes : WritesFiles plan starts earlier firsts written
   pub breaks : BreaksColumns fault (length plan.table.columns) (λ (d : ℕ). IsMendCall plan written.starts d (last ∷ []))
       written.folders news
 
--- While blocks were written, in the last of its stripes: all events of the stripes before it were told, and a prefix of
--- its own. Of the folders only calls that write their blocks were made, which went well but for the last one of a folder
--- that failed, in the last stripe, and all blocks of the stripes before it were written. Of the vault all calls for these
--- stripes were made, up to the writes of the last one.
+-- While blocks were written, in the last of its stripes: all events of the stripes before it were told, and a prefix
+-- of its own. Of the folders only calls that write their blocks were made, which went well but for the last one of a
+-- folder that failed, in the last stripe, and all blocks of the stripes before it were written. Of the vault all calls
+-- for these stripes were made, up to the writes of the last one.
 pub record BreaksWriting (plan : FixPlan) (starts : StartsValue) (fault : RunFault) (stripes : List Mended)
     (readings : List (List LevelReading)) (first : List Event) (firsts news : List FolderView) (old new : VaultView)
     : Type 0 where
@@ -63,39 +63,46 @@ pub record BreaksWriting (plan : FixPlan) (starts : StartsValue) (fault : RunFau
   pub makes : BreaksFiles plan starts fault earlier last firsts news
   pub ran : BreaksInLast plan fault (facts_of earlier) last.facts readings old new
 
--- While levels were synced: all calls for its stripes were made of the vault, then the first syncs and one that failed. All that was written
--- was told, wrong levels hold their sums, and the folders are as they were once all blocks were written.
-pub record BreaksSyncing (plan : FixPlan) (stripes : List Mended) (readings : List (List LevelReading)) (first : List Event)
-    (written : Written) (news : List FolderView) (old new : VaultView) : Type 0 where
+-- While levels were synced: all calls for its stripes were made of the vault, then the first syncs and one that
+-- failed. All that was written was told, wrong levels hold their sums, and the folders are as they were once all
+-- blocks were written.
+pub record BreaksSyncing (plan : FixPlan) (stripes : List Mended) (readings : List (List LevelReading))
+    (first : List Event) (written : Written) (news : List FolderView) (old new : VaultView) : Type 0 where
   pub events : first ≡ written_events plan stripes
   pub ran : FailsAfter (mend_calls plan (facts_of stripes) readings) (done_well (mend_syncs plan stripes)) old new
   pub holds : HoldAllWrong plan (facts_of stripes) new
   pub folders : news ≡ written.folders
 
--- While files were finished: the vault is as a fix leaves it that ends, so each level that was written was synced before. All that was written
--- was told, and then a prefix of what is told of the files. Column after column only calls that finish files were made, which went well but
--- for the last one of the folder that failed; those behind it are as they were once all blocks were written.
-pub record BreaksFinishing (disk : ℕ) (plan : FixPlan) (stripes : List Mended) (readings : List (List LevelReading)) (first : List Event)
-    (written : Written) (news : List FolderView) (old new : VaultView) : Type 0 where
+-- While files were finished: the vault is as a fix leaves it that ends, so each level that was written was synced
+-- before. All that was written was told, and then a prefix of what is told of the files. Column after column only
+-- calls that finish files were made, which went well but for the last one of the folder that failed; those behind it
+-- are as they were once all blocks were written.
+pub record BreaksFinishing (disk : ℕ) (plan : FixPlan) (stripes : List Mended) (readings : List (List LevelReading))
+    (first : List Event) (written : Written) (news : List FolderView) (old new : VaultView) : Type 0 where
   pub finishes : List (List Finish)
   pub are : AreDone plan written.starts written.states written.folders finishes
   pub finished : List Event
   pub rest : List Event
   pub events : first ≡ written_events plan stripes ++ finished
   pub finished_are : all_finish_news plan finishes ≡ finished ++ rest
-  pub makes : FailsInColumn disk (length plan.table.columns) (λ (d : ℕ). FinishesOne plan d written.starts written.states) written.folders news
+  pub makes : FailsInColumn disk (length plan.table.columns)
+      (λ (d : ℕ). FinishesOne plan d written.starts written.states) written.folders news
   pub vault : FixesVault plan stripes readings old new
 
 -- by what failed
-abbrev pub BreaksEnding : RunFault → FixPlan → List Mended → List (List LevelReading) → List Event → Written → List FolderView
-    → VaultView → VaultView → Type 0
-BreaksEnding (Folder disk) plan stripes readings first written news old new = BreaksFinishing disk plan stripes readings first written news old new
-BreaksEnding Vault plan stripes readings first written news old new = BreaksSyncing plan stripes readings first written news old new
+abbrev pub BreaksEnding : RunFault → FixPlan → List Mended → List (List LevelReading) → List Event → Written
+    → List FolderView → VaultView → VaultView → Type 0
+BreaksEnding (Folder disk) plan stripes readings first written news old new =
+    BreaksFinishing disk plan stripes readings first written news old new
+BreaksEnding Vault plan stripes readings first written news old new =
+    BreaksSyncing plan stripes readings first written news old new
 BreaksEnding Memory plan stripes readings first written news old new = ⊥
 
--- At the end: all blocks were written. A sync failed before any file was finished, or a folder once all levels were synced.
-pub record BreaksAtEnd (plan : FixPlan) (starts : StartsValue) (fault : RunFault) (stripes : List Mended) (readings : List (List LevelReading))
-    (first : List Event) (firsts news : List FolderView) (old new : VaultView) : Type 0 where
+-- At the end: all blocks were written. A sync failed before any file was finished, or a folder once all levels were
+-- synced.
+pub record BreaksAtEnd (plan : FixPlan) (starts : StartsValue) (fault : RunFault) (stripes : List Mended)
+    (readings : List (List LevelReading)) (first : List Event) (firsts news : List FolderView) (old new : VaultView)
+    : Type 0 where
   pub written : Written
   pub writes : WritesFiles plan starts stripes firsts written
   pub ending : BreaksEnding fault plan stripes readings first written news old new
@@ -107,10 +114,11 @@ BreaksOff plan starts fault stripes behind readings first firsts news old new =
     BreaksWriting plan starts fault stripes readings first firsts news old new
     ⊎ ((behind ≡ []) × BreaksAtEnd plan starts fault stripes readings first firsts news old new)
 
--- A fix that broke off after the folders were listed: an object failed otherwise than in the readings that were told. These first stripes
--- were looked at, and it broke off in the last of them or at the end.
+-- A fix that broke off after the folders were listed: an object failed otherwise than in the readings that were told.
+-- These first stripes were looked at, and it broke off in the last of them or at the end.
 pub record FixBreaks {W R : Type 0} (view : W → SinkView) (standing : R → ReportView) (stands : R → List Event → Type 0)
-    (mode : Mode) (selection : Selection) (names : List (List ℕ)) (table : TableValue) (old new : Outside W R) (fault : RunFault) : Type 0 where
+    (mode : Mode) (selection : Selection) (names : List (List ℕ)) (table : TableValue) (old new : Outside W R)
+    (fault : RunFault) : Type 0 where
   pub lists : List (List ListedFile)
   pub mids : List FolderView
   pub as_many : length mids ≡ length old.folders
@@ -128,14 +136,16 @@ pub record FixBreaks {W R : Type 0} (view : W → SinkView) (standing : R → Re
   pub spare : AsksSpare plan (facts_of stripes) old.spare new.spare
   pub vault : MendsVault plan (facts_of stripes) old.vault new.vault
   pub first : List Event
-  pub off : BreaksOff plan (starts_of table lists) fault stripes behind readings first mids new.folders old.vault new.vault
+  pub off : BreaksOff plan (starts_of table lists) fault stripes behind readings first mids new.folders
+      old.vault new.vault
   pub told : Told view standing stands table.columns first old.lines new.lines old.reports new.reports
   pub folders : length new.folders ≡ length old.folders
   pub calls : MakeFixCalls plan (starts_of table lists) stripes mids new.folders
   pub broke : HasBroken plan fault first mids new.folders old.vault new.vault
 
 -- why a fix did not end: it did not begin, and nothing but the folders was touched, or it broke off
-abbrev pub FixesNot : {W R : Type 0} → (W → SinkView) → (R → ReportView) → (R → List Event → Type 0) → Mode → Selection → List (List ℕ) → TableValue
-    → Outside W R → Outside W R → Type 0 → RunFault → Type 0
+abbrev pub FixesNot : {W R : Type 0} → (W → SinkView) → (R → ReportView) → (R → List Event → Type 0) → Mode → Selection
+    → List (List ℕ) → TableValue → Outside W R → Outside W R → Type 0 → RunFault → Type 0
 FixesNot view standing stands mode selection names table old new untouched fault =
-    (BeginsNot old.folders new.folders fault × untouched) ⊎ FixBreaks view standing stands mode selection names table old new fault
+    (BeginsNot old.folders new.folders fault × untouched)
+    ⊎ FixBreaks view standing stands mode selection names table old new fault

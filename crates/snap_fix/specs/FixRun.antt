@@ -40,12 +40,14 @@ AreAscending numbers = AllPairs (λ (a b : ℕ). a < b) numbers
 abbrev pub HoldAllWrong : FixPlan → List StripeFacts → VaultView → Type 0
 HoldAllWrong plan stripes v = Reads (λ files. All (λ (facts : StripeFacts). HoldsWrong plan facts files) stripes) v
 
--- These stripes were looked at and written anew: just their events were told, and whatever the fix did before, it goes on with them.
+-- These stripes were looked at and written anew: just their events were told, and whatever the fix did before, it goes
+-- on with them.
 pub record FixesAll {W R : Type 0} (view : W → SinkView) (standing : R → ReportView) (stands : R → List Event → Type 0)
     (plan : FixPlan) (stripes : List Mended) (old new : FixScene W R) (totals : Totals) : Type 0 where
   pub are : All (AreFacts plan) (facts_of stripes)
   pub fits : SceneFits plan new
-  pub told : Told view standing stands plan.table.columns (all_mended_events plan stripes) old.lines new.lines old.reports new.reports
+  pub told : Told view standing stands plan.table.columns (all_mended_events plan stripes) old.lines new.lines
+      old.reports new.reports
   pub totals_are : AreTotals plan stripes totals
   pub written : Writes plan stripes old.written new.written
   pub answered : All (AnswersFit plan old.folders) stripes
@@ -55,11 +57,14 @@ pub record FixesAll {W R : Type 0} (view : W → SinkView) (standing : R → Rep
   pub unread : RoseBy (unread_in readings) old.vault.faults new.vault.faults
   pub ran : GoesOn old.vault new.vault (mend_calls plan (facts_of stripes) readings)
   pub vault : MendsVault plan (facts_of stripes) old.vault new.vault
-  pub zeros : IsTrue old.vault.tells → AddsZeros plan.table.shape.block_size (IsMendedLevel plan (facts_of stripes)) old.vault.files new.vault.files
+  pub zeros : IsTrue old.vault.tells
+      → AddsZeros plan.table.shape.block_size (IsMendedLevel plan (facts_of stripes)) old.vault.files new.vault.files
   pub holds : HoldAllWrong plan (facts_of stripes) new.vault
   pub parity_io : RoseBy (count_by is_parity_io (all_mended_events plan stripes)) old.vault.faults new.vault.faults
   pub spare : AsksSpare plan (facts_of stripes) old.spare new.spare
-  pub makes : (d : ℕ) → d < length plan.table.columns → FolderMakes (WellCall (IsMendCall plan old.starts d stripes)) (folder_at old.folders d) (folder_at new.folders d)
+  pub makes : (d : ℕ) → d < length plan.table.columns
+      → FolderMakes (WellCall (IsMendCall plan old.starts d stripes))
+      (folder_at old.folders d) (folder_at new.folders d)
   pub underway : (before : List Mended) (firsts : List FolderView) → AreFixable plan firsts
       → AreUnderway plan before firsts old.folders old.starts old.states
       → AreUnderway plan (before ++ stripes) firsts new.folders new.starts new.states
@@ -77,8 +82,9 @@ abbrev pub with_folders : {W R : Type 0} → FixScene W R → List FolderView �
 with_folders scene folders = record scene { folders = folders }
 
 -- Some stripes of the work were read into the window, then looked at and written anew.
-pub record FixesWindow {W R : Type 0} (view : W → SinkView) (standing : R → ReportView) (stands : R → List Event → Type 0)
-    (table : TableValue) (work : Work) (numbers : List ℕ) (old new : FixScene W R) (totals : Totals) : Type 0 where
+pub record FixesWindow {W R : Type 0} (view : W → SinkView) (standing : R → ReportView)
+    (stands : R → List Event → Type 0) (table : TableValue) (work : Work) (numbers : List ℕ)
+    (old new : FixScene W R) (totals : Totals) : Type 0 where
   pub window : WindowValue
   pub mids : List FolderView
   pub read : ReadsWindow table work.starts numbers work.room.window window old.folders mids
@@ -90,17 +96,19 @@ pub record KeepsFixWork (table : TableValue) (old new : Work) : Type 0 where
   pub room : IsRoomFor table new.room
 
 -- Stripes were read of the folders, looked at and written anew.
-pub record FixesStripes {W R : Type 0} (view : W → SinkView) (standing : R → ReportView) (stands : R → List Event → Type 0)
-    (plan : FixPlan) (numbers : List ℕ) (old new : FixScene W R) (totals : Totals) : Type 0 where
+pub record FixesStripes {W R : Type 0} (view : W → SinkView) (standing : R → ReportView)
+    (stands : R → List Event → Type 0) (plan : FixPlan) (numbers : List ℕ)
+    (old new : FixScene W R) (totals : Totals) : Type 0 where
   pub stripes : List Mended
   pub numbers_are : numbers_of (facts_of stripes) ≡ numbers
   pub fixes : FixesAll view standing stands plan stripes old new totals
-  pub read : (firsts : List FolderView) → AreFixable plan firsts → AreUnderway plan [] firsts old.folders old.starts old.states
-      → AreReadThen plan old.starts firsts stripes
+  pub read : (firsts : List FolderView) → AreFixable plan firsts
+      → AreUnderway plan [] firsts old.folders old.starts old.states → AreReadThen plan old.starts firsts stripes
   pub unread : (d : ℕ) → d < length plan.table.columns
       → RoseBy (unread_cells d (facts_of stripes)) (folder_at old.folders d).faults (folder_at new.folders d).faults
   pub io : (d : ℕ) → d < length plan.table.columns
-      → RoseBy (count_by (is_io_of d) (all_mended_events plan stripes)) (folder_at old.folders d).faults (folder_at new.folders d).faults
+      → RoseBy (count_by (is_io_of d) (all_mended_events plan stripes))
+      (folder_at old.folders d).faults (folder_at new.folders d).faults
 
 -- ---- how it breaks off
 
@@ -113,14 +121,17 @@ pub record VaultFailedBy (told : List Event) (old new : VaultView) : Type 0 wher
   pub rose : RoseBy (count_by is_parity_io told + 1) old.faults new.faults
   pub call : IsTrue new.tells_calls → Gained broke_parity old.calls new.calls
 
-abbrev pub HasBroken : FixPlan → RunFault → List Event → List FolderView → List FolderView → VaultView → VaultView → Type 0
-HasBroken plan (Folder disk) told olds news old new = (disk < length plan.table.columns) × FolderFailedBy disk told (folder_at olds disk) (folder_at news disk)
+abbrev pub HasBroken : FixPlan → RunFault → List Event → List FolderView → List FolderView → VaultView → VaultView
+    → Type 0
+HasBroken plan (Folder disk) told olds news old new =
+    (disk < length plan.table.columns) × FolderFailedBy disk told (folder_at olds disk) (folder_at news disk)
 HasBroken plan Vault told olds news old new = VaultFailedBy told old new
 HasBroken plan Memory told olds news old new = ⊥
 
--- Of the vault all calls for these stripes and the last one were made, but for the writes of the last one: where a folder
--- failed, none of them, and where a call of the vault did, the first ones and that. So only wrong levels of these stripes
--- changed, and of the last one only where the vault failed. Those of the stripes before it hold the sums of their rows.
+-- Of the vault all calls for these stripes and the last one were made, but for the writes of the last one: where a
+-- folder failed, none of them, and where a call of the vault did, the first ones and that. So only wrong levels of
+-- these stripes changed, and of the last one only where the vault failed. Those of the stripes before it hold the sums
+-- of their rows.
 pub record BreaksInLast (plan : FixPlan) (fault : RunFault) (earlier : List StripeFacts) (last : StripeFacts)
     (readings : List (List LevelReading)) (old new : VaultView) : Type 0 where
   pub before : List VaultDone
@@ -129,11 +140,11 @@ pub record BreaksInLast (plan : FixPlan) (fault : RunFault) (earlier : List Stri
   pub vault : MendsVault plan (levels_begun fault earlier last) old new
   pub holds : HoldAllWrong plan earlier new
 
--- Of the folders only calls that went well were made for the stripes before the last one, and whatever the fix did before,
--- it went on with them. Then calls were made for the last one, by where files stood then: where a folder failed, up to the
--- call of it that did, and where a call of the vault did, only such as went well.
-pub record BreaksFolders (plan : FixPlan) (begun : StartsValue) (begun_states : List (List FileState)) (fault : RunFault)
-    (earlier : List Mended) (last : Mended) (olds news : List FolderView) : Type 0 where
+-- Of the folders only calls that went well were made for the stripes before the last one, and whatever the fix did
+-- before, it went on with them. Then calls were made for the last one, by where files stood then: where a folder
+-- failed, up to the call of it that did, and where a call of the vault did, only such as went well.
+pub record BreaksFolders (plan : FixPlan) (begun : StartsValue) (begun_states : List (List FileState))
+    (fault : RunFault) (earlier : List Mended) (last : Mended) (olds news : List FolderView) : Type 0 where
   pub starts : StartsValue
   pub stood : KeepsStarts begun starts
   pub states : List (List FileState)
@@ -143,7 +154,8 @@ pub record BreaksFolders (plan : FixPlan) (begun : StartsValue) (begun_states : 
   pub underway : (before : List Mended) (firsts : List FolderView) → AreFixable plan firsts
       → AreUnderway plan before firsts olds begun begun_states
       → AreUnderway plan (before ++ earlier) firsts mids starts states
-  pub breaks : BreaksColumns fault (length plan.table.columns) (λ (d : ℕ). IsMendCall plan starts d (last ∷ [])) mids news
+  pub breaks : BreaksColumns fault (length plan.table.columns) (λ (d : ℕ). IsMendCall plan starts d (last ∷ []))
+      mids news
 
 -- These events are all those of the stripes before the last one, and a prefix of those of the last one.
 pub record TellsInLast (plan : FixPlan) (earlier : List Mended) (last : Mended) (first : List Event) : Type 0 where
@@ -154,8 +166,9 @@ pub record TellsInLast (plan : FixPlan) (earlier : List Mended) (last : Mended) 
 
 -- Some first stripes were written anew, and the one after them broke off: their events were told, and a prefix of its
 -- own, and only calls were made that they ask for.
-pub record BreaksStripes {W R : Type 0} (view : W → SinkView) (standing : R → ReportView) (stands : R → List Event → Type 0)
-    (plan : FixPlan) (numbers : List ℕ) (old new : FixScene W R) (fault : RunFault) : Type 0 where
+pub record BreaksStripes {W R : Type 0} (view : W → SinkView) (standing : R → ReportView)
+    (stands : R → List Event → Type 0) (plan : FixPlan) (numbers : List ℕ)
+    (old new : FixScene W R) (fault : RunFault) : Type 0 where
   pub earlier : List Mended
   pub last : Mended
   pub stripes : List Mended
@@ -168,8 +181,8 @@ pub record BreaksStripes {W R : Type 0} (view : W → SinkView) (standing : R �
   pub told : Told view standing stands plan.table.columns first old.lines new.lines old.reports new.reports
   pub folders : length new.folders ≡ length old.folders
   pub answered : All (AnswersFit plan old.folders) stripes
-  pub cells : (firsts : List FolderView) → AreFixable plan firsts → AreUnderway plan [] firsts old.folders old.starts old.states
-      → AreReadThen plan old.starts firsts stripes
+  pub cells : (firsts : List FolderView) → AreFixable plan firsts
+      → AreUnderway plan [] firsts old.folders old.starts old.states → AreReadThen plan old.starts firsts stripes
   pub readings : List (List LevelReading)
   pub read : AreAllLevelsOf plan.table.shape.block_size old.vault (facts_of stripes) readings
   pub ran : BreaksInLast plan fault (facts_of earlier) last.facts readings old.vault new.vault
@@ -181,13 +194,16 @@ pub record BreaksStripes {W R : Type 0} (view : W → SinkView) (standing : R �
   pub broke : HasBroken plan fault first old.folders new.folders old.vault new.vault
 
 -- The same within a window, which was read before: the failed readings that were told of its cells were counted then.
-abbrev pub HasBrokenInto : FixPlan → RunFault → List Event → List FolderView → List FolderView → VaultView → VaultView → Type 0
-HasBrokenInto plan (Folder disk) told olds news old new = (disk < length plan.table.columns) × FolderBroke (folder_at olds disk) (folder_at news disk)
+abbrev pub HasBrokenInto : FixPlan → RunFault → List Event → List FolderView → List FolderView → VaultView → VaultView
+    → Type 0
+HasBrokenInto plan (Folder disk) told olds news old new =
+    (disk < length plan.table.columns) × FolderBroke (folder_at olds disk) (folder_at news disk)
 HasBrokenInto plan Vault told olds news old new = VaultFailedBy told old new
 HasBrokenInto plan Memory told olds news old new = ⊥
 
-pub record BreaksInto {W R : Type 0} (view : W → SinkView) (standing : R → ReportView) (stands : R → List Event → Type 0)
-    (plan : FixPlan) (numbers : List ℕ) (window : WindowValue) (old new : FixScene W R) (fault : RunFault) : Type 0 where
+pub record BreaksInto {W R : Type 0} (view : W → SinkView) (standing : R → ReportView)
+    (stands : R → List Event → Type 0) (plan : FixPlan) (numbers : List ℕ) (window : WindowValue)
+    (old new : FixScene W R) (fault : RunFault) : Type 0 where
   pub earlier : List Mended
   pub last : Mended
   pub stripes : List Mended
@@ -210,8 +226,9 @@ pub record BreaksInto {W R : Type 0} (view : W → SinkView) (standing : R → R
   pub broke : HasBrokenInto plan fault first old.folders new.folders old.vault new.vault
 
 -- Some stripes of the work were read into the window, and then it broke off.
-pub record BreaksWindow {W R : Type 0} (view : W → SinkView) (standing : R → ReportView) (stands : R → List Event → Type 0)
-    (table : TableValue) (work : Work) (numbers : List ℕ) (old new : FixScene W R) (fault : RunFault) : Type 0 where
+pub record BreaksWindow {W R : Type 0} (view : W → SinkView) (standing : R → ReportView)
+    (stands : R → List Event → Type 0) (table : TableValue) (work : Work) (numbers : List ℕ)
+    (old new : FixScene W R) (fault : RunFault) : Type 0 where
   pub window : WindowValue
   pub mids : List FolderView
   pub read : ReadsWindow table work.starts numbers work.room.window window old.folders mids

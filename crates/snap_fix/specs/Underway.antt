@@ -33,8 +33,8 @@ use Rattle.snap_fix.specs.StripeOrder.{writes_after}
 
 -- ---- what a fix stands on
 
--- A folder as it was listed: it is open, if the column has records, and, where it tells its files, they are a tree in which the file of each record that isn't
--- blocked may stand.
+-- A folder as it was listed: it is open, if the column has records, and, where it tells its files, they are a tree in
+-- which the file of each record that isn't blocked may stand.
 pub record IsFixable (plan : FixPlan) (d : ℕ) (first : FolderView) : Type 0 where
   pub is_open : 0 < length (records_in plan.table d) → first.closed ≡ false
   pub is_tree : IsTrue first.tells → IsTree first.tree
@@ -47,7 +47,8 @@ AreFixable plan firsts = (d : ℕ) → d < length plan.table.columns → IsFixab
 -- ---- by which calls
 
 -- the write of a damaged cell's block, which is known, to the file of its record
-pub record WritesCell (plan : FixPlan) (d : ℕ) (facts : StripeFacts) (path : List ℕ) (at : ℕ) (bytes : List ℕ) : Type 0 where
+pub record WritesCell (plan : FixPlan) (d : ℕ) (facts : StripeFacts) (path : List ℕ) (at : ℕ) (bytes : List ℕ)
+    : Type 0 where
   pub repaired : is_repaired plan facts d ≡ true
   pub cell : Cell
   pub cell_is : cell_at plan facts.stripe d ≡ Some cell
@@ -56,13 +57,15 @@ pub record WritesCell (plan : FixPlan) (d : ℕ) (facts : StripeFacts) (path : L
   pub bytes_are : bytes ≡ block_or_none (known_block facts d)
 
 -- in one of the stripes
-pub record WritesOneOf (plan : FixPlan) (d : ℕ) (stripes : List Mended) (path : List ℕ) (at : ℕ) (bytes : List ℕ) : Type 0 where
+pub record WritesOneOf (plan : FixPlan) (d : ℕ) (stripes : List Mended) (path : List ℕ) (at : ℕ) (bytes : List ℕ)
+    : Type 0 where
   pub mended : Mended
   pub is_one : Contains stripes mended
   pub writes : WritesCell plan d mended.facts path at bytes
 
 -- the file of a damaged cell, whose block is known, is put under PATH: it stood in this place
-pub record SetsUpCell (plan : FixPlan) (starts : StartsValue) (d : ℕ) (facts : StripeFacts) (place : Place) (path : List ℕ) : Type 0 where
+pub record SetsUpCell (plan : FixPlan) (starts : StartsValue) (d : ℕ) (facts : StripeFacts) (place : Place)
+    (path : List ℕ) : Type 0 where
   pub repaired : is_repaired plan facts d ≡ true
   pub cell : Cell
   pub cell_is : cell_at plan facts.stripe d ≡ Some cell
@@ -70,13 +73,15 @@ pub record SetsUpCell (plan : FixPlan) (starts : StartsValue) (d : ℕ) (facts :
   pub stood : (start_in (starts_at starts.columns d) cell.rec).place ≡ place
 
 -- in one of the stripes
-pub record SetsUpOneOf (plan : FixPlan) (starts : StartsValue) (d : ℕ) (stripes : List Mended) (place : Place) (path : List ℕ) : Type 0 where
+pub record SetsUpOneOf (plan : FixPlan) (starts : StartsValue) (d : ℕ) (stripes : List Mended) (place : Place)
+    (path : List ℕ) : Type 0 where
   pub mended : Mended
   pub is_one : Contains stripes mended
   pub sets_up : SetsUpCell plan starts d mended.facts place path
 
--- The calls while blocks of stripes are written, by where files stood before: files are read; of a cell that is damaged and known its file is
--- made if there was none, or renamed back if it had the other name, and its block is written.
+-- The calls while blocks of stripes are written, by where files stood before: files are read; of a cell that is
+-- damaged and known its file is made if there was none, or renamed back if it had the other name, and its block is
+-- written.
 abbrev pub IsMendCall : FixPlan → StartsValue → ℕ → List Mended → FolderCall → Type 0
 IsMendCall plan starts d stripes ListFiles = ⊥
 IsMendCall plan starts d stripes (Look path lost) = Unit {0}
@@ -90,28 +95,32 @@ IsMendCall plan starts d stripes (Rename path false) = SetsUpOneOf plan starts d
 
 -- ---- how far it is
 
--- A column, since its folder was listed: some calls were made, the files hold what was written to them, and the states say which
--- have a lost block. Where the folder tells its files, just those were touched to which something was written, and the calls that write
--- came stripe after stripe.
-pub record IsColumnUnderway (plan : FixPlan) (d : ℕ) (stripes : List Mended) (first now : FolderView) (starts : StartsValue)
-    (states : List (List FileState)) : Type 0 where
+-- A column, since its folder was listed: some calls were made, the files hold what was written to them, and the states
+-- say which have a lost block. Where the folder tells its files, just those were touched to which something was
+-- written, and the calls that write came stripe after stripe.
+pub record IsColumnUnderway (plan : FixPlan) (d : ℕ) (stripes : List Mended) (first now : FolderView)
+    (starts : StartsValue) (states : List (List FileState)) : Type 0 where
   pub calls : SomeFolderCalls first now
   pub holds : HoldsTold (records_in plan.table d) (starts_at starts.columns d) (get_or states d [])
       (column_writes plan stripes d (length (records_in plan.table d))) first now
   pub lost : (i : ℕ) → i < length (records_in plan.table d) → (state_in states d i).lost ≡ has_lost plan stripes d i
-  pub sizes : (i : ℕ) → i < length (records_in plan.table d)
-      → (state_in states d i).size ≡ size_after (start_in (starts_at starts.columns d) i).size (writes_of plan stripes d i)
-  pub wrote : (i : ℕ) → i < length (records_in plan.table d) → has_some (writes_of plan stripes d i) ≡ true → (state_in states d i).touched ≡ true
-  pub touched : IsTrue first.tells → (i : ℕ) → i < length (records_in plan.table d) → (state_in states d i).touched ≡ has_some (writes_of plan stripes d i)
+  pub sizes : (i : ℕ) → i < length (records_in plan.table d) → (state_in states d i).size
+      ≡ size_after (start_in (starts_at starts.columns d) i).size (writes_of plan stripes d i)
+  pub wrote : (i : ℕ) → i < length (records_in plan.table d) → has_some (writes_of plan stripes d i) ≡ true
+      → (state_in states d i).touched ≡ true
+  pub touched : IsTrue first.tells → (i : ℕ) → i < length (records_in plan.table d)
+      → (state_in states d i).touched ≡ has_some (writes_of plan stripes d i)
   pub ordered : IsTrue first.tells → FolderWrites (writes_after plan d first.tree [] stripes) first now
 
 pub record AreUnderway (plan : FixPlan) (stripes : List Mended) (firsts nows : List FolderView) (starts : StartsValue)
     (states : List (List FileState)) : Type 0 where
   pub folders : length nows ≡ length firsts
-  pub each : (d : ℕ) → d < length plan.table.columns → IsColumnUnderway plan d stripes (folder_at firsts d) (folder_at nows d) starts states
+  pub each : (d : ℕ) → d < length plan.table.columns
+      → IsColumnUnderway plan d stripes (folder_at firsts d) (folder_at nows d) starts states
 
 -- what was known at the start of a fix that is underway
-pub record FixUnderway (plan : FixPlan) (nows : List FolderView) (starts : StartsValue) (states : List (List FileState)) : Type 0 where
+pub record FixUnderway (plan : FixPlan) (nows : List FolderView) (starts : StartsValue) (states : List (List FileState))
+    : Type 0 where
   pub stripes : List Mended
   pub firsts : List FolderView
   pub fixable : AreFixable plan firsts
@@ -129,14 +138,15 @@ is_given_mark Right = false
 is_given_mark Given = true
 is_given_mark Missing = false
 
--- The marks and the window show the facts of a stripe: which of its cells are damaged and given, and of a damaged cell whose block is
--- known that block, at its real length.
-pub record ShowsFacts (plan : FixPlan) (facts : StripeFacts) (i : ℕ) (marks : List CellMark) (known : Bool) (window : WindowValue) : Type 0 where
+-- The marks and the window show the facts of a stripe: which of its cells are damaged and given, and of a damaged cell
+-- whose block is known that block, at its real length.
+pub record ShowsFacts (plan : FixPlan) (facts : StripeFacts) (i : ℕ) (marks : List CellMark) (known : Bool)
+    (window : WindowValue) : Type 0 where
   pub row : facts.row ≡ row_if known window i
   pub damaged : (d : ℕ) → d < length plan.table.columns → damaged_at plan facts d ≡ is_damaged_mark (mark_in marks d)
   pub given : (d : ℕ) → d < length plan.table.columns → is_some (gift_of facts d) ≡ is_given_mark (mark_in marks d)
-  pub block : (d : ℕ) → d < length plan.table.columns → damaged_at plan facts d ≡ true → is_some (known_block facts d) ≡ true
-      → bytes_of (slot_at window i d) ≡ block_or_none (known_block facts d)
+  pub block : (d : ℕ) → d < length plan.table.columns → damaged_at plan facts d ≡ true
+      → is_some (known_block facts d) ≡ true → bytes_of (slot_at window i d) ≡ block_or_none (known_block facts d)
   pub long : (d : ℕ) (cell : Cell) → d < length plan.table.columns → cell_at plan facts.stripe d ≡ Some cell
       → damaged_at plan facts d ≡ true → is_some (known_block facts d) ≡ true
       → length (block_or_none (known_block facts d))
@@ -179,7 +189,8 @@ abbrev pub IsMendedLevel : FixPlan → List StripeFacts → ℕ → ℕ → Type
 IsMendedLevel plan stripes r stripe =
     (facts : StripeFacts) × Contains stripes facts × (facts.stripe ≡ stripe) × (is_wrong_level plan facts r ≡ true)
 
--- The copies stay, and so does each byte of a level outside of the blocks of it that are written anew. A level grows only up to such blocks.
+-- The copies stay, and so does each byte of a level outside of the blocks of it that are written anew. A level grows
+-- only up to such blocks.
 pub record KeepsLevels (block_size : ℕ) (IsOne : ℕ → ℕ → Type 0) (old new : Files) : Type 0 where
   pub contents : new.contents ≡ old.contents
   pub bytes : (level at x : ℕ) → ((stripe : ℕ) → IsOne level stripe → IsOutside block_size stripe at)
@@ -190,7 +201,8 @@ pub record KeepsLevels (block_size : ℕ) (IsOne : ℕ → ℕ → Type 0) (old 
 
 -- each byte that a level grew by outside of these blocks is zero
 abbrev pub AddsZeros : ℕ → (ℕ → ℕ → Type 0) → Files → Files → Type 0
-AddsZeros block_size IsOne old new = (level at x : ℕ) → ((stripe : ℕ) → IsOne level stripe → IsOutside block_size stripe at)
+AddsZeros block_size IsOne old new =
+    (level at x : ℕ) → ((stripe : ℕ) → IsOne level stripe → IsOutside block_size stripe at)
     → length (parity_of old level) ≤ at → HasByte (parity_of new level) at x → x ≡ 0
 
 -- the wrong levels of a stripe hold the sums of its row

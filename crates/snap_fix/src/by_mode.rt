@@ -16,9 +16,9 @@ use snap_report::{Lines, Report, RunFault};
 use std::alloc::Global;
 use std::thread::Threads;
 
-/// Tells what is damaged of an array by its table and, in the mode `Fix`, writes what is known of it anew. A check or an audit fails only
-/// by a folder that can't be listed, and for want of memory. A fix fails by a folder or by parity that can't be written, too: then
-/// blocks may have been written already.
+/// Tells what is damaged of an array by its table and, in the mode `Fix`, writes what is known of it anew. A check or an
+/// audit fails only where a folder can't be listed or memory runs out. So does a fix, before anything is written; and it
+/// fails where a folder or parity can't be written: then blocks may have been written already.
 pub fn repair<R: Threads + Sync, F: Folder, V: Vault, P: Spare, W: Sink>(
     rt: &R,
     alloc: Global,

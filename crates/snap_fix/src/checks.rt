@@ -30,8 +30,8 @@ pub struct FixEnd {
     pub left: u64,
 }
 
-/// Tells what is damaged, and writes nothing. It fails only by a folder that can't be listed, and for want of memory, before
-/// parity is read.
+/// Tells what is damaged, and writes nothing. It fails only where a folder can't be listed or memory runs out, and then no
+/// parity was read.
 pub(crate) fn check<R: Threads + Sync, F: Folder, V: Vault, P: Spare, W: Sink>(
     rt: &R,
     alloc: Global,

@@ -58,9 +58,9 @@ fn states_before(alloc: Global, starts: &Starts) -> Result<States, NoMemory>
     Ok(States { columns })
 }
 
-/// Writes what is damaged and known anew, and tells it. It fails by a folder that can't be listed or written, by parity that can't be
-/// written, and for want of memory, before parity is read or anything written. At the end the levels that were written are synced, and
-/// only then files are finished.
+/// Writes what is damaged and known anew, and tells it. It fails where a folder can't be listed or memory runs out, and
+/// then no parity was read and nothing written; and where a folder or parity can't be written. At the end the levels that
+/// were written are synced, and only then files are finished.
 pub(crate) fn fix<R: Threads + Sync, F: Folder, V: Vault, P: Spare, W: Sink>(
     rt: &R,
     alloc: Global,
