@@ -30,7 +30,7 @@ use Rattle.snap_top.specs.declared.end.Refusal.{Refusal}
 
 -- ---- after the opening
 
--- The content copies were read, none more than once, and nothing of the vault was changed.
+-- The content copies were read, each in so many calls at most (`ReadsInPieces`), and nothing of the vault was changed.
 pub record ReadsCopies (old new : VaultState) : Type 0 where
   pub calls : SomeCalls (view_of old) (view_of new)
   pub made : MakesOnly (IsReadBelow (copies_of (view_of old))) (view_of old) (view_of new)
