@@ -1,5 +1,5 @@
 -- When a sync or a fix went to its end: its answer is that of an engine that is done.
-use Rattle.std.proofs.Common.{◌≡◌, ◌↔◌, ◌⊎◌, inl, inr, ℕ, ◌≤◌, ◌==◌, if◌then◌else◌, List, Bool, true, false, IsTrue, Option, refl, sym, ap, ◌∙◌, subst, arith}
+use Rattle.std.proofs.Common.{◌≡◌, ◌↔◌, ◌⊎◌, inl, inr, ⊎_elim, ℕ, ◌≤◌, ◌==◌, if◌then◌else◌, List, Bool, true, false, IsTrue, Option, refl, sym, ap, ◌∙◌, subst, arith}
 use Rattle.std.proofs.lemmas.Bool.Decides.{Decides-eqb}
 use Rattle.content_file.specs.Load.{LoadFails}
 use Rattle.content_file.specs.declared.loading.LoadFault.TheVariants as loads
@@ -20,7 +20,7 @@ use Rattle.snap_report.specs.declared.answer.RunFault.TheVariants as runs
 use Rattle.snap_report.specs.declared.events.Event.{Event}
 use Rattle.snap_top.specs.Complete.{BreaksFolder, BreaksVault, NothingBroke, held_vault, left_vault}
 use Rattle.snap_top.specs.End.{config_status, ending_status, refusal_status, status_of, words_status}
-use Rattle.snap_top.specs.Ended.{ByDid, ByFaults, ByStatus, IsEndStatus, WentToItsEnd, has_ended}
+use Rattle.snap_top.specs.Ended.{ByFaults, ByRun, ByStatus, IsEndStatus, WentToItsEnd, has_ended, has_failed_output}
 use Rattle.snap_top.specs.Run.{Entry, Exit, IsAnswered, IsRefused, IsRun, Ran}
 use Rattle.snap_top.specs.Task.{Did, Left, reads_only}
 use Rattle.snap_top.specs.Views.{folder_at, outside_of, view_of, world_of}
@@ -154,30 +154,50 @@ by_faults before exit (Worked setup (Answered answer named)) told status tells i
           (no_vault before exit unbroken tells (setup_value setup) (Answered answer named) told ran left one));
     }
 
--- ---- by what it did
+-- ---- by what it did, or by its answer
 
 pub only_read : (did : Did) → did ≡ reads_only → has_ended did ≡ true → ⊥
 only_read did is ended = let clash : false ≡ true = ap has_ended (sym is) ∙ ended in cc
 
-by_did : (before : Entry) (exit : Exit) (status : ℕ) (setup : SetupValue) (ending : Ending) (told : List Event) (ran : IsRun before exit setup ending told) → status ≡ ending_status ending → has_ended ran.did ≡ true → GoesToItsEnd before exit status
-by_did before exit status setup (NotLoaded fault) told ran is ended = absurd (only_read ran.did ran.goes.0.1 ended)
-by_did before exit status setup NoTable told ran is ended = absurd (only_read ran.did ran.goes.0.1 ended)
-by_did before exit status setup (OtherArray difference content) told ran is ended = absurd (only_read ran.did ran.goes.0.1 ended)
-by_did before exit status setup (Answered answer named) told ran is ended = record {
+-- what did not go on to a command shows no end
+shows_no_end : (did : Did) → did ≡ reads_only → (has_ended did ≡ true) ⊎ (false ≡ true) → ⊥
+shows_no_end did is (inl ended) = only_read did is ended
+shows_no_end did is (inr failed) = let clash : false ≡ true = failed in cc
+
+-- an answer that the output failed is one of an engine that is done
+done_by_output : (answer : Answer) (named : Option TableValue) → has_failed_output (Answered answer named) ≡ true
+    → IsDoneAnswer answer
+done_by_output answers.Clean named failed = tt
+done_by_output answers.Found named failed = tt
+done_by_output answers.OutputFailed named failed = tt
+done_by_output (answers.Zeroed disk rec) named failed = absurd (let clash : false ≡ true = failed in cc)
+done_by_output (answers.Emptied disk) named failed = absurd (let clash : false ≡ true = failed in cc)
+done_by_output (answers.Full blocks files) named failed = absurd (let clash : false ≡ true = failed in cc)
+done_by_output (answers.Broken _) named failed = absurd (let clash : false ≡ true = failed in cc)
+
+by_run : (before : Entry) (exit : Exit) (status : ℕ) (setup : SetupValue) (ending : Ending) (told : List Event)
+    (ran : IsRun before exit setup ending told) → status ≡ ending_status ending
+    → (has_ended ran.did ≡ true) ⊎ (has_failed_output ending ≡ true) → GoesToItsEnd before exit status
+by_run before exit status setup (NotLoaded fault) told ran is ended = absurd (shows_no_end ran.did ran.goes.0.1 ended)
+by_run before exit status setup NoTable told ran is ended = absurd (shows_no_end ran.did ran.goes.0.1 ended)
+by_run before exit status setup (OtherArray difference content) told ran is ended =
+    absurd (shows_no_end ran.did ran.goes.0.1 ended)
+by_run before exit status setup (Answered answer named) told ran is ended = record {
   setup = setup;
   answer = answer;
   named = named;
   told = told;
   ran = ran;
   status_is = is;
-  how = inr ended;
+  how = ⊎_elim (λ did. inr did) (λ failed. inl (done_by_output answer named failed)) ended;
 }
 
 -- of each run
 pub goes_to_its_end : (before : Entry) (exit : Exit) (end : End) (told : List Event) (status : ℕ) → IsTrue before.opener.tells → status ≡ status_of end → Ran before exit end told → WentToItsEnd before exit status → GoesToItsEnd before exit status
 goes_to_its_end before exit end told status tells is ran (ByStatus low) = by_status before exit end told status is ran low
 goes_to_its_end before exit end told status tells is ran (ByFaults three unbroken) = by_faults before exit end told status tells is ran three unbroken
-goes_to_its_end before exit end told status tells is ran (ByDid did) = by_did before exit status did.setup did.ending did.told did.ran did.status_is did.ended
+goes_to_its_end before exit end told status tells is ran (ByRun run) =
+    by_run before exit status run.setup run.ending run.told run.ran run.status_is run.ended
 
 -- ---- its status, and what must have happened
 
