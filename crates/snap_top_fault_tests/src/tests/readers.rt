@@ -1,10 +1,11 @@
-// Any number of readers gives the same, and they read beside one another.
+// Any number of readers gives the same, and they read beside one another and beside the writer.
 ghost use Rattle.std.specs.Prelude.{IfOk, IfSome};
 ghost use Rattle.disk_model.specs.Vault.{IsSettled};
 ghost use Rattle.disk_memory.specs.Given.{HasNoDraft};
 ghost use Rattle.disk_memory.specs.Vault.{vault_view};
 
-use disk_memory::{GateFolder, MemVault};
+use disk_memory::{GateFolder, GateVault, MemVault};
+use disk_model::Vault;
 use snap_top_memory::arrays::{Array, Disk, EMPTY, Left, SYNC, folder, run_first, run_with, vault};
 use std::alloc::Global;
 use std::sync::atomic::AtomicBool;
@@ -116,5 +117,95 @@ fn two_disks_are_read_at_once(rt: HostRuntime) -> Result<(), Fail> {
     };
     let found = reads_at_once(&rt, alloc, "check", synced, "check: 0 findings\n")?;
     assert!(rt; found.is_some(), "a check");
+    Ok(())
+}
+
+// One file a stripe. A window has sixteen of them.
+const SEVENTEEN: Array = Array {
+    disks: &[&[
+        ("a", b"1", 1, 5),
+        ("b", b"1", 1, 5),
+        ("c", b"1", 1, 5),
+        ("d", b"1", 1, 5),
+        ("e", b"1", 1, 5),
+        ("f", b"1", 1, 5),
+        ("g", b"1", 1, 5),
+        ("h", b"1", 1, 5),
+        ("i", b"1", 1, 5),
+        ("j", b"1", 1, 5),
+        ("k", b"1", 1, 5),
+        ("l", b"1", 1, 5),
+        ("m", b"1", 1, 5),
+        ("n", b"1", 1, 5),
+        ("o", b"1", 1, 5),
+        ("p", b"1", 1, 5),
+        ("q", b"1", 1, 5),
+    ]],
+    ..EMPTY
+};
+
+// The number of the first write to parity in a sync of those files.
+fn first_write<R: Threads + Sync>(rt: &R, alloc: Global) -> Result<u64, Fail> {
+    let left = run_first(rt, alloc, SYNC, SEVENTEEN)?;
+    match &left.outcome.vault {
+        Some(vault) => Ok(vault.first_write()),
+        None => Err("no vault".into()),
+    }
+}
+
+// The vault, which waits for the other flag at its call of this number.
+fn gated<'a>(
+    vault: MemVault,
+    call: u64,
+    mine: &'a AtomicBool,
+    other: &'a AtomicBool,
+) -> GateVault<'a>
+    requires settled { IsSettled (vault_view vault) }
+    requires drafts { HasNoDraft (vault_view vault) }
+    ensures settled { IsSettled (⟦<GateVault<'a> as Vault>⟧.view result) }
+    ensures drafts { HasNoDraft (⟦<GateVault<'a> as Vault>⟧.view result) }
+{
+    GateVault::new(vault, call, mine, other)
+}
+
+// Whether a sync of those files by so many readers ends well, and that write is made while the last stripe is read. The
+// folder's 35th call reads it, after it was listed, and then each file looked at and read.
+fn writes_beside<R: Threads + Sync>(
+    rt: &R,
+    alloc: Global,
+    readers: &str,
+    write: u64,
+) -> Result<bool, Fail> {
+    let one = AtomicBool::new(false);
+    let two = AtomicBool::new(false);
+    let mut folders = Vec::new(alloc);
+    folders.push(GateFolder::new(folder(alloc, SEVENTEEN.disks[0])?, 35, &one, &two))?;
+    let vault = gated(vault(alloc, SEVENTEEN)?, write, &two, &one);
+    let words = ["snapraid", "sync", "-c", "FILE", "--readers", readers];
+    let left = run_with(rt, alloc, &words, SEVENTEEN.config, folders, vault)?;
+    let saw = left.outcome.folders.iter().all(|folder| folder.saw());
+    Ok(
+        left.is(0, "sync: 17 stripes synced, 0 pending\n", "")
+            && saw
+            && vault_saw(&left.outcome.vault),
+    )
+}
+
+// Whether the gated call of the vault saw the other gate's flag.
+fn vault_saw(vault: &Option<GateVault>) -> bool {
+    match vault {
+        Some(vault) => vault.saw(),
+        None => false,
+    }
+}
+
+// The writer begins with the first window while the last stripe, which is the second window, is read.
+#[test]
+fn one_window_is_written_while_the_next_is_read(rt: HostRuntime) -> Result<(), Fail> {
+    let alloc = rt.alloc();
+    let write = first_write(&rt, alloc)?;
+    for readers in ["1", "3", "16"] {
+        assert!(rt; writes_beside(&rt, alloc, readers, write)?, "{readers}");
+    }
     Ok(())
 }
