@@ -1,8 +1,9 @@
 -- Only cells whose block is not known are told to be lost, where their folder tells its files.
-use Rattle.std.proofs.Common.{◌≡◌, ℕ, suc, ◌<◌, ◌&&◌, List, [], ◌∷◌, ◌++◌, length, get_or, Bool, true, false, Option, None, Some, IsTrue, refl, sym, ◌∙◌, subst, arith}
+use Rattle.std.proofs.Common.{◌≡◌, ℕ, suc, ◌<◌, ◌&&◌, List, [], ◌∷◌, ◌++◌, length, get_or, Bool, true, false, Option, None, Some, IsTrue, refl, sym, ap, ◌∙◌, subst, arith}
 use Rattle.std.specs.Prelude.{bytes_eq, is_some, not, if◌then◌else◌}
 use Rattle.std.specs.List.{All, Contains, flat_map, range_with_len}
 use Rattle.std.proofs.lemmas.Bool.{and_parts, false≢true}
+use Rattle.std.proofs.lemmas.List.{get_or-map, length-map}
 use Rattle.std.proofs.lemmas.List.Elements.{All-append, All-cons, All-contains, All-contains_itself, All-nil}
 use Rattle.std.proofs.lemmas.List.FromFn.{get_or-range_with_len, length-range_with_len}
 use Rattle.block_hash.specs.declared.Digest16.{Digest16}
@@ -26,6 +27,7 @@ use Rattle.snap_fix.specs.Ending.{all_finish_news, column_news_at, finish_news, 
 use Rattle.snap_fix.specs.Facts.{StripeFacts, damaged_at, gift_of, is_missing}
 use Rattle.snap_fix.specs.Findings.{all_cell_events, all_level_events, all_level_io_events, all_lost_events, blocked_event, cell_events, changed_event, column_events, file_events, is_lost, is_unread, is_wrong, is_unread_level, level_events, level_io_events, lost_event, lost_events, opening_events, read_event, read_events, record_events, silent_event, stripe_events, unsynced_events}
 use Rattle.snap_fix.specs.FixCourse.{fix_events}
+use Rattle.snap_fix.specs.Fixing.{facts_of}
 use Rattle.snap_fix.specs.Mended.{Mended, all_cell_news, all_level_news, all_mended_events, AnswersFit, answer_of, cell_news, fixed_event, is_repaired, is_wrong_level, known_by, level_news, mended_event, mended_events}
 use Rattle.snap_fix.specs.Plan.{FixPlan, cell_at, entry_at, is_audit, is_synced, has_selected_cell, records_in, selects_cell, selects_level}
 use Rattle.snap_fix.specs.Restored.{HasFixed, IsUnknownCell}
@@ -220,10 +222,15 @@ unknown_where (Some bytes) row d no_gift no_row = absurd cc
 unknown_where None (Some row) d no_gift no_row = absurd cc
 unknown_where None None d no_gift no_row = refl
 
+contains_facts : (stripes : List Mended) (mended : Mended) → Contains stripes mended → Contains (facts_of stripes) mended.facts
+contains_facts stripes mended one =
+    let facts : Mended → StripeFacts = λ (it : Mended). it.facts in
+    (one.0, omega (arith, length-map stripes facts, one.1), get_or-map facts stripes one.0 mended mended.facts one.1 ∙ ap facts one.2)
+
 module _ (plan : FixPlan) (starts : StartsValue) (stripes : List Mended) (finishes : List (List Finish)) (firsts news : List FolderView)
     (has : HasFixed plan starts stripes finishes firsts news) where
   abbrev IsUnknown : ℕ → ℕ → ℕ → ℕ → Type 0
-  IsUnknown stripe d rec index = IsTrue (folder_at firsts d).tells → IsUnknownCell plan stripes stripe d (let cell : Cell = record { rec = rec; index = index } in cell)
+  IsUnknown stripe d rec index = IsTrue (folder_at firsts d).tells → IsUnknownCell plan (facts_of stripes) stripe d (let cell : Cell = record { rec = rec; index = index } in cell)
 
   lost_is_unknown : (mended : Mended) (d : ℕ) (cell : Cell) → Contains stripes mended → d < length plan.table.columns → cell_at plan mended.facts.stripe d ≡ Some cell
       → is_lost plan mended.facts.stripe (is_missing plan mended.facts d) (is_some mended.facts.row) d ≡ true → IsUnknown mended.facts.stripe d cell.rec cell.index
@@ -232,9 +239,9 @@ module _ (plan : FixPlan) (starts : StartsValue) (stripes : List Mended) (finish
       let inner = and_parts (selects_cell plan mended.facts.stripe d) (is_missing plan mended.facts d) outer.0 in
       let missing = and_parts (damaged_at plan mended.facts d) (not (is_some (gift_of mended.facts d))) inner.1 in
       record {
-        mended = mended;
+        facts = mended.facts;
         number = refl;
-        is = record { one = one; column = below; cell_is = cell_is; selected = inner.0; damaged = missing.0 };
+        is = record { one = contains_facts stripes mended one; column = below; cell_is = cell_is; selected = inner.0; damaged = missing.0 };
         unknown = unknown_where (gift_of mended.facts d) mended.facts.row d missing.1 outer.1;
       }
 
@@ -244,7 +251,7 @@ module _ (plan : FixPlan) (starts : StartsValue) (stripes : List Mended) (finish
       absurd (false≢true (sym none ∙ All-contains (AnswersFit plan firsts) stripes mended has.answered one d below tells repaired))
 
   pub told_is_unknown : (stripe d : ℕ) (cell : Cell) → Contains (fix_events plan stripes finishes) (event.Lost stripe d cell.rec cell.index)
-      → IsTrue (folder_at firsts d).tells → IsUnknownCell plan stripes stripe d cell
+      → IsTrue (folder_at firsts d).tells → IsUnknownCell plan (facts_of stripes) stripe d cell
   told_is_unknown stripe d cell told =
       All-contains (OnlyLost IsUnknown) (fix_events plan stripes finishes) (event.Lost stripe d cell.rec cell.index)
       (all_of_fix IsUnknown plan stripes finishes lost_is_unknown none_is_gone) told

@@ -1,9 +1,10 @@
 -- What a fix leaves of damaged cells: what could be had of them is in their files, and the others are told.
 use Rattle.std.proofs.Common.{◌≡◌, ◌↔◌, ℕ, zero, suc, ◌+◌, ◌*◌, ◌<◌, ◌&&◌, List, [], ◌∷◌, ◌++◌, length, get_or, Bool, true, false, Option, None, Some, IsTrue, refl, sym, ap, ap₂, ◌∙◌, subst, inl, inr, arith}
-use Rattle.std.specs.Prelude.{is_some, not, if◌then◌else◌}
+use Rattle.std.specs.Prelude.{is_some, not, if◌then◌else◌, slice_index}
 use Rattle.std.specs.List.{Contains, flat_map, range_with_len}
 use Rattle.std.proofs.lemmas.Bool.{and_parts, and_from, false≢true}
-use Rattle.std.proofs.lemmas.List.Elements.{Contains-append_left, Contains-append_right}
+use Rattle.std.proofs.lemmas.List.{get_or-map, length-map}
+use Rattle.std.proofs.lemmas.List.Elements.{Contains-append_left, Contains-append_right, Contains-get_or}
 use Rattle.std.proofs.lemmas.List.FromFn.{get_or-map-range_with_len, get_or-range_with_len, length-range_with_len}
 use Rattle.cauchy.specs.Field.{product}
 use Rattle.cauchy.specs.Recovery.{AreBytes}
@@ -29,14 +30,15 @@ use Rattle.snap_fix.specs.declared.finishing.Finish.{Finish}
 use Rattle.snap_fix.specs.declared.finishing.Finish.TheVariants.{Kept, Renamed}
 use Rattle.snap_fix.specs.declared.state.FileState.{FileState}
 use Rattle.snap_fix.specs.Ending.{FinishesColumn, HoldsEnd, StandsEnd, IsDone, all_finish_news, finish_at, finishes_at, is_finished, states_at}
-use Rattle.snap_fix.specs.Facts.{StripeFacts, gift_of, is_missing}
+use Rattle.snap_fix.specs.Facts.{StripeFacts, damaged_at, gift_of, is_missing}
 use Rattle.snap_fix.specs.Findings.{all_cell_events, all_level_events, all_level_io_events, is_lost, lost_event, lost_events, opening_events, stripe_events, unsynced_events}
 use Rattle.snap_fix.specs.Finishing.{StandsLost, bytes_now, finish_of, lost_finish, whole_finish}
 use Rattle.snap_fix.specs.FixCourse.{Written, fix_events}
+use Rattle.snap_fix.specs.Fixing.{facts_of}
 use Rattle.snap_fix.specs.Genuine.{HasGenuineFacts, IsBlockIn, TellsIntactLevels}
 use Rattle.snap_fix.specs.Mended.{Mended, all_cell_news, all_level_news, all_mended_events, answer_of, block_or_none, column_writes, has_lost, is_blocked_cell, is_repaired, is_written, known_block, known_by, mended_events, writes_of}
 use Rattle.snap_fix.specs.Mending.{block_start, cell_path}
-use Rattle.snap_fix.specs.Plan.{FixPlan, cell_at, entry_at, is_audit, is_searched, is_synced, records_in, is_in_scope, has_selected}
+use Rattle.snap_fix.specs.Plan.{FixPlan, cell_at, entry_at, is_audit, is_searched, is_synced, records_in, is_in_scope, has_selected, selects_cell}
 use Rattle.snap_fix.specs.Restored.{CanBeHad, HasFixed, HoldsCell, IsDamagedCell}
 use Rattle.snap_fix.specs.State.{HoldsBy, HoldsRecord, IsTouched, Write, bytes_or, bytes_placed, place_then, puts, stands, state_in}
 use Rattle.snap_fix.specs.Underway.{IsColumnUnderway}
@@ -61,10 +63,44 @@ in_size bytes block_size size index p b less has =
 renamed_where_lost : (start : Start) (state : FileState) → stands start.place state.touched ≡ true → lost_finish start state ≡ Renamed
 renamed_where_lost start state there = ap (λ (b : Bool). if b then Renamed else Kept) there
 
+-- ---- a damaged cell of a stripe that was mended
+
+pub record IsDamagedOf (plan : FixPlan) (stripes : List Mended) (mended : Mended) (d : ℕ) (cell : Cell) : Type 0 where
+  pub one : Contains stripes mended
+  pub column : d < length plan.table.columns
+  pub cell_is : cell_at plan mended.facts.stripe d ≡ Some cell
+  pub selected : selects_cell plan mended.facts.stripe d ≡ true
+  pub damaged : damaged_at plan mended.facts d ≡ true
+
+pub record IsMendedOf (plan : FixPlan) (stripes : List Mended) (facts : StripeFacts) (d : ℕ) (cell : Cell) : Type 0 where
+  pub mended : Mended
+  pub facts_are : mended.facts ≡ facts
+  pub is : IsDamagedOf plan stripes mended d cell
+
+-- there is one with these facts
+mended_of : (plan : FixPlan) (stripes : List Mended) (facts : StripeFacts) (d : ℕ) (cell : Cell) → IsDamagedCell plan (facts_of stripes) facts d cell → IsMendedOf plan stripes facts d cell
+mended_of plan stripes facts d cell it =
+    let none : Mended = record { facts = facts; answers = [] } in
+    let of : Mended → StripeFacts = λ (mended : Mended). mended.facts in
+    let within : it.one.0 < length stripes = let below = it.one.1 in omega (arith, below, length-map stripes of) in
+    let mended : Mended = get_or stripes it.one.0 none in
+    let same : mended.facts ≡ facts = sym (get_or-map of stripes it.one.0 none facts within) ∙ it.one.2 in
+    record {
+      mended = mended;
+      facts_are = same;
+      is = record {
+        one = Contains-get_or stripes it.one.0 none within;
+        column = it.column;
+        cell_is = ap (λ (f : StripeFacts). cell_at plan f.stripe d) same ∙ it.cell_is;
+        selected = ap (λ (f : StripeFacts). selects_cell plan f.stripe d) same ∙ it.selected;
+        damaged = ap (λ (f : StripeFacts). damaged_at plan f d) same ∙ it.damaged;
+      };
+    }
+
 -- ---- a cell that was written
 
 module _ (plan : FixPlan) (starts : StartsValue) (stripes : List Mended) (finishes : List (List Finish)) (firsts news : List FolderView)
-    (has : HasFixed plan starts stripes finishes firsts news) (mended : Mended) (d : ℕ) (cell : Cell) (one : IsDamagedCell plan stripes mended d cell)
+    (has : HasFixed plan starts stripes finishes firsts news) (mended : Mended) (d : ℕ) (cell : Cell) (one : IsDamagedOf plan stripes mended d cell)
     (free : (entry_at plan d cell.rec).blocked ≡ false) (known : is_some (known_block mended.facts d) ≡ true) (tells : IsTrue (folder_at firsts d).tells) where
   abbrev facts : StripeFacts
   facts = mended.facts
@@ -258,7 +294,7 @@ abbrev lost_of_cell : ℕ → ℕ → Cell → Event
 lost_of_cell stripe d cell = event.Lost stripe d cell.rec cell.index
 
 module _ (plan : FixPlan) (stripes : List Mended) (finishes : List (List Finish)) (mended : Mended) (d : ℕ) (cell : Cell)
-    (one : IsDamagedCell plan stripes mended d cell) (unknown : is_some (known_block mended.facts d) ≡ false) where
+    (one : IsDamagedOf plan stripes mended d cell) (unknown : is_some (known_block mended.facts d) ≡ false) where
   abbrev facts_here : StripeFacts
   facts_here = mended.facts
 
@@ -270,14 +306,12 @@ module _ (plan : FixPlan) (stripes : List Mended) (finishes : List (List Finish)
       let none = none_is_known (gift_of facts_here d) facts_here.row d unknown in
       and_from _ _ (and_from _ _ one.selected (and_from _ _ one.damaged (ap not none.0))) (ap not none.1)
 
-  lost_is_not_written : is_written plan mended d ≡ false
-  lost_is_not_written = by (is_written plan mended d) refl
+  lost_is_not_repaired : is_repaired plan facts_here d ≡ false
+  lost_is_not_repaired = by (is_repaired plan facts_here d) refl
     where
-      by : (b : Bool) → is_written plan mended d ≡ b → b ≡ false
+      by : (b : Bool) → is_repaired plan facts_here d ≡ b → b ≡ false
       by false is = refl
-      by true is =
-          let repaired = (and_parts (is_repaired plan facts_here d) (answer_of mended d) is).0 in
-          absurd (false≢true (sym unknown ∙ (repaired_parts plan facts_here d repaired).known))
+      by true is = absurd (false≢true (sym unknown ∙ (repaired_parts plan facts_here d is).known))
 
   lost_is_told : is_audit plan.scope.mode ≡ false → Contains (fix_events plan stripes finishes) (lost_of_cell stripe d cell)
   lost_is_told parity =
@@ -305,8 +339,8 @@ module _ (plan : FixPlan) (stripes : List Mended) (finishes : List (List Finish)
       (Contains-append_left (all_mended_events plan stripes) (all_finish_news plan finishes) _ in_all)
 
   pub lost_here : is_audit plan.scope.mode ≡ false → (is_lost plan stripe (is_missing plan facts_here d) (is_some facts_here.row) d ≡ true)
-      × Contains (fix_events plan stripes finishes) (lost_of_cell stripe d cell) × (is_written plan mended d ≡ false)
-  lost_here parity = (cell_is_lost, lost_is_told parity, lost_is_not_written)
+      × Contains (fix_events plan stripes finishes) (lost_of_cell stripe d cell) × (is_repaired plan facts_here d ≡ false)
+  lost_here parity = (cell_is_lost, lost_is_told parity, lost_is_not_repaired)
 
 -- a recovery is tried where parity is looked at
 pub searched_no_audit : (plan : FixPlan) (stripe : ℕ) → is_searched plan stripe ≡ true → is_audit plan.scope.mode ≡ false
@@ -324,3 +358,27 @@ same_cell plan d cell lost tree same holds = record {
   there = holds.there;
   bytes = λ p less. let here = holds.bytes p less in record { within = here.within; is = here.is ∙ same p (omega (arith, less)) };
 }
+
+-- ---- by the facts of a stripe
+
+module _ (plan : FixPlan) (stripes : List Mended) (facts : StripeFacts) (d : ℕ) (cell : Cell) (it : IsDamagedCell plan (facts_of stripes) facts d cell) where
+  abbrev of : IsMendedOf plan stripes facts d cell
+  of = mended_of plan stripes facts d cell it
+
+  -- with a known block it is held
+  pub held_by : (starts : StartsValue) (finishes : List (List Finish)) (firsts news : List FolderView) → HasFixed plan starts stripes finishes firsts news
+      → (entry_at plan d cell.rec).blocked ≡ false → is_some (known_block facts d) ≡ true → IsTrue (folder_at firsts d).tells
+      → HoldsCell plan.table d cell (has_lost plan stripes d cell.rec) (slice_index (block_or_none (known_block facts d))) (folder_at news d).tree
+  held_by starts finishes firsts news has free known tells =
+      subst (λ (its : StripeFacts). is_some (known_block its d) ≡ true
+      → HoldsCell plan.table d cell (has_lost plan stripes d cell.rec) (slice_index (block_or_none (known_block its d))) (folder_at news d).tree) of.facts_are
+      (λ there. cell_held plan starts stripes finishes firsts news has of.mended d cell of.is free there tells) known
+
+  -- and without one it is lost
+  pub lost_by : (finishes : List (List Finish)) → is_some (known_block facts d) ≡ false → is_audit plan.scope.mode ≡ false
+      → (is_lost plan facts.stripe (is_missing plan facts d) (is_some facts.row) d ≡ true)
+      × Contains (fix_events plan stripes finishes) (lost_of_cell facts.stripe d cell) × (is_repaired plan facts d ≡ false)
+  lost_by finishes unknown parity =
+      subst (λ (its : StripeFacts). is_some (known_block its d) ≡ false → (is_lost plan its.stripe (is_missing plan its d) (is_some its.row) d ≡ true)
+      × Contains (fix_events plan stripes finishes) (lost_of_cell its.stripe d cell) × (is_repaired plan its d ≡ false)) of.facts_are
+      (λ there. lost_here plan stripes finishes of.mended d cell of.is there parity) unknown

@@ -28,20 +28,21 @@ pub record HasFixed (plan : FixPlan) (starts : StartsValue) (stripes : List Mend
   pub answered : All (AnswersFit plan firsts) stripes
   pub files : FixesFiles plan starts stripes finishes firsts news
 
--- a cell of one of the stripes is selected and damaged
-pub record IsDamagedCell (plan : FixPlan) (stripes : List Mended) (mended : Mended) (d : ℕ) (cell : Cell) : Type 0 where
-  pub one : Contains stripes mended
+-- a cell of one of these stripes is selected and damaged
+pub record IsDamagedCell (plan : FixPlan) (stripes : List StripeFacts) (facts : StripeFacts) (d : ℕ) (cell : Cell)
+    : Type 0 where
+  pub one : Contains stripes facts
   pub column : d < length plan.table.columns
-  pub cell_is : cell_at plan mended.facts.stripe d ≡ Some cell
-  pub selected : selects_cell plan mended.facts.stripe d ≡ true
-  pub damaged : damaged_at plan mended.facts d ≡ true
+  pub cell_is : cell_at plan facts.stripe d ≡ Some cell
+  pub selected : selects_cell plan facts.stripe d ≡ true
+  pub damaged : damaged_at plan facts d ≡ true
 
 -- no block is known for such a cell of a stripe
-pub record IsUnknownCell (plan : FixPlan) (stripes : List Mended) (stripe d : ℕ) (cell : Cell) : Type 0 where
-  pub mended : Mended
-  pub number : mended.facts.stripe ≡ stripe
-  pub is : IsDamagedCell plan stripes mended d cell
-  pub unknown : is_some (known_block mended.facts d) ≡ false
+pub record IsUnknownCell (plan : FixPlan) (stripes : List StripeFacts) (stripe d : ℕ) (cell : Cell) : Type 0 where
+  pub facts : StripeFacts
+  pub number : facts.stripe ≡ stripe
+  pub is : IsDamagedCell plan stripes facts d cell
+  pub unknown : is_some (known_block facts d) ≡ false
 
 -- its block can be had: the spare gave it, or its stripe is restorable
 abbrev pub CanBeHad : FixPlan → StripeFacts → (ℕ → Bool) → ℕ → Type 0

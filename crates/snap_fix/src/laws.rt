@@ -36,7 +36,7 @@ ghost use Rattle.snap_fix.specs.Found.{AreAllWritten, DifferInMode, IsNoneGone};
 ghost use Rattle.snap_fix.specs.Genuine.{AreGenuineOf, HasGenuineFacts, IsBlockIn};
 ghost use Rattle.snap_fix.specs.Genuine.{IsRestorableStripe, IsSameRow, TellsIntactLevels};
 ghost use Rattle.snap_fix.specs.Known.{AreFacts};
-ghost use Rattle.snap_fix.specs.Mended.{Mended, block_or_none, has_lost, is_written};
+ghost use Rattle.snap_fix.specs.Mended.{Mended, block_or_none, has_lost, is_repaired};
 ghost use Rattle.snap_fix.specs.Mended.{is_wrong_level, known_block, writes_of};
 ghost use Rattle.snap_fix.specs.Plan.{FixPlan, entry_at, is_audit, is_searched, records_in};
 ghost use Rattle.snap_fix.specs.Plan.{starts_of, stripes_of};
@@ -196,49 +196,49 @@ pub fn a_fix_keeps_what_is_sound()
 /// exactly where the spare gave it or the stripe is restorable.
 pub fn a_fix_restores()
     ensures held { (plan : FixPlan) (starts : StartsValue) (stripes : List Mended)
-        (finishes : List (List Finish)) (firsts news : List FolderView) (mended : Mended) (d : ℕ)
+        (finishes : List (List Finish)) (firsts news : List FolderView) (facts : StripeFacts) (d : ℕ)
         (cell : Cell) → HasFixed plan starts stripes finishes firsts news →
-        IsDamagedCell plan stripes mended d cell → (entry_at plan d cell.rec).blocked ≡ false →
-        IsTrue (folder_at firsts d).tells → is_some (known_block mended.facts d) ≡ true →
+        IsDamagedCell plan (facts_of stripes) facts d cell → (entry_at plan d cell.rec).blocked ≡ false →
+        IsTrue (folder_at firsts d).tells → is_some (known_block facts d) ≡ true →
         HoldsCell plan.table d cell (has_lost plan stripes d cell.rec)
-        (slice_index (block_or_none (known_block mended.facts d))) (folder_at news d).tree }
+        (slice_index (block_or_none (known_block facts d))) (folder_at news d).tree }
     ensures lost { (plan : FixPlan) (stripes : List Mended) (finishes : List (List Finish))
-        (mended : Mended) (d : ℕ) (cell : Cell) → IsDamagedCell plan stripes mended d cell →
-        is_audit plan.scope.mode ≡ false → is_some (known_block mended.facts d) ≡ false →
-        (is_lost plan mended.facts.stripe (is_missing plan mended.facts d) (is_some mended.facts.row) d ≡ true)
-        × Contains (fix_events plan stripes finishes) (event.Lost mended.facts.stripe d cell.rec cell.index)
-        × (is_written plan mended d ≡ false) }
+        (facts : StripeFacts) (d : ℕ) (cell : Cell) → IsDamagedCell plan (facts_of stripes) facts d cell →
+        is_audit plan.scope.mode ≡ false → is_some (known_block facts d) ≡ false →
+        (is_lost plan facts.stripe (is_missing plan facts d) (is_some facts.row) d ≡ true)
+        × Contains (fix_events plan stripes finishes) (event.Lost facts.stripe d cell.rec cell.index)
+        × (is_repaired plan facts d ≡ false) }
     // No other cell of such a folder is told to be lost.
     ensures told { (plan : FixPlan) (starts : StartsValue) (stripes : List Mended)
         (finishes : List (List Finish)) (firsts news : List FolderView) (stripe d : ℕ) (cell : Cell) →
         HasFixed plan starts stripes finishes firsts news → IsTrue (folder_at firsts d).tells →
         Contains (fix_events plan stripes finishes) (event.Lost stripe d cell.rec cell.index) →
-        IsUnknownCell plan stripes stripe d cell }
+        IsUnknownCell plan (facts_of stripes) stripe d cell }
     ensures known { (plan : FixPlan) (starts : StartsValue) (firsts : List FolderView)
         (snapshot : Row) (facts : StripeFacts) (is_intact : ℕ → Bool) (d : ℕ) →
         HasGenuineFacts plan starts firsts snapshot facts → AreBytes snapshot →
         TellsIntactLevels plan facts snapshot is_intact →
         (is_some (known_block facts d) ≡ true ↔ CanBeHad plan facts is_intact d) }
     ensures restored { (plan : FixPlan) (starts : StartsValue) (stripes : List Mended)
-        (finishes : List (List Finish)) (firsts news : List FolderView) (mended : Mended) (d : ℕ)
+        (finishes : List (List Finish)) (firsts news : List FolderView) (facts : StripeFacts) (d : ℕ)
         (cell : Cell) (snapshot : Row) (is_intact : ℕ → Bool) →
-        HasFixed plan starts stripes finishes firsts news → IsDamagedCell plan stripes mended d cell →
-        HasGenuineFacts plan starts firsts snapshot mended.facts → AreBytes snapshot →
-        TellsIntactLevels plan mended.facts snapshot is_intact →
+        HasFixed plan starts stripes finishes firsts news → IsDamagedCell plan (facts_of stripes) facts d cell →
+        HasGenuineFacts plan starts firsts snapshot facts → AreBytes snapshot →
+        TellsIntactLevels plan facts snapshot is_intact →
         (entry_at plan d cell.rec).blocked ≡ false → IsTrue (folder_at firsts d).tells →
-        CanBeHad plan mended.facts is_intact d →
+        CanBeHad plan facts is_intact d →
         HoldsCell plan.table d cell (has_lost plan stripes d cell.rec) (byte_of snapshot d)
         (folder_at news d).tree }
     ensures unrestored { (plan : FixPlan) (starts : StartsValue) (stripes : List Mended)
-        (finishes : List (List Finish)) (firsts : List FolderView) (mended : Mended) (d : ℕ)
+        (finishes : List (List Finish)) (firsts : List FolderView) (facts : StripeFacts) (d : ℕ)
         (cell : Cell) (snapshot : Row) (is_intact : ℕ → Bool) →
-        IsDamagedCell plan stripes mended d cell →
-        HasGenuineFacts plan starts firsts snapshot mended.facts → AreBytes snapshot →
-        TellsIntactLevels plan mended.facts snapshot is_intact →
-        (CanBeHad plan mended.facts is_intact d → ⊥) →
-        (is_lost plan mended.facts.stripe (is_missing plan mended.facts d) (is_some mended.facts.row) d ≡ true)
-        × Contains (fix_events plan stripes finishes) (event.Lost mended.facts.stripe d cell.rec cell.index)
-        × (is_written plan mended d ≡ false) }
+        IsDamagedCell plan (facts_of stripes) facts d cell →
+        HasGenuineFacts plan starts firsts snapshot facts → AreBytes snapshot →
+        TellsIntactLevels plan facts snapshot is_intact →
+        (CanBeHad plan facts is_intact d → ⊥) →
+        (is_lost plan facts.stripe (is_missing plan facts d) (is_some facts.row) d ≡ true)
+        × Contains (fix_events plan stripes finishes) (event.Lost facts.stripe d cell.rec cell.index)
+        × (is_repaired plan facts d ≡ false) }
 {
     products();
 }

@@ -20,7 +20,8 @@ use Rattle.snap_fix.specs.Facts.{StripeFacts, is_missing}
 use Rattle.snap_fix.specs.Findings.{all_cell_events, all_level_events, all_level_io_events, all_lost_events, blocked_event, cell_events, changed_event, column_events, events_of, is_lost, is_unread, is_unread_level, is_wrong, level_events, level_io_events, lost_event, lost_events, opening_events, read_event, read_events, record_events, silent_event, stripe_events, unsynced_events}
 use Rattle.snap_fix.specs.Plan.{FixPlan, cell_at, entry_at, has_selected_cell, is_audit, is_synced, records_in, selects_cell, selects_level}
 use Rattle.snap_fix.specs.Selected.{is_as_recorded}
-use Rattle.snap_top.specs.Lost.{IsDamagedIn, IsToldLost}
+use Rattle.snap_fix.specs.Restored.{IsDamagedCell}
+use Rattle.snap_top.specs.Lost.{IsToldLost}
 
 -- a cell of one of these stripes is lost
 pub record IsLostIn (plan : FixPlan) (stripes : List StripeFacts) (stripe d : ℕ) : Type 0 where
@@ -165,7 +166,7 @@ contains_flat f [] k d a within there = absurd (omega (arith, within))
 contains_flat f (x ∷ xs) zero d a within there = Contains-append_left (f x) (flat_map f xs) a there
 contains_flat f (x ∷ xs) (suc k) d a within there = Contains-append_right (f x) (flat_map f xs) a (contains_flat f xs k d a (omega (arith, within)) there)
 
-module _ (plan : FixPlan) (stripes : List StripeFacts) (facts : StripeFacts) (d : ℕ) (cell : Cell) (it : IsDamagedIn plan stripes facts d cell)
+module _ (plan : FixPlan) (stripes : List StripeFacts) (facts : StripeFacts) (d : ℕ) (cell : Cell) (it : IsDamagedCell plan stripes facts d cell)
     (parity : is_audit plan.scope.mode ≡ false) (lost : is_lost plan facts.stripe (is_missing plan facts d) (is_some facts.row) d ≡ true) where
   abbrev line : Event
   line = event.Lost facts.stripe d cell.rec cell.index

@@ -3,68 +3,21 @@ use Rattle.std.proofs.Common.{◌≡◌, ⊎_elim, ℕ, ◌<◌, List, [], lengt
 use Rattle.std.specs.List.{Contains, range_with_len}
 use Rattle.std.proofs.lemmas.Bool.{cases_lt}
 use Rattle.std.proofs.lemmas.List.{get_or-map, get_or_default, length-map}
-use Rattle.std.proofs.lemmas.List.Elements.{Contains-get_or}
 use Rattle.std.proofs.lemmas.List.FromFn.{get_or-range_with_len, length-range_with_len}
 use Rattle.std.proofs.lemmas.List.Kept.{AllPairs-filter}
 use Rattle.disk_model.specs.Files.{Files}
 use Rattle.disk_model.specs.Folder.{FolderView}
-use Rattle.file_table.specs.declared.block.Cell.{Cell}
 use Rattle.parity_writer.specs.Sound.{Snapshot}
 use Rattle.stripe_reader.specs.Starts.{StartsValue}
-use Rattle.snap_fix.specs.Facts.{StripeFacts, damaged_at}
-use Rattle.snap_fix.specs.Fixing.{facts_of}
+use Rattle.snap_fix.specs.Facts.{StripeFacts}
 use Rattle.snap_fix.specs.Genuine.{AreGenuineOf, HasGenuineFacts}
 use Rattle.snap_fix.specs.Looking.{numbers_of}
-use Rattle.snap_fix.specs.Mended.{Mended}
-use Rattle.snap_fix.specs.Plan.{FixPlan, cell_at, is_looked_at, is_searched, selects_cell, stripes_of}
-use Rattle.snap_fix.specs.Restored.{IsDamagedCell}
-use Rattle.snap_top.specs.Lost.{IsDamagedIn}
+use Rattle.snap_fix.specs.Plan.{FixPlan, is_looked_at, is_searched, stripes_of}
 
 -- what snap_fix says of stripes that were looked at
 abbrev pub FactsAreGenuine : Type 0
 FactsAreGenuine = (plan : FixPlan) (starts : StartsValue) (firsts : List FolderView) (read : Files) (snapshot : Snapshot) (is_changed : ℕ → ℕ → Bool) (stripes : List StripeFacts) (facts : StripeFacts)
     → AreGenuineOf plan starts firsts read snapshot is_changed stripes → Contains stripes facts → is_searched plan facts.stripe ≡ true → HasGenuineFacts plan starts firsts (snapshot facts.stripe) facts
-
--- ---- of a fix, they are those of what it mended
-
-pub contains_facts : (stripes : List Mended) (mended : Mended) → Contains stripes mended → Contains (facts_of stripes) mended.facts
-contains_facts stripes mended one =
-    let facts : Mended → StripeFacts = λ (it : Mended). it.facts in
-    (one.0, omega (arith, length-map stripes facts, one.1), get_or-map facts stripes one.0 mended mended.facts one.1 ∙ ap facts one.2)
-
--- a stripe that was mended, with a damaged cell
-pub record IsMendedOf (plan : FixPlan) (stripes : List Mended) (facts : StripeFacts) (d : ℕ) (cell : Cell) : Type 0 where
-  pub mended : Mended
-  pub facts_are : mended.facts ≡ facts
-  pub is : IsDamagedCell plan stripes mended d cell
-
-pub mended_of : (plan : FixPlan) (stripes : List Mended) (facts : StripeFacts) (d : ℕ) (cell : Cell) → IsDamagedIn plan (facts_of stripes) facts d cell → IsMendedOf plan stripes facts d cell
-mended_of plan stripes facts d cell it =
-    let none : Mended = record { facts = facts; answers = [] } in
-    let of : Mended → StripeFacts = λ (mended : Mended). mended.facts in
-    let within : it.one.0 < length stripes = let below = it.one.1 in omega (arith, below, length-map stripes of) in
-    let mended : Mended = get_or stripes it.one.0 none in
-    let same : mended.facts ≡ facts = sym (get_or-map of stripes it.one.0 none facts within) ∙ it.one.2 in
-    record {
-      mended = mended;
-      facts_are = same;
-      is = record {
-        one = Contains-get_or stripes it.one.0 none within;
-        column = it.column;
-        cell_is = ap (λ (f : StripeFacts). cell_at plan f.stripe d) same ∙ it.cell_is;
-        selected = ap (λ (f : StripeFacts). selects_cell plan f.stripe d) same ∙ it.selected;
-        damaged = ap (λ (f : StripeFacts). damaged_at plan f d) same ∙ it.damaged;
-      };
-    }
-
-pub damaged_in : (plan : FixPlan) (stripes : List Mended) (mended : Mended) (d : ℕ) (cell : Cell) → IsDamagedCell plan stripes mended d cell → IsDamagedIn plan (facts_of stripes) mended.facts d cell
-damaged_in plan stripes mended d cell it = record {
-  one = contains_facts stripes mended it.one;
-  column = it.column;
-  cell_is = it.cell_is;
-  selected = it.selected;
-  damaged = it.damaged;
-}
 
 -- ---- no stripe is looked at twice
 

@@ -48,7 +48,8 @@ use Rattle.snap_top.specs.Checking.{CheckEnds, ChecksBy}
 use Rattle.snap_top.specs.Does.{DoesCommand}
 use Rattle.snap_top.specs.End.{status_of}
 use Rattle.snap_top.specs.Ended.{IsEndStatus}
-use Rattle.snap_top.specs.Lost.{IsDamagedIn, IsToldLost, NamesLost, NamesPending}
+use Rattle.snap_fix.specs.Restored.{IsDamagedCell}
+use Rattle.snap_top.specs.Lost.{IsToldLost, NamesLost, NamesPending}
 use Rattle.snap_top.specs.Moment.{TellsAll}
 use Rattle.snap_top.specs.Naming.{ChecksEnd, EndsChecked, IsCheckOf, events_found}
 use Rattle.snap_top.specs.Opening.{asked_by}
@@ -111,7 +112,7 @@ no_row plan facts are pending =
     ap (λ (row : Option Row). is_some row) none.2
 
 -- a selected damaged cell that was not given is lost where the row is not known
-lost_where : (plan : FixPlan) (stripes : List StripeFacts) (facts : StripeFacts) (d : ℕ) (cell : Cell) → IsDamagedIn plan stripes facts d cell → gift_of facts d ≡ None → is_some facts.row ≡ false
+lost_where : (plan : FixPlan) (stripes : List StripeFacts) (facts : StripeFacts) (d : ℕ) (cell : Cell) → IsDamagedCell plan stripes facts d cell → gift_of facts d ≡ None → is_some facts.row ≡ false
     → is_lost plan facts.stripe (is_missing plan facts d) (is_some facts.row) d ≡ true
 lost_where plan stripes facts d cell it none unknown =
     and_from _ _ (and_from _ _ it.selected (and_from _ _ it.damaged (ap (λ (gift : Option (List ℕ)). not (is_some gift)) none))) (ap not unknown)
@@ -202,10 +203,10 @@ module _ (rows : RowsAreKnown) (genuine_facts : FactsAreGenuine) (before : Entry
     parity : is_audit run.plan.scope.mode ≡ false
     parity = ap is_audit ends.plan_is.scope.mode_is
 
-    no_gift : (facts : StripeFacts) (d : ℕ) (cell : Cell) → IsDamagedIn run.plan run.stripes facts d cell → gift_of facts d ≡ None
+    no_gift : (facts : StripeFacts) (d : ℕ) (cell : Cell) → IsDamagedCell run.plan run.stripes facts d cell → gift_of facts d ≡ None
     no_gift facts d cell it = All-contains (λ (other : StripeFacts). (k : ℕ) → gift_of other k ≡ None) run.stripes facts ends.no_gifts it.one d
 
-    told_where : (facts : StripeFacts) (d : ℕ) (cell : Cell) (it : IsDamagedIn run.plan run.stripes facts d cell) → is_some facts.row ≡ false → IsToldLost all facts d cell
+    told_where : (facts : StripeFacts) (d : ℕ) (cell : Cell) (it : IsDamagedCell run.plan run.stripes facts d cell) → is_some facts.row ≡ false → IsToldLost all facts d cell
     told_where facts d cell it unknown =
         lost_is_told run.plan run.stripes facts d cell it parity (lost_where run.plan run.stripes facts d cell it (no_gift facts d cell it) unknown)
 

@@ -31,7 +31,7 @@ use Rattle.snap_fix.specs.Fixing.{facts_of}
 use Rattle.snap_fix.specs.Genuine.{AreGenuine, AreGenuineOf, HasGenuineFacts, IsRestorableStripe, TellsIntactLevels}
 use Rattle.snap_fix.specs.Known.{AreFacts, IsTried}
 use Rattle.snap_fix.specs.Looking.{numbers_of, unread_in}
-use Rattle.snap_fix.specs.Mended.{Mended, has_lost, is_written, known_block, known_by, wrong_in, written_in}
+use Rattle.snap_fix.specs.Mended.{Mended, has_lost, is_repaired, known_block, known_by, wrong_in, written_in}
 use Rattle.snap_fix.specs.Plan.{FixPlan, entry_at, is_audit, is_searched, is_synced, starts_of, stripes_of}
 use Rattle.snap_fix.specs.Restored.{CanBeHad, HasFixed, HoldsCell, IsDamagedCell, IsUnknownCell}
 use Rattle.snap_fix.specs.Underway.{AddsZeros, IsMendedLevel, KeepsLevels}
@@ -62,37 +62,37 @@ use Rattle.snap_top.specs.declared.end.End.{End}
 use Rattle.snap_top.specs.declared.end.Ending.TheVariants.{Answered}
 use Rattle.snap_top.proofs.CompleteLemmas.{same_ok}
 use Rattle.snap_top.proofs.EndedLemmas.{IsDoneAnswer, done_status, goes_to_its_end, only_read, output_rose, well_as}
-use Rattle.snap_top.proofs.LostLemmas.{AreAscending, FactsAreGenuine, contains_facts, mended_of, same_facts, stripes_ascending}
+use Rattle.snap_top.proofs.LostLemmas.{AreAscending, FactsAreGenuine, same_facts, stripes_ascending}
 use Rattle.snap_top.proofs.OfFixLemmas.{HasFixCourse, all_looked_at, fix_of, genuine_by}
 use Rattle.snap_top.proofs.OfSyncLemmas.{start_files as files_held, start_out as out_held, start_tells as tells_held}
 
 -- ---- what snap_fix says of a fix that ended
 
 abbrev pub CellsAreRestored : Type 0
-CellsAreRestored = (plan : FixPlan) (starts : StartsValue) (stripes : List Mended) (finishes : Finishes) (firsts news : List FolderView) (mended : Mended) (d : ℕ) (cell : Cell) (snapshot : Row) (is_intact : ℕ → Bool)
-    → HasFixed plan starts stripes finishes firsts news → IsDamagedCell plan stripes mended d cell → HasGenuineFacts plan starts firsts snapshot mended.facts → AreBytes snapshot → TellsIntactLevels plan mended.facts snapshot is_intact
-    → (entry_at plan d cell.rec).blocked ≡ false → IsTrue (folder_at firsts d).tells → CanBeHad plan mended.facts is_intact d
+CellsAreRestored = (plan : FixPlan) (starts : StartsValue) (stripes : List Mended) (finishes : Finishes) (firsts news : List FolderView) (facts : StripeFacts) (d : ℕ) (cell : Cell) (snapshot : Row) (is_intact : ℕ → Bool)
+    → HasFixed plan starts stripes finishes firsts news → IsDamagedCell plan (facts_of stripes) facts d cell → HasGenuineFacts plan starts firsts snapshot facts → AreBytes snapshot → TellsIntactLevels plan facts snapshot is_intact
+    → (entry_at plan d cell.rec).blocked ≡ false → IsTrue (folder_at firsts d).tells → CanBeHad plan facts is_intact d
     → HoldsCell plan.table d cell (has_lost plan stripes d cell.rec) (byte_of snapshot d) (folder_at news d).tree
 
 abbrev pub CellsAreLost : Type 0
-CellsAreLost = (plan : FixPlan) (starts : StartsValue) (stripes : List Mended) (finishes : Finishes) (firsts : List FolderView) (mended : Mended) (d : ℕ) (cell : Cell) (snapshot : Row) (is_intact : ℕ → Bool)
-    → IsDamagedCell plan stripes mended d cell → HasGenuineFacts plan starts firsts snapshot mended.facts → AreBytes snapshot → TellsIntactLevels plan mended.facts snapshot is_intact → (CanBeHad plan mended.facts is_intact d → ⊥)
-    → (is_lost plan mended.facts.stripe (is_missing plan mended.facts d) (is_some mended.facts.row) d ≡ true)
-    × Contains (fix_events plan stripes finishes) (events.Lost mended.facts.stripe d cell.rec cell.index)
-    × (is_written plan mended d ≡ false)
+CellsAreLost = (plan : FixPlan) (starts : StartsValue) (stripes : List Mended) (finishes : Finishes) (firsts : List FolderView) (facts : StripeFacts) (d : ℕ) (cell : Cell) (snapshot : Row) (is_intact : ℕ → Bool)
+    → IsDamagedCell plan (facts_of stripes) facts d cell → HasGenuineFacts plan starts firsts snapshot facts → AreBytes snapshot → TellsIntactLevels plan facts snapshot is_intact → (CanBeHad plan facts is_intact d → ⊥)
+    → (is_lost plan facts.stripe (is_missing plan facts d) (is_some facts.row) d ≡ true)
+    × Contains (fix_events plan stripes finishes) (events.Lost facts.stripe d cell.rec cell.index)
+    × (is_repaired plan facts d ≡ false)
 
 -- a cell without a known block is told to be lost, no other cell is, and a block is known exactly where it can be had
 abbrev pub UnknownAreLost : Type 0
-UnknownAreLost = (plan : FixPlan) (stripes : List Mended) (finishes : Finishes) (mended : Mended) (d : ℕ) (cell : Cell)
-    → IsDamagedCell plan stripes mended d cell → is_audit plan.scope.mode ≡ false → is_some (known_block mended.facts d) ≡ false
-    → (is_lost plan mended.facts.stripe (is_missing plan mended.facts d) (is_some mended.facts.row) d ≡ true)
-    × Contains (fix_events plan stripes finishes) (events.Lost mended.facts.stripe d cell.rec cell.index)
-    × (is_written plan mended d ≡ false)
+UnknownAreLost = (plan : FixPlan) (stripes : List Mended) (finishes : Finishes) (facts : StripeFacts) (d : ℕ) (cell : Cell)
+    → IsDamagedCell plan (facts_of stripes) facts d cell → is_audit plan.scope.mode ≡ false → is_some (known_block facts d) ≡ false
+    → (is_lost plan facts.stripe (is_missing plan facts d) (is_some facts.row) d ≡ true)
+    × Contains (fix_events plan stripes finishes) (events.Lost facts.stripe d cell.rec cell.index)
+    × (is_repaired plan facts d ≡ false)
 
 abbrev pub LostAreUnknown : Type 0
 LostAreUnknown = (plan : FixPlan) (starts : StartsValue) (stripes : List Mended) (finishes : Finishes) (firsts news : List FolderView) (stripe d : ℕ) (cell : Cell)
     → HasFixed plan starts stripes finishes firsts news → IsTrue (folder_at firsts d).tells → Contains (fix_events plan stripes finishes) (events.Lost stripe d cell.rec cell.index)
-    → IsUnknownCell plan stripes stripe d cell
+    → IsUnknownCell plan (facts_of stripes) stripe d cell
 
 abbrev pub BlocksAreKnown : Type 0
 BlocksAreKnown = (plan : FixPlan) (starts : StartsValue) (firsts : List FolderView) (snapshot : Row) (facts : StripeFacts) (is_intact : ℕ → Bool) (d : ℕ)
@@ -245,10 +245,8 @@ module _ (restored : CellsAreRestored) (lost : CellsAreLost) (unknown_lost : Unk
     restores : (snapshot : Snapshot) (is_changed : ℕ → ℕ → Bool) → Sound run.loaded old snapshot is_changed → AreGenuine run.plan snapshot (facts_of run.stripes) → Restores run ends.finishes snapshot
     restores snapshot is_changed sound supposed = record {
       restored = λ facts d cell is_intact it free enough.
-          let of = mended_of run.plan run.stripes facts d cell it.is in
-          subst (λ (other : StripeFacts). IsDamagedOfSynced run.plan all_facts snapshot other d cell is_intact → IsRestorableStripe run.plan other is_intact → IsHeld (snapshot other.stripe) d cell) of.facts_are
-          (λ there enough_there. restored run.plan starts run.stripes ends.finishes run.listed run.ended of.mended d cell (snapshot of.mended.facts.stripe) is_intact
-          fixed of.is (genuine_at of.mended.facts d cell is_intact there) there.bytes there.tells free (listed_tells d of.is.column) (inr enough_there)) it enough;
+          restored run.plan starts run.stripes ends.finishes run.listed run.ended facts d cell (snapshot facts.stripe) is_intact
+          fixed it.is (genuine_at facts d cell is_intact it) it.bytes it.tells free (listed_tells d it.is.column) (inr enough);
       named = λ facts d cell is_intact it. (not_told facts d cell is_intact it, few_told facts d cell is_intact it);
     }
       where
@@ -260,30 +258,25 @@ module _ (restored : CellsAreRestored) (lost : CellsAreLost) (unknown_lost : Unk
 
         not_told : (facts : StripeFacts) (d : ℕ) (cell : Cell) (is_intact : ℕ → Bool) → IsDamagedOfSynced run.plan all_facts snapshot facts d cell is_intact → IsToldLost all facts d cell → ¬ (IsRestorableStripe run.plan facts is_intact)
         not_told facts d cell is_intact it told_lost enough =
-            let other : IsUnknownCell run.plan run.stripes facts.stripe d cell
+            let other : IsUnknownCell run.plan all_facts facts.stripe d cell
             = lost_unknown run.plan starts run.stripes ends.finishes run.listed run.ended facts.stripe d cell fixed (listed_tells d it.is.column) told_lost in
-            let same : other.mended.facts ≡ facts = same_facts all_facts ascending other.mended.facts facts (contains_facts run.stripes other.mended other.is.one) it.is.one other.number in
+            let same : other.facts ≡ facts = same_facts all_facts ascending other.facts facts other.is.one it.is.one other.number in
             let had : is_some (known_block facts d) ≡ true
             = (known run.plan starts run.listed (snapshot facts.stripe) facts is_intact d (genuine_at facts d cell is_intact it) it.bytes it.tells).1 (inr enough) in
             let clash : false ≡ true = sym other.unknown ∙ ap (λ (it' : StripeFacts). is_some (known_block it' d)) same ∙ had in cc
 
         few_told : (facts : StripeFacts) (d : ℕ) (cell : Cell) (is_intact : ℕ → Bool) → IsDamagedOfSynced run.plan all_facts snapshot facts d cell is_intact → ¬ (IsRestorableStripe run.plan facts is_intact) → IsToldLost all facts d cell
         few_told facts d cell is_intact it few =
-            let of = mended_of run.plan run.stripes facts d cell it.is in
-            subst (λ (other : StripeFacts). IsDamagedOfSynced run.plan all_facts snapshot other d cell is_intact → ¬ (IsRestorableStripe run.plan other is_intact) → IsToldLost all other d cell) of.facts_are
-            (λ there few_there.
-            let no_gift : gift_of of.mended.facts d ≡ None
-            = All-contains (λ (other : StripeFacts). (k : ℕ) → gift_of other k ≡ None) all_facts of.mended.facts ends.course.no_gifts there.is.one d in
-            (lost run.plan starts run.stripes ends.finishes run.listed of.mended d cell (snapshot of.mended.facts.stripe) is_intact
-            of.is (genuine_at of.mended.facts d cell is_intact there) there.bytes there.tells (not_had run.plan of.mended.facts is_intact d no_gift few_there)).1) it few
+            let no_gift : gift_of facts d ≡ None
+            = All-contains (λ (other : StripeFacts). (k : ℕ) → gift_of other k ≡ None) all_facts facts ends.course.no_gifts it.is.one d in
+            (lost run.plan starts run.stripes ends.finishes run.listed facts d cell (snapshot facts.stripe) is_intact
+            it.is (genuine_at facts d cell is_intact it) it.bytes it.tells (not_had run.plan facts is_intact d no_gift few)).1
 
     pending : NamesPending run.plan all_facts all
     pending facts d cell it unsynced =
-        let of = mended_of run.plan run.stripes facts d cell it in
         let are : AreFacts run.plan facts = All-contains (AreFacts run.plan) all_facts facts fixed.are it.one in
-        let unknown : is_some (known_block of.mended.facts d) ≡ false = ap (λ (other : StripeFacts). is_some (known_block other d)) of.facts_are ∙ none_known run.plan facts d are unsynced in
-        subst (λ (other : StripeFacts). IsToldLost all other d cell) of.facts_are
-        (unknown_lost run.plan run.stripes ends.finishes of.mended d cell of.is (ap is_audit ends.course.plan_is.scope.mode_is) unknown).1
+        (unknown_lost run.plan run.stripes ends.finishes facts d cell it (ap is_audit ends.course.plan_is.scope.mode_is)
+        (none_known run.plan facts d are unsynced)).1
 
     ended_fixed : EndsFixed before exit status
     ended_fixed = record {

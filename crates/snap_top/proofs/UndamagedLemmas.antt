@@ -25,7 +25,7 @@ use Rattle.snap_fix.specs.Facts.{StripeFacts}
 use Rattle.snap_fix.specs.Fixing.{facts_of}
 use Rattle.snap_fix.specs.Genuine.{AreLevelsIn, IsIntactLevel, IsLevelOf, IsRestorableStripe, TellsIntactLevels}
 use Rattle.snap_fix.specs.Known.{AreFacts, IsTried, is_whole, whole_level, whole_levels}
-use Rattle.snap_fix.specs.Mended.{Mended, has_lost}
+use Rattle.snap_fix.specs.Mended.{has_lost}
 use Rattle.snap_fix.specs.Plan.{FixPlan, is_marked_synced, is_searched, is_synced}
 use Rattle.snap_fix.specs.Restored.{HoldsCell}
 use Rattle.snap_top.specs.Fix.{FixRun}
@@ -35,7 +35,6 @@ use Rattle.snap_top.specs.Run.{Entry, Exit}
 use Rattle.snap_top.specs.Undamaged.{IsRecoverable, IsUndamaged, is_read, was_read}
 use Rattle.snap_top.proofs.OfFixLemmas.{levels_in}
 use Rattle.snap_top.specs.Views.{folder_at}
-use Rattle.snap_top.proofs.LostLemmas.{contains_facts, damaged_in}
 use Rattle.snap_top.proofs.StoppingLemmas.{both_no_less}
 
 -- what parity_writer says of a level that was read
@@ -67,25 +66,25 @@ kept_whole holds block_size stripe r row file (Some bytes) level of kept read ha
       λ p below. ap (λ (it : LevelValue). slice_index it.block p) kept ∙ ap (λ (block : List ℕ). slice_index block p) whole.1 ∙ byte_of_level r block_size row p below,
     )
 
-pub undamaged_intact : WholeLevelsHold → (before : Entry) (exit : Exit) (run : FixRun) (snapshot : Snapshot) (is_changed : ℕ → ℕ → Bool) (mended : Mended) (r : ℕ) → IsFixOf before exit run → IsTrue before.opener.vault.tells
-    → Sound run.loaded before.opener.vault.files snapshot is_changed → IsUndamaged run is_changed mended r
-    → (whole_level mended.facts.levels r ≡ true) × IsIntactLevel run.plan mended.facts (snapshot mended.facts.stripe) r
-undamaged_intact holds before exit run snapshot is_changed mended r is tells sound unchanged =
+pub undamaged_intact : WholeLevelsHold → (before : Entry) (exit : Exit) (run : FixRun) (snapshot : Snapshot) (is_changed : ℕ → ℕ → Bool) (facts : StripeFacts) (r : ℕ) → IsFixOf before exit run → IsTrue before.opener.vault.tells
+    → Sound run.loaded before.opener.vault.files snapshot is_changed → IsUndamaged run is_changed facts r
+    → (whole_level facts.levels r ≡ true) × IsIntactLevel run.plan facts (snapshot facts.stripe) r
+undamaged_intact holds before exit run snapshot is_changed facts r is tells sound unchanged =
     let over = is.over in
     let files : Files = before.opener.vault.files in
     let size : ℕ = run.plan.table.shape.block_size in
-    let at = contains_facts run.stripes mended unchanged.one in
-    let are : AreFacts run.plan mended.facts = All-contains (AreFacts run.plan) (facts_of run.stripes) mended.facts over.finds.are at in
+    let at = unchanged.one in
+    let are : AreFacts run.plan facts = All-contains (AreFacts run.plan) (facts_of run.stripes) facts over.finds.are at in
     let in_files : AreLevelsIn size files (facts_of run.stripes) = levels_in size before.opener.vault (facts_of run.stripes) run.readings tells over.finds.levels in
-    let level : IsLevelOf size mended.facts.stripe r files (get_or mended.facts.levels r no_level)
-    = All-contains (λ (facts : StripeFacts). (k : ℕ) → k < length facts.levels → IsLevelOf size facts.stripe k files (get_or facts.levels k no_level)) (facts_of run.stripes) mended.facts in_files at r unchanged.within in
-    let tried : IsTried run.plan mended.facts true = subst (IsTried run.plan mended.facts) unchanged.searched are.tried in
+    let level : IsLevelOf size facts.stripe r files (get_or facts.levels r no_level)
+    = All-contains (λ (its : StripeFacts). (k : ℕ) → k < length its.levels → IsLevelOf size its.stripe k files (get_or its.levels k no_level)) (facts_of run.stripes) facts in_files at r unchanged.within in
+    let tried : IsTried run.plan facts true = subst (IsTried run.plan facts) unchanged.searched are.tried in
     let below = unchanged.within in
     let levels : r < run.plan.table.shape.levels = omega (arith, below, tried.0) in
     let of_plan : Sound run.plan.table files snapshot is_changed = subst (λ (t : TableValue). Sound t files snapshot is_changed) (sym over.plan_is.table_is) sound in
-    let has : HasLevel size r mended.facts.stripe (snapshot mended.facts.stripe) (parity_of files r)
-    = of_plan.sums mended.facts.stripe r (searched_is_synced run.plan mended.facts are unchanged.searched) levels unchanged.unchanged in
-    kept_whole holds size mended.facts.stripe r (snapshot mended.facts.stripe) (parity_of files r) level.reading (get_or mended.facts.levels r no_level) level.is_of level.is_kept unchanged.read has
+    let has : HasLevel size r facts.stripe (snapshot facts.stripe) (parity_of files r)
+    = of_plan.sums facts.stripe r (searched_is_synced run.plan facts are unchanged.searched) levels unchanged.unchanged in
+    kept_whole holds size facts.stripe r (snapshot facts.stripe) (parity_of files r) level.reading (get_or facts.levels r no_level) level.is_of level.is_kept unchanged.read has
 
 -- ---- whether a level is intact, as a test
 
@@ -145,27 +144,26 @@ read_within levels r read = elim (cases_lt r (length levels)) [
   | inr past ↦ absurd (let clash : false ≡ true = ap (λ (it : LevelValue). is_read it.state) (sym (get_or_past levels r no_level past)) ∙ read in cc)
 ]
 
-pub restored_by_counting : WholeLevelsHold → (before : Entry) (exit : Exit) (run : FixRun) (finishes : Finishes) (snapshot : Snapshot) (is_changed : ℕ → ℕ → Bool) (mended : Mended) (d : ℕ) (cell : Cell) → IsFixOf before exit run
-    → IsTrue before.opener.vault.tells → Sound run.loaded before.opener.vault.files snapshot is_changed → Restores run finishes snapshot → IsRecoverable run snapshot is_changed mended d cell
-    → HoldsCell run.plan.table d cell (has_lost run.plan run.stripes d cell.rec) (byte_of (snapshot mended.facts.stripe) d) (folder_at run.ended d).tree
-restored_by_counting holds before exit run finishes snapshot is_changed mended d cell is tells sound restores can =
-    let facts : StripeFacts = mended.facts in
+pub restored_by_counting : WholeLevelsHold → (before : Entry) (exit : Exit) (run : FixRun) (finishes : Finishes) (snapshot : Snapshot) (is_changed : ℕ → ℕ → Bool) (facts : StripeFacts) (d : ℕ) (cell : Cell) → IsFixOf before exit run
+    → IsTrue before.opener.vault.tells → Sound run.loaded before.opener.vault.files snapshot is_changed → Restores run finishes snapshot → IsRecoverable run snapshot is_changed facts d cell
+    → HoldsCell run.plan.table d cell (has_lost run.plan run.stripes d cell.rec) (byte_of (snapshot facts.stripe) d) (folder_at run.ended d).tree
+restored_by_counting holds before exit run finishes snapshot is_changed facts d cell is tells sound restores can =
     let row : Row = snapshot facts.stripe in
     let more : (r : ℕ) → was_read facts.levels r ≡ true → not (is_changed facts.stripe r) ≡ true → (whole_level facts.levels r ≡ true) × (is_intact run.plan facts row r ≡ true)
     = λ r read unchanged.
-    let undamaged : IsUndamaged run is_changed mended r = record {
+    let undamaged : IsUndamaged run is_changed facts r = record {
       one = can.is.one;
       searched = can.searched;
       within = read_within facts.levels r read;
       read = read;
       unchanged = not_true (is_changed facts.stripe r) unchanged;
     } in
-    let both = undamaged_intact holds before exit run snapshot is_changed mended r is tells sound undamaged in
+    let both = undamaged_intact holds before exit run snapshot is_changed facts r is tells sound undamaged in
     (both.0, (intact_is run.plan facts row r).1 both.1) in
     let counted = both_no_less (was_read facts.levels) (λ (r : ℕ). not (is_changed facts.stripe r)) (whole_level facts.levels) (is_intact run.plan facts row) more (range_with_len 0 (length facts.levels)) in
     let as_many = length-filter (is_intact run.plan facts row) (whole_levels facts.levels) in
     let enough = can.enough in
     let restorable : IsRestorableStripe run.plan facts (is_intact run.plan facts row) = omega (arith, counted, as_many, enough) in
     restores.restored facts d cell (is_intact run.plan facts row)
-    (record { is = damaged_in run.plan run.stripes mended d cell can.is; synced = can.searched; bytes = can.bytes; tells = tells_intact run.plan facts row })
+    (record { is = can.is; synced = can.searched; bytes = can.bytes; tells = tells_intact run.plan facts row })
     can.free restorable

@@ -1,28 +1,20 @@
 -- Which damaged cells a check or a fix tells to be lost, by the events that it told of the stripes that it looked at.
-use Rattle.std.specs.Prelude.{◌≡◌, ◌↔◌, ℕ, ◌<◌, List, length, Bool, true, false, Contains, Some}
+use Rattle.std.specs.Prelude.{◌≡◌, ◌↔◌, ℕ, List, Bool, true, false, Contains}
 use Rattle.cauchy.specs.Recovery.{AreBytes}
 use Rattle.file_table.specs.declared.block.Cell.{Cell}
 use Rattle.parity_writer.specs.Sound.{Snapshot}
-use Rattle.snap_fix.specs.Facts.{StripeFacts, damaged_at}
+use Rattle.snap_fix.specs.Facts.{StripeFacts}
 use Rattle.snap_fix.specs.Genuine.{IsRestorableStripe, TellsIntactLevels}
-use Rattle.snap_fix.specs.Plan.{FixPlan, cell_at, is_searched, is_synced, selects_cell}
+use Rattle.snap_fix.specs.Plan.{FixPlan, is_searched, is_synced}
+use Rattle.snap_fix.specs.Restored.{IsDamagedCell}
 use Rattle.snap_report.specs.declared.events.Event.{Event}
 use Rattle.snap_report.specs.declared.events.Event.TheVariants as events
-
--- a cell of one of these stripes is selected and damaged
-pub record IsDamagedIn (plan : FixPlan) (stripes : List StripeFacts) (facts : StripeFacts) (d : ℕ) (cell : Cell)
-    : Type 0 where
-  pub one : Contains stripes facts
-  pub column : d < length plan.table.columns
-  pub cell_is : cell_at plan facts.stripe d ≡ Some cell
-  pub selected : selects_cell plan facts.stripe d ≡ true
-  pub damaged : damaged_at plan facts d ≡ true
 
 -- A selected damaged cell of a stripe that was synced, and which of its levels that were read whole hold the sums of
 -- the snapshot's row, a row of bytes.
 pub record IsDamagedOfSynced (plan : FixPlan) (stripes : List StripeFacts) (snapshot : Snapshot) (facts : StripeFacts)
     (d : ℕ) (cell : Cell) (is_intact : ℕ → Bool) : Type 0 where
-  pub is : IsDamagedIn plan stripes facts d cell
+  pub is : IsDamagedCell plan stripes facts d cell
   pub synced : is_searched plan facts.stripe ≡ true
   pub bytes : AreBytes (snapshot facts.stripe)
   pub tells : TellsIntactLevels plan facts (snapshot facts.stripe) is_intact
@@ -41,4 +33,4 @@ NamesLost plan stripes snapshot told = (facts : StripeFacts) (d : ℕ) (cell : C
 -- each selected damaged cell of a pending stripe is told to be lost, whatever hashes are met
 abbrev pub NamesPending : FixPlan → List StripeFacts → List Event → Type 0
 NamesPending plan stripes told = (facts : StripeFacts) (d : ℕ) (cell : Cell)
-    → IsDamagedIn plan stripes facts d cell → is_synced plan facts.stripe ≡ false → IsToldLost told facts d cell
+    → IsDamagedCell plan stripes facts d cell → is_synced plan facts.stripe ≡ false → IsToldLost told facts d cell

@@ -8,7 +8,7 @@ use Rattle.parity_writer.specs.Sound.{Snapshot}
 use Rattle.parity_writer.specs.declared.levels.LevelRead.{LevelRead}
 use Rattle.parity_writer.specs.declared.levels.LevelRead.TheVariants as here
 use Rattle.snap_fix.specs.Facts.{StripeFacts, missing_in}
-use Rattle.snap_fix.specs.Mended.{Mended}
+use Rattle.snap_fix.specs.Fixing.{facts_of}
 use Rattle.snap_fix.specs.Plan.{entry_at, is_searched}
 use Rattle.snap_fix.specs.Restored.{IsDamagedCell}
 use Rattle.snap_top.specs.Fix.{FixRun}
@@ -32,17 +32,18 @@ abbrev pub HasEnough : FixRun → (ℕ → ℕ → Bool) → StripeFacts → Typ
 HasEnough run is_changed facts = length (missing_in run.plan facts) ≤ length (undamaged_levels is_changed facts)
 
 -- this is one of them, in a stripe that was synced
-pub record IsUndamaged (run : FixRun) (is_changed : ℕ → ℕ → Bool) (mended : Mended) (r : ℕ) : Type 0 where
-  pub one : Contains run.stripes mended
-  pub searched : is_searched run.plan mended.facts.stripe ≡ true
-  pub within : r < length mended.facts.levels
-  pub read : was_read mended.facts.levels r ≡ true
-  pub unchanged : is_changed mended.facts.stripe r ≡ false
+pub record IsUndamaged (run : FixRun) (is_changed : ℕ → ℕ → Bool) (facts : StripeFacts) (r : ℕ) : Type 0 where
+  pub one : Contains (facts_of run.stripes) facts
+  pub searched : is_searched run.plan facts.stripe ≡ true
+  pub within : r < length facts.levels
+  pub read : was_read facts.levels r ≡ true
+  pub unchanged : is_changed facts.stripe r ≡ false
 
 -- A selected damaged cell of a stripe that was synced and has enough undamaged levels, of a record that isn't blocked.
-pub record IsRecoverable (run : FixRun) (snapshot : Snapshot) (is_changed : ℕ → ℕ → Bool) (mended : Mended) (d : ℕ) (cell : Cell) : Type 0 where
-  pub is : IsDamagedCell run.plan run.stripes mended d cell
-  pub searched : is_searched run.plan mended.facts.stripe ≡ true
+pub record IsRecoverable (run : FixRun) (snapshot : Snapshot) (is_changed : ℕ → ℕ → Bool) (facts : StripeFacts) (d : ℕ)
+    (cell : Cell) : Type 0 where
+  pub is : IsDamagedCell run.plan (facts_of run.stripes) facts d cell
+  pub searched : is_searched run.plan facts.stripe ≡ true
   pub free : (entry_at run.plan d cell.rec).blocked ≡ false
-  pub bytes : AreBytes (snapshot mended.facts.stripe)
-  pub enough : HasEnough run is_changed mended.facts
+  pub bytes : AreBytes (snapshot facts.stripe)
+  pub enough : HasEnough run is_changed facts

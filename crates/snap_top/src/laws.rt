@@ -9,6 +9,7 @@ ghost use Rattle.file_table.specs.declared.block.Cell.{Cell};
 ghost use Rattle.parity_writer.specs.Sound.{Snapshot, Sound};
 ghost use Rattle.snap_config.specs.Setup.{SetupValue};
 ghost use Rattle.snap_fix.specs.Ending.{Finishes};
+ghost use Rattle.snap_fix.specs.Facts.{StripeFacts};
 ghost use Rattle.snap_fix.specs.Genuine.{IsIntactLevel};
 ghost use Rattle.snap_fix.specs.Known.{whole_level};
 ghost use Rattle.snap_fix.specs.Mended.{Mended, has_lost};
@@ -118,21 +119,21 @@ pub fn a_stopped_fix_spares_and_is_resumed<O: Opener, F: Folder, V: Vault, W: Si
 /// are missing than levels are undamaged, unless its record is blocked.
 pub fn undamaged_levels_restore<O: Opener, F: Folder, V: Vault, W: Sink>()
     ensures intact { (run : RunOf O F V W) (fix : FixRun) (snapshot : Snapshot) (is_changed : ℕ → ℕ → Bool)
-        (mended : Mended) (r : ℕ) →
+        (facts : StripeFacts) (r : ℕ) →
         IsFixOf (entry_of O.view W.view run) (end_of O.view F.view V.view W.view run) fix →
         IsTrue (entry_of O.view W.view run).opener.vault.tells →
         Sound fix.loaded (entry_of O.view W.view run).opener.vault.files snapshot is_changed →
-        IsUndamaged fix is_changed mended r →
-        (whole_level mended.facts.levels r ≡ true)
-        × IsIntactLevel fix.plan mended.facts (snapshot mended.facts.stripe) r }
+        IsUndamaged fix is_changed facts r →
+        (whole_level facts.levels r ≡ true)
+        × IsIntactLevel fix.plan facts (snapshot facts.stripe) r }
     ensures restored { (run : RunOf O F V W) (fix : FixRun) (finishes : Finishes) (snapshot : Snapshot)
-        (is_changed : ℕ → ℕ → Bool) (mended : Mended) (d : ℕ) (cell : Cell) →
+        (is_changed : ℕ → ℕ → Bool) (facts : StripeFacts) (d : ℕ) (cell : Cell) →
         IsFixOf (entry_of O.view W.view run) (end_of O.view F.view V.view W.view run) fix →
         IsTrue (entry_of O.view W.view run).opener.vault.tells →
         Sound fix.loaded (entry_of O.view W.view run).opener.vault.files snapshot is_changed →
-        Restores fix finishes snapshot → IsRecoverable fix snapshot is_changed mended d cell →
+        Restores fix finishes snapshot → IsRecoverable fix snapshot is_changed facts d cell →
         HoldsCell fix.plan.table d cell (has_lost fix.plan fix.stripes d cell.rec)
-        (byte_of (snapshot mended.facts.stripe) d) (folder_at fix.ended d).tree }
+        (byte_of (snapshot facts.stripe) d) (folder_at fix.ended d).tree }
 {
     a_whole_level_is_what_the_file_holds();
 }

@@ -1,15 +1,15 @@
 use Rattle.snap_fix.specs.Mended.{has_lost}
 use Rattle.stripe_reader.specs.Columns.{folder_at}
 use Rattle.snap_fix.proofs.RestoredEvents.{told_is_unknown}
-use Rattle.snap_fix.proofs.RestoredLemmas.{cell_held, known_as_had, known_is, known_where_had, lost_here, same_cell, searched_no_audit, unknown_where_not}
+use Rattle.snap_fix.proofs.RestoredLemmas.{held_by, known_as_had, known_is, known_where_had, lost_by, same_cell, searched_no_audit, unknown_where_not}
 use Rattle.snap_fix.proofs.laws.a_fix_restores.Goals as goal
 
 pub returns-clause-held : goal.returns-clause-held
-returns-clause-held c plan starts stripes finishes firsts news mended d cell has one free tells known =
-    cell_held plan starts stripes finishes firsts news has mended d cell one free known tells
+returns-clause-held c plan starts stripes finishes firsts news facts d cell has one free tells known =
+    held_by plan stripes facts d cell one starts finishes firsts news has free known tells
 
 pub returns-clause-lost : goal.returns-clause-lost
-returns-clause-lost c plan stripes finishes mended d cell one parity unknown = lost_here plan stripes finishes mended d cell one unknown parity
+returns-clause-lost c plan stripes finishes facts d cell one parity unknown = lost_by plan stripes facts d cell one finishes unknown parity
 
 pub returns-clause-told : goal.returns-clause-told
 returns-clause-told c plan starts stripes finishes firsts news stripe d cell has tells told =
@@ -20,14 +20,14 @@ returns-clause-known c plan starts firsts snapshot facts is_intact d genuine byt
     known_as_had plan starts firsts snapshot facts genuine c.products.ensures.zero d bytes is_intact intact
 
 pub returns-clause-restored : goal.returns-clause-restored
-returns-clause-restored c plan starts stripes finishes firsts news mended d cell snapshot is_intact has one genuine bytes intact free tells had =
-    let known = known_where_had plan starts firsts snapshot mended.facts genuine c.products.ensures.zero d bytes is_intact intact had in
+returns-clause-restored c plan starts stripes finishes firsts news facts d cell snapshot is_intact has one genuine bytes intact free tells had =
+    let known = known_where_had plan starts firsts snapshot facts genuine c.products.ensures.zero d bytes is_intact intact had in
     same_cell plan d cell (has_lost plan stripes d cell.rec) (folder_at news d).tree
-    (known_is plan starts firsts snapshot mended.facts genuine c.products.ensures.zero d known)
-    (cell_held plan starts stripes finishes firsts news has mended d cell one free known tells)
+    (known_is plan starts firsts snapshot facts genuine c.products.ensures.zero d known)
+    (held_by plan stripes facts d cell one starts finishes firsts news has free known tells)
 
 pub returns-clause-unrestored : goal.returns-clause-unrestored
-returns-clause-unrestored c plan starts stripes finishes firsts mended d cell snapshot is_intact one genuine bytes intact never =
-    lost_here plan stripes finishes mended d cell one
-    (unknown_where_not plan starts firsts snapshot mended.facts genuine c.products.ensures.zero d bytes is_intact intact never)
-    (searched_no_audit plan mended.facts.stripe genuine.searched)
+returns-clause-unrestored c plan starts stripes finishes firsts facts d cell snapshot is_intact one genuine bytes intact never =
+    lost_by plan stripes facts d cell one finishes
+    (unknown_where_not plan starts firsts snapshot facts genuine c.products.ensures.zero d bytes is_intact intact never)
+    (searched_no_audit plan facts.stripe genuine.searched)
