@@ -61,6 +61,28 @@ pub const FIVE: Array = Array {
     ..EMPTY
 };
 
+/// Which calls are to fail, by their numbers from 1 on; 0 is none.
+#[derive(Clone, Copy)]
+pub struct Failing {
+    pub opener: u64,
+    pub vault: u64,
+    /// Of the folder of this disk.
+    pub folder: u64,
+    pub disk: usize,
+    pub out: u64,
+    pub err: u64,
+}
+
+/// No call fails.
+pub const NONE: Failing = Failing {
+    opener: 0,
+    vault: 0,
+    folder: 0,
+    disk: 0,
+    out: 0,
+    err: 0,
+};
+
 /// How a run ended, what it printed, and what was opened.
 #[derive(Drop)]
 pub struct Ran<F: Folder + Drop, V: Vault + Drop> {
@@ -219,7 +241,45 @@ fn owned(alloc: Global, words: &[&str]) -> Result<Vec<String>, Fail> {
     Ok(line)
 }
 
-/// Runs words over folders and a vault, with reports and an output of the caller's.
+/// What a run reads and writes beside its array.
+#[derive(Drop)]
+struct Streams {
+    line: Vec<String>,
+    out: MemSink,
+    err: MemSink,
+}
+
+// A stream of which the call of this number fails.
+fn sink(alloc: Global, call: u64) -> Result<MemSink, Fail> {
+    let mut sink = MemSink::new(alloc);
+    sink.fail_at(call)?;
+    Ok(sink)
+}
+
+fn open_streams(alloc: Global, words: &[&str], failing: Failing) -> Result<Streams, Fail> {
+    let line = owned(alloc, words)?;
+    let out = sink(alloc, failing.out)?;
+    let err = sink(alloc, failing.err)?;
+    Ok(Streams { line, out, err })
+}
+
+// An opener of which the call of this number fails.
+fn opener<F: Folder + Drop, V: Vault + Drop>(
+    alloc: Global,
+    config: &str,
+    folders: Vec<F>,
+    vault: V,
+    call: u64,
+) -> Result<MemOpener<F, V>, Fail>
+    requires { CanGive F.view folders.items (V.view vault) }
+{
+    let config = Vec::from_slice(alloc, config.as_bytes())?;
+    let mut opener = MemOpener::new(alloc, config, folders, vault);
+    opener.fail_at(call)?;
+    Ok(opener)
+}
+
+/// Runs words over folders and a vault, with reports, where the opener and the streams fail as is asked for.
 pub fn run_told<R: Threads + Sync, F: Folder + Drop, V: Vault + Drop>(
     rt: &R,
     alloc: Global,
@@ -228,19 +288,20 @@ pub fn run_told<R: Threads + Sync, F: Folder + Drop, V: Vault + Drop>(
     folders: Vec<F>,
     vault: V,
     reports: &mut Vec<Box<dyn Report>>,
-    out: MemSink,
+    failing: Failing,
 ) -> Result<Ran<F, V>, Fail>
     requires { CanGive F.view folders.items (V.view vault) }
 {
-    let config = Vec::from_slice(alloc, config.as_bytes())?;
-    let words = owned(alloc, words)?;
-    let mut opener = MemOpener::new(alloc, config, folders, vault);
-    let mut out = out;
-    let mut err = MemSink::new(alloc);
+    let mut opener = opener(alloc, config, folders, vault, failing.opener)?;
+    let Streams {
+        line,
+        mut out,
+        mut err,
+    } = open_streams(alloc, words, failing)?;
     let outcome = run(
         rt,
         alloc,
-        words.as_slice(),
+        line.as_slice(),
         &mut opener,
         reports,
         &mut out,
@@ -263,8 +324,7 @@ pub fn run_with<R: Threads + Sync, F: Folder + Drop, V: Vault + Drop>(
     requires { CanGive F.view folders.items (V.view vault) }
 {
     let mut reports = Vec::new(alloc);
-    let out = MemSink::new(alloc);
-    run_told(rt, alloc, words, config, folders, vault, &mut reports, out)
+    run_told(rt, alloc, words, config, folders, vault, &mut reports, NONE)
 }
 
 /// Runs words over an array and a vault.

@@ -1,8 +1,12 @@
 //! Arrays in memory, and words that are run over them by `snap_top::run`: what the tests of whole runs share.
 //!
-//! Start at `run_over` in `arrays.rt`. `contents.rt` has the content files that such runs leave, spelled by hand.
+//! Start at `plays` in `cases.rt`: a test is a table of runs and of what each leaves. `run_over` in `arrays.rt` makes
+//! one run. `contents.rt` has the content files that such runs leave, spelled by hand.
+//! A test is proved too, and costs more with each value that owns memory and is alive at a `?` or an `assert!`. So what
+//! a run leaves stays within the functions here, and a test hands over a `static` table.
 //! Proved: it never panics, and what it hands to a run is settled and without drafts. What a run does is `snap_top`'s.
 #![tactic(auto)]
 
 pub mod arrays;
+pub mod cases;
 pub mod contents;

@@ -7,6 +7,7 @@ ghost use Rattle.disk_memory.specs.Vault.{vault_view};
 use disk_memory::{GateFolder, GateVault, MemVault};
 use disk_model::Vault;
 use snap_top_memory::arrays::{Array, Disk, EMPTY, Left, SYNC, folder, run_first, run_with, vault};
+use snap_top_memory::cases::has_contents;
 use std::alloc::Global;
 use std::sync::atomic::AtomicBool;
 use std::test::Fail;
@@ -53,24 +54,34 @@ fn is_block(level: &[u8], first: u8) -> bool {
 // Whether the first content copy is there, and so are the other two.
 fn copies_agree(alloc: Global, left: &mut Left) -> Result<bool, Fail> {
     let first = left.content(alloc, 0)?;
-    let second = left.content(alloc, 1)?;
-    let third = left.content(alloc, 2)?;
-    Ok(!first.is_empty() && first == second && first == third)
+    Ok(!first.is_empty() && has_contents(alloc, left, &[first.as_slice(); 3])?)
+}
+
+// Whether a sync of the array left its two levels and its three copies.
+fn is_synced(alloc: Global, left: &mut Left) -> Result<bool, Fail> {
+    Ok(
+        left.is(0, "sync: 1 stripes synced, 0 pending\n", "")
+            && is_block(left.parity(alloc, 0)?.as_slice(), 0x0f)
+            && is_block(left.parity(alloc, 1)?.as_slice(), 0x55)
+            && copies_agree(alloc, left)?,
+    )
+}
+
+// The content after a sync by some readers.
+fn synced_by<R: Threads + Sync>(rt: &R, alloc: Global, words: &[&str]) -> Result<Vec<u8>, Fail> {
+    let mut left = run_first(rt, alloc, words, FOUR_DISKS)?;
+    if !is_synced(alloc, &mut left)? {
+        return Err("another sync".into());
+    }
+    left.content(alloc, 0)
 }
 
 #[test]
 fn a_usual_array_by_any_number_of_readers(rt: HostRuntime) -> Result<(), Fail> {
-    let alloc = rt.alloc();
-    let mut whole = run_first(&rt, alloc, SYNC, FOUR_DISKS)?;
-    let want = whole.content(alloc, 0)?;
+    let want = synced_by(&rt, rt.alloc(), SYNC)?;
     for readers in ["1", "3", "16"] {
         let words = ["snapraid", "sync", "-c", "FILE", "--readers", readers];
-        let mut left = run_first(&rt, alloc, &words, FOUR_DISKS)?;
-        assert!(rt; left.is(0, "sync: 1 stripes synced, 0 pending\n", ""));
-        assert!(rt; is_block(left.parity(alloc, 0)?.as_slice(), 0x0f));
-        assert!(rt; is_block(left.parity(alloc, 1)?.as_slice(), 0x55));
-        assert!(rt; copies_agree(alloc, &mut left)?);
-        assert!(rt; left.content(alloc, 0)?.as_slice() == want.as_slice());
+        assert!(rt; synced_by(&rt, rt.alloc(), &words)?.as_slice() == want.as_slice());
     }
     Ok(())
 }

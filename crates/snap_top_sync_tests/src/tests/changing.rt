@@ -3,12 +3,13 @@ ghost use Rattle.std.specs.Prelude.{◌≡◌, ◌≤◌, true};
 ghost use Rattle.disk_model.specs.Cause.{Rose};
 ghost use Rattle.disk_model.specs.Folder.{quiet_folder, quiet_folder-is_folder};
 
-use disk_memory::MemFolder;
+use disk_memory::{MemFolder, MemVault};
 use disk_model::{Failed, FileFault, FileInfo, Folder, ListFault, Meta, Path, Stamp};
-use snap_top_memory::arrays::{CONFIG, Disk, ONE, SYNC, folder, run_with, vault};
+use snap_top_memory::arrays::{CONFIG, Disk, ONE, Ran, SYNC, folder, run_with, vault};
 use snap_top_memory::contents::ONE_PENDING;
 use std::alloc::Global;
 use std::test::Fail;
+use std::thread::Threads;
 
 // Lists one tree, and reads another. It takes no change.
 #[derive(Drop)]
@@ -106,7 +107,38 @@ const FILE: Disk<'static> = &[("a", b"qrstuvwxyz", 1, 5)];
 #[derive(Clone, Copy)]
 struct Case {
     there: Disk<'static>,
-    found: &'static str,
+    out: &'static str,
+}
+
+fn run_changing<R: Threads + Sync>(
+    rt: &R,
+    alloc: Global,
+    there: Disk,
+) -> Result<Ran<Changing, MemVault>, Fail> {
+    let vault = vault(alloc, ONE)?;
+    let mut folders = Vec::new(alloc);
+    folders.push(Changing::new(alloc, FILE, there)?)?;
+    run_with(rt, alloc, SYNC, CONFIG, folders, vault)
+}
+
+// Whether a sync printed this, and left the stripe pending.
+fn stays_pending(
+    alloc: Global,
+    left: &mut Ran<Changing, MemVault>,
+    out: &str,
+) -> Result<bool, Fail> {
+    if !left.is(1, out, "") {
+        return Ok(false);
+    }
+    Ok(left.content(alloc, 0)?.as_slice() == ONE_PENDING)
+}
+
+fn plays<R: Threads + Sync>(rt: &R, alloc: Global, case: &Case) -> Result<(), Fail> {
+    let mut left = run_changing(rt, alloc, case.there)?;
+    if !stays_pending(alloc, &mut left, case.out)? {
+        return Err(Fail::new(format_args!("{}", case.out)));
+    }
+    Ok(())
 }
 
 // The stripe stays pending, and a sync over the files as they are now closes it.
@@ -115,36 +147,32 @@ fn a_file_that_is_changed_while_it_is_read_stays_pending(rt: HostRuntime) -> Res
     static CASES: [Case; 5] = [
         Case {
             there: &[("a", b"qrstuvwxyz", 2, 5)],
-            found: "10 2.000000005 got 10",
+            out: "changed-block 0 d1:a 0 recorded 10 1.000000005 found 10 2.000000005 got 10\n\
+                  sync: 0 stripes synced, 1 pending\n",
         },
         Case {
             there: &[("a", b"qrstuvwxyz", 1, 6)],
-            found: "10 1.000000006 got 10",
+            out: "changed-block 0 d1:a 0 recorded 10 1.000000005 found 10 1.000000006 got 10\n\
+                  sync: 0 stripes synced, 1 pending\n",
         },
         Case {
             there: &[("a", b"qrstuvwxyz1", 1, 5)],
-            found: "11 1.000000005 got 10",
+            out: "changed-block 0 d1:a 0 recorded 10 1.000000005 found 11 1.000000005 got 10\n\
+                  sync: 0 stripes synced, 1 pending\n",
         },
         Case {
             there: &[("a", b"qrst", 1, 5)],
-            found: "4 1.000000005 got 4",
+            out: "changed-block 0 d1:a 0 recorded 10 1.000000005 found 4 1.000000005 got 4\n\
+                  sync: 0 stripes synced, 1 pending\n",
         },
         Case {
             there: &[("b", b"qrstuvwxyz", 1, 5)],
-            found: "nothing got 0",
+            out: "changed-block 0 d1:a 0 recorded 10 1.000000005 found nothing got 0\n\
+                  sync: 0 stripes synced, 1 pending\n",
         },
     ];
-    let alloc = rt.alloc();
     for case in &CASES {
-        let mut folders = Vec::new(alloc);
-        folders.push(Changing::new(alloc, FILE, case.there)?)?;
-        let mut left = run_with(&rt, alloc, SYNC, CONFIG, folders, vault(alloc, ONE)?)?;
-        let lines = format!(in alloc;
-            "changed-block 0 d1:a 0 recorded 10 1.000000005 found {}\nsync: 0 stripes synced, 1 pending\n",
-            case.found
-        )?;
-        assert!(rt; left.is(1, lines.as_str(), ""), "{}", case.found);
-        assert!(rt; left.content(alloc, 0)?.as_slice() == ONE_PENDING);
+        plays(&rt, rt.alloc(), case)?;
     }
     Ok(())
 }

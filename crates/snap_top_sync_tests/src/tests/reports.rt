@@ -1,11 +1,12 @@
 // Reports that are told the events of a sync, of which one fails.
-use disk_memory::MemSink;
 use disk_model::Failed;
 use file_table::Table;
 use snap_report::Report;
 use snap_report::events::Event;
-use snap_top_memory::arrays::{CONFIG, Disk, EMPTY, SYNC, folder, run_told, vault};
+use snap_top_memory::arrays::{CONFIG, Disk, EMPTY, Left, NONE, SYNC, folder, run_told, vault};
+use std::alloc::Global;
 use std::test::Fail;
+use std::thread::Threads;
 
 // Takes so many events, and fails at the next one, and at each that it is asked for after that.
 #[derive(Drop)]
@@ -52,27 +53,49 @@ impl Report for Brittle {
 
 const FILES: Disk<'static> = &[("a", b"1", 1, 5), ("b", b"2", 1, 5), ("c", b"3", 1, 5)];
 
-// All calls of the folder but its listing fail. The second report fails at its third event, and is asked for no other. It
-// stays in its place, and the run goes on as without it.
-#[test]
-fn a_failed_report_changes_nothing_else(rt: HostRuntime) -> Result<(), Fail> {
-    let alloc = rt.alloc();
+// Runs a sync over a folder whose calls fail after it was listed.
+fn run_reported<R: Threads + Sync>(
+    rt: &R,
+    alloc: Global,
+    reports: &mut Vec<Box<dyn Report>>,
+) -> Result<Left, Fail> {
+    let vault = vault(alloc, EMPTY)?;
     let mut failing = folder(alloc, FILES)?;
     failing.stop_after(1);
     let mut folders = Vec::new(alloc);
     folders.push(failing)?;
+    run_told(rt, alloc, SYNC, CONFIG, folders, vault, reports, NONE)
+}
+
+fn brittle_reports(alloc: Global) -> Result<Vec<Box<dyn Report>>, Fail> {
     let mut reports: Vec<Box<dyn Report>> = Vec::new(alloc);
     reports.push(Box::new(alloc, Brittle::new(3))?)?;
     reports.push(Box::new(alloc, Brittle::new(2))?)?;
     reports.push(Box::new(alloc, Brittle::new(3))?)?;
-    let vault = vault(alloc, EMPTY)?;
-    let out = MemSink::new(alloc);
-    let left = run_told(&rt, alloc, SYNC, CONFIG, folders, vault, &mut reports, out)?;
+    Ok(reports)
+}
+
+// Whether the second one failed once, and the other two did not.
+fn the_second_failed(reports: &[Box<dyn Report>]) -> bool {
+    let [first, second, third] = reports else {
+        return false;
+    };
+    first.faults() == 0
+        && !first.failed()
+        && second.faults() == 1
+        && second.failed()
+        && third.faults() == 0
+        && !third.failed()
+}
+
+// All calls of the folder but its listing fail. The second report fails at its third event, and is asked for no other. It
+// stays in its place, and the run goes on as without it.
+#[test]
+fn a_failed_report_changes_nothing_else(rt: HostRuntime) -> Result<(), Fail> {
+    let mut reports = brittle_reports(rt.alloc())?;
+    let left = run_reported(&rt, rt.alloc(), &mut reports)?;
     let lines = "io 0 d1:a 0\nio 1 d1:b 0\nio 2 d1:c 0\nsync: 0 stripes synced, 3 pending\n";
     assert!(rt; left.is(1, lines, ""));
-    assert!(rt; reports.len() == 3);
-    assert!(rt; reports[0].faults() == 0 && !reports[0].failed());
-    assert!(rt; reports[1].faults() == 1 && reports[1].failed());
-    assert!(rt; reports[2].faults() == 0 && !reports[2].failed());
+    assert!(rt; the_second_failed(&reports));
     Ok(())
 }

@@ -1,168 +1,172 @@
 // Syncs over the content of a sync before.
-use snap_top_memory::arrays::{Array, Disk, EMPTY, LIST, Left, SYNC, run_first, run_over};
-use std::alloc::Global;
+use snap_top_memory::arrays::{Array, Disk, EMPTY};
+use snap_top_memory::cases::{Case, LISTED, SYNCED, follows};
 use std::test::Fail;
-use std::thread::Threads;
 
-// The files of the disks of an array.
-type Disks = &'static [Disk<'static>];
-
-const FILES: Disks = &[&[
+const FILES: Disk<'static> = &[
     ("a", b"", 1, 5),
     ("b", b"1", 1, 5),
     ("c", &[8; 1024], 1, 5),
     ("d", &[7; 1025], 1, 5),
-]];
+];
 
-const BEFORE: &str = "sync: 4 stripes synced, 0 pending\n";
-
-// What is synced after those files were, what the second sync prints, and the first byte of each block of the level then,
-// which is that of the block at this position, since there is one disk.
-#[derive(Clone, Copy)]
-struct Second {
-    before: Disks,
-    after: Disks,
-    out: &'static str,
-    firsts: &'static [u8],
-}
-
-// Syncs one disk twice, and gives back what the second sync left.
-fn resynced<R: Threads + Sync>(
-    rt: &R,
-    alloc: Global,
-    words: &[&str],
-    before: Disks,
-    after: Disks,
-) -> Result<Left, Fail> {
-    let first = Array {
-        disks: before,
+// These files are synced.
+const BEFORE: Case = Case {
+    array: Array {
+        disks: &[FILES],
         ..EMPTY
-    };
-    let left = run_first(rt, alloc, SYNC, first)?;
-    if !left.is(0, BEFORE, "") {
-        return Err("another first sync".into());
-    }
-    let second = Array {
-        disks: after,
-        ..EMPTY
-    };
-    run_over(rt, alloc, words, second, left.reopened()?)
-}
+    },
+    out: "sync: 4 stripes synced, 0 pending\n",
+    levels: &[&[b"1", &[8; 1024], &[7; 1024], b"\x07"]],
+    ..SYNCED
+};
 
-// Whether a level has just so many blocks, which begin with these bytes.
-fn begins(level: &[u8], firsts: &[u8]) -> bool {
-    level.len() == firsts.len().saturating_mul(1024)
-        && level
-            .chunks(1024)
-            .zip(firsts)
-            .all(|(block, first)| block.first() == Some(first))
-}
+// One stripe is synced after that.
+const AFTER: Case = Case {
+    out: "sync: 1 stripes synced, 0 pending\n",
+    ..BEFORE
+};
+
+// None is.
+const STAYS: Case = Case {
+    out: "sync: 0 stripes synced, 0 pending\n",
+    ..BEFORE
+};
 
 #[test]
 fn files_come_go_move_and_change(rt: HostRuntime) -> Result<(), Fail> {
-    static CASES: [Second; 6] = [
-        // nothing changed
-        Second {
-            before: FILES,
-            after: FILES,
-            out: "sync: 0 stripes synced, 0 pending\n",
-            firsts: &[b'1', 8, 7, 7],
-        },
-        // one file gone, and one more, which takes the free position first
-        Second {
-            before: FILES,
-            after: &[&[
-                ("a", b"", 1, 5),
-                ("b", b"1", 1, 5),
-                ("d", &[7; 1025], 1, 5),
-                ("e", &[6; 2049], 1, 5),
-            ]],
+    static NOTHING_CHANGED: [Case; 2] = [BEFORE, STAYS];
+    static ONE_GONE_AND_ONE_MORE_THAT_TAKES_THE_FREE_POSITION_FIRST: [Case; 2] = [
+        BEFORE,
+        Case {
+            array: Array {
+                disks: &[&[
+                    ("a", b"", 1, 5),
+                    ("b", b"1", 1, 5),
+                    ("d", &[7; 1025], 1, 5),
+                    ("e", &[6; 2049], 1, 5),
+                ]],
+                ..EMPTY
+            },
             out: "sync: 3 stripes synced, 0 pending\n",
-            firsts: &[b'1', 6, 7, 7, 6, 6],
+            levels: &[&[b"1", &[6; 1024], &[7; 1024], b"\x07", &[6; 1024], b"\x06"]],
+            ..BEFORE
         },
-        // a new name
-        Second {
-            before: FILES,
-            after: &[&[
-                ("a", b"", 1, 5),
-                ("c", &[8; 1024], 1, 5),
-                ("d", &[7; 1025], 1, 5),
-                ("z", b"1", 1, 5),
-            ]],
-            out: "sync: 0 stripes synced, 0 pending\n",
-            firsts: &[b'1', 8, 7, 7],
+    ];
+    static A_NEW_NAME: [Case; 2] = [
+        BEFORE,
+        Case {
+            array: Array {
+                disks: &[&[
+                    ("a", b"", 1, 5),
+                    ("c", &[8; 1024], 1, 5),
+                    ("d", &[7; 1025], 1, 5),
+                    ("z", b"1", 1, 5),
+                ]],
+                ..EMPTY
+            },
+            ..STAYS
         },
-        // a file that moved below its own name
-        Second {
-            before: FILES,
-            after: &[&[
-                ("a", b"", 1, 5),
-                ("b", b"1", 1, 5),
-                ("c", &[8; 1024], 1, 5),
-                ("d/y", &[7; 1025], 1, 5),
-            ]],
-            out: "sync: 0 stripes synced, 0 pending\n",
-            firsts: &[b'1', 8, 7, 7],
+    ];
+    static MOVED_BELOW_ITS_OWN_NAME: [Case; 2] = [
+        BEFORE,
+        Case {
+            array: Array {
+                disks: &[&[
+                    ("a", b"", 1, 5),
+                    ("b", b"1", 1, 5),
+                    ("c", &[8; 1024], 1, 5),
+                    ("d/y", &[7; 1025], 1, 5),
+                ]],
+                ..EMPTY
+            },
+            ..STAYS
         },
-        // a new name, where stamps have no nanoseconds
-        Second {
-            before: &[&[
-                ("a", b"", 1, 0),
-                ("b", b"1", 1, 0),
-                ("c", &[8; 1024], 1, 0),
-                ("d", &[7; 1025], 1, 0),
-            ]],
-            after: &[&[
-                ("a", b"", 1, 0),
-                ("c", &[8; 1024], 1, 0),
-                ("d", &[7; 1025], 1, 0),
-                ("z", b"1", 1, 0),
-            ]],
-            out: "sync: 1 stripes synced, 0 pending\n",
-            firsts: &[b'1', 8, 7, 7],
+    ];
+    static A_NEW_NAME_WHERE_STAMPS_HAVE_NO_NANOSECONDS: [Case; 2] = [
+        Case {
+            array: Array {
+                disks: &[&[
+                    ("a", b"", 1, 0),
+                    ("b", b"1", 1, 0),
+                    ("c", &[8; 1024], 1, 0),
+                    ("d", &[7; 1025], 1, 0),
+                ]],
+                ..EMPTY
+            },
+            ..BEFORE
         },
-        // a file that was written anew
-        Second {
-            before: FILES,
-            after: &[&[
-                ("a", b"", 1, 5),
-                ("b", b"2", 2, 5),
-                ("c", &[8; 1024], 1, 5),
-                ("d", &[7; 1025], 1, 5),
-            ]],
-            out: "sync: 1 stripes synced, 0 pending\n",
-            firsts: &[b'2', 8, 7, 7],
+        Case {
+            array: Array {
+                disks: &[&[
+                    ("a", b"", 1, 0),
+                    ("c", &[8; 1024], 1, 0),
+                    ("d", &[7; 1025], 1, 0),
+                    ("z", b"1", 1, 0),
+                ]],
+                ..EMPTY
+            },
+            ..AFTER
+        },
+    ];
+    static WRITTEN_ANEW: [Case; 2] = [
+        BEFORE,
+        Case {
+            array: Array {
+                disks: &[&[
+                    ("a", b"", 1, 5),
+                    ("b", b"2", 2, 5),
+                    ("c", &[8; 1024], 1, 5),
+                    ("d", &[7; 1025], 1, 5),
+                ]],
+                ..EMPTY
+            },
+            levels: &[&[b"2", &[8; 1024], &[7; 1024], b"\x07"]],
+            ..AFTER
         },
     ];
     let alloc = rt.alloc();
-    for case in &CASES {
-        let mut left = resynced(&rt, alloc, SYNC, case.before, case.after)?;
-        assert!(rt; left.is(0, case.out, ""), "{}", case.out);
-        let level = left.parity(alloc, 0)?;
-        assert!(rt; begins(level.as_slice(), case.firsts), "{}", case.out);
-    }
-    Ok(())
+    follows(&rt, alloc, &NOTHING_CHANGED)?;
+    follows(
+        &rt,
+        alloc,
+        &ONE_GONE_AND_ONE_MORE_THAT_TAKES_THE_FREE_POSITION_FIRST,
+    )?;
+    follows(&rt, alloc, &A_NEW_NAME)?;
+    follows(&rt, alloc, &MOVED_BELOW_ITS_OWN_NAME)?;
+    follows(&rt, alloc, &A_NEW_NAME_WHERE_STAMPS_HAVE_NO_NANOSECONDS)?;
+    follows(&rt, alloc, &WRITTEN_ANEW)
 }
 
-const EMPTIED: Disks = &[&[
-    ("a", b"", 1, 5),
-    ("b", b"1", 1, 5),
-    ("c", &[8; 1024], 1, 5),
-    ("d", b"", 2, 5),
-]];
+const EMPTIED: Array = Array {
+    disks: &[&[
+        ("a", b"", 1, 5),
+        ("b", b"1", 1, 5),
+        ("c", &[8; 1024], 1, 5),
+        ("d", b"", 2, 5),
+    ]],
+    ..EMPTY
+};
 
 #[test]
 fn a_file_that_became_empty_is_refused(rt: HostRuntime) -> Result<(), Fail> {
-    let alloc = rt.alloc();
-    let mut left = resynced(&rt, alloc, SYNC, FILES, EMPTIED)?;
-    let line = "snapraid: file 'd1:d' has become empty, use --force-zero\n";
-    assert!(rt; left.is(2, "", line));
-    assert!(rt; begins(left.parity(alloc, 0)?.as_slice(), &[b'1', 8, 7, 7]));
-    let words = ["snapraid", "sync", "-Z", "-c", "FILE"];
-    let mut left = resynced(&rt, alloc, &words, FILES, EMPTIED)?;
-    assert!(rt; left.is(0, "sync: 0 stripes synced, 0 pending\n", ""));
-    assert!(rt; begins(left.parity(alloc, 0)?.as_slice(), &[b'1', 8]));
-    Ok(())
+    static CASES: [Case; 3] = [
+        BEFORE,
+        Case {
+            array: EMPTIED,
+            status: 2,
+            out: "",
+            err: "snapraid: file 'd1:d' has become empty, use --force-zero\n",
+            ..BEFORE
+        },
+        Case {
+            words: &["snapraid", "sync", "-Z", "-c", "FILE"],
+            array: EMPTIED,
+            levels: &[&[b"1", &[8; 1024]]],
+            ..STAYS
+        },
+    ];
+    follows(&rt, rt.alloc(), &CASES)
 }
 
 const TWO_DISKS: Array = Array {
@@ -194,19 +198,44 @@ const MENDED: Array = Array {
 // that was synced, though its file looks the same.
 #[test]
 fn a_silent_error_keeps_its_stripe_pending(rt: HostRuntime) -> Result<(), Fail> {
-    let alloc = rt.alloc();
-    let left = run_first(&rt, alloc, SYNC, TWO_DISKS)?;
-    assert!(rt; left.is(0, "sync: 2 stripes synced, 0 pending\n", ""));
-    let left = run_over(&rt, alloc, SYNC, CHANGED, left.reopened()?)?;
-    let lines = "silent 0 d1:x 0 recorded c3fcd3d76192e4007dfb496cca67e13b \
-                 found ad73815073524e821191349523af938b\n\
-                 sync: 0 stripes synced, 1 pending\n";
-    assert!(rt; left.is(1, lines, ""));
-    let mut left = run_over(&rt, alloc, SYNC, MENDED, left.reopened()?)?;
-    assert!(rt; left.is(0, "sync: 1 stripes synced, 0 pending\n", ""));
-    assert!(rt; begins(left.parity(alloc, 0)?.as_slice(), &[b'q' ^ b'3', b'2']));
-    let listed = run_over(&rt, alloc, LIST, MENDED, left.reopened()?)?;
-    let lines = "10 1.000000005 d1:x\n1 2.000000005 d2:v\n1 1.000000005 d2:w\n3 files, 12 bytes\n";
-    assert!(rt; listed.is(0, lines, ""));
-    Ok(())
+    static CASES: [Case; 4] = [
+        Case {
+            array: TWO_DISKS,
+            out: "sync: 2 stripes synced, 0 pending\n",
+            ..SYNCED
+        },
+        Case {
+            array: CHANGED,
+            status: 1,
+            out: "silent 0 d1:x 0 recorded c3fcd3d76192e4007dfb496cca67e13b \
+                  found ad73815073524e821191349523af938b\n\
+                  sync: 0 stripes synced, 1 pending\n",
+            ..SYNCED
+        },
+        Case {
+            array: MENDED,
+            levels: &[&[
+                &[
+                    b'q' ^ b'3',
+                    b'r',
+                    b's',
+                    b't',
+                    b'u',
+                    b'v',
+                    b'w',
+                    b'x',
+                    b'y',
+                    b'z',
+                ],
+                b"2",
+            ]],
+            ..SYNCED
+        },
+        Case {
+            array: MENDED,
+            out: "10 1.000000005 d1:x\n1 2.000000005 d2:v\n1 1.000000005 d2:w\n3 files, 12 bytes\n",
+            ..LISTED
+        },
+    ];
+    follows(&rt, rt.alloc(), &CASES)
 }
