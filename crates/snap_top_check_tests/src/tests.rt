@@ -1,4 +1,3 @@
-// Checks over objects in memory.
-mod array;
+// Whole runs over objects in memory.
 mod damaged;
 mod selected;

@@ -1,47 +1,69 @@
 // What a check is for.
-use crate::tests::array::{Array, Disk, say, sync};
+use snap_top_memory::arrays::{Array, EMPTY};
+use snap_top_memory::cases::{Case, SYNCED, follows};
 use std::test::Fail;
 
-const CONFIG: &str = "blocksize 1\nparity p\ncontent c\ndata d1 a\ndata d2 b\n";
+const WHOLE: Array = Array {
+    config: "blocksize 1\nparity p\ncontent c\ndata d1 a\ndata d2 b\n",
+    disks: &[
+        &[("p", &[7; 3072], 1, 5)],
+        &[
+            ("x.txt", b"x", 1, 5),
+            ("y.txt", b"y", 1, 5),
+            ("z.jpg", b"z", 1, 5),
+        ],
+    ],
+    ..EMPTY
+};
 
-const LONG: [u8; 3072] = [7; 3072];
-
-const WHOLE: [Disk<'static>; 2] = [
-    &[("p", &LONG, 1)],
-    &[("x.txt", b"x", 1), ("y.txt", b"y", 1), ("z.jpg", b"z", 1)],
-];
-
-const LEFT: [Disk<'static>; 2] = [&[("p", &LONG, 1)], &[("y.txt", b"Y", 2)]];
+// What is there of it when it is checked.
+const CHECKED: Case = Case {
+    array: Array {
+        disks: &[&[("p", &[7; 3072], 1, 5)], &[("y.txt", b"Y", 2, 5)]],
+        ..WHOLE
+    },
+    status: 1,
+    out: "changed d2:x.txt recorded 1 1.000000005 found nothing\ncheck: 1 findings\n",
+    keeps: true,
+    ..SYNCED
+};
 
 #[test]
 fn only_what_is_selected_is_looked_at(rt: HostRuntime) -> Result<(), Fail> {
-    let alloc = rt.alloc();
-    let array = Array {
-        config: CONFIG,
-        levels: 1,
-        disks: &WHOLE,
-    };
-    let synced = sync(&rt, alloc, array)?;
-    let left = Array {
-        disks: &LEFT,
-        ..array
-    };
-    let missing = [
-        "snapraid", "check", "-c", "FILE", "-m", "-d", "d2", "-f", "*.txt",
+    static CASES: [Case; 5] = [
+        Case {
+            array: WHOLE,
+            out: "sync: 3 stripes synced, 0 pending\n",
+            ..SYNCED
+        },
+        Case {
+            words: &[
+                "snapraid", "check", "-c", "FILE", "-m", "-d", "d2", "-f", "*.txt",
+            ],
+            ..CHECKED
+        },
+        Case {
+            words: &["snapraid", "check", "-c", "FILE", "-d", "d1"],
+            status: 0,
+            out: "check: 0 findings\n",
+            ..CHECKED
+        },
+        Case {
+            words: &[
+                "snapraid", "check", "-c", "FILE", "-a", "-d", "d2", "-f", "x.txt",
+            ],
+            ..CHECKED
+        },
+        // nothing is opened
+        Case {
+            words: &["snapraid", "check", "-c", "FILE", "-d", "d1", "-d", "d3"],
+            status: 2,
+            out: "",
+            err: "snapraid: no disk 'd3'\n",
+            is_opened: false,
+            keeps: false,
+            ..CHECKED
+        },
     ];
-    let said = say(&rt, alloc, &missing, left, &synced)?;
-    let text = "changed d2:x.txt recorded 1 1.000000005 found nothing\ncheck: 1 findings\n";
-    assert!(rt; said.is(1, text, ""));
-    let other = ["snapraid", "check", "-c", "FILE", "-d", "d1"];
-    let said = say(&rt, alloc, &other, left, &synced)?;
-    assert!(rt; said.is(0, "check: 0 findings\n", ""));
-    let unknown = ["snapraid", "check", "-c", "FILE", "-d", "d1", "-d", "d3"];
-    let said = say(&rt, alloc, &unknown, left, &synced)?;
-    assert!(rt; said.is(2, "", "snapraid: no disk 'd3'\n"));
-    let audit = [
-        "snapraid", "check", "-c", "FILE", "-a", "-d", "d2", "-f", "x.txt",
-    ];
-    let said = say(&rt, alloc, &audit, left, &synced)?;
-    assert!(rt; said.is(1, text, ""));
-    Ok(())
+    follows(&rt, rt.alloc(), &CASES)
 }
