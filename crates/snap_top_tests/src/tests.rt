@@ -1,8 +1,9 @@
 // Whole runs over objects in memory.
-mod array;
 mod configuration;
+mod contents;
 mod damage;
 mod faults;
 mod matching;
 mod printing;
+mod usual;
 mod words;

@@ -1,9 +1,24 @@
 // Configurations that are refused. Nothing is opened then.
-use crate::tests::array::{
-    Array, Case, EMPTY, LIST, LISTED, ONE, REFUSED, ends_so, plays, run_words,
-};
+use crate::tests::usual::REFUSED;
+use snap_top_memory::arrays::{Array, Disk, EMPTY};
+use snap_top_memory::cases::{Case, LISTED, plays};
 use std::alloc::Global;
 use std::test::Fail;
+use std::thread::Threads;
+
+fn refuses<'a, R: Threads + Sync>(
+    rt: &R,
+    alloc: Global,
+    config: &'a str,
+    err: &'a str,
+) -> Result<(), Fail> {
+    let case = Case {
+        array: Array { config, ..EMPTY },
+        err,
+        ..REFUSED
+    };
+    plays(rt, alloc, &[case])
+}
 
 #[test]
 fn refused_lines(rt: HostRuntime) -> Result<(), Fail> {
@@ -26,30 +41,27 @@ fn refused_lines(rt: HostRuntime) -> Result<(), Fail> {
         ("blocksize 0\n", "snapraid: FILE:1: bad value\n"),
     ];
     for (config, err) in &CASES {
-        let case = Case {
-            array: Array { config, ..ONE },
-            err,
-            ..REFUSED
-        };
-        plays(&rt, rt.alloc(), &[case])?;
+        refuses(&rt, rt.alloc(), config, err)?;
     }
     Ok(())
 }
 
 #[test]
 fn the_name_of_a_refused_file(rt: HostRuntime) -> Result<(), Fail> {
-    static CASE: Case = Case {
+    static CASES: [Case; 1] = [Case {
         words: &["snapraid", "list", "-c", "a\tb"],
-        array: Array { config: "", ..ONE },
+        array: Array {
+            config: "",
+            ..EMPTY
+        },
         err: "snapraid: a\\x09b:0: missing parity\n",
         ..REFUSED
-    };
-    assert!(rt; ends_so(&run_words(&rt, rt.alloc(), CASE.words, CASE.array)?, &CASE));
-    Ok(())
+    }];
+    plays(&rt, rt.alloc(), &CASES)
 }
 
 // A configuration of so many disks, the first at line 3.
-fn config_of(alloc: Global, disks: u32) -> Result<String, Fail> {
+fn config_of(alloc: Global, disks: usize) -> Result<String, Fail> {
     let mut config = String::from_str(alloc, "parity p\ncontent c\n")?;
     for disk in 0..disks {
         let line = format!(in alloc; "data d{disk} f{disk}\n")?;
@@ -58,29 +70,44 @@ fn config_of(alloc: Global, disks: u32) -> Result<String, Fail> {
     Ok(config)
 }
 
+fn plays_with<'a, R: Threads + Sync>(
+    rt: &R,
+    alloc: Global,
+    config: &'a str,
+    disks: &'a [Disk<'a>],
+    case: &Case<'a>,
+) -> Result<(), Fail> {
+    let array = Array {
+        config,
+        disks,
+        ..EMPTY
+    };
+    plays(rt, alloc, &[Case { array, ..*case }])
+}
+
+// Makes a run over so many disks.
+fn plays_over<R: Threads + Sync>(
+    rt: &R,
+    alloc: Global,
+    disks: &'static [Disk<'static>],
+    case: &'static Case<'static>,
+) -> Result<(), Fail> {
+    let config = config_of(alloc, disks.len())?;
+    plays_with(rt, alloc, config.as_str(), disks, case)
+}
+
 #[test]
 fn at_most_251_disks(rt: HostRuntime) -> Result<(), Fail> {
+    static DISKS: [Disk<'static>; 252] = [&[]; 252];
     static NO_FILES: Case = Case {
         out: "0 files, 0 bytes\n",
         ..LISTED
     };
     static TOO_MANY: Case = Case {
+        put: &[],
         err: "snapraid: FILE:254: too many\n",
         ..REFUSED
     };
-    let config = config_of(rt.alloc(), 251)?;
-    let most = Array {
-        config: config.as_str(),
-        disks: 251,
-        ..EMPTY
-    };
-    assert!(rt; ends_so(&run_words(&rt, rt.alloc(), LIST, most)?, &NO_FILES));
-    let config = config_of(rt.alloc(), 252)?;
-    let more = Array {
-        config: config.as_str(),
-        disks: 252,
-        ..EMPTY
-    };
-    assert!(rt; ends_so(&run_words(&rt, rt.alloc(), LIST, more)?, &TOO_MANY));
-    Ok(())
+    plays_over(&rt, rt.alloc(), &DISKS[..251], &NO_FILES)?;
+    plays_over(&rt, rt.alloc(), &DISKS, &TOO_MANY)
 }

@@ -1,5 +1,7 @@
 // Each call failing in turn.
-use crate::tests::array::{Array, Case, Failing, LISTED, NONE, ONE, REFUSED, STATUS, plays};
+use crate::tests::usual::{KEPT, REFUSED, STATUS};
+use snap_top_memory::arrays::{Failing, NONE};
+use snap_top_memory::cases::{Case, plays};
 use std::test::Fail;
 
 const OPENING: Case = Case {
@@ -11,40 +13,33 @@ const OPENING: Case = Case {
 const VAULT: Case = Case {
     status: 3,
     err: "snapraid: parity or content failed\n",
-    ..LISTED
+    ..KEPT
 };
 
 const OUTPUT: Case = Case {
-    array: Array {
-        failing: Failing { out: 1, ..NONE },
-        ..ONE
-    },
+    failing: Failing { out: 1, ..NONE },
     status: 3,
     err: "snapraid: output failed\n",
-    ..LISTED
+    ..KEPT
 };
-
-fn with(failing: Failing) -> Array<'static> {
-    Array { failing, ..ONE }
-}
 
 #[test]
 fn one_call_fails(rt: HostRuntime) -> Result<(), Fail> {
-    let cases = [
+    static CASES: [Case; 8] = [
         Case {
-            array: with(Failing { opener: 1, ..NONE }),
+            failing: Failing { opener: 1, ..NONE },
             ..OPENING
         },
         Case {
-            array: with(Failing { opener: 2, ..NONE }),
+            failing: Failing { opener: 2, ..NONE },
             ..OPENING
         },
         Case {
-            array: with(Failing { vault: 1, ..NONE }),
+            failing: Failing { vault: 1, ..NONE },
             ..VAULT
         },
         Case {
-            array: with(Failing { vault: 2, ..NONE }),
+            failing: Failing { vault: 2, ..NONE },
             ..VAULT
         },
         OUTPUT,
@@ -53,19 +48,19 @@ fn one_call_fails(rt: HostRuntime) -> Result<(), Fail> {
             ..OUTPUT
         },
         Case {
-            array: with(Failing { err: 1, ..NONE }),
+            failing: Failing { err: 1, ..NONE },
             out: "10 1.000000005 d1:a\n1 files, 10 bytes\n",
-            ..LISTED
+            ..KEPT
         },
         Case {
-            array: with(Failing {
+            failing: Failing {
                 vault: 1,
                 err: 1,
                 ..NONE
-            }),
+            },
             err: "",
             ..VAULT
         },
     ];
-    plays(&rt, rt.alloc(), &cases)
+    plays(&rt, rt.alloc(), &CASES)
 }

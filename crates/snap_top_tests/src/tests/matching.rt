@@ -1,17 +1,15 @@
 // Content of another array than the configuration's.
-use crate::tests::array::{Array, Case, EMPTY, LISTED, ONE, STATUS, plays};
+use crate::tests::usual::{KEPT, STATUS};
+use snap_top_memory::arrays::{Array, EMPTY};
+use snap_top_memory::cases::{Case, LISTED, plays};
 use std::test::Fail;
 
-const OTHER: Case = Case {
-    array: ONE,
-    status: 2,
-    ..LISTED
-};
+const OTHER: Case = Case { status: 2, ..KEPT };
 
 const OTHER_SIZE: Case = Case {
     array: Array {
         config: "blocksize 2\nparity p\ncontent content\ndata d2 d\n",
-        ..ONE
+        ..EMPTY
     },
     err: "snapraid: content has block size 1024, the configuration 2048\n",
     ..OTHER
@@ -21,7 +19,7 @@ const OTHER_LEVELS: Case = Case {
     array: Array {
         config: "blocksize 1\nparity p\n2-parity q\ncontent content\ndata d2 d\n",
         levels: 2,
-        ..ONE
+        ..EMPTY
     },
     err: "snapraid: content has 1 levels, the configuration 2\n",
     ..OTHER
@@ -30,7 +28,7 @@ const OTHER_LEVELS: Case = Case {
 const OTHER_NAME: Case = Case {
     array: Array {
         config: "blocksize 1\nparity p\ncontent content\ndata d2 d\n",
-        ..ONE
+        ..EMPTY
     },
     err: "snapraid: content has disk 'd1' in column 0, the configuration 'd2'\n",
     ..OTHER
@@ -49,8 +47,8 @@ fn another_configuration_is_refused(rt: HostRuntime) -> Result<(), Fail> {
         Case {
             array: Array {
                 config: "blocksize 1\nparity p\ncontent content\ndata d1 d\ndata d2 e\n",
-                disks: 2,
-                ..ONE
+                disks: &[&[], &[]],
+                ..EMPTY
             },
             err: "snapraid: content has disk '-' in column 1, the configuration 'd2'\n",
             ..OTHER

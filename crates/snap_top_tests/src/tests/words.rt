@@ -1,5 +1,6 @@
 // Words that are refused. Nothing is opened then.
-use crate::tests::array::{Case, REFUSED, plays};
+use crate::tests::usual::REFUSED;
+use snap_top_memory::cases::{Case, plays};
 use std::test::Fail;
 
 const USAGE: Case = Case {
