@@ -24,8 +24,9 @@ use Rattle.snap_fix.specs.declared.fixing.Totals.{Totals}
 use Rattle.snap_fix.specs.declared.room.Room.{Room}
 use Rattle.snap_fix.specs.Asking.{AsksSpare}
 use Rattle.snap_fix.specs.Facts.{StripeFacts}
+use Rattle.snap_fix.specs.Findings.{stripe_events}
 use Rattle.snap_fix.specs.FixRun.{AreAscending, BreaksInLast, FixesAll, HoldAllWrong, TellsInLast}
-use Rattle.snap_fix.specs.Fixing.{AreTotals, FixScene, FixesStripe, MendsVault, SceneFits, Writes, facts_of, levels_begun, was_written}
+use Rattle.snap_fix.specs.Fixing.{AreTotals, FixScene, FixesStripe, MendsVault, SceneFits, TellsOfBroken, Writes, facts_of, levels_begun, was_written}
 use Rattle.snap_fix.specs.Known.{AreFacts}
 use Rattle.snap_fix.specs.Looking.{AreAllLevelsOf, numbers_of, unread_in}
 use Rattle.snap_fix.specs.Mended.{AnswersFit, Mended, all_mended_events, is_wrong_level, mended_events}
@@ -196,14 +197,24 @@ breaks_in_last fault plan xs ys last firsts more old mid new before read ran men
 
 -- ---- what was told where the last stripe broke off
 
+-- of the last stripe it is a prefix of its events
+pub tells_prefix : (plan : FixPlan) (last : Mended) (told : List Event) (tells : TellsOfBroken plan last told)
+    → mended_events plan last ≡ told ++ tells.rest
+tells_prefix plan last told tells =
+    let found = stripe_events plan last.facts in
+    ap (λ (events : List Event). found ++ events) tells.writes
+    ∙ sym (append_assoc found tells.more tells.rest)
+    ∙ ap (λ (events : List Event). events ++ tells.rest) (sym tells.told_is)
+
 -- it is a prefix of all events
 pub tells_first : (plan : FixPlan) (stripes earlier : List Mended) (last : Mended) (first : List Event) → stripes ≡ earlier ++ last ∷ []
-    → (tells : TellsInLast plan earlier last first) → all_mended_events plan stripes ≡ first ++ tells.rest
+    → (tells : TellsInLast plan earlier last first) → all_mended_events plan stripes ≡ first ++ tells.tells.rest
 tells_first plan stripes earlier last first are tells =
     let front = all_mended_events plan earlier in
     ap (all_mended_events plan) are ∙ events_append plan earlier (last ∷ [])
-    ∙ ap (λ (events : List Event). front ++ events) (append-nil (mended_events plan last) ∙ tells.events)
-    ∙ sym (append_assoc front tells.some tells.rest) ∙ ap (λ (events : List Event). events ++ tells.rest) (sym tells.first_is)
+    ∙ ap (λ (events : List Event). front ++ events) (append-nil (mended_events plan last) ∙ tells_prefix plan last tells.told tells.tells)
+    ∙ sym (append_assoc front tells.told tells.tells.rest)
+    ∙ ap (λ (events : List Event). events ++ tells.tells.rest) (sym tells.first_is)
 
 -- after the events of others
 pub tells_then : (plan : FixPlan) (xs earlier : List Mended) (last : Mended) (first : List Event) → TellsInLast plan earlier last first
@@ -211,11 +222,11 @@ pub tells_then : (plan : FixPlan) (xs earlier : List Mended) (last : Mended) (fi
 tells_then plan xs earlier last first tells =
     let front = all_mended_events plan xs in
     record {
-      some = tells.some;
-      rest = tells.rest;
-      first_is = ap (λ (events : List Event). front ++ events) tells.first_is ∙ sym (append_assoc front (all_mended_events plan earlier) tells.some)
-          ∙ ap (λ (events : List Event). events ++ tells.some) (sym (events_append plan xs earlier));
-      events = tells.events;
+      told = tells.told;
+      first_is = ap (λ (events : List Event). front ++ events) tells.first_is
+          ∙ sym (append_assoc front (all_mended_events plan earlier) tells.told)
+          ∙ ap (λ (events : List Event). events ++ tells.told) (sym (events_append plan xs earlier));
+      tells = tells.tells;
     }
 
 module _ {W R : Type 0} (view : W → SinkView) (standing : R → ReportView) (stands : R → List Event → Type 0) (plan : FixPlan) where

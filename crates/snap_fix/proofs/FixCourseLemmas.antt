@@ -166,11 +166,9 @@ module _ {W R : Type 0} (view : W → SinkView) (standing : R → ReportView) (s
             earlier = broke.earlier;
             last = broke.last;
             stripes_are = broke.stripes_are;
-            some = broke.tells.some;
-            rest = broke.tells.rest;
-            first_is = ap (λ (events : List Event). opening ++ events) broke.tells.first_is
-                ∙ sym (append_assoc opening (all_mended_events plan broke.earlier) broke.tells.some);
-            events = broke.tells.events;
+            told = broke.first;
+            first_is = refl;
+            tells = broke.tells;
             makes = files_of broke.earlier broke.last folders_mid fault broke.makes;
             ran = broke.ran;
           });

@@ -30,7 +30,7 @@ use Rattle.snap_fix.specs.Mended.{AnswersFit, Mended, all_mended_events, mended_
 use Rattle.snap_fix.specs.Plan.{FixPlan}
 use Rattle.snap_fix.specs.State.{AnyCall, FolderMakes}
 use Rattle.snap_fix.specs.Underway.{FixUnderway, HoldsWrong, IsMendCall, stripe_calls, stripe_reads}
-use Rattle.snap_fix.proofs.FixAllLemmas.{answered_then, asked_then, breaks_in_last, facts_append, facts_then, fixes_none, fixes_then, levels_then, precede, unread_then}
+use Rattle.snap_fix.proofs.FixAllLemmas.{answered_then, asked_then, breaks_in_last, facts_append, facts_then, fixes_none, fixes_then, levels_then, precede, tells_prefix, unread_then}
 use Rattle.snap_fix.proofs.FixCountLemmas.{count_append, parity_io_in_stripe}
 use Rattle.snap_fix.proofs.FolderFailsLemmas.{columns_any}
 use Rattle.snap_fix.proofs.KeptStartsLemmas.{files_one, files_then}
@@ -173,7 +173,8 @@ module _ {W R : Type 0} (view : W → SinkView) (standing : R → ReportView) (s
         let front = all_mended_events plan xs in
         let readings = broke.read.readings in
         let few = parity_io_in_stripe plan mended plan.table.shape.block_size readings broke.read.are.as_many broke.read.are.are_kept in
-        let fewer = count_first is_parity_io (mended_events plan mended) broke.first broke.rest broke.events in
+        let fewer = count_first is_parity_io (mended_events plan mended) broke.first broke.tells.rest
+        (tells_prefix plan mended broke.first broke.tells) in
         let before_last = before_it all ascending i within first one old mid so_far mended broke.number in
         let none : xs ++ [] ≡ xs = append-nil xs in
         record {
@@ -186,7 +187,7 @@ module _ {W R : Type 0} (view : W → SinkView) (standing : R → ReportView) (s
           slots = slots_more all ascending i within first one old mid so_far mended before.window broke.slots lanes same;
           are = facts_then plan xs ys so_far.fixes.are (All-cons (AreFacts plan) mended.facts [] broke.are (All-nil (AreFacts plan)));
           first = front ++ broke.first;
-          tells = record { some = broke.first; rest = broke.rest; first_is = refl; events = broke.events };
+          tells = record { told = broke.first; first_is = refl; tells = broke.tells };
           told = told_then view standing stands plan.table.columns front broke.first old.lines mid.lines new.lines old.reports mid.reports new.reports so_far.fixes.told broke.told;
           folders = broke.folders ∙ so_far.fixes.fits.folders ∙ sym fits.folders;
           answered = answered_then plan xs ys old.folders mid.folders (λ d below. (so_far.fixes.makes d below).goes_on.tells) so_far.fixes.answered

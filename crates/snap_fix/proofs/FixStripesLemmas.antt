@@ -233,7 +233,7 @@ module _ {W R : Type 0} (view : W → SinkView) (standing : R → ReportView) (s
       into_any = files_any plan fault mid.starts mid.states into.earlier into.last mids new.folders into.makes
 
       -- what was told is a prefix of all events of the window
-      told_first : all_mended_events plan into.stripes ≡ into.first ++ into.tells.rest
+      told_first : all_mended_events plan into.stripes ≡ into.first ++ into.tells.tells.rest
       told_first = tells_first plan into.stripes into.earlier into.last into.first into.stripes_are into.tells
 
       -- the failed readings of the window count too, and those before it
@@ -244,7 +244,7 @@ module _ {W R : Type 0} (view : W → SinkView) (standing : R → ReportView) (s
         record {
           rose =
               let counted = count_append (is_io_of disk) (all_mended_events plan so_far.stripes) into.first in
-              let told = count_first (is_io_of disk) (all_mended_events plan into.stripes) into.first into.tells.rest told_first in
+              let told = count_first (is_io_of disk) (all_mended_events plan into.stripes) into.first into.tells.tells.rest told_first in
               let xs_few = io_in_cells plan disk so_far.stripes in
               let ys_few = io_in_cells plan disk into.stripes in
               let both = unread_both first one old so_far into.stripes into.behind into.numbers_are into.slots disk in

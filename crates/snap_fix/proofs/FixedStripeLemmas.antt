@@ -162,11 +162,14 @@ module _ {W R : Type 0} (view : W → SinkView) (standing : R → ReportView) (s
       slots = refl;
       are = examined.facts;
       first = (found ++ cells) ++ parity.first;
-      rest = parity.rest;
-      events =
-          ap (λ (levels : List Event). found ++ (cells ++ levels)) parity.events
-          ∙ sym (append_assoc found cells (parity.first ++ parity.rest))
-          ∙ sym (append_assoc (found ++ cells) parity.first parity.rest);
+      tells = record {
+        more = cells ++ parity.first;
+        rest = parity.rest;
+        told_is = append_assoc found cells parity.first;
+        writes =
+            ap (λ (levels : List Event). cells ++ levels) parity.events
+            ∙ sym (append_assoc cells parity.first parity.rest);
+      };
       told = told_then view standing stands plan.table.columns (found ++ cells) parity.first old.lines lines_then new.lines old.reports reports_then new.reports told_cells parity.told;
       folders = files.folders;
       answered = files.answered facts refl shown;
@@ -201,11 +204,12 @@ module _ {W R : Type 0} (view : W → SinkView) (standing : R → ReportView) (s
         slots = refl;
         are = examined.facts;
         first = found ++ first;
-        rest = rest ++ levels;
-        events =
-            ap (λ (cells : List Event). found ++ (cells ++ levels)) part.3
-            ∙ ap (λ (events : List Event). found ++ events) (append_assoc first rest levels)
-            ∙ sym (append_assoc found first (rest ++ levels));
+        tells = record {
+          more = first;
+          rest = rest ++ levels;
+          told_is = refl;
+          writes = ap (λ (cells : List Event). cells ++ levels) part.3 ∙ append_assoc first rest levels;
+        };
         told = told_then view standing stands plan.table.columns found first old.lines lines new.lines old.reports reports new.reports told part.5;
         folders = files.folders;
         answered = part.4;

@@ -25,10 +25,10 @@ use Rattle.snap_fix.specs.Course.{IsPlan, Outside}
 use Rattle.snap_fix.specs.Ending.{AreDone, FinishesOne, all_finish_news}
 use Rattle.snap_fix.specs.Findings.{opening_events}
 use Rattle.snap_fix.specs.FixCourse.{FixFinds, FixesVault, MakeFixCalls, WritesFiles, Written, mend_syncs}
-use Rattle.snap_fix.specs.FixRun.{BreaksInLast, HasBroken, HoldAllWrong}
+use Rattle.snap_fix.specs.FixRun.{BreaksInLast, HasBroken, HoldAllWrong, TellsInLast}
 use Rattle.snap_fix.specs.Fixing.{MendsVault, facts_of}
 use Rattle.snap_fix.specs.Looking.{numbers_of, unread_cells, unread_in}
-use Rattle.snap_fix.specs.Mended.{Mended, all_mended_events, mended_events}
+use Rattle.snap_fix.specs.Mended.{Mended, all_mended_events}
 use Rattle.snap_fix.specs.Plan.{FixPlan, starts_of, stripes_of}
 use Rattle.snap_fix.specs.Underway.{IsMendCall, done_well, mend_calls}
 
@@ -46,8 +46,8 @@ pub record BreaksFiles (plan : FixPlan) (starts : StartsValue) (fault : RunFault
   pub breaks : BreaksColumns fault (length plan.table.columns) (λ (d : ℕ). IsMendCall plan written.starts d (last ∷ []))
       written.folders news
 
--- While blocks were written, in the last of its stripes: all events of the stripes before it were told, and a prefix
--- of its own. Of the folders only calls that write their blocks were made, which went well but for the last one of a
+-- While blocks were written, in the last of its stripes: all events of the stripes before it were told, and of its own
+-- all that was found in it, and a prefix of what is told of its writes. Of the folders only calls that write their blocks were made, which went well but for the last one of a
 -- folder that failed, in the last stripe, and all blocks of the stripes before it were written. Of the vault all calls
 -- for these stripes were made, up to the writes of the last one.
 pub record BreaksWriting (plan : FixPlan) (starts : StartsValue) (fault : RunFault) (stripes : List Mended)
@@ -56,10 +56,9 @@ pub record BreaksWriting (plan : FixPlan) (starts : StartsValue) (fault : RunFau
   pub earlier : List Mended
   pub last : Mended
   pub stripes_are : stripes ≡ earlier ++ last ∷ []
-  pub some : List Event
-  pub rest : List Event
-  pub first_is : first ≡ written_events plan earlier ++ some
-  pub events : mended_events plan last ≡ some ++ rest
+  pub told : List Event
+  pub first_is : first ≡ opening_events plan ++ told
+  pub tells : TellsInLast plan earlier last told
   pub makes : BreaksFiles plan starts fault earlier last firsts news
   pub ran : BreaksInLast plan fault (facts_of earlier) last.facts readings old new
 

@@ -22,11 +22,11 @@ use Rattle.snap_fix.specs.declared.state.FileState.{FileState}
 use Rattle.snap_fix.specs.Asking.{AsksSpare}
 use Rattle.snap_fix.specs.Checking.{plan_for}
 use Rattle.snap_fix.specs.Facts.{StripeFacts}
-use Rattle.snap_fix.specs.Fixing.{AreTotals, AreReadThen, FixScene, FolderBroke, MendsVault, SceneFits, Writes, facts_of, levels_begun}
+use Rattle.snap_fix.specs.Fixing.{AreTotals, AreReadThen, FixScene, FolderBroke, MendsVault, SceneFits, TellsOfBroken, Writes, facts_of, levels_begun}
 use Rattle.snap_fix.specs.Known.{AreFacts}
 use Rattle.snap_fix.specs.Looking.{AreAllLevelsOf, numbers_of, facts_at, unread_cells, unread_in}
 use Rattle.snap_fix.specs.Marks.{slots_at}
-use Rattle.snap_fix.specs.Mended.{Mended, AnswersFit, all_mended_events, mended_events}
+use Rattle.snap_fix.specs.Mended.{Mended, AnswersFit, all_mended_events}
 use Rattle.snap_fix.specs.Plan.{FixPlan}
 use Rattle.snap_fix.specs.Room.{IsRoomFor}
 use Rattle.snap_fix.specs.State.{WellCall, FolderMakes, KeepsStarts}
@@ -157,15 +157,15 @@ pub record BreaksFolders (plan : FixPlan) (begun : StartsValue) (begun_states : 
   pub breaks : BreaksColumns fault (length plan.table.columns) (λ (d : ℕ). IsMendCall plan starts d (last ∷ []))
       mids news
 
--- These events are all those of the stripes before the last one, and a prefix of those of the last one.
+-- These events are all those of the stripes before the last one, and then those of the last one: all that was found in
+-- it, and a prefix of what is told of its writes.
 pub record TellsInLast (plan : FixPlan) (earlier : List Mended) (last : Mended) (first : List Event) : Type 0 where
-  pub some : List Event
-  pub rest : List Event
-  pub first_is : first ≡ all_mended_events plan earlier ++ some
-  pub events : mended_events plan last ≡ some ++ rest
+  pub told : List Event
+  pub first_is : first ≡ all_mended_events plan earlier ++ told
+  pub tells : TellsOfBroken plan last told
 
--- Some first stripes were written anew, and the one after them broke off: their events were told, and a prefix of its
--- own, and only calls were made that they ask for.
+-- Some first stripes were written anew, and the one after them broke off: their events were told, all that
+-- was found in it, and a prefix of what is told of its writes, and only calls were made that they ask for.
 pub record BreaksStripes {W R : Type 0} (view : W → SinkView) (standing : R → ReportView)
     (stands : R → List Event → Type 0) (plan : FixPlan) (numbers : List ℕ)
     (old new : FixScene W R) (fault : RunFault) : Type 0 where

@@ -27,10 +27,11 @@ use Rattle.snap_fix.specs.declared.state.FileState.{FileState}
 use Rattle.snap_fix.specs.Asking.{AsksSpare}
 use Rattle.snap_fix.specs.Counts.{AreCounts, at_most}
 use Rattle.snap_fix.specs.Facts.{StripeFacts, slot_of}
+use Rattle.snap_fix.specs.Findings.{stripe_events}
 use Rattle.snap_fix.specs.Known.{AreFacts}
 use Rattle.snap_fix.specs.Looking.{AreLevelsOf}
 use Rattle.snap_fix.specs.Marks.{ChangesStripe, slots_at}
-use Rattle.snap_fix.specs.Mended.{Mended, AnswersFit, all_mended_events, mended_events, is_wrong_level, written_in, wrong_in}
+use Rattle.snap_fix.specs.Mended.{Mended, AnswersFit, all_cell_news, all_level_news, all_mended_events, mended_events, is_wrong_level, written_in, wrong_in}
 use Rattle.snap_fix.specs.Mending.{StatesFit}
 use Rattle.snap_fix.specs.Plan.{FixPlan}
 use Rattle.snap_fix.specs.Room.{IsRoomFor}
@@ -203,7 +204,18 @@ levels_begun (Folder disk) earlier last = earlier
 levels_begun Vault earlier last = earlier ++ last ∷ []
 levels_begun Memory earlier last = earlier
 
--- A stripe that broke off: the facts of it stand, a prefix of its events was told, and only calls were made that it asks for, none of a
+-- what is told of the writes of a stripe: of its blocks, and then of its levels
+abbrev pub write_events : FixPlan → Mended → List Event
+write_events plan mended = all_cell_news plan mended ++ all_level_news plan mended.facts
+
+-- Of a stripe that broke off, all that was found in it was told, and then a prefix of what is told of its writes.
+pub record TellsOfBroken (plan : FixPlan) (mended : Mended) (told : List Event) : Type 0 where
+  pub more : List Event
+  pub rest : List Event
+  pub told_is : told ≡ stripe_events plan mended.facts ++ more
+  pub writes : write_events plan mended ≡ more ++ rest
+
+-- A stripe that broke off: the facts of it stand, all that was found was told, and only calls were made that it asks for, none of a
 -- folder behind one that failed. Its levels were read; where a call of the vault failed, it is the write of a wrong one, and else none
 -- was written.
 pub record BreaksStripe {W R : Type 0} (view : W → SinkView) (standing : R → ReportView) (stands : R → List Event → Type 0)
@@ -213,8 +225,7 @@ pub record BreaksStripe {W R : Type 0} (view : W → SinkView) (standing : R →
   pub slots : mended.facts.slots ≡ slots_at before.window i
   pub are : AreFacts plan mended.facts
   pub first : List Event
-  pub rest : List Event
-  pub events : mended_events plan mended ≡ first ++ rest
+  pub tells : TellsOfBroken plan mended first
   pub told : Told view standing stands plan.table.columns first old.lines new.lines old.reports new.reports
   pub folders : length new.folders ≡ length old.folders
   pub answered : AnswersFit plan old.folders mended
