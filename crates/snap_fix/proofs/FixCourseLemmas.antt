@@ -1,5 +1,5 @@
 -- A fix as a whole, by what its stripes, the sync of its levels and the finish of its files left.
-use Rattle.std.proofs.Common.{◌≡◌, inl, inr, ℕ, ◌<◌, ◌≤◌, List, [], ◌++◌, length, All, get_or, Bool, false, refl, sym, ap, ◌∙◌, subst, arith, append_assoc}
+use Rattle.std.proofs.Common.{◌≡◌, inl, inr, ℕ, ◌<◌, ◌≤◌, List, [], ◌∷◌, ◌++◌, length, All, get_or, Bool, false, refl, sym, ap, ◌∙◌, subst, arith, append_assoc}
 use Rattle.std.specs.List.{count_by}
 use Rattle.std.proofs.lemmas.List.{append-nil}
 use Rattle.disk_model.specs.Cause.{RoseBy}
@@ -39,7 +39,7 @@ use Rattle.snap_fix.specs.Breaking.{FailsAfter}
 use Rattle.snap_fix.specs.Ending.{FinishesAll, FinishesNotAll, FinishesOne, SyncsNot, SyncsWritten, all_finish_news, written_syncs}
 use Rattle.snap_fix.specs.Facts.{StripeFacts}
 use Rattle.snap_fix.specs.Findings.{opening_events}
-use Rattle.snap_fix.specs.FixBreaking.{BreaksFiles, FixBreaks}
+use Rattle.snap_fix.specs.FixBreaking.{BreaksFiles, BreaksLast, FixBreaks}
 use Rattle.snap_fix.specs.FixCourse.{FixFinds, Fixes, FixesVault, WritesFiles, Written, fix_events, mend_syncs}
 use Rattle.snap_fix.specs.FixRun.{AreAscending, BreaksFolders, BreaksStripes, FixesStripes, HasBroken}
 use Rattle.snap_fix.specs.Fixing.{AreReadThen, FixScene, MendsVault, facts_of, fix_scene, was_written}
@@ -62,8 +62,9 @@ use Rattle.snap_fix.proofs.FixStartLemmas.{begun_underway, stripes_ascending, un
 use Rattle.snap_fix.proofs.FixVaultLemmas.{fixes_vault, flag_is, holds_synced, mends_synced, rose_on, syncs_are}
 use Rattle.snap_fix.proofs.FolderCallLemmas.{makes_any}
 use Rattle.snap_fix.proofs.FolderFailsLemmas.{fails_gained, in_column_any}
-use Rattle.snap_fix.proofs.KeptStartsLemmas.{files_any}
+use Rattle.snap_fix.proofs.KeptStartsLemmas.{files_any, well_then}
 use Rattle.snap_fix.proofs.PresentLemmas.{StartsFitFolders, present_at_first, starts_fit_first}
+use Rattle.snap_fix.proofs.StartsKeptLemmas.{keeps_starts_then}
 
 -- ---- which events were told
 
@@ -120,13 +121,35 @@ module _ {W R : Type 0} (view : W → SinkView) (standing : R → ReportView) (s
       let ascending = AllPairs-left (λ (a b : ℕ). a < b) (numbers_of (facts_of stripes)) behind (subst AreAscending numbers (stripes_ascending plan)) in
       record { are = are; cells = present_at_first plan starts mids stripes valid ascending are start_fit read; levels = levels; answered = answered }
 
+  -- where the vault failed, all blocks of the last stripe were written, too
+  last_of : (earlier : List Mended) (last : Mended) (news : List FolderView) (by : RunFault)
+      → (broke : BreaksFolders plan starts states by earlier last mids news)
+      → BreaksLast by plan starts earlier last mids
+      (record { starts = broke.starts; states = broke.states; folders = broke.mids }) news
+  last_of earlier last news (Folder disk) broke = broke.breaks
+  last_of earlier last news Vault broke =
+      let cells = broke.breaks in
+      record {
+        makes = cells.makes;
+        written = record { starts = cells.starts; states = cells.states; folders = news };
+        stood = cells.stood;
+        writes = record {
+          stood = keeps_starts_then starts broke.starts cells.starts broke.stood cells.stood;
+          underway = cells.underway earlier mids fixable (broke.underway [] mids fixable underway_start);
+          makes = λ d below. well_then plan starts broke.starts broke.stood d earlier (last ∷ [])
+              (broke.makes d below) (cells.makes d below);
+        };
+        folders = refl;
+      }
+  last_of earlier last news Memory broke = absurd broke.breaks
+
   -- all blocks of the stripes before the one that broke off were written
   files_of : (earlier : List Mended) (last : Mended) (news : List FolderView) (by : RunFault) → BreaksFolders plan starts states by earlier last mids news
       → BreaksFiles plan starts by earlier last mids news
   files_of earlier last news by broke = record {
     written = record { starts = broke.starts; states = broke.states; folders = broke.mids };
     writes = record { stood = broke.stood; underway = broke.underway [] mids fixable underway_start; makes = broke.makes };
-    breaks = broke.breaks;
+    breaks = last_of earlier last news by broke;
   }
 
   module _ (opened : Told view standing stands table.columns opening old.lines opened_lines old.reports opened_reports) (written : List Bool)

@@ -32,8 +32,7 @@ use Rattle.snap_fix.specs.State.{AnyCall, FolderMakes}
 use Rattle.snap_fix.specs.Underway.{FixUnderway, HoldsWrong, IsMendCall, stripe_calls, stripe_reads}
 use Rattle.snap_fix.proofs.FixAllLemmas.{answered_then, asked_then, breaks_in_last, facts_append, facts_then, fixes_none, fixes_then, levels_then, precede, tells_prefix, unread_then}
 use Rattle.snap_fix.proofs.FixCountLemmas.{count_append, parity_io_in_stripe}
-use Rattle.snap_fix.proofs.FolderFailsLemmas.{columns_any}
-use Rattle.snap_fix.proofs.KeptStartsLemmas.{files_one, files_then}
+use Rattle.snap_fix.proofs.KeptStartsLemmas.{cells_any, files_one, files_then}
 use Rattle.snap_fix.proofs.MendedVaultLemmas.{Precede}
 use Rattle.snap_fix.proofs.WindowLemmas.{slots_same}
 
@@ -211,6 +210,6 @@ module _ {W R : Type 0} (view : W → SinkView) (standing : R → ReportView) (s
           broke = broke_more fault xs front broke.first (count_by has_failed readings) one old mid new refl (omega (arith, few, fewer)) so_far.fixes
               (λ d below. (
                 AnyCall (IsMendCall plan mid.starts d ys),
-                columns_any fault (length plan.table.columns) (λ (k : ℕ). IsMendCall plan mid.starts k ys) mid.folders new.folders broke.makes d below,
+                cells_any fault plan mended mid.starts mid.states mid.folders new.folders broke.makes d below,
               )) broke.vault.calls broke.broke;
         }

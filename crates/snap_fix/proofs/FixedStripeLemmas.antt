@@ -177,7 +177,14 @@ module _ {W R : Type 0} (view : W → SinkView) (standing : R → ReportView) (s
       ran = fails_stripe plan facts old.vault vault new.vault parity.calls.goes_on.later levels_read_of parity.ran;
       spare = asks;
       vault = mends_vault plan facts (is_searched plan stripe) stripe mid.levels old.vault vault new.vault reads parity.calls parity.drafts parity.changes;
-      makes = λ d within. well_makes_as plan old.starts d facts [] files.answers (folder_at old.folders d) (folder_at new.folders d) (files.makes facts refl shown d within);
+      makes = record {
+        starts = new.starts;
+        states = new.states;
+        stood = files.stood;
+        makes = λ d within. well_makes_as plan old.starts d facts [] files.answers
+            (folder_at old.folders d) (folder_at new.folders d) (files.makes facts refl shown d within);
+        underway = files.underway facts refl shown;
+      };
       broke = vault_broke plan facts (is_searched plan stripe) stripe mid.levels old.vault vault new.vault reads _ parity.calls
           (read_broke plan facts old.vault vault new.vault parity.calls.goes_on.later parity.rose levels_read_of) parity.call;
     }

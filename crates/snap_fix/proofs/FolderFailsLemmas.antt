@@ -8,11 +8,9 @@ use Rattle.disk_model.specs.Stopped.{MayBeLeft}
 use Rattle.disk_model.specs.Writing.{IsFolderWrite}
 use Rattle.disk_model.proofs.AnsweredLemmas.{write_is_left, left_then, left_is_tree}
 use Rattle.snap_report.specs.Answer.{Gained, broke_folder, is_reading}
-use Rattle.snap_report.specs.declared.answer.RunFault.{RunFault}
-use Rattle.snap_report.specs.declared.answer.RunFault.TheVariants.{Folder, Vault, Memory}
 use Rattle.stripe_reader.specs.Columns.{folder_at}
 use Rattle.stripe_reader.proofs.FolderLemmas.{goes_on_then}
-use Rattle.snap_fix.specs.Breaking.{BreaksColumns, FailsInColumn, FolderFails}
+use Rattle.snap_fix.specs.Breaking.{FailsInColumn, FolderFails}
 use Rattle.snap_fix.specs.State.{AnyCall, WellCall, FolderMakes}
 use Rattle.snap_fix.proofs.FolderCallLemmas.{makes_any, makes_none, makes_well_wider, well_wider}
 
@@ -123,9 +121,3 @@ module _ (disk columns : ℕ) (P : ℕ → FolderCall → Type 0) (olds news : L
           subst (λ (k : ℕ). FolderMakes (AnyCall (P k)) (folder_at olds k) (folder_at news k)) here (fails_any (P disk) one.here)
     ]
   ]
-
-pub columns_any : (fault : RunFault) (columns : ℕ) (P : ℕ → FolderCall → Type 0) (olds news : List FolderView) → BreaksColumns fault columns P olds news
-    → (d : ℕ) → d < columns → FolderMakes (AnyCall (P d)) (folder_at olds d) (folder_at news d)
-columns_any (Folder disk) columns P olds news one d below = in_column_any disk columns P olds news one d below
-columns_any Vault columns P olds news one d below = makes_any (P d) (one d below)
-columns_any Memory columns P olds news one d below = absurd one

@@ -4,17 +4,18 @@ use Rattle.std.proofs.lemmas.List.{append-nil}
 use Rattle.std.proofs.lemmas.List.Elements.{Contains-append_left, Contains-append_right}
 use Rattle.disk_model.specs.Folder.{FolderView}
 use Rattle.snap_report.specs.declared.answer.RunFault.{RunFault}
+use Rattle.snap_report.specs.declared.answer.RunFault.TheVariants.{Folder, Vault, Memory}
 use Rattle.stripe_reader.specs.Columns.{folder_at}
 use Rattle.stripe_reader.specs.Starts.{StartsValue}
 use Rattle.snap_fix.specs.declared.state.FileState.{FileState}
-use Rattle.snap_fix.specs.Breaking.{BreaksColumns}
 use Rattle.snap_fix.specs.FixRun.{BreaksFolders}
+use Rattle.snap_fix.specs.Fixing.{BreaksCells}
 use Rattle.snap_fix.specs.Mended.{Mended}
 use Rattle.snap_fix.specs.Plan.{FixPlan}
 use Rattle.snap_fix.specs.State.{AnyCall, WellCall, FolderMakes, KeepsStarts}
 use Rattle.snap_fix.specs.Underway.{AreFixable, AreUnderway, IsMendCall}
 use Rattle.snap_fix.proofs.FolderCallLemmas.{makes_any, makes_any_wider, makes_none, makes_then, makes_well_wider}
-use Rattle.snap_fix.proofs.FolderFailsLemmas.{columns_any}
+use Rattle.snap_fix.proofs.FolderFailsLemmas.{in_column_any}
 use Rattle.snap_fix.proofs.StartsKeptLemmas.{keeps_starts_same, keeps_starts_then, mend_call_wider}
 
 -- ---- which calls
@@ -30,10 +31,21 @@ module _ (plan : FixPlan) (before after : StartsValue) (stood : KeepsStarts befo
 
 -- ---- where they break off
 
+-- the calls for the last stripe are calls for it all the same
+pub cells_any : (fault : RunFault) (plan : FixPlan) (last : Mended) (starts : StartsValue) (states : List (List FileState))
+    (olds news : List FolderView) → BreaksCells fault plan last starts states olds news
+    → (d : ℕ) → d < length plan.table.columns
+    → FolderMakes (AnyCall (IsMendCall plan starts d (last ∷ []))) (folder_at olds d) (folder_at news d)
+cells_any (Folder disk) plan last starts states olds news one d below =
+    in_column_any disk (length plan.table.columns) (λ (k : ℕ). IsMendCall plan starts k (last ∷ [])) olds news one d below
+cells_any Vault plan last starts states olds news one d below =
+    makes_any (IsMendCall plan starts d (last ∷ [])) (one.makes d below)
+cells_any Memory plan last starts states olds news one d below = absurd one
+
 module _ (plan : FixPlan) (fault : RunFault) where
   -- in the only stripe
   pub files_one : (starts : StartsValue) (states : List (List FileState)) (last : Mended) (olds news : List FolderView)
-      → BreaksColumns fault (length plan.table.columns) (λ (d : ℕ). IsMendCall plan starts d (last ∷ [])) olds news → BreaksFolders plan starts states fault [] last olds news
+      → BreaksCells fault plan last starts states olds news → BreaksFolders plan starts states fault [] last olds news
   files_one starts states last olds news breaks = record {
     starts = starts;
     stood = keeps_starts_same starts;
@@ -75,4 +87,4 @@ module _ (plan : FixPlan) (fault : RunFault) where
       (makes_any (IsMendCall plan starts d earlier) (broke.makes d below)))
       (makes_any_wider (IsMendCall plan broke.starts d one) (IsMendCall plan starts d all)
       (mend_call_wider plan starts broke.starts d one all broke.stood (Contains-append_right earlier one))
-      (columns_any fault (length plan.table.columns) (λ (k : ℕ). IsMendCall plan broke.starts k one) broke.mids news broke.breaks d below))
+      (cells_any fault plan last broke.starts broke.states broke.mids news broke.breaks d below))

@@ -82,9 +82,3 @@ pub record FailsInColumn (disk columns : ℕ) (P : ℕ → FolderCall → Type 0
   pub before : (d : ℕ) → d < disk → FolderMakes (WellCall (P d)) (folder_at olds d) (folder_at news d)
   pub here : FolderFails (P disk) (folder_at olds disk) (folder_at news disk)
   pub behind : (d : ℕ) → disk < d → d < columns → folder_at news d ≡ folder_at olds d
-
--- A fix broke off at the folders or behind them: where the vault failed, only such calls were made as went well.
-abbrev pub BreaksColumns : RunFault → ℕ → (ℕ → FolderCall → Type 0) → List FolderView → List FolderView → Type 0
-BreaksColumns (Folder disk) columns P olds news = FailsInColumn disk columns P olds news
-BreaksColumns Vault columns P olds news = (d : ℕ) → d < columns → FolderMakes (WellCall (P d)) (folder_at olds d) (folder_at news d)
-BreaksColumns Memory columns P olds news = ⊥

@@ -20,7 +20,7 @@ use Rattle.snap_fix.specs.declared.finishing.Finish.{Finish}
 use Rattle.snap_fix.specs.declared.scope.Mode.{Mode}
 use Rattle.snap_fix.specs.Asking.{AsksSpare}
 use Rattle.snap_fix.specs.Beginning.{BeginsNot}
-use Rattle.snap_fix.specs.Breaking.{BreaksColumns, FailsAfter, FailsInColumn}
+use Rattle.snap_fix.specs.Breaking.{FailsAfter, FailsInColumn}
 use Rattle.snap_fix.specs.Course.{IsPlan, Outside}
 use Rattle.snap_fix.specs.Ending.{AreDone, FinishesOne, all_finish_news}
 use Rattle.snap_fix.specs.Findings.{opening_events}
@@ -30,26 +30,47 @@ use Rattle.snap_fix.specs.Fixing.{MendsVault, facts_of}
 use Rattle.snap_fix.specs.Looking.{numbers_of, unread_cells, unread_in}
 use Rattle.snap_fix.specs.Mended.{Mended, all_mended_events}
 use Rattle.snap_fix.specs.Plan.{FixPlan, starts_of, stripes_of}
+use Rattle.snap_fix.specs.State.{WellCall, FolderMakes, KeepsStarts}
 use Rattle.snap_fix.specs.Underway.{IsMendCall, done_well, mend_calls}
 
 -- what is told before files are finished
 abbrev pub written_events : FixPlan → List Mended → List Event
 written_events plan stripes = opening_events plan ++ all_mended_events plan stripes
 
+-- where files stood, what was done to them, and what their folders held, once these first stripes were written, and
+-- then the last one: only calls for its blocks were made, by where files stood before it, and no call that writes failed
+pub record WritesLast (plan : FixPlan) (starts : StartsValue) (earlier : List Mended) (last : Mended)
+    (firsts : List FolderView) (before : Written) (news : List FolderView) : Type 0 where
+  pub makes : (d : ℕ) → d < length plan.table.columns
+      → FolderMakes (WellCall (IsMendCall plan before.starts d (last ∷ []))) (folder_at before.folders d) (folder_at news d)
+  pub written : Written
+  pub stood : KeepsStarts before.starts written.starts
+  pub writes : WritesFiles plan starts (earlier ++ last ∷ []) firsts written
+  pub folders : written.folders ≡ news
+
+-- by what failed
+abbrev pub BreaksLast : RunFault → FixPlan → StartsValue → List Mended → Mended → List FolderView → Written
+    → List FolderView → Type 0
+BreaksLast (Folder disk) plan starts earlier last firsts before news =
+    FailsInColumn disk (length plan.table.columns) (λ (d : ℕ). IsMendCall plan before.starts d (last ∷ []))
+    before.folders news
+BreaksLast Vault plan starts earlier last firsts before news = WritesLast plan starts earlier last firsts before news
+BreaksLast Memory plan starts earlier last firsts before news = ⊥
+
 -- Of the folders: all blocks of the stripes before the last one were written, and then calls for that one were made, by
--- where files stood then: where a folder failed, up to the call of it that did, and where a call of the vault did, only
--- such as went well.
+-- where files stood then: where a folder failed, up to the call of it that did, and where a call of the vault did, all
+-- blocks of that one were written, too.
 pub record BreaksFiles (plan : FixPlan) (starts : StartsValue) (fault : RunFault) (earlier : List Mended)
     (last : Mended) (firsts news : List FolderView) : Type 0 where
   pub written : Written
   pub writes : WritesFiles plan starts earlier firsts written
-  pub breaks : BreaksColumns fault (length plan.table.columns) (λ (d : ℕ). IsMendCall plan written.starts d (last ∷ []))
-      written.folders news
+  pub breaks : BreaksLast fault plan starts earlier last firsts written news
 
 -- While blocks were written, in the last of its stripes: all events of the stripes before it were told, and of its own
--- all that was found in it, and a prefix of what is told of its writes. Of the folders only calls that write their blocks were made, which went well but for the last one of a
--- folder that failed, in the last stripe, and all blocks of the stripes before it were written. Of the vault all calls
--- for these stripes were made, up to the writes of the last one.
+-- all that was found in it, and a prefix of what is told of its writes. Of the folders only calls that write their
+-- blocks were made, which went well but for the last one of a folder that failed, in the last stripe. All blocks of the
+-- stripes before it were written, and where the vault failed, all of the last one. Of the vault all calls for these
+-- stripes were made, up to the writes of the last one.
 pub record BreaksWriting (plan : FixPlan) (starts : StartsValue) (fault : RunFault) (stripes : List Mended)
     (readings : List (List LevelReading)) (first : List Event) (firsts news : List FolderView) (old new : VaultView)
     : Type 0 where

@@ -7,7 +7,7 @@ use Rattle.disk_model.specs.Vault.{VaultView, VaultDone, GoesOn, Reads}
 use Rattle.parity_writer.specs.LevelReading.{LevelReading}
 use Rattle.file_table.specs.Table.{TableValue}
 use Rattle.snap_report.specs.Answer.{Gained, broke_folder, is_io_of, is_parity_io}
-use Rattle.snap_fix.specs.Breaking.{BreaksAfter, BreaksColumns, broke_parity}
+use Rattle.snap_fix.specs.Breaking.{BreaksAfter, broke_parity}
 use Rattle.snap_report.specs.Report.{ReportView}
 use Rattle.snap_report.specs.Told.{Told}
 use Rattle.snap_report.specs.declared.answer.RunFault.{RunFault}
@@ -22,7 +22,7 @@ use Rattle.snap_fix.specs.declared.state.FileState.{FileState}
 use Rattle.snap_fix.specs.Asking.{AsksSpare}
 use Rattle.snap_fix.specs.Checking.{plan_for}
 use Rattle.snap_fix.specs.Facts.{StripeFacts}
-use Rattle.snap_fix.specs.Fixing.{AreTotals, AreReadThen, FixScene, FolderBroke, MendsVault, SceneFits, TellsOfBroken, Writes, facts_of, levels_begun}
+use Rattle.snap_fix.specs.Fixing.{AreTotals, AreReadThen, BreaksCells, FixScene, FolderBroke, MendsVault, SceneFits, TellsOfBroken, Writes, facts_of, levels_begun}
 use Rattle.snap_fix.specs.Known.{AreFacts}
 use Rattle.snap_fix.specs.Looking.{AreAllLevelsOf, numbers_of, facts_at, unread_cells, unread_in}
 use Rattle.snap_fix.specs.Marks.{slots_at}
@@ -142,7 +142,7 @@ pub record BreaksInLast (plan : FixPlan) (fault : RunFault) (earlier : List Stri
 
 -- Of the folders only calls that went well were made for the stripes before the last one, and whatever the fix did
 -- before, it went on with them. Then calls were made for the last one, by where files stood then: where a folder
--- failed, up to the call of it that did, and where a call of the vault did, only such as went well.
+-- failed, up to the call of it that did, and where a call of the vault did, all its blocks were written.
 pub record BreaksFolders (plan : FixPlan) (begun : StartsValue) (begun_states : List (List FileState))
     (fault : RunFault) (earlier : List Mended) (last : Mended) (olds news : List FolderView) : Type 0 where
   pub starts : StartsValue
@@ -154,8 +154,7 @@ pub record BreaksFolders (plan : FixPlan) (begun : StartsValue) (begun_states : 
   pub underway : (before : List Mended) (firsts : List FolderView) → AreFixable plan firsts
       → AreUnderway plan before firsts olds begun begun_states
       → AreUnderway plan (before ++ earlier) firsts mids starts states
-  pub breaks : BreaksColumns fault (length plan.table.columns) (λ (d : ℕ). IsMendCall plan starts d (last ∷ []))
-      mids news
+  pub breaks : BreaksCells fault plan last starts states mids news
 
 -- These events are all those of the stripes before the last one, and then those of the last one: all that was found in
 -- it, and a prefix of what is told of its writes.

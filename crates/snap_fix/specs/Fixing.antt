@@ -8,7 +8,7 @@ use Rattle.disk_model.specs.Vault.{VaultView, GoesOn, SomeCalls, ChangesBy, Draf
 use Rattle.file_table.specs.declared.shape.Shape.{Shape}
 use Rattle.parity_writer.specs.LevelReading.{LevelReading, has_failed}
 use Rattle.snap_report.specs.Answer.{Gained, broke_folder}
-use Rattle.snap_fix.specs.Breaking.{BreaksAfter, BreaksColumns, broke_parity}
+use Rattle.snap_fix.specs.Breaking.{BreaksAfter, FailsInColumn, broke_parity}
 use Rattle.snap_report.specs.Report.{ReportView}
 use Rattle.snap_report.specs.Told.{Told}
 use Rattle.snap_report.specs.declared.answer.RunFault.{RunFault}
@@ -215,8 +215,30 @@ pub record TellsOfBroken (plan : FixPlan) (mended : Mended) (told : List Event) 
   pub told_is : told ≡ stripe_events plan mended.facts ++ more
   pub writes : write_events plan mended ≡ more ++ rest
 
+-- All blocks of a stripe were written: no call of a folder failed but readings, and whatever the fix did before, it
+-- goes on with this stripe.
+pub record WritesCells (plan : FixPlan) (mended : Mended) (begun : StartsValue) (begun_states : List (List FileState))
+    (olds news : List FolderView) : Type 0 where
+  pub starts : StartsValue
+  pub states : List (List FileState)
+  pub stood : KeepsStarts begun starts
+  pub makes : (d : ℕ) → d < length plan.table.columns
+      → FolderMakes (WellCall (IsMendCall plan begun d (mended ∷ []))) (folder_at olds d) (folder_at news d)
+  pub underway : (stripes : List Mended) (firsts : List FolderView) → AreFixable plan firsts
+      → AreUnderway plan stripes firsts olds begun begun_states
+      → AreUnderway plan (stripes ++ mended ∷ []) firsts news starts states
+
+-- The blocks of a stripe that broke off: where a folder failed, calls for it were made up to the one that did, and where
+-- the vault failed, all blocks were written.
+abbrev pub BreaksCells : RunFault → FixPlan → Mended → StartsValue → List (List FileState) → List FolderView
+    → List FolderView → Type 0
+BreaksCells (Folder disk) plan mended starts states olds news =
+    FailsInColumn disk (length plan.table.columns) (λ (d : ℕ). IsMendCall plan starts d (mended ∷ [])) olds news
+BreaksCells Vault plan mended starts states olds news = WritesCells plan mended starts states olds news
+BreaksCells Memory plan mended starts states olds news = ⊥
+
 -- A stripe that broke off: the facts of it stand, all that was found was told, and only calls were made that it asks for, none of a
--- folder behind one that failed. Its levels were read; where a call of the vault failed, it is the write of a wrong one, and else none
+-- folder behind one that failed. Where a call of the vault failed, all its blocks were written. Its levels were read; where a call of the vault failed, it is the write of a wrong one, and else none
 -- was written.
 pub record BreaksStripe {W R : Type 0} (view : W → SinkView) (standing : R → ReportView) (stands : R → List Event → Type 0)
     (plan : FixPlan) (stripe i : ℕ) (before : Room) (old new : FixScene W R) (fault : RunFault) : Type 0 where
@@ -233,5 +255,5 @@ pub record BreaksStripe {W R : Type 0} (view : W → SinkView) (standing : R →
   pub ran : BreaksAfter fault (stripe_reads plan mended.facts read.readings) (done_well (wrong_writes plan mended.facts)) old.vault new.vault
   pub spare : AsksSpare plan (mended.facts ∷ []) old.spare new.spare
   pub vault : MendsVault plan (levels_begun fault [] mended.facts) old.vault new.vault
-  pub makes : BreaksColumns fault (length plan.table.columns) (λ (d : ℕ). IsMendCall plan old.starts d (mended ∷ [])) old.folders new.folders
+  pub makes : BreaksCells fault plan mended old.starts old.states old.folders new.folders
   pub broke : IsBrokenBy plan fault (count_by has_failed read.readings) old.folders new.folders old.vault new.vault
