@@ -1,14 +1,17 @@
 -- Some calls of a vault of which one failed, behind others and before others.
-use Rattle.std.proofs.Common.{◌≡◌, ℕ, zero, suc, ◌+◌, ◌-◌, ◌≤◌, List, [], ◌∷◌, ◌++◌, false, true, sym, ap, ◌∙◌, refl, subst, arith, append_assoc}
+use Rattle.std.proofs.Common.{◌≡◌, ℕ, zero, suc, ◌+◌, ◌-◌, ◌≤◌, List, [], ◌∷◌, ◌++◌, false, true, sym, ap, ◌∙◌, subst, arith, append_assoc}
 use Rattle.std.specs.List.{range_with_len, flat_map}
-use Rattle.std.proofs.lemmas.List.{append-nil, map-append}
+use Rattle.std.proofs.lemmas.List.{append-nil}
 use Rattle.array_scan.proofs.PlacingLemmas.{flat_range_more}
 use Rattle.disk_model.specs.Ran.{vault_done}
-use Rattle.disk_model.specs.Vault.{VaultView, VaultCall, VaultDone, GoesOn}
+use Rattle.disk_model.specs.Vault.{VaultView, VaultDone, GoesOn}
 use Rattle.snap_report.specs.declared.answer.RunFault.{RunFault}
 use Rattle.snap_report.specs.declared.answer.RunFault.TheVariants.{Folder, Vault, Memory}
-use Rattle.snap_fix.specs.Breaking.{BreaksAfter, FailsAfter, FailsIn, writes_parity}
-use Rattle.snap_fix.specs.Underway.{done_well}
+use Rattle.snap_fix.specs.Breaking.{FailsAfter, FailsIn}
+use Rattle.snap_fix.specs.BrokenStripe.{BreaksLevels, FailsAtLevel, writes_below}
+use Rattle.snap_fix.specs.Facts.{StripeFacts}
+use Rattle.snap_fix.specs.Plan.{FixPlan}
+use Rattle.snap_fix.specs.Underway.{done_well, level_write}
 use Rattle.snap_fix.proofs.LookingLemmas.{vault_goes_on}
 
 -- others were to come after them
@@ -43,22 +46,6 @@ fails_behind front whole old mid new ran part = record {
   goes_on = vault_goes_on old mid new front part.done ran part.goes_on;
 }
 
--- the first ones were made, and then one failed
-pub fails_at : (front rest : List VaultCall) (call : VaultCall) (old mid new : VaultView) → writes_parity call ≡ true → GoesOn old mid (done_well front) → GoesOn mid new (vault_done call true ∷ [])
-    → FailsAfter [] (done_well (front ++ call ∷ rest)) old new
-fails_at front rest call old mid new writes ran fails = record {
-  done = done_well front ++ vault_done call true ∷ [];
-  fails = record {
-    front = done_well front;
-    call = call;
-    writes = writes;
-    rest = done_well rest;
-    whole_is = map-append (λ (it : VaultCall). vault_done it false) front (call ∷ rest);
-    done_is = refl;
-  };
-  goes_on = vault_goes_on old mid new (done_well front) (vault_done call true ∷ []) ran fails;
-}
-
 -- ---- behind some calls
 
 pub fails_after : (before others : List VaultDone) (old mid new : VaultView) → GoesOn old mid before → FailsAfter [] others mid new → FailsAfter before others old new
@@ -69,15 +56,28 @@ fails_after before others old mid new ran part = record {
 }
 
 -- and behind more of them
-pub breaks_then : (fault : RunFault) (front before others : List VaultDone) (old mid new : VaultView) → GoesOn old mid front → BreaksAfter fault before others mid new
-    → BreaksAfter fault (front ++ before) others old new
-breaks_then (Folder disk) front before others old mid new ran part = vault_goes_on old mid new front before ran part
-breaks_then Vault front before others old mid new ran part = record {
-  done = part.done;
-  fails = part.fails;
-  goes_on = subst (GoesOn old new) (sym (append_assoc front before part.done)) (vault_goes_on old mid new front (before ++ part.done) ran part.goes_on);
-}
-breaks_then Memory front before others old mid new ran part = part
+pub level_after : (plan : FixPlan) (facts : StripeFacts) (level : ℕ) (front before : List VaultDone)
+    (old mid new : VaultView) → GoesOn old mid front → FailsAtLevel plan facts level before mid new
+    → FailsAtLevel plan facts level (front ++ before) old new
+level_after plan facts level front before old mid new ran part =
+    let done = done_well (writes_below plan facts level) ++ vault_done (level_write plan facts part.row level) true ∷ [] in
+    record {
+      within = part.within;
+      wrong = part.wrong;
+      row = part.row;
+      row_is = part.row_is;
+      goes_on = subst (GoesOn old new) (sym (append_assoc front before done))
+          (vault_goes_on old mid new front (before ++ done) ran part.goes_on);
+    }
+
+pub breaks_then : (fault : RunFault) (plan : FixPlan) (facts : StripeFacts) (level : ℕ) (front before : List VaultDone)
+    (old mid new : VaultView) → GoesOn old mid front → BreaksLevels fault plan facts level before mid new
+    → BreaksLevels fault plan facts level (front ++ before) old new
+breaks_then (Folder disk) plan facts level front before old mid new ran part =
+    vault_goes_on old mid new front before ran part
+breaks_then Vault plan facts level front before old mid new ran part =
+    level_after plan facts level front before old mid new ran part
+breaks_then Memory plan facts level front before old mid new ran part = part
 
 -- ---- joined over numbers
 

@@ -23,10 +23,10 @@ use Rattle.stripe_reader.specs.Columns.{folder_at}
 use Rattle.snap_fix.specs.declared.fixing.Totals.{Totals}
 use Rattle.snap_fix.specs.declared.room.Room.{Room}
 use Rattle.snap_fix.specs.Asking.{AsksSpare}
+use Rattle.snap_fix.specs.BrokenStripe.{broken_events}
 use Rattle.snap_fix.specs.Facts.{StripeFacts}
-use Rattle.snap_fix.specs.Findings.{stripe_events}
 use Rattle.snap_fix.specs.FixRun.{AreAscending, BreaksInLast, FixesAll, HoldAllWrong, TellsInLast}
-use Rattle.snap_fix.specs.Fixing.{AreTotals, FixScene, FixesStripe, MendsVault, SceneFits, TellsOfBroken, Writes, facts_of, levels_begun, was_written}
+use Rattle.snap_fix.specs.Fixing.{AreTotals, FixScene, FixesStripe, MendsVault, SceneFits, Writes, facts_of, levels_begun, was_written}
 use Rattle.snap_fix.specs.Known.{AreFacts}
 use Rattle.snap_fix.specs.Looking.{AreAllLevelsOf, numbers_of, unread_in}
 use Rattle.snap_fix.specs.Mended.{AnswersFit, Mended, all_mended_events, is_wrong_level, mended_events}
@@ -163,16 +163,16 @@ begun_all (Folder disk) plan earlier last old new mends = mends_append plan earl
 begun_all Vault plan earlier last old new mends = mends
 begun_all Memory plan earlier last old new mends = mends_append plan earlier (last ∷ []) old new new mends (mends_nothing plan (last ∷ []) new)
 
-pub mends_in_last : (fault : RunFault) (plan : FixPlan) (earlier : List StripeFacts) (last : StripeFacts) (readings : List (List LevelReading)) (old new : VaultView)
-    → BreaksInLast plan fault earlier last readings old new → MendsVault plan (earlier ++ last ∷ []) old new
-mends_in_last fault plan earlier last readings old new broke = begun_all fault plan earlier last old new broke.vault
+pub mends_in_last : (fault : RunFault) (plan : FixPlan) (level : ℕ) (earlier : List StripeFacts) (last : StripeFacts) (readings : List (List LevelReading)) (old new : VaultView)
+    → BreaksInLast plan fault level earlier last readings old new → MendsVault plan (earlier ++ last ∷ []) old new
+mends_in_last fault plan level earlier last readings old new broke = begun_all fault plan earlier last old new broke.vault
 
 -- the calls of some stripes up to the writes of the last one, after those of others
-pub breaks_in_last : (fault : RunFault) (plan : FixPlan) (xs ys : List Mended) (last : Mended) (firsts more : List (List LevelReading)) (old mid new : VaultView)
+pub breaks_in_last : (fault : RunFault) (plan : FixPlan) (level : ℕ) (xs ys : List Mended) (last : Mended) (firsts more : List (List LevelReading)) (old mid new : VaultView)
     → Precede (facts_of xs) (facts_of (ys ++ last ∷ [])) → AreAllLevelsOf plan.table.shape.block_size old (facts_of xs) firsts
     → GoesOn old mid (mend_calls plan (facts_of xs) firsts) → MendsVault plan (facts_of xs) old mid → HoldAllWrong plan (facts_of xs) mid
-    → BreaksInLast plan fault (facts_of ys) last.facts more mid new → BreaksInLast plan fault (facts_of (xs ++ ys)) last.facts (firsts ++ more) old new
-breaks_in_last fault plan xs ys last firsts more old mid new before read ran mends holds broke =
+    → BreaksInLast plan fault level (facts_of ys) last.facts more mid new → BreaksInLast plan fault level (facts_of (xs ++ ys)) last.facts (firsts ++ more) old new
+breaks_in_last fault plan level xs ys last firsts more old mid new before read ran mends holds broke =
     let one = facts_of xs in
     let two = facts_of ys in
     let facts = facts_append xs ys in
@@ -180,14 +180,14 @@ breaks_in_last fault plan xs ys last firsts more old mid new before read ran men
     let calls = mend_calls plan one firsts in
     let writes = done_well (wrong_writes plan last.facts) in
     let then : Precede one behind = subst (Precede one) (facts_append ys (last ∷ [])) before in
-    let mended = mends_in_last fault plan two last.facts more mid new broke in
+    let mended = mends_in_last fault plan level two last.facts more mid new broke in
     record {
       before = calls ++ broke.before;
       calls_are = ap (λ (stripes : List StripeFacts). mend_calls plan stripes (firsts ++ more))
           (ap (λ (stripes : List StripeFacts). stripes ++ last.facts ∷ []) facts ∙ append_assoc one two (last.facts ∷ []))
           ∙ mend_calls_append plan plan.table.shape.block_size old one behind firsts more read
           ∙ ap (λ (others : List VaultDone). calls ++ others) broke.calls_are ∙ sym (append_assoc calls broke.before writes);
-      ran = breaks_then fault calls broke.before writes old mid new ran broke.ran;
+      ran = breaks_then fault plan last.facts level calls broke.before old mid new ran broke.ran;
       vault = subst (λ (stripes : List StripeFacts). MendsVault plan stripes old new)
           (sym (ap (λ (stripes : List StripeFacts). levels_begun fault stripes last.facts) facts ∙ begun_append fault one two last.facts))
           (mends_append plan one (levels_begun fault two last.facts) old mid new mends broke.vault);
@@ -197,29 +197,28 @@ breaks_in_last fault plan xs ys last firsts more old mid new before read ran men
 
 -- ---- what was told where the last stripe broke off
 
--- of the last stripe it is a prefix of its events
-pub tells_prefix : (plan : FixPlan) (last : Mended) (told : List Event) (tells : TellsOfBroken plan last told)
-    → mended_events plan last ≡ told ++ tells.rest
-tells_prefix plan last told tells =
-    let found = stripe_events plan last.facts in
-    ap (λ (events : List Event). found ++ events) tells.writes
-    ∙ sym (append_assoc found tells.more tells.rest)
-    ∙ ap (λ (events : List Event). events ++ tells.rest) (sym tells.told_is)
+-- it is what was found and written
+pub tells_exact : (plan : FixPlan) (fault : RunFault) (level : ℕ) (earlier : List Mended) (last : Mended) (first : List Event)
+    → TellsInLast plan fault level earlier last first
+    → first ≡ all_mended_events plan earlier ++ broken_events fault plan last level
+tells_exact plan fault level earlier last first tells =
+    tells.first_is ∙ ap (λ (told : List Event). all_mended_events plan earlier ++ told) tells.tells.told_is
 
 -- it is a prefix of all events
-pub tells_first : (plan : FixPlan) (stripes earlier : List Mended) (last : Mended) (first : List Event) → stripes ≡ earlier ++ last ∷ []
-    → (tells : TellsInLast plan earlier last first) → all_mended_events plan stripes ≡ first ++ tells.tells.rest
-tells_first plan stripes earlier last first are tells =
+pub tells_first : (plan : FixPlan) (fault : RunFault) (level : ℕ) (stripes earlier : List Mended) (last : Mended) (first : List Event) → stripes ≡ earlier ++ last ∷ []
+    → (tells : TellsInLast plan fault level earlier last first) → all_mended_events plan stripes ≡ first ++ tells.tells.rest
+tells_first plan fault level stripes earlier last first are tells =
     let front = all_mended_events plan earlier in
     ap (all_mended_events plan) are ∙ events_append plan earlier (last ∷ [])
-    ∙ ap (λ (events : List Event). front ++ events) (append-nil (mended_events plan last) ∙ tells_prefix plan last tells.told tells.tells)
+    ∙ ap (λ (events : List Event). front ++ events) (append-nil (mended_events plan last) ∙ tells.tells.events)
     ∙ sym (append_assoc front tells.told tells.tells.rest)
     ∙ ap (λ (events : List Event). events ++ tells.tells.rest) (sym tells.first_is)
 
 -- after the events of others
-pub tells_then : (plan : FixPlan) (xs earlier : List Mended) (last : Mended) (first : List Event) → TellsInLast plan earlier last first
-    → TellsInLast plan (xs ++ earlier) last (all_mended_events plan xs ++ first)
-tells_then plan xs earlier last first tells =
+pub tells_then : (plan : FixPlan) (fault : RunFault) (level : ℕ) (xs earlier : List Mended) (last : Mended) (first : List Event)
+    → TellsInLast plan fault level earlier last first
+    → TellsInLast plan fault level (xs ++ earlier) last (all_mended_events plan xs ++ first)
+tells_then plan fault level xs earlier last first tells =
     let front = all_mended_events plan xs in
     record {
       told = tells.told;

@@ -36,6 +36,7 @@ use Rattle.snap_fix.specs.Checking.{plan_for}
 use Rattle.snap_fix.specs.Counts.{AreCounts}
 use Rattle.snap_fix.specs.Course.{IsPlan, Outside, outside}
 use Rattle.snap_fix.specs.Breaking.{FailsAfter}
+use Rattle.snap_fix.specs.BrokenStripe.{broken_events}
 use Rattle.snap_fix.specs.Ending.{FinishesAll, FinishesNotAll, FinishesOne, SyncsNot, SyncsWritten, all_finish_news, written_syncs}
 use Rattle.snap_fix.specs.Facts.{StripeFacts}
 use Rattle.snap_fix.specs.Findings.{opening_events}
@@ -52,7 +53,7 @@ use Rattle.snap_fix.specs.Spare.{SpareView}
 use Rattle.snap_fix.specs.State.{AnyCall, FolderMakes, WellCall, first_states}
 use Rattle.snap_fix.specs.Underway.{AreFixable, AreUnderway, IsMendCall, done_well, mend_calls}
 use Rattle.snap_fix.proofs.BreakingLemmas.{fails_after}
-use Rattle.snap_fix.proofs.FixAllLemmas.{facts_last, mends_in_last}
+use Rattle.snap_fix.proofs.FixAllLemmas.{facts_last, mends_in_last, tells_exact}
 use Rattle.snap_fix.proofs.FixCallLemmas.{fix_calls_of, fix_calls_of_writing}
 use Rattle.snap_fix.proofs.FixCountLemmas.{count_append}
 use Rattle.snap_fix.proofs.FixEventLemmas.{io_no_file, none_finishing, none_finishing_first, none_opening, parity_io_no_file}
@@ -183,15 +184,17 @@ module _ {W R : Type 0} (view : W → SinkView) (standing : R → ReportView) (s
           unread_cells_of = λ d within. rose_listed d _ _ within (broke.unread_cells_of d within);
           spare = broke.spare;
           vault = subst (λ (its : List StripeFacts). MendsVault plan its old.vault vault_mid) (sym (facts_last broke.stripes broke.earlier broke.last broke.stripes_are))
-              (mends_in_last fault plan (facts_of broke.earlier) broke.last.facts broke.readings old.vault vault_mid broke.ran);
+              (mends_in_last fault plan broke.level (facts_of broke.earlier) broke.last.facts broke.readings old.vault vault_mid broke.ran);
           first = opening ++ broke.first;
           off = inl (record {
             earlier = broke.earlier;
             last = broke.last;
             stripes_are = broke.stripes_are;
-            told = broke.first;
-            first_is = refl;
-            tells = broke.tells;
+            level = broke.level;
+            first_is = ap (λ (events : List Event). opening ++ events)
+                (tells_exact plan fault broke.level broke.earlier broke.last broke.first broke.tells)
+                ∙ sym (append_assoc opening (all_mended_events plan broke.earlier)
+                (broken_events fault plan broke.last broke.level));
             makes = files_of broke.earlier broke.last folders_mid fault broke.makes;
             ran = broke.ran;
           });

@@ -30,7 +30,7 @@ use Rattle.snap_fix.specs.Mended.{AnswersFit, Mended, all_mended_events, mended_
 use Rattle.snap_fix.specs.Plan.{FixPlan}
 use Rattle.snap_fix.specs.State.{AnyCall, FolderMakes}
 use Rattle.snap_fix.specs.Underway.{FixUnderway, HoldsWrong, IsMendCall, stripe_calls, stripe_reads}
-use Rattle.snap_fix.proofs.FixAllLemmas.{answered_then, asked_then, breaks_in_last, facts_append, facts_then, fixes_none, fixes_then, levels_then, precede, tells_prefix, unread_then}
+use Rattle.snap_fix.proofs.FixAllLemmas.{answered_then, asked_then, breaks_in_last, facts_append, facts_then, fixes_none, fixes_then, levels_then, precede, unread_then}
 use Rattle.snap_fix.proofs.FixCountLemmas.{count_append, parity_io_in_stripe}
 use Rattle.snap_fix.proofs.KeptStartsLemmas.{cells_any, files_one, files_then}
 use Rattle.snap_fix.proofs.MendedVaultLemmas.{Precede}
@@ -173,7 +173,7 @@ module _ {W R : Type 0} (view : W → SinkView) (standing : R → ReportView) (s
         let readings = broke.read.readings in
         let few = parity_io_in_stripe plan mended plan.table.shape.block_size readings broke.read.are.as_many broke.read.are.are_kept in
         let fewer = count_first is_parity_io (mended_events plan mended) broke.first broke.tells.rest
-        (tells_prefix plan mended broke.first broke.tells) in
+        broke.tells.events in
         let before_last = before_it all ascending i within first one old mid so_far mended broke.number in
         let none : xs ++ [] ≡ xs = append-nil xs in
         record {
@@ -185,6 +185,7 @@ module _ {W R : Type 0} (view : W → SinkView) (standing : R → ReportView) (s
           numbers_are = sym (take-append-drop (i + 1) all) ∙ ap (λ (its : List ℕ). its ++ drop (i + 1) all) (sym (numbers_so all ascending i within first one old mid so_far mended broke.number));
           slots = slots_more all ascending i within first one old mid so_far mended before.window broke.slots lanes same;
           are = facts_then plan xs ys so_far.fixes.are (All-cons (AreFacts plan) mended.facts [] broke.are (All-nil (AreFacts plan)));
+          level = broke.level;
           first = front ++ broke.first;
           tells = record { told = broke.first; first_is = refl; tells = broke.tells };
           told = told_then view standing stands plan.table.columns front broke.first old.lines mid.lines new.lines old.reports mid.reports new.reports so_far.fixes.told broke.told;
@@ -193,8 +194,8 @@ module _ {W R : Type 0} (view : W → SinkView) (standing : R → ReportView) (s
               (All-cons (AnswersFit plan mid.folders) mended [] broke.answered (All-nil (AnswersFit plan mid.folders)));
           readings = so_far.fixes.readings ++ readings ∷ [];
           read = levels_then plan xs ys old.vault mid.vault so_far.fixes.readings (readings ∷ []) so_far.fixes.vault before_last so_far.fixes.read (broke.read.are, tt);
-          ran = subst (λ (its : List Mended). BreaksInLast plan fault (facts_of its) mended.facts (so_far.fixes.readings ++ readings ∷ []) old.vault new.vault) none
-              (breaks_in_last fault plan xs [] mended so_far.fixes.readings (readings ∷ []) old.vault mid.vault new.vault before_last
+          ran = subst (λ (its : List Mended). BreaksInLast plan fault broke.level (facts_of its) mended.facts (so_far.fixes.readings ++ readings ∷ []) old.vault new.vault) none
+              (breaks_in_last fault plan broke.level xs [] mended so_far.fixes.readings (readings ∷ []) old.vault mid.vault new.vault before_last
               so_far.fixes.read so_far.fixes.ran so_far.fixes.vault so_far.fixes.holds (record {
                 before = stripe_reads plan mended.facts readings;
                 calls_are = append-nil (stripe_calls plan mended.facts readings);

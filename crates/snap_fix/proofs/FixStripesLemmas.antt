@@ -234,7 +234,7 @@ module _ {W R : Type 0} (view : W → SinkView) (standing : R → ReportView) (s
 
       -- what was told is a prefix of all events of the window
       told_first : all_mended_events plan into.stripes ≡ into.first ++ into.tells.tells.rest
-      told_first = tells_first plan into.stripes into.earlier into.last into.first into.stripes_are into.tells
+      told_first = tells_first plan fault into.level into.stripes into.earlier into.last into.first into.stripes_are into.tells
 
       -- the failed readings of the window count too, and those before it
       broke_then : (by : RunFault) → HasBrokenInto plan by into.first mids new.folders mid.vault new.vault
@@ -287,15 +287,16 @@ module _ {W R : Type 0} (view : W → SinkView) (standing : R → ReportView) (s
                 ∙ append_assoc (numbers_of (facts_of xs) ++ numbers_of (facts_of ys)) into.behind left
                 ∙ ap (λ (its : List ℕ). its ++ (into.behind ++ left)) (sym (numbers_append first one old so_far ys into.behind into.numbers_are into.slots));
             are = facts_then plan xs ys so_far.fixes.are into.are;
+            level = into.level;
             first = front ++ into.first;
-            tells = tells_then plan xs into.earlier into.last into.first into.tells;
+            tells = tells_then plan fault into.level xs into.earlier into.last into.first into.tells;
             told = told_then view standing stands plan.table.columns front into.first old.lines mid.lines new.lines old.reports mid.reports new.reports so_far.fixes.told into.told;
             folders = into.folders ∙ read.folders ∙ so_far.fixes.fits.folders ∙ sym fits_old.folders;
             answered = answered_then plan xs ys old.folders mids (λ d below. told_as d below ∙ (so_far.fixes.makes d below).goes_on.tells) so_far.fixes.answered into.answered;
             cells = read_more first one old so_far ys into.behind into.numbers_are into.slots;
             readings = so_far.fixes.readings ++ into.readings;
             read = levels_then plan xs ys old.vault mid.vault so_far.fixes.readings into.readings so_far.fixes.vault before so_far.fixes.read into.read;
-            ran = breaks_in_last fault plan xs into.earlier into.last so_far.fixes.readings into.readings old.vault mid.vault new.vault before_last
+            ran = breaks_in_last fault plan into.level xs into.earlier into.last so_far.fixes.readings into.readings old.vault mid.vault new.vault before_last
                 so_far.fixes.read so_far.fixes.ran so_far.fixes.vault so_far.fixes.holds into.ran;
             unread = unread_then so_far.fixes.readings into.readings old.vault.faults mid.vault.faults new.vault.faults so_far.fixes.unread into.unread;
             unread_cells_of = λ d below.

@@ -120,17 +120,14 @@ module _ {W R : Type 0} (view : W → SinkView) (standing : R → ReportView) (s
       → MendsNotLevels view standing stands plan stripe i window levels known old new → MendsNotParity view standing stands plan facts old new
   tried_not sure old new mends =
       let shown = shown_levels sure in
-      let events = mends.events facts shown in
       record {
         rose = mends.rose;
         call = mends.call;
         calls = mends.calls;
         drafts = mends.drafts;
+        level = mends.level;
         ran = mends.ran facts shown;
-        first = events.0;
-        rest = events.1;
-        events = events.2;
-        told = events.3;
+        told = mends.told facts shown;
         changes = mends.changes facts shown;
       }
 

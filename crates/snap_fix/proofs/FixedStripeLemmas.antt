@@ -26,7 +26,7 @@ use Rattle.snap_fix.specs.Fixing.{BreaksStripe, FixScene, FixesStripe, LevelsWer
 use Rattle.snap_fix.specs.FixSteps.{MendsNotParity, MendsParity, ShowsTried}
 use Rattle.snap_fix.specs.Looking.{LevelsAreRead}
 use Rattle.snap_fix.specs.Marks.{ChangesStripe}
-use Rattle.snap_fix.specs.Mended.{Mended, all_cell_news, all_level_news}
+use Rattle.snap_fix.specs.Mended.{Mended, all_cell_news, all_level_news, cell_news, level_news}
 use Rattle.snap_fix.specs.Plan.{FixPlan, is_searched}
 use Rattle.snap_fix.specs.Repairing.{MendsFiles, MendsNotFiles, levels_outside, outside}
 use Rattle.snap_fix.specs.Room.{IsRoomFor}
@@ -35,6 +35,8 @@ use Rattle.snap_fix.specs.Underway.{IsMendCall, ShowsFacts, stripe_reads}
 use Rattle.snap_fix.proofs.FixedCountLemmas.{totals_of, writes_one}
 use Rattle.snap_fix.proofs.FixedVaultLemmas.{call_as, fails_stripe, mends_vault, mends_zeros, ran_stripe, read_broke, reading_calls, reads_mend, reads_stripe, vault_broke, well_makes_as, were_read}
 use Rattle.snap_fix.proofs.FolderFailsLemmas.{fails_gained, in_column_wider}
+use Rattle.snap_fix.proofs.MendedCounts.{events_split}
+use Rattle.snap_fix.proofs.TellingLemmas.{events_to}
 use Rattle.snap_fix.proofs.WindowLemmas.{length_tried, levels_one}
 
 -- room with another sum in its block
@@ -156,38 +158,43 @@ module _ {W R : Type 0} (view : W → SinkView) (standing : R → ReportView) (s
         → AsksSpare plan (facts ∷ []) old.spare new.spare
         → BreaksStripe view standing stands plan stripe i before old new fault.Vault
     unfolding read_by
-    vault_failed parity asks = record {
-      mended = mended;
-      number = refl;
-      slots = refl;
-      are = examined.facts;
-      first = (found ++ cells) ++ parity.first;
-      tells = record {
-        more = cells ++ parity.first;
-        rest = parity.rest;
-        told_is = append_assoc found cells parity.first;
-        writes =
-            ap (λ (levels : List Event). cells ++ levels) parity.events
-            ∙ sym (append_assoc cells parity.first parity.rest);
-      };
-      told = told_then view standing stands plan.table.columns (found ++ cells) parity.first old.lines lines_then new.lines old.reports reports_then new.reports told_cells parity.told;
-      folders = files.folders;
-      answered = files.answered facts refl shown;
-      read = read_by new.vault parity.calls.goes_on.later;
-      ran = fails_stripe plan facts old.vault vault new.vault parity.calls.goes_on.later levels_read_of parity.ran;
-      spare = asks;
-      vault = mends_vault plan facts (is_searched plan stripe) stripe mid.levels old.vault vault new.vault reads parity.calls parity.drafts parity.changes;
-      makes = record {
-        starts = new.starts;
-        states = new.states;
-        stood = files.stood;
-        makes = λ d within. well_makes_as plan old.starts d facts [] files.answers
-            (folder_at old.folders d) (folder_at new.folders d) (files.makes facts refl shown d within);
-        underway = files.underway facts refl shown;
-      };
-      broke = vault_broke plan facts (is_searched plan stripe) stripe mid.levels old.vault vault new.vault reads _ parity.calls
-          (read_broke plan facts old.vault vault new.vault parity.calls.goes_on.later parity.rose levels_read_of) parity.call;
-    }
+    vault_failed parity asks =
+        let below : List Event = events_to (level_news plan facts) parity.level in
+        let within = parity.ran.within in
+        let split = events_split (level_news plan facts) parity.level (length facts.levels) (omega (arith, within)) in
+        record {
+          mended = mended;
+          number = refl;
+          slots = refl;
+          are = examined.facts;
+          level = parity.level;
+          first = (found ++ cells) ++ below;
+          tells = record {
+            told_is = append_assoc found cells below;
+            rest = split.0;
+            events =
+                ap (λ (levels : List Event). found ++ (cells ++ levels)) split.1
+                ∙ sym (append_assoc found cells (below ++ split.0))
+                ∙ sym (append_assoc (found ++ cells) below split.0);
+          };
+          told = told_then view standing stands plan.table.columns (found ++ cells) below old.lines lines_then new.lines old.reports reports_then new.reports told_cells parity.told;
+          folders = files.folders;
+          answered = files.answered facts refl shown;
+          read = read_by new.vault parity.calls.goes_on.later;
+          ran = fails_stripe plan facts old.vault vault new.vault parity.calls.goes_on.later levels_read_of parity.level parity.ran;
+          spare = asks;
+          vault = mends_vault plan facts (is_searched plan stripe) stripe mid.levels old.vault vault new.vault reads parity.calls parity.drafts parity.changes;
+          makes = record {
+            starts = new.starts;
+            states = new.states;
+            stood = files.stood;
+            makes = λ d within. well_makes_as plan old.starts d facts [] files.answers
+                (folder_at old.folders d) (folder_at new.folders d) (files.makes facts refl shown d within);
+            underway = files.underway facts refl shown;
+          };
+          broke = vault_broke plan facts (is_searched plan stripe) stripe mid.levels old.vault vault new.vault reads _ parity.calls
+              (read_broke plan facts old.vault vault new.vault parity.calls.goes_on.later parity.rose levels_read_of) parity.call;
+        }
 
   -- ---- a folder failed
 
@@ -199,27 +206,32 @@ module _ {W R : Type 0} (view : W → SinkView) (standing : R → ReportView) (s
   folder_failed new disk same files asks =
       let part = files.events facts refl shown in
       let answers : List Bool = part.0 in
-      let first : List Event = part.1 in
-      let rest : List Event = part.2 in
+      let cells_to : List Event = events_to (cell_news plan (record { facts = facts; answers = answers })) disk in
       let levels : List Event = all_level_news plan facts in
       let then_read : ReadsAlone new.vault = subst ReadsAlone (sym same) read_alone in
       let Call : List Bool → ℕ → FolderCall → Type 0 = λ its d. IsMendCall plan old.starts d (record { facts = facts; answers = its } ∷ []) in
       let fails = files.fails facts refl shown in
+      let within = fails.within in
+      let split = events_split (cell_news plan (record { facts = facts; answers = answers })) disk
+      (length plan.table.columns) (omega (arith, within)) in
       record {
         mended = record { facts = facts; answers = answers };
         number = refl;
         slots = refl;
         are = examined.facts;
-        first = found ++ first;
+        level = 0;
+        first = found ++ cells_to;
         tells = record {
-          more = first;
-          rest = rest ++ levels;
           told_is = refl;
-          writes = ap (λ (cells : List Event). cells ++ levels) part.3 ∙ append_assoc first rest levels;
+          rest = split.0 ++ levels;
+          events =
+              ap (λ (cells : List Event). found ++ (cells ++ levels)) split.1
+              ∙ ap (λ (events : List Event). found ++ events) (append_assoc cells_to split.0 levels)
+              ∙ sym (append_assoc found cells_to (split.0 ++ levels));
         };
-        told = told_then view standing stands plan.table.columns found first old.lines lines new.lines old.reports reports new.reports told part.5;
+        told = told_then view standing stands plan.table.columns found cells_to old.lines lines new.lines old.reports reports new.reports told part.2;
         folders = files.folders;
-        answered = part.4;
+        answered = part.1;
         spare = asks;
         read = then_read.read;
         ran = then_read.ran;

@@ -14,7 +14,8 @@ use Rattle.snap_report.specs.Answer.{Gained}
 use Rattle.stripe_reader.specs.Starts.{StartsValue}
 use Rattle.stripe_reader.specs.declared.starts.Place.{Place}
 use Rattle.stripe_reader.specs.declared.starts.Place.TheVariants.{Lost, Nowhere}
-use Rattle.snap_fix.specs.Breaking.{FailsAfter, broke_parity}
+use Rattle.snap_fix.specs.Breaking.{broke_parity}
+use Rattle.snap_fix.specs.BrokenStripe.{FailsAtLevel}
 use Rattle.snap_fix.specs.Examining.{ReadsTried}
 use Rattle.snap_fix.specs.Facts.{StripeFacts}
 use Rattle.snap_fix.specs.Fixing.{LevelsWereRead, MendsVault, VaultBroke}
@@ -23,7 +24,7 @@ use Rattle.snap_fix.specs.Mended.{Mended}
 use Rattle.snap_fix.specs.Plan.{FixPlan}
 use Rattle.snap_fix.specs.State.{WellCall, FolderMakes}
 use Rattle.snap_fix.specs.Underway.{AddsZeros, IsMendCall, IsMendedLevel, KeepsLevels, SetsUpCell, SetsUpOneOf, WritesCell, done_well, stripe_calls, stripe_reads, wrong_writes}
-use Rattle.snap_fix.proofs.BreakingLemmas.{fails_after}
+use Rattle.snap_fix.proofs.BreakingLemmas.{level_after}
 use Rattle.snap_fix.proofs.FolderCallLemmas.{makes_wider, well_wider}
 use Rattle.snap_fix.proofs.LookingLemmas.{vault_goes_on}
 use Rattle.snap_fix.proofs.WrittenLevelLemmas.{keeps_nothing}
@@ -119,11 +120,12 @@ reads_stripe plan facts old mid new later read = reads_by plan facts old mid new
 
 -- or one of the writes failed
 pub fails_stripe : (plan : FixPlan) (facts : StripeFacts) (old mid new : VaultView) (later : mid.faults ≤ new.faults) (read : LevelsAreRead plan (facts ∷ []) old mid)
-    → FailsAfter [] (done_well (wrong_writes plan facts)) mid new
-    → FailsAfter (stripe_reads plan facts (were_read plan facts old mid new later read).readings) (done_well (wrong_writes plan facts)) old new
-fails_stripe plan facts old mid new later read fails =
-    fails_after (stripe_reads plan facts (were_read plan facts old mid new later read).readings) (done_well (wrong_writes plan facts)) old mid new
-    (reads_stripe plan facts old mid new later read) fails
+    → (level : ℕ) → FailsAtLevel plan facts level [] mid new
+    → FailsAtLevel plan facts level (stripe_reads plan facts (were_read plan facts old mid new later read).readings) old new
+fails_stripe plan facts old mid new later read level fails =
+    let reads = stripe_reads plan facts (were_read plan facts old mid new later read).readings in
+    subst (λ (before : List VaultDone). FailsAtLevel plan facts level before old new) (append-nil reads)
+    (level_after plan facts level reads [] old mid new (reads_stripe plan facts old mid new later read) fails)
 
 -- ---- and then some are written
 

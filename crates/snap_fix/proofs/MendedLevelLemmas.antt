@@ -1,11 +1,10 @@
 -- The wrong levels of a stripe, written one after another.
-use Rattle.std.proofs.Common.{◌≡◌, inl, inr, ℕ, ◌+◌, ◌*◌, ◌<◌, ◌≤◌, List, [], ◌∷◌, ◌++◌, length, get_or, Bool, true, false, if◌then◌else◌, IsTrue, Option, None, Some, refl, sym, ◌∙◌, ap, ap₂, subst, append_assoc, arith}
+use Rattle.std.proofs.Common.{◌≡◌, inl, inr, ℕ, ◌+◌, ◌*◌, ◌<◌, ◌≤◌, List, [], ◌∷◌, ◌++◌, length, get_or, Bool, true, false, if◌then◌else◌, IsTrue, Option, None, Some, refl, sym, ◌∙◌, ap, ap₂, subst, arith}
 use Rattle.std.specs.List.{range_with_len, count_by, flat_map}
 use Rattle.std.specs.Prelude.{◌&&◌}
 use Rattle.std.proofs.lemmas.Bool.{cases_eq, cases_lt}
 use Rattle.std.proofs.lemmas.Grind.{flat_map-append}
 use Rattle.std.proofs.lemmas.List.{append-nil, get_or_past, map-append}
-use Rattle.array_scan.proofs.PlacingLemmas.{flat_range_more}
 use Rattle.cauchy.specs.Matrix.{parity_of as level_of}
 use Rattle.disk_model.specs.Cause.{Rose}
 use Rattle.disk_model.specs.Bytes.{put}
@@ -30,7 +29,7 @@ use Rattle.snap_report.specs.declared.events.Event.TheVariants.{FixedParity}
 use Rattle.snap_report.specs.declared.pages.Lines.{Lines}
 use Rattle.snap_report.proofs.ToldLemmas.{told_then, told_nothing}
 use Rattle.stripe_reader.specs.WindowValue.{WindowValue}
-use Rattle.snap_fix.specs.Breaking.{FailsAfter}
+use Rattle.snap_fix.specs.BrokenStripe.{FailsAtLevel}
 use Rattle.snap_fix.specs.Facts.{StripeFacts}
 use Rattle.snap_fix.specs.Findings.{is_wrong, is_wrong_by}
 use Rattle.snap_fix.specs.Marks.{row_if}
@@ -38,14 +37,13 @@ use Rattle.snap_fix.specs.Mended.{is_wrong_level, level_news}
 use Rattle.snap_fix.specs.Plan.{FixPlan, selects_level}
 use Rattle.snap_fix.specs.Repairing.{LevelsOutside, ShowsLevels, MendsLevels, MendsNotLevels, levels_outside}
 use Rattle.snap_fix.specs.RepairSteps.{WritesLevel, WritesNotLevel}
-use Rattle.snap_fix.specs.Underway.{AddsZeros, KeepsLevels, IsMendedLevel, HoldsWrong, done_well, level_write, wrong_write, wrong_writes}
-use Rattle.snap_fix.proofs.BreakingLemmas.{flat_split, fails_at}
+use Rattle.snap_fix.specs.Underway.{AddsZeros, KeepsLevels, IsMendedLevel, HoldsWrong, done_well, level_write, wrong_write}
 use Rattle.snap_fix.proofs.LookingLemmas.{vault_goes_on}
 use Rattle.snap_fix.proofs.SelectLemmas.{range_more}
 use Rattle.snap_fix.proofs.StripeLemmas.{level_of_first, levels_as_many}
 use Rattle.snap_fix.proofs.TellingLemmas.{events_to, events_to-more, told_as}
 use Rattle.snap_fix.proofs.WrittenLevelLemmas.{files_put, keeps_more, keeps_nothing, ran_nothing, ran_write, written_level, zeros_more, zeros_none}
-use Rattle.snap_fix.proofs.MendedCounts.{count_to-more, one_if, events_split, rose_later, gained_later}
+use Rattle.snap_fix.proofs.MendedCounts.{count_to-more, one_if, rose_later, gained_later}
 
 -- ---- one write
 
@@ -182,16 +180,16 @@ module _ {W R : Type 0} (view : W → SinkView) (standing : R → ReportView) (s
       ap (λ (of : Option Row). wrong_write plan facts of r) is ∙ ap (λ (b : Bool). if b then level_write plan facts row r ∷ [] else []) wrong
 
   -- the write of one more wrong level failed
-  pub levels_not : (r : ℕ) (row : Row) (old mid new : VaultView) → is_wrong_level plan facts r ≡ true → facts.row ≡ Some row → r < length facts.levels
-      → GoesOn old mid (done_well (writes_to r)) → GoesOn mid new (vault_done (level_write plan facts row r) true ∷ []) → FailsAfter [] (done_well (wrong_writes plan facts)) old new
-  levels_not r row old mid new wrong row_is below so_far fails =
-      let call : VaultCall = level_write plan facts row r in
-      let split = flat_split (wrong_write plan facts facts.row) (r + 1) (length facts.levels) (omega (arith, below)) in
-      let here : writes_to (r + 1) ≡ writes_to r ++ call ∷ [] =
-      sym (flat_range_more (wrong_write plan facts facts.row) r) ∙ ap (λ (more : List VaultCall). writes_to r ++ more) (one_written r row row_is wrong) in
-      let whole : wrong_writes plan facts ≡ writes_to r ++ call ∷ split.0 =
-      split.1 ∙ ap (λ (calls : List VaultCall). calls ++ split.0) here ∙ append_assoc (writes_to r) (call ∷ []) split.0 in
-      subst (λ (calls : List VaultCall). FailsAfter [] (done_well calls) old new) (sym whole) (fails_at (writes_to r) split.0 call old mid new refl so_far fails)
+  pub levels_not : (r : ℕ) (row : Row) (old mid new : VaultView) → is_wrong_level plan facts r ≡ true
+      → facts.row ≡ Some row → r < length facts.levels → GoesOn old mid (done_well (writes_to r))
+      → GoesOn mid new (vault_done (level_write plan facts row r) true ∷ []) → FailsAtLevel plan facts r [] old new
+  levels_not r row old mid new wrong row_is below so_far fails = record {
+    within = below;
+    wrong = wrong;
+    row = row;
+    row_is = row_is;
+    goes_on = vault_goes_on old mid new (done_well (writes_to r)) (vault_done (level_write plan facts row r) true ∷ []) so_far fails;
+  }
 
   pub levels_none : (s : LevelsOutside W R) → LevelsSoFar 0 0 s s
   levels_none s = record {
@@ -310,21 +308,17 @@ module _ {W R : Type 0} (view : W → SinkView) (standing : R → ReportView) (s
     call = λ tells. gained_later calls.goes_on.calls (fails.call tells) (fails.calls.goes_on.calls.told tells);
     calls = calls_then old.vault mid.vault new.vault calls fails.calls;
     drafts = drafts_then old.vault mid.vault new.vault calls.goes_on.tells drafts fails.drafts;
+    level = r;
     ran = λ facts shows.
         levels_not view standing stands plan facts r (row_at window i) old.vault mid.vault new.vault (wrong_shown plan facts stripe i r window levels known shows below ∙ wrong)
         (shows.row ∙ ap (λ (k : Bool). row_if k window i) (known_where_wrong plan stripe i r (level_at levels r) known window wrong))
         (omega (arith, below, many facts shows)) (so_far facts shows).ran
         (subst (λ (n : ℕ). GoesOn mid.vault new.vault (vault_done (ParityWrite r (facts.stripe * n) (level_of r n (row_at window i))) true ∷ [])) size_is
         (subst (λ (s : ℕ). GoesOn mid.vault new.vault (vault_done (ParityWrite r (s * size) (level_of r size (row_at window i))) true ∷ [])) (sym shows.stripe_is) fails.ran));
-    events = λ facts shows.
-        let split = events_split (level_news plan facts) r (length facts.levels) (omega (arith, below, many facts shows)) in (
-          events_to (level_news plan facts) r,
-          split.0,
-          split.1,
-          told_as view standing stands plan.table.columns (events_to (level_news plan facts) r) (events_to (level_news plan facts) r ++ []) old.lines new.lines old.reports new.reports
-              (sym (append-nil (events_to (level_news plan facts) r)))
-              (told_then view standing stands plan.table.columns (events_to (level_news plan facts) r) [] old.lines mid.lines new.lines old.reports mid.reports new.reports (so_far facts shows).told fails.told),
-        );
+    told = λ facts shows.
+        told_as view standing stands plan.table.columns (events_to (level_news plan facts) r) (events_to (level_news plan facts) r ++ []) old.lines new.lines old.reports new.reports
+        (sym (append-nil (events_to (level_news plan facts) r)))
+        (told_then view standing stands plan.table.columns (events_to (level_news plan facts) r) [] old.lines mid.lines new.lines old.reports mid.reports new.reports (so_far facts shows).told fails.told);
     changes = λ facts shows. more_changes view standing stands plan facts r old mid new (wrong_shown plan facts stripe i r window levels known shows below ∙ wrong) calls
         (subst (λ (n : ℕ). ChangesBy (TearsParity r (facts.stripe * n) n) mid.vault new.vault) size_is
         (subst (λ (s : ℕ). ChangesBy (TearsParity r (s * size) size) mid.vault new.vault) (sym shows.stripe_is) fails.changes))

@@ -26,7 +26,7 @@ use Rattle.snap_fix.specs.RepairSteps.{column_outside, IsMendedAs, CanMendColumn
 use Rattle.snap_fix.specs.State.{WellCall, FolderMakes, KeepsStarts}
 use Rattle.snap_fix.specs.Underway.{IsFixable, IsColumnUnderway, IsMendCall, ShowsFacts}
 use Rattle.snap_fix.proofs.FolderFailsLemmas.{fails_wider}
-use Rattle.snap_fix.proofs.MendedCounts.{count_to-more, events_split}
+use Rattle.snap_fix.proofs.MendedCounts.{count_to-more}
 use Rattle.snap_fix.proofs.RepairCellLemmas.{none_written}
 use Rattle.snap_fix.proofs.RepairLemmas.{bare, underway_same}
 use Rattle.snap_fix.proofs.StartsKeptLemmas.{keeps_starts_same, keeps_starts_then, makes_well_before, mend_call_before}
@@ -219,12 +219,8 @@ module _ {W R : Type 0} (view : W → SinkView) (standing : R → ReportView) (s
       folders = many_new ∙ so_far.folders;
       events = λ facts is shows.
           let mended : Mended = record { facts = facts; answers = answers } in
-          let shown : AreMendedAs so_far.answers mended = first_shown facts is shows in
-          let split = events_split (cell_news plan mended) d (length plan.table.columns) (omega (arith, within)) in (
+          let shown : AreMendedAs so_far.answers mended = first_shown facts is shows in (
             answers,
-            events_to (cell_news plan mended) d,
-            split.0,
-            split.1,
             λ k below tells goes. fit mended shown refl k below tells goes (cases_lt k d),
             told_as view standing stands plan.table.columns (events_to (cell_news plan mended) d) (events_to (cell_news plan mended) d ++ []) old.lines new.lines old.reports new.reports
                 (sym (append-nil (events_to (cell_news plan mended) d)))

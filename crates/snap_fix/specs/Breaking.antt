@@ -7,8 +7,6 @@ use Rattle.disk_model.specs.Stopped.{MayBeLeft}
 use Rattle.disk_model.specs.Tree.{IsTree}
 use Rattle.disk_model.specs.Vault.{VaultView, VaultCall, VaultDone, GoesOn, ParityLen, ParityRead, ParityWrite, ParitySetLen, ParitySync, ContentSize, ContentRead, DraftBegin, DraftAppend, DraftSeal, Publish}
 use Rattle.snap_report.specs.Answer.{is_reading}
-use Rattle.snap_report.specs.declared.answer.RunFault.{RunFault}
-use Rattle.snap_report.specs.declared.answer.RunFault.TheVariants.{Folder, Vault, Memory}
 use Rattle.stripe_reader.specs.Columns.{folder_at}
 use Rattle.snap_fix.specs.State.{WellCall, FolderMakes}
 
@@ -46,12 +44,6 @@ pub record FailsAfter (before others : List VaultDone) (old new : VaultView) : T
   pub done : List VaultDone
   pub fails : FailsIn others done
   pub goes_on : GoesOn old new (before ++ done)
-
--- A fix broke off behind these calls of the vault: where a folder failed, none of the others was made; where the vault did, one of them failed.
-abbrev pub BreaksAfter : RunFault → List VaultDone → List VaultDone → VaultView → VaultView → Type 0
-BreaksAfter (Folder disk) before others old new = GoesOn old new before
-BreaksAfter Vault before others old new = FailsAfter before others old new
-BreaksAfter Memory before others old new = ⊥
 
 -- ---- of a folder
 

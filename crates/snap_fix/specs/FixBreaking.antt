@@ -21,11 +21,12 @@ use Rattle.snap_fix.specs.declared.scope.Mode.{Mode}
 use Rattle.snap_fix.specs.Asking.{AsksSpare}
 use Rattle.snap_fix.specs.Beginning.{BeginsNot}
 use Rattle.snap_fix.specs.Breaking.{FailsAfter, FailsInColumn}
+use Rattle.snap_fix.specs.BrokenStripe.{broken_events}
 use Rattle.snap_fix.specs.Course.{IsPlan, Outside}
 use Rattle.snap_fix.specs.Ending.{AreDone, FinishesOne, all_finish_news}
 use Rattle.snap_fix.specs.Findings.{opening_events}
 use Rattle.snap_fix.specs.FixCourse.{FixFinds, FixesVault, MakeFixCalls, WritesFiles, Written, mend_syncs}
-use Rattle.snap_fix.specs.FixRun.{BreaksInLast, HasBroken, HoldAllWrong, TellsInLast}
+use Rattle.snap_fix.specs.FixRun.{BreaksInLast, HasBroken, HoldAllWrong}
 use Rattle.snap_fix.specs.Fixing.{MendsVault, facts_of}
 use Rattle.snap_fix.specs.Looking.{numbers_of, unread_cells, unread_in}
 use Rattle.snap_fix.specs.Mended.{Mended, all_mended_events}
@@ -67,21 +68,21 @@ pub record BreaksFiles (plan : FixPlan) (starts : StartsValue) (fault : RunFault
   pub breaks : BreaksLast fault plan starts earlier last firsts written news
 
 -- While blocks were written, in the last of its stripes: all events of the stripes before it were told, and of its own
--- all that was found in it, and a prefix of what is told of its writes. Of the folders only calls that write their
+-- all that was found in it, and what was written of it before a call failed. Of the folders only calls that write their
 -- blocks were made, which went well but for the last one of a folder that failed, in the last stripe. All blocks of the
 -- stripes before it were written, and where the vault failed, all of the last one. Of the vault all calls for these
--- stripes were made, up to the writes of the last one.
+-- stripes were made, up to the writes of the last one; where the vault failed, then those below this level, and that of
+-- it, which failed.
 pub record BreaksWriting (plan : FixPlan) (starts : StartsValue) (fault : RunFault) (stripes : List Mended)
     (readings : List (List LevelReading)) (first : List Event) (firsts news : List FolderView) (old new : VaultView)
     : Type 0 where
   pub earlier : List Mended
   pub last : Mended
   pub stripes_are : stripes ≡ earlier ++ last ∷ []
-  pub told : List Event
-  pub first_is : first ≡ opening_events plan ++ told
-  pub tells : TellsInLast plan earlier last told
+  pub level : ℕ
+  pub first_is : first ≡ written_events plan earlier ++ broken_events fault plan last level
   pub makes : BreaksFiles plan starts fault earlier last firsts news
-  pub ran : BreaksInLast plan fault (facts_of earlier) last.facts readings old new
+  pub ran : BreaksInLast plan fault level (facts_of earlier) last.facts readings old new
 
 -- While levels were synced: all calls for its stripes were made of the vault, then the first syncs and one that
 -- failed. All that was written was told, wrong levels hold their sums, and the folders are as they were once all

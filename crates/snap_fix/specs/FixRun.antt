@@ -7,7 +7,8 @@ use Rattle.disk_model.specs.Vault.{VaultView, VaultDone, GoesOn, Reads}
 use Rattle.parity_writer.specs.LevelReading.{LevelReading}
 use Rattle.file_table.specs.Table.{TableValue}
 use Rattle.snap_report.specs.Answer.{Gained, broke_folder, is_io_of, is_parity_io}
-use Rattle.snap_fix.specs.Breaking.{BreaksAfter, broke_parity}
+use Rattle.snap_fix.specs.Breaking.{broke_parity}
+use Rattle.snap_fix.specs.BrokenStripe.{BreaksLevels}
 use Rattle.snap_report.specs.Report.{ReportView}
 use Rattle.snap_report.specs.Told.{Told}
 use Rattle.snap_report.specs.declared.answer.RunFault.{RunFault}
@@ -129,14 +130,15 @@ HasBroken plan Vault told olds news old new = VaultFailedBy told old new
 HasBroken plan Memory told olds news old new = ⊥
 
 -- Of the vault all calls for these stripes and the last one were made, but for the writes of the last one: where a
--- folder failed, none of them, and where a call of the vault did, the first ones and that. So only wrong levels of
+-- folder failed, none of them, and where a call of the vault did, those below this level, and that of it, which failed.
+-- So only wrong levels of
 -- these stripes changed, and of the last one only where the vault failed. Those of the stripes before it hold the sums
 -- of their rows.
-pub record BreaksInLast (plan : FixPlan) (fault : RunFault) (earlier : List StripeFacts) (last : StripeFacts)
+pub record BreaksInLast (plan : FixPlan) (fault : RunFault) (level : ℕ) (earlier : List StripeFacts) (last : StripeFacts)
     (readings : List (List LevelReading)) (old new : VaultView) : Type 0 where
   pub before : List VaultDone
   pub calls_are : mend_calls plan (earlier ++ last ∷ []) readings ≡ before ++ done_well (wrong_writes plan last)
-  pub ran : BreaksAfter fault before (done_well (wrong_writes plan last)) old new
+  pub ran : BreaksLevels fault plan last level before old new
   pub vault : MendsVault plan (levels_begun fault earlier last) old new
   pub holds : HoldAllWrong plan earlier new
 
@@ -156,15 +158,16 @@ pub record BreaksFolders (plan : FixPlan) (begun : StartsValue) (begun_states : 
       → AreUnderway plan (before ++ earlier) firsts mids starts states
   pub breaks : BreaksCells fault plan last starts states mids news
 
--- These events are all those of the stripes before the last one, and then those of the last one: all that was found in
--- it, and a prefix of what is told of its writes.
-pub record TellsInLast (plan : FixPlan) (earlier : List Mended) (last : Mended) (first : List Event) : Type 0 where
+-- These events are all those of the stripes before the last one, and then those of the last one, where the fix
+-- broke off.
+pub record TellsInLast (plan : FixPlan) (fault : RunFault) (level : ℕ) (earlier : List Mended) (last : Mended)
+    (first : List Event) : Type 0 where
   pub told : List Event
   pub first_is : first ≡ all_mended_events plan earlier ++ told
-  pub tells : TellsOfBroken plan last told
+  pub tells : TellsOfBroken plan fault level last told
 
--- Some first stripes were written anew, and the one after them broke off: their events were told, all that
--- was found in it, and a prefix of what is told of its writes, and only calls were made that they ask for.
+-- Some first stripes were written anew, and the one after them broke off: their events were told, of
+-- that one what was found and what was written, and only calls were made that they ask for.
 pub record BreaksStripes {W R : Type 0} (view : W → SinkView) (standing : R → ReportView)
     (stands : R → List Event → Type 0) (plan : FixPlan) (numbers : List ℕ)
     (old new : FixScene W R) (fault : RunFault) : Type 0 where
@@ -175,8 +178,9 @@ pub record BreaksStripes {W R : Type 0} (view : W → SinkView) (standing : R �
   pub behind : List ℕ
   pub numbers_are : numbers ≡ numbers_of (facts_of stripes) ++ behind
   pub are : All (AreFacts plan) (facts_of stripes)
+  pub level : ℕ
   pub first : List Event
-  pub tells : TellsInLast plan earlier last first
+  pub tells : TellsInLast plan fault level earlier last first
   pub told : Told view standing stands plan.table.columns first old.lines new.lines old.reports new.reports
   pub folders : length new.folders ≡ length old.folders
   pub answered : All (AnswersFit plan old.folders) stripes
@@ -184,7 +188,7 @@ pub record BreaksStripes {W R : Type 0} (view : W → SinkView) (standing : R �
       → AreUnderway plan [] firsts old.folders old.starts old.states → AreReadThen plan old.starts firsts stripes
   pub readings : List (List LevelReading)
   pub read : AreAllLevelsOf plan.table.shape.block_size old.vault (facts_of stripes) readings
-  pub ran : BreaksInLast plan fault (facts_of earlier) last.facts readings old.vault new.vault
+  pub ran : BreaksInLast plan fault level (facts_of earlier) last.facts readings old.vault new.vault
   pub unread : RoseBy (unread_in readings) old.vault.faults new.vault.faults
   pub unread_cells_of : (d : ℕ) → d < length plan.table.columns
       → RoseBy (unread_cells d (facts_of stripes)) (folder_at old.folders d).faults (folder_at new.folders d).faults
@@ -211,14 +215,15 @@ pub record BreaksInto {W R : Type 0} (view : W → SinkView) (standing : R → R
   pub numbers_are : numbers ≡ numbers_of (facts_of stripes) ++ behind
   pub slots : (k : ℕ) → k < length stripes → (facts_at (facts_of stripes) k).slots ≡ slots_at window k
   pub are : All (AreFacts plan) (facts_of stripes)
+  pub level : ℕ
   pub first : List Event
-  pub tells : TellsInLast plan earlier last first
+  pub tells : TellsInLast plan fault level earlier last first
   pub told : Told view standing stands plan.table.columns first old.lines new.lines old.reports new.reports
   pub folders : length new.folders ≡ length old.folders
   pub answered : All (AnswersFit plan old.folders) stripes
   pub readings : List (List LevelReading)
   pub read : AreAllLevelsOf plan.table.shape.block_size old.vault (facts_of stripes) readings
-  pub ran : BreaksInLast plan fault (facts_of earlier) last.facts readings old.vault new.vault
+  pub ran : BreaksInLast plan fault level (facts_of earlier) last.facts readings old.vault new.vault
   pub unread : RoseBy (unread_in readings) old.vault.faults new.vault.faults
   pub spare : AsksSpare plan (facts_of stripes) old.spare new.spare
   pub makes : BreaksFolders plan old.starts old.states fault earlier last old.folders new.folders

@@ -1,11 +1,13 @@
 -- The levels of a stripe that is written anew, where a recovery is tried.
-use Rattle.std.specs.Prelude.{◌≡◌, ℕ, List, [], ◌∷◌, ◌++◌, Bool, IsTrue}
+use Rattle.std.specs.Prelude.{◌≡◌, ℕ, List, [], ◌∷◌, Bool, IsTrue}
+use Rattle.std.specs.List.{range_with_len, flat_map}
 use Rattle.disk_model.specs.Cause.{Rose}
 use Rattle.disk_model.specs.Sink.{SinkView}
 use Rattle.disk_model.specs.Vault.{GoesOn, SomeCalls, ChangesBy, DraftsStay, Reads}
 use Rattle.parity_writer.specs.LevelsValue.{LevelsValue}
 use Rattle.snap_report.specs.Answer.{Gained}
-use Rattle.snap_fix.specs.Breaking.{FailsAfter, broke_parity}
+use Rattle.snap_fix.specs.Breaking.{broke_parity}
+use Rattle.snap_fix.specs.BrokenStripe.{FailsAtLevel}
 use Rattle.snap_report.specs.Report.{ReportView}
 use Rattle.snap_report.specs.Told.{Told}
 use Rattle.snap_report.specs.declared.events.Event.{Event}
@@ -13,7 +15,7 @@ use Rattle.stripe_reader.specs.WindowValue.{WindowValue}
 use Rattle.snap_fix.specs.Facts.{StripeFacts}
 use Rattle.snap_fix.specs.Known.{AreFacts}
 use Rattle.snap_fix.specs.Marks.{levels_read, row_if}
-use Rattle.snap_fix.specs.Mended.{all_level_news, wrong_in}
+use Rattle.snap_fix.specs.Mended.{all_level_news, level_news, wrong_in}
 use Rattle.snap_fix.specs.Plan.{FixPlan, is_searched}
 use Rattle.snap_fix.specs.Repairing.{FlagsWritten, LevelsOutside}
 use Rattle.snap_fix.specs.Underway.{AddsZeros, KeepsLevels, IsMendedLevel, HoldsWrong, done_well, wrong_writes}
@@ -39,16 +41,15 @@ pub record MendsParity {W R : Type 0} (view : W → SinkView) (standing : R → 
   pub holds : Reads (HoldsWrong plan facts) new.vault
   pub flags : FlagsWritten plan facts before after
 
--- A call of the vault failed that reads no parity, and its count rose. Some events were told.
+-- The write of a wrong level failed, and the vault's count rose. Just what is told of the levels below it was told.
 pub record MendsNotParity {W R : Type 0} (view : W → SinkView) (standing : R → ReportView) (stands : R → List Event → Type 0)
     (plan : FixPlan) (facts : StripeFacts) (old new : LevelsOutside W R) : Type 0 where
   pub rose : Rose old.vault.faults new.vault.faults
   pub call : IsTrue new.vault.tells_calls → Gained broke_parity old.vault.calls new.vault.calls
   pub calls : SomeCalls old.vault new.vault
   pub drafts : DraftsStay old.vault new.vault
-  pub ran : FailsAfter [] (done_well (wrong_writes plan facts)) old.vault new.vault
-  pub first : List Event
-  pub rest : List Event
-  pub events : all_level_news plan facts ≡ first ++ rest
-  pub told : Told view standing stands plan.table.columns first old.lines new.lines old.reports new.reports
+  pub level : ℕ
+  pub ran : FailsAtLevel plan facts level [] old.vault new.vault
+  pub told : Told view standing stands plan.table.columns (flat_map (level_news plan facts) (range_with_len 0 level))
+      old.lines new.lines old.reports new.reports
   pub changes : ChangesBy (KeepsLevels plan.table.shape.block_size (IsMendedLevel plan (facts ∷ []))) old.vault new.vault

@@ -8,7 +8,8 @@ use Rattle.disk_model.specs.Vault.{VaultView, GoesOn, SomeCalls, ChangesBy, Draf
 use Rattle.file_table.specs.declared.shape.Shape.{Shape}
 use Rattle.parity_writer.specs.LevelReading.{LevelReading, has_failed}
 use Rattle.snap_report.specs.Answer.{Gained, broke_folder}
-use Rattle.snap_fix.specs.Breaking.{BreaksAfter, FailsInColumn, broke_parity}
+use Rattle.snap_fix.specs.Breaking.{FailsInColumn, broke_parity}
+use Rattle.snap_fix.specs.BrokenStripe.{BreaksLevels, broken_events}
 use Rattle.snap_report.specs.Report.{ReportView}
 use Rattle.snap_report.specs.Told.{Told}
 use Rattle.snap_report.specs.declared.answer.RunFault.{RunFault}
@@ -27,17 +28,16 @@ use Rattle.snap_fix.specs.declared.state.FileState.{FileState}
 use Rattle.snap_fix.specs.Asking.{AsksSpare}
 use Rattle.snap_fix.specs.Counts.{AreCounts, at_most}
 use Rattle.snap_fix.specs.Facts.{StripeFacts, slot_of}
-use Rattle.snap_fix.specs.Findings.{stripe_events}
 use Rattle.snap_fix.specs.Known.{AreFacts}
 use Rattle.snap_fix.specs.Looking.{AreLevelsOf}
 use Rattle.snap_fix.specs.Marks.{ChangesStripe, slots_at}
-use Rattle.snap_fix.specs.Mended.{Mended, AnswersFit, all_cell_news, all_level_news, all_mended_events, mended_events, is_wrong_level, written_in, wrong_in}
+use Rattle.snap_fix.specs.Mended.{Mended, AnswersFit, all_mended_events, mended_events, is_wrong_level, written_in, wrong_in}
 use Rattle.snap_fix.specs.Mending.{StatesFit}
 use Rattle.snap_fix.specs.Plan.{FixPlan}
 use Rattle.snap_fix.specs.Room.{IsRoomFor}
 use Rattle.snap_fix.specs.Spare.{SpareView, IsSpareFor}
 use Rattle.snap_fix.specs.State.{WellCall, FolderMakes, KeepsStarts}
-use Rattle.snap_fix.specs.Underway.{AreFixable, AreUnderway, IsMendCall, AddsZeros, KeepsLevels, IsMendedLevel, HoldsWrong, done_well, stripe_calls, stripe_reads, wrong_writes}
+use Rattle.snap_fix.specs.Underway.{AreFixable, AreUnderway, IsMendCall, AddsZeros, KeepsLevels, IsMendedLevel, HoldsWrong, stripe_calls, stripe_reads}
 
 -- all that a fix works on: where files stand, what was done to them, which levels were written, the folders, the vault, the spare, the
 -- lines, and those who are told
@@ -204,16 +204,12 @@ levels_begun (Folder disk) earlier last = earlier
 levels_begun Vault earlier last = earlier ++ last ∷ []
 levels_begun Memory earlier last = earlier
 
--- what is told of the writes of a stripe: of its blocks, and then of its levels
-abbrev pub write_events : FixPlan → Mended → List Event
-write_events plan mended = all_cell_news plan mended ++ all_level_news plan mended.facts
-
--- Of a stripe that broke off, all that was found in it was told, and then a prefix of what is told of its writes.
-pub record TellsOfBroken (plan : FixPlan) (mended : Mended) (told : List Event) : Type 0 where
-  pub more : List Event
+-- These are the events that a stripe tells that broke off, the first ones of all its events.
+pub record TellsOfBroken (plan : FixPlan) (fault : RunFault) (level : ℕ) (mended : Mended) (told : List Event)
+    : Type 0 where
+  pub told_is : told ≡ broken_events fault plan mended level
   pub rest : List Event
-  pub told_is : told ≡ stripe_events plan mended.facts ++ more
-  pub writes : write_events plan mended ≡ more ++ rest
+  pub events : mended_events plan mended ≡ told ++ rest
 
 -- All blocks of a stripe were written: no call of a folder failed but readings, and whatever the fix did before, it
 -- goes on with this stripe.
@@ -237,22 +233,23 @@ BreaksCells (Folder disk) plan mended starts states olds news =
 BreaksCells Vault plan mended starts states olds news = WritesCells plan mended starts states olds news
 BreaksCells Memory plan mended starts states olds news = ⊥
 
--- A stripe that broke off: the facts of it stand, all that was found was told, and only calls were made that it asks for, none of a
--- folder behind one that failed. Where a call of the vault failed, all its blocks were written. Its levels were read; where a call of the vault failed, it is the write of a wrong one, and else none
--- was written.
+-- A stripe that broke off: the facts of it stand, what was found and what was written was told, and only calls were made
+-- that it asks for, none of a folder behind one that failed. Its levels were read. Where a call of the vault failed, all
+-- its blocks were written, and that call is the write of this wrong level; else no level was written.
 pub record BreaksStripe {W R : Type 0} (view : W → SinkView) (standing : R → ReportView) (stands : R → List Event → Type 0)
     (plan : FixPlan) (stripe i : ℕ) (before : Room) (old new : FixScene W R) (fault : RunFault) : Type 0 where
   pub mended : Mended
   pub number : mended.facts.stripe ≡ stripe
   pub slots : mended.facts.slots ≡ slots_at before.window i
   pub are : AreFacts plan mended.facts
+  pub level : ℕ
   pub first : List Event
-  pub tells : TellsOfBroken plan mended first
+  pub tells : TellsOfBroken plan fault level mended first
   pub told : Told view standing stands plan.table.columns first old.lines new.lines old.reports new.reports
   pub folders : length new.folders ≡ length old.folders
   pub answered : AnswersFit plan old.folders mended
   pub read : LevelsWereRead plan mended.facts old.vault new.vault
-  pub ran : BreaksAfter fault (stripe_reads plan mended.facts read.readings) (done_well (wrong_writes plan mended.facts)) old.vault new.vault
+  pub ran : BreaksLevels fault plan mended.facts level (stripe_reads plan mended.facts read.readings) old.vault new.vault
   pub spare : AsksSpare plan (mended.facts ∷ []) old.spare new.spare
   pub vault : MendsVault plan (levels_begun fault [] mended.facts) old.vault new.vault
   pub makes : BreaksCells fault plan mended old.starts old.states old.folders new.folders

@@ -28,6 +28,7 @@ pub mod FinishSteps
 pub mod Looking
 pub mod Checking
 pub mod Mended
+pub mod BrokenStripe
 pub mod StripeOrder
 pub mod Underway
 pub mod Repairing

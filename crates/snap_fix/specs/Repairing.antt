@@ -1,12 +1,14 @@
 -- The damaged blocks and wrong levels of a stripe of the window are written anew.
 use Rattle.std.specs.Prelude.{◌≡◌, ℕ, ◌<◌, ◌≤◌, ◌||◌, List, [], ◌∷◌, ◌++◌, length, take, get_or, Bool, false, IsTrue}
+use Rattle.std.specs.List.{range_with_len, flat_map}
 use Rattle.disk_model.specs.Cause.{Rose}
 use Rattle.disk_model.specs.Folder.{FolderView}
 use Rattle.disk_model.specs.Sink.{SinkView}
 use Rattle.disk_model.specs.Vault.{VaultView, GoesOn, SomeCalls, ChangesBy, DraftsStay, Reads}
 use Rattle.parity_writer.specs.LevelsValue.{LevelsValue}
 use Rattle.snap_report.specs.Answer.{Gained}
-use Rattle.snap_fix.specs.Breaking.{FailsAfter, FailsInColumn, broke_parity}
+use Rattle.snap_fix.specs.Breaking.{FailsInColumn, broke_parity}
+use Rattle.snap_fix.specs.BrokenStripe.{FailsAtLevel}
 use Rattle.snap_report.specs.Report.{ReportView}
 use Rattle.snap_report.specs.Told.{Told}
 use Rattle.snap_report.specs.declared.events.Event.{Event}
@@ -20,7 +22,7 @@ use Rattle.snap_fix.specs.declared.state.FileState.{FileState}
 use Rattle.snap_fix.specs.Counts.{AreCounts}
 use Rattle.snap_fix.specs.Facts.{StripeFacts}
 use Rattle.snap_fix.specs.Marks.{row_if}
-use Rattle.snap_fix.specs.Mended.{Mended, AnswersFit, all_cell_news, all_level_news, is_wrong_level, written_in, wrong_in}
+use Rattle.snap_fix.specs.Mended.{Mended, AnswersFit, all_cell_news, all_level_news, cell_news, is_wrong_level, level_news, written_in, wrong_in}
 use Rattle.snap_fix.specs.Mending.{StatesFit}
 use Rattle.snap_fix.specs.Plan.{FixPlan}
 use Rattle.snap_fix.specs.State.{WellCall, FolderMakes, KeepsStarts}
@@ -76,15 +78,17 @@ pub record MendsFiles {W R : Type 0} (view : W → SinkView) (standing : R → R
       → (stripes : List Mended) (firsts : List FolderView) → AreFixable plan firsts → AreUnderway plan stripes firsts old.folders old.starts old.states
       → AreUnderway plan (stripes ++ record { facts = facts; answers = answers } ∷ []) firsts new.folders new.starts new.states
 
--- The folder of a column failed, in a call that neither looks nor reads, and no more calls were made. Some events were told.
+-- The folder of a column failed, in a call that neither looks nor reads, and no more calls were made. Just what is told of
+-- the columns before it was told.
 pub record MendsNotFiles {W R : Type 0} (view : W → SinkView) (standing : R → ReportView) (stands : R → List Event → Type 0)
     (plan : FixPlan) (stripe i : ℕ) (window : WindowValue) (marks : List CellMark) (known : Bool)
     (old new : FilesOutside W R) (disk : ℕ) : Type 0 where
   pub folders : length new.folders ≡ length old.folders
   pub events : (facts : StripeFacts) → facts.stripe ≡ stripe → ShowsFacts plan facts i marks known window
-      → (answers : List Bool) × (first : List Event) × (rest : List Event) × (all_cell_news plan (record { facts = facts; answers = answers }) ≡ first ++ rest)
-      × AnswersFit plan old.folders (record { facts = facts; answers = answers })
-      × Told view standing stands plan.table.columns first old.lines new.lines old.reports new.reports
+      → (answers : List Bool) × AnswersFit plan old.folders (record { facts = facts; answers = answers })
+      × Told view standing stands plan.table.columns
+      (flat_map (cell_news plan (record { facts = facts; answers = answers })) (range_with_len 0 disk))
+      old.lines new.lines old.reports new.reports
   pub fails : (facts : StripeFacts) → facts.stripe ≡ stripe → ShowsFacts plan facts i marks known window
       → FailsInColumn disk (length plan.table.columns) (λ (d : ℕ). IsMendCall plan old.starts d (record { facts = facts; answers = [] } ∷ [])) old.folders new.folders
 
@@ -133,7 +137,7 @@ pub record MendsLevels {W R : Type 0} (view : W → SinkView) (standing : R → 
       → AddsZeros plan.table.shape.block_size (IsMendedLevel plan (facts ∷ [])) old.vault.files new.vault.files
   pub holds : (facts : StripeFacts) → ShowsLevels facts stripe i window levels known → Reads (HoldsWrong plan facts) new.vault
 
--- A call of the vault failed that reads no parity, and its count rose. Some events were told.
+-- The write of a wrong level failed, and the vault's count rose. Just what is told of the levels below it was told.
 pub record MendsNotLevels {W R : Type 0} (view : W → SinkView) (standing : R → ReportView) (stands : R → List Event → Type 0)
     (plan : FixPlan) (stripe i : ℕ) (window : WindowValue) (levels : LevelsValue) (known : Bool)
     (old new : LevelsOutside W R) : Type 0 where
@@ -141,9 +145,11 @@ pub record MendsNotLevels {W R : Type 0} (view : W → SinkView) (standing : R �
   pub call : IsTrue new.vault.tells_calls → Gained broke_parity old.vault.calls new.vault.calls
   pub calls : SomeCalls old.vault new.vault
   pub drafts : DraftsStay old.vault new.vault
-  pub ran : (facts : StripeFacts) → ShowsLevels facts stripe i window levels known → FailsAfter [] (done_well (wrong_writes plan facts)) old.vault new.vault
-  pub events : (facts : StripeFacts) → ShowsLevels facts stripe i window levels known
-      → (first : List Event) × (rest : List Event) × (all_level_news plan facts ≡ first ++ rest)
-      × Told view standing stands plan.table.columns first old.lines new.lines old.reports new.reports
+  pub level : ℕ
+  pub ran : (facts : StripeFacts) → ShowsLevels facts stripe i window levels known
+      → FailsAtLevel plan facts level [] old.vault new.vault
+  pub told : (facts : StripeFacts) → ShowsLevels facts stripe i window levels known
+      → Told view standing stands plan.table.columns (flat_map (level_news plan facts) (range_with_len 0 level))
+      old.lines new.lines old.reports new.reports
   pub changes : (facts : StripeFacts) → ShowsLevels facts stripe i window levels known
       → ChangesBy (KeepsLevels plan.table.shape.block_size (IsMendedLevel plan (facts ∷ []))) old.vault new.vault

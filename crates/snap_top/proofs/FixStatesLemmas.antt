@@ -4,7 +4,8 @@ use Rattle.disk_model.specs.Files.{parity_of}
 use Rattle.disk_model.specs.Folder.{FolderView}
 use Rattle.disk_model.specs.Vault.{VaultView, VaultDone, state_of}
 use Rattle.parity_writer.specs.LevelReading.{LevelReading}
-use Rattle.snap_fix.specs.Breaking.{BreaksAfter, FailsAfter}
+use Rattle.snap_fix.specs.Breaking.{FailsAfter}
+use Rattle.snap_fix.specs.BrokenStripe.{BreaksLevels}
 use Rattle.snap_fix.specs.Facts.{StripeFacts}
 use Rattle.snap_fix.specs.FixBreaking.{BreaksAtEnd, BreaksEnding, BreaksOff, BreaksWriting}
 use Rattle.snap_fix.specs.FixCourse.{FixFinds, FixesVault, Written}
@@ -60,11 +61,18 @@ broken_of plan runs.Memory told olds news old new broke = absurd broke
 fails_of : (before others : List VaultDone) (old new : VaultView) → FailsAfter before others old new → FailsAfter before others (view_of (state_of old)) (view_of (state_of new))
 fails_of before others old new part = record { done = part.done; fails = part.fails; goes_on = goes_on_of old new _ part.goes_on }
 
-breaks_after_of : (fault : RunFault) (before others : List VaultDone) (old new : VaultView) → BreaksAfter fault before others old new
-    → BreaksAfter fault before others (view_of (state_of old)) (view_of (state_of new))
-breaks_after_of (runs.Folder disk) before others old new ran = goes_on_of old new _ ran
-breaks_after_of runs.Vault before others old new part = fails_of before others old new part
-breaks_after_of runs.Memory before others old new part = absurd part
+breaks_levels_of : (fault : RunFault) (plan : FixPlan) (facts : StripeFacts) (level : ℕ) (before : List VaultDone)
+    (old new : VaultView) → BreaksLevels fault plan facts level before old new
+    → BreaksLevels fault plan facts level before (view_of (state_of old)) (view_of (state_of new))
+breaks_levels_of (runs.Folder disk) plan facts level before old new ran = goes_on_of old new _ ran
+breaks_levels_of runs.Vault plan facts level before old new part = record {
+  within = part.within;
+  wrong = part.wrong;
+  row = part.row;
+  row_is = part.row_is;
+  goes_on = goes_on_of old new _ part.goes_on;
+}
+breaks_levels_of runs.Memory plan facts level before old new part = absurd part
 
 writing_of : (plan : FixPlan) (starts : StartsValue) (fault : RunFault) (stripes : List Mended) (readings : List (List LevelReading)) (first : List Event) (firsts news : List FolderView) (old new : VaultView)
     → BreaksWriting plan starts fault stripes readings first firsts news old new → BreaksWriting plan starts fault stripes readings first firsts news (view_of (state_of old)) (view_of (state_of new))
@@ -74,14 +82,13 @@ writing_of plan starts fault stripes readings first firsts news old new off =
       earlier = off.earlier;
       last = off.last;
       stripes_are = off.stripes_are;
-      told = off.told;
+      level = off.level;
       first_is = off.first_is;
-      tells = off.tells;
       makes = off.makes;
       ran = record {
         before = last.before;
         calls_are = last.calls_are;
-        ran = breaks_after_of fault last.before _ old new last.ran;
+        ran = breaks_levels_of fault plan off.last.facts off.level last.before old new last.ran;
         vault = mends_of plan _ old new last.vault;
         holds = last.holds;
       };
