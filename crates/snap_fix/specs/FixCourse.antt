@@ -97,14 +97,15 @@ abbrev pub IsForPlace : FixPlan → StartsValue → ℕ → Place → List ℕ �
 IsForPlace plan starts d place path =
     (i : ℕ) × IsForRecord plan d i path × ((start_in (starts_at starts.columns d) i).place ≡ place)
 
--- Any call of a fix of these stripes, once the folders are listed, by where files stood then: files are read; of the
--- records that are selected and not blocked, a file is made if there was none, renamed back if it had the other name, and
--- its known blocks are written; one without a lost block gets its recorded size and stamp, and one with a lost block is
--- renamed.
+-- so is one with a lost block in these stripes, or without, and its recorded size and stamp are such
 abbrev pub IsForRecordOf : FixPlan → List Mended → ℕ → Bool → List ℕ → (Meta → Type 0) → Type 0
 IsForRecordOf plan stripes d lost path P = (i : ℕ) × IsForRecord plan d i path × (has_lost plan stripes d i ≡ lost)
     × P (record_at plan.table.columns d i).meta
 
+-- Any call of a fix of these stripes, once the folders are listed, by where files stood then: files are read; of the
+-- records that are selected and not blocked, a file is made if there was none, renamed back if it had the other name, and
+-- its known blocks are written; one without a lost block gets its recorded size and stamp, and one with a lost block is
+-- renamed.
 abbrev pub IsFixCall : FixPlan → StartsValue → ℕ → List Mended → FolderCall → Type 0
 IsFixCall plan starts d stripes ListFiles = ⊥
 IsFixCall plan starts d stripes (Look path lost) = Unit {0}

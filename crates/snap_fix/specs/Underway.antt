@@ -46,7 +46,7 @@ AreFixable plan firsts = (d : ℕ) → d < length plan.table.columns → IsFixab
 
 -- ---- by which calls
 
--- the write of a damaged cell's block, which is known, to the file of its record
+-- the write of the block of a cell that is to be written, to the file of its record
 pub record WritesCell (plan : FixPlan) (d : ℕ) (facts : StripeFacts) (path : List ℕ) (at : ℕ) (bytes : List ℕ)
     : Type 0 where
   pub repaired : is_repaired plan facts d ≡ true
@@ -63,7 +63,7 @@ pub record WritesOneOf (plan : FixPlan) (d : ℕ) (stripes : List Mended) (path 
   pub is_one : Contains stripes mended
   pub writes : WritesCell plan d mended.facts path at bytes
 
--- the file of a damaged cell, whose block is known, is put under PATH: it stood in this place
+-- the file of a cell that is to be written is put under PATH: it stood in this place
 pub record SetsUpCell (plan : FixPlan) (starts : StartsValue) (d : ℕ) (facts : StripeFacts) (place : Place)
     (path : List ℕ) : Type 0 where
   pub repaired : is_repaired plan facts d ≡ true
@@ -79,9 +79,8 @@ pub record SetsUpOneOf (plan : FixPlan) (starts : StartsValue) (d : ℕ) (stripe
   pub is_one : Contains stripes mended
   pub sets_up : SetsUpCell plan starts d mended.facts place path
 
--- The calls while blocks of stripes are written, by where files stood before: files are read; of a cell that is
--- damaged and known its file is made if there was none, or renamed back if it had the other name, and its block is
--- written.
+-- The calls while blocks of stripes are written, by where files stood before: files are read; of a cell that is to be
+-- written its file is made if there was none, or renamed back if it had the other name, and its block is written.
 abbrev pub IsMendCall : FixPlan → StartsValue → ℕ → List Mended → FolderCall → Type 0
 IsMendCall plan starts d stripes ListFiles = ⊥
 IsMendCall plan starts d stripes (Look path lost) = Unit {0}
