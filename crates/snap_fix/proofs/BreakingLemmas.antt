@@ -68,6 +68,7 @@ level_after plan facts level front before old mid new ran part =
       row_is = part.row_is;
       goes_on = subst (GoesOn old new) (sym (append_assoc front before done))
           (vault_goes_on old mid new front (before ++ done) ran part.goes_on);
+      holds = part.holds;
     }
 
 pub breaks_then : (fault : RunFault) (plan : FixPlan) (facts : StripeFacts) (level : ℕ) (front before : List VaultDone)

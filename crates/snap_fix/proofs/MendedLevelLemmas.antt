@@ -29,7 +29,7 @@ use Rattle.snap_report.specs.declared.events.Event.TheVariants.{FixedParity}
 use Rattle.snap_report.specs.declared.pages.Lines.{Lines}
 use Rattle.snap_report.proofs.ToldLemmas.{told_then, told_nothing}
 use Rattle.stripe_reader.specs.WindowValue.{WindowValue}
-use Rattle.snap_fix.specs.BrokenStripe.{FailsAtLevel}
+use Rattle.snap_fix.specs.BrokenStripe.{FailsAtLevel, HoldsBelow}
 use Rattle.snap_fix.specs.Facts.{StripeFacts}
 use Rattle.snap_fix.specs.Findings.{is_wrong, is_wrong_by}
 use Rattle.snap_fix.specs.Marks.{row_if}
@@ -133,12 +133,7 @@ module _ {W R : Type 0} (view : W → SinkView) (standing : R → ReportView) (s
   abbrev pub IsOneOf : ℕ → ℕ → Type 0
   IsOneOf = IsMendedLevel plan (facts ∷ [])
 
-  -- the wrong ones of so many levels hold the sums of the row
-  abbrev pub HoldsBelow : ℕ → Files → Type 0
-  HoldsBelow n files = (r : ℕ) (row : Row) → r < n → is_wrong_level plan facts r ≡ true → facts.row ≡ Some row
-      → HasLevel plan.table.shape.block_size r facts.stripe row (parity_of files r)
-
-  -- the writes of those
+  -- the writes of the wrong ones of so many levels
   abbrev pub writes_to : ℕ → List VaultCall
   writes_to n = flat_map (wrong_write plan facts facts.row) (range_with_len 0 n)
 
@@ -148,7 +143,7 @@ module _ {W R : Type 0} (view : W → SinkView) (standing : R → ReportView) (s
     pub ran : GoesOn old.vault new.vault (done_well (writes_to r))
     pub changes : ChangesBy (KeepsLevels plan.table.shape.block_size IsOneOf) old.vault new.vault
     pub zeros : IsTrue old.vault.tells → AddsZeros plan.table.shape.block_size IsOneOf old.vault.files new.vault.files
-    pub holds : Reads (HoldsBelow r) new.vault
+    pub holds : Reads (HoldsBelow plan facts r) new.vault
 
   abbrev size : ℕ
   size = plan.table.shape.block_size
@@ -182,13 +177,21 @@ module _ {W R : Type 0} (view : W → SinkView) (standing : R → ReportView) (s
   -- the write of one more wrong level failed
   pub levels_not : (r : ℕ) (row : Row) (old mid new : VaultView) → is_wrong_level plan facts r ≡ true
       → facts.row ≡ Some row → r < length facts.levels → GoesOn old mid (done_well (writes_to r))
-      → GoesOn mid new (vault_done (level_write plan facts row r) true ∷ []) → FailsAtLevel plan facts r [] old new
-  levels_not r row old mid new wrong row_is below so_far fails = record {
+      → Reads (HoldsBelow plan facts r) mid → GoesOn mid new (vault_done (level_write plan facts row r) true ∷ [])
+      → ChangesBy (TearsParity r (facts.stripe * size) size) mid new → FailsAtLevel plan facts r [] old new
+  levels_not r row old mid new wrong row_is below so_far holds fails changes = record {
     within = below;
     wrong = wrong;
     row = row;
     row_is = row_is;
-    goes_on = vault_goes_on old mid new (done_well (writes_to r)) (vault_done (level_write plan facts row r) true ∷ []) so_far fails;
+    goes_on = vault_goes_on old mid new (done_well (writes_to r)) (vault_done (level_write plan facts row r) true ∷ [])
+        so_far fails;
+    holds = λ tells k its near is_wrong is.
+        let told_before : IsTrue mid.tells = sym fails.tells ∙ tells in
+        let tears = changes.reads told_before in
+        subst (HasLevel size k facts.stripe its)
+        (sym (other_level r tears.file mid.files new.files tears.rest k (λ same. omega (arith, near, same))))
+        (holds told_before k its near is_wrong is);
   }
 
   pub levels_none : (s : LevelsOutside W R) → LevelsSoFar 0 0 s s
@@ -250,7 +253,7 @@ module _ {W R : Type 0} (view : W → SinkView) (standing : R → ReportView) (s
   }
 
   -- all of them
-  pub all_hold : (n : ℕ) (v : VaultView) → length facts.levels ≤ n → Reads (HoldsBelow n) v → Reads (HoldsWrong plan facts) v
+  pub all_hold : (n : ℕ) (v : VaultView) → length facts.levels ≤ n → Reads (HoldsBelow plan facts n) v → Reads (HoldsWrong plan facts) v
   all_hold n v all holds tells r row wrong is = elim (cases_lt r n) [
     | inl near ↦ holds tells r row near wrong is
     | inr far ↦ absurd (let clash : true ≡ false = sym wrong ∙ none_past plan facts r (omega (arith, all, far)) in cc)
@@ -313,8 +316,11 @@ module _ {W R : Type 0} (view : W → SinkView) (standing : R → ReportView) (s
         levels_not view standing stands plan facts r (row_at window i) old.vault mid.vault new.vault (wrong_shown plan facts stripe i r window levels known shows below ∙ wrong)
         (shows.row ∙ ap (λ (k : Bool). row_if k window i) (known_where_wrong plan stripe i r (level_at levels r) known window wrong))
         (omega (arith, below, many facts shows)) (so_far facts shows).ran
+        (so_far facts shows).holds
         (subst (λ (n : ℕ). GoesOn mid.vault new.vault (vault_done (ParityWrite r (facts.stripe * n) (level_of r n (row_at window i))) true ∷ [])) size_is
-        (subst (λ (s : ℕ). GoesOn mid.vault new.vault (vault_done (ParityWrite r (s * size) (level_of r size (row_at window i))) true ∷ [])) (sym shows.stripe_is) fails.ran));
+        (subst (λ (s : ℕ). GoesOn mid.vault new.vault (vault_done (ParityWrite r (s * size) (level_of r size (row_at window i))) true ∷ [])) (sym shows.stripe_is) fails.ran))
+        (subst (λ (n : ℕ). ChangesBy (TearsParity r (facts.stripe * n) n) mid.vault new.vault) size_is
+        (subst (λ (s : ℕ). ChangesBy (TearsParity r (s * size) size) mid.vault new.vault) (sym shows.stripe_is) fails.changes));
     told = λ facts shows.
         told_as view standing stands plan.table.columns (events_to (level_news plan facts) r) (events_to (level_news plan facts) r ++ []) old.lines new.lines old.reports new.reports
         (sym (append-nil (events_to (level_news plan facts) r)))

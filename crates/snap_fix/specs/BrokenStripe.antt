@@ -1,9 +1,10 @@
 -- A stripe where a fix broke off: which of its levels were written, and what was told of it.
 use Rattle.std.specs.Prelude.{◌≡◌, ℕ, ◌<◌, List, [], ◌∷◌, ◌++◌, length, true, Some}
 use Rattle.std.specs.List.{range_with_len, flat_map}
+use Rattle.disk_model.specs.Files.{Files, parity_of}
 use Rattle.disk_model.specs.Ran.{vault_done}
-use Rattle.disk_model.specs.Vault.{VaultView, VaultCall, VaultDone, GoesOn}
-use Rattle.parity_writer.specs.Parity.{Row}
+use Rattle.disk_model.specs.Vault.{VaultView, VaultCall, VaultDone, GoesOn, Reads}
+use Rattle.parity_writer.specs.Parity.{HasLevel, Row}
 use Rattle.snap_report.specs.declared.answer.RunFault.{RunFault}
 use Rattle.snap_report.specs.declared.answer.RunFault.TheVariants.{Folder, Vault, Memory}
 use Rattle.snap_report.specs.declared.events.Event.{Event}
@@ -19,8 +20,13 @@ use Rattle.snap_fix.specs.Underway.{done_well, level_write, wrong_write}
 abbrev pub writes_below : FixPlan → StripeFacts → ℕ → List VaultCall
 writes_below plan facts level = flat_map (wrong_write plan facts facts.row) (range_with_len 0 level)
 
+-- the wrong levels of a stripe below one hold the sums of its row
+abbrev pub HoldsBelow : FixPlan → StripeFacts → ℕ → Files → Type 0
+HoldsBelow plan facts level files = (r : ℕ) (row : Row) → r < level → is_wrong_level plan facts r ≡ true
+    → facts.row ≡ Some row → HasLevel plan.table.shape.block_size r facts.stripe row (parity_of files r)
+
 -- Behind these calls of the vault the wrong levels of a stripe below this one were written, and then the write of this
--- one, which is wrong too, failed.
+-- one, which is wrong too, failed. Those below it hold their sums.
 pub record FailsAtLevel (plan : FixPlan) (facts : StripeFacts) (level : ℕ) (before : List VaultDone)
     (old new : VaultView) : Type 0 where
   pub within : level < length facts.levels
@@ -29,6 +35,7 @@ pub record FailsAtLevel (plan : FixPlan) (facts : StripeFacts) (level : ℕ) (be
   pub row_is : facts.row ≡ Some row
   pub goes_on : GoesOn old new
       (before ++ (done_well (writes_below plan facts level) ++ vault_done (level_write plan facts row level) true ∷ []))
+  pub holds : Reads (HoldsBelow plan facts level) new
 
 -- A fix broke off in a stripe behind these calls of the vault: where a folder failed, none of its levels was written;
 -- where the vault did, the write of this level failed.

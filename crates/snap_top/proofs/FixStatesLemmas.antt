@@ -71,6 +71,7 @@ breaks_levels_of runs.Vault plan facts level before old new part = record {
   row = part.row;
   row_is = part.row_is;
   goes_on = goes_on_of old new _ part.goes_on;
+  holds = part.holds;
 }
 breaks_levels_of runs.Memory plan facts level before old new part = absurd part
 
