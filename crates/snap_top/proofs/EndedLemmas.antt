@@ -1,4 +1,4 @@
--- When a sync or a fix went to its end: its answer is that of an engine that is done.
+-- When a sync, a check or a fix went to its end: its answer is that of an engine that is done.
 use Rattle.std.proofs.Common.{◌≡◌, ◌↔◌, ◌⊎◌, inl, inr, ⊎_elim, ℕ, ◌≤◌, ◌==◌, if◌then◌else◌, List, Bool, true, false, IsTrue, Option, refl, sym, ap, ◌∙◌, subst, arith}
 use Rattle.std.proofs.lemmas.Bool.Decides.{Decides-eqb}
 use Rattle.content_file.specs.Load.{LoadFails}
