@@ -38,12 +38,13 @@ use Rattle.snap_fix.specs.Underway.{IsMendCall, done_well, mend_calls}
 abbrev pub written_events : FixPlan → List Mended → List Event
 written_events plan stripes = opening_events plan ++ all_mended_events plan stripes
 
--- where files stood, what was done to them, and what their folders held, once these first stripes were written, and
--- then the last one: only calls for its blocks were made, by where files stood before it, and no call that writes failed
+-- Behind the stripes before it the last one was written, too: only calls for its blocks were made, by where files stood
+-- before it, and none that writes failed. So all blocks of all these stripes were written.
 pub record WritesLast (plan : FixPlan) (starts : StartsValue) (earlier : List Mended) (last : Mended)
     (firsts : List FolderView) (before : Written) (news : List FolderView) : Type 0 where
   pub makes : (d : ℕ) → d < length plan.table.columns
-      → FolderMakes (WellCall (IsMendCall plan before.starts d (last ∷ []))) (folder_at before.folders d) (folder_at news d)
+      → FolderMakes (WellCall (IsMendCall plan before.starts d (last ∷ [])))
+      (folder_at before.folders d) (folder_at news d)
   pub written : Written
   pub stood : KeepsStarts before.starts written.starts
   pub writes : WritesFiles plan starts (earlier ++ last ∷ []) firsts written

@@ -134,8 +134,8 @@ HasBroken plan Memory told olds news old new = ⊥
 -- So only wrong levels of
 -- these stripes changed, and of the last one only where the vault failed. Those of the stripes before it hold the sums
 -- of their rows.
-pub record BreaksInLast (plan : FixPlan) (fault : RunFault) (level : ℕ) (earlier : List StripeFacts) (last : StripeFacts)
-    (readings : List (List LevelReading)) (old new : VaultView) : Type 0 where
+pub record BreaksInLast (plan : FixPlan) (fault : RunFault) (level : ℕ) (earlier : List StripeFacts)
+    (last : StripeFacts) (readings : List (List LevelReading)) (old new : VaultView) : Type 0 where
   pub before : List VaultDone
   pub calls_are : mend_calls plan (earlier ++ last ∷ []) readings ≡ before ++ done_well (wrong_writes plan last)
   pub ran : BreaksLevels fault plan last level before old new

@@ -224,8 +224,8 @@ pub record WritesCells (plan : FixPlan) (mended : Mended) (begun : StartsValue) 
       → AreUnderway plan stripes firsts olds begun begun_states
       → AreUnderway plan (stripes ++ mended ∷ []) firsts news starts states
 
--- The blocks of a stripe that broke off: where a folder failed, calls for it were made up to the one that did, and where
--- the vault failed, all blocks were written.
+-- The blocks of a stripe that broke off: where a folder failed, calls for it were made up to the one that did, and
+-- where the vault failed, all blocks were written.
 abbrev pub BreaksCells : RunFault → FixPlan → Mended → StartsValue → List (List FileState) → List FolderView
     → List FolderView → Type 0
 BreaksCells (Folder disk) plan mended starts states olds news =
@@ -233,9 +233,9 @@ BreaksCells (Folder disk) plan mended starts states olds news =
 BreaksCells Vault plan mended starts states olds news = WritesCells plan mended starts states olds news
 BreaksCells Memory plan mended starts states olds news = ⊥
 
--- A stripe that broke off: the facts of it stand, what was found and what was written was told, and only calls were made
--- that it asks for, none of a folder behind one that failed. Its levels were read. Where a call of the vault failed, all
--- its blocks were written, and that call is the write of this wrong level; else no level was written.
+-- A stripe that broke off: the facts of it stand, what was found and what was written was told, and only calls were
+-- made that it asks for, none of a folder behind one that failed. Its levels were read. Where a call of the vault
+-- failed, all its blocks were written, and that call is the write of this wrong level; else no level was written.
 pub record BreaksStripe {W R : Type 0} (view : W → SinkView) (standing : R → ReportView) (stands : R → List Event → Type 0)
     (plan : FixPlan) (stripe i : ℕ) (before : Room) (old new : FixScene W R) (fault : RunFault) : Type 0 where
   pub mended : Mended
@@ -249,7 +249,8 @@ pub record BreaksStripe {W R : Type 0} (view : W → SinkView) (standing : R →
   pub folders : length new.folders ≡ length old.folders
   pub answered : AnswersFit plan old.folders mended
   pub read : LevelsWereRead plan mended.facts old.vault new.vault
-  pub ran : BreaksLevels fault plan mended.facts level (stripe_reads plan mended.facts read.readings) old.vault new.vault
+  pub ran : BreaksLevels fault plan mended.facts level (stripe_reads plan mended.facts read.readings)
+      old.vault new.vault
   pub spare : AsksSpare plan (mended.facts ∷ []) old.spare new.spare
   pub vault : MendsVault plan (levels_begun fault [] mended.facts) old.vault new.vault
   pub makes : BreaksCells fault plan mended old.starts old.states old.folders new.folders

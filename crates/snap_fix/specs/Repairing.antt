@@ -78,8 +78,8 @@ pub record MendsFiles {W R : Type 0} (view : W → SinkView) (standing : R → R
       → (stripes : List Mended) (firsts : List FolderView) → AreFixable plan firsts → AreUnderway plan stripes firsts old.folders old.starts old.states
       → AreUnderway plan (stripes ++ record { facts = facts; answers = answers } ∷ []) firsts new.folders new.starts new.states
 
--- The folder of a column failed, in a call that neither looks nor reads, and no more calls were made. Just what is told of
--- the columns before it was told.
+-- The folder of a column failed, in a call that neither looks nor reads, and no more calls were made. Just what is told
+-- of the columns before it was told.
 pub record MendsNotFiles {W R : Type 0} (view : W → SinkView) (standing : R → ReportView) (stands : R → List Event → Type 0)
     (plan : FixPlan) (stripe i : ℕ) (window : WindowValue) (marks : List CellMark) (known : Bool)
     (old new : FilesOutside W R) (disk : ℕ) : Type 0 where

@@ -32,8 +32,8 @@ pub record HasEnded (before : Entry) (exit : Exit) (status : ℕ) : Type 0 where
   pub ended : (has_ended ran.did ≡ true) ⊎ (has_failed_output ending ≡ true)
 
 -- How it shows that a sync, a check or a fix went to its end. Its status is 0 or 1. Or it is 3, and neither the opener
--- nor a folder nor the vault failed so that a run ends: then the output failed, and besides at most readings did. Or the
--- run says so itself, by what a sync or a fix did, or by the answer that the output failed.
+-- nor a folder nor the vault failed so that a run ends: then the output failed, and besides at most readings did. Or
+-- the run says so itself, by what a sync or a fix did, or by the answer that the output failed.
 pub data WentToItsEnd (before : Entry) (exit : Exit) (status : ℕ) : Type 0 where
   ByStatus : status ≤ 1 → WentToItsEnd before exit status
   ByFaults : status ≡ 3 → NothingBroke before exit → WentToItsEnd before exit status
