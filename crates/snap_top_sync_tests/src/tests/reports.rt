@@ -67,14 +67,6 @@ fn run_reported<R: Threads + Sync>(
     run_told(rt, alloc, SYNC, CONFIG, folders, vault, reports, NONE)
 }
 
-fn brittle_reports(alloc: Global) -> Result<Vec<Box<dyn Report>>, Fail> {
-    let mut reports: Vec<Box<dyn Report>> = Vec::new(alloc);
-    reports.push(Box::new(alloc, Brittle::new(3))?)?;
-    reports.push(Box::new(alloc, Brittle::new(2))?)?;
-    reports.push(Box::new(alloc, Brittle::new(3))?)?;
-    Ok(reports)
-}
-
 // Whether the second one failed once, and the other two did not.
 fn the_second_failed(reports: &[Box<dyn Report>]) -> bool {
     let [first, second, third] = reports else {
@@ -92,8 +84,12 @@ fn the_second_failed(reports: &[Box<dyn Report>]) -> bool {
 // stays in its place, and the run goes on as without it.
 #[test]
 fn a_failed_report_changes_nothing_else(rt: HostRuntime) -> Result<(), Fail> {
-    let mut reports = brittle_reports(rt.alloc())?;
-    let left = run_reported(&rt, rt.alloc(), &mut reports)?;
+    let alloc = rt.alloc();
+    let mut reports: Vec<Box<dyn Report>> = Vec::new(alloc);
+    reports.push(Box::new(alloc, Brittle::new(3))?)?;
+    reports.push(Box::new(alloc, Brittle::new(2))?)?;
+    reports.push(Box::new(alloc, Brittle::new(3))?)?;
+    let left = run_reported(&rt, alloc, &mut reports)?;
     let lines = "io 0 d1:a 0\nio 1 d1:b 0\nio 2 d1:c 0\nsync: 0 stripes synced, 3 pending\n";
     assert!(rt; left.is(1, lines, ""));
     assert!(rt; the_second_failed(&reports));
