@@ -1,5 +1,5 @@
-//! Tests of `fix` through `snap_top::run`, over objects in memory. Start at `tests/array.rt`, which syncs an array and runs words over
-//! what became of it, and at `tests/left.rt`, which compares what they left. `tests/fault.rt` lets calls fail.
+//! Tests of `check` and `fix` through `snap_top::run`, over objects in memory. Most are tables for
+//! `snap_top_memory::cases`, over the arrays of `tests/arrays.rt`.
 #![tactic(auto)]
 
 #[cfg(test)]

@@ -1,9 +1,8 @@
-// Fixes over objects in memory.
-mod array;
-mod cases;
+// Checks and fixes over objects in memory.
+mod arrays;
+mod damaged;
 mod failing;
-mod fault;
 mod fixed;
-mod left;
 mod obstacles;
+mod selected;
 mod stopped;

@@ -62,15 +62,32 @@ pub const FIVE: Array = Array {
 };
 
 /// Which calls are to fail, by their numbers from 1 on; 0 is none.
-#[derive(Clone, Copy)]
+#[derive(Clone, Copy, Debug)]
 pub struct Failing {
     pub opener: u64,
     pub vault: u64,
     /// Of the folder of this disk.
     pub folder: u64,
     pub disk: usize,
+    /// Whether each later call of that vault and of that folder fails too.
+    pub stops: bool,
     pub out: u64,
     pub err: u64,
+}
+
+impl Failing {
+    /// The same for the call after the vault's, and the one after the folder's.
+    pub fn later(self) -> Failing {
+        let mut later = self;
+        later.vault = after(self.vault);
+        later.folder = after(self.folder);
+        later
+    }
+}
+
+// The next call, if there is one.
+fn after(call: u64) -> u64 {
+    if call == 0 { 0 } else { call.saturating_add(1) }
 }
 
 /// No call fails.
@@ -79,6 +96,7 @@ pub const NONE: Failing = Failing {
     vault: 0,
     folder: 0,
     disk: 0,
+    stops: false,
     out: 0,
     err: 0,
 };
@@ -204,7 +222,26 @@ pub fn failing_at(vault: MemVault, call: u64) -> Result<MemVault, Fail>
     Ok(vault)
 }
 
-fn stamp(seconds: i64, nanos: u32) -> Stamp
+/// The vault, where its calls fail as is asked for.
+pub fn failing_vault(vault: MemVault, failing: Failing) -> Result<MemVault, Fail>
+    requires settled { IsSettled (vault_view vault) }
+    requires drafts { HasNoDraft (vault_view vault) }
+    ensures settled { IfOk result (λ vault. IsSettled (vault_view vault)) }
+    ensures drafts { IfOk result (λ vault. HasNoDraft (vault_view vault)) }
+{
+    match calls_before(failing.vault, failing.stops) {
+        Some(calls) => Ok(limited(vault, calls)),
+        None => failing_at(vault, failing.vault),
+    }
+}
+
+/// How many calls are made before all fail, if all are to fail from this one on.
+pub fn calls_before(call: u64, stops: bool) -> Option<u64> {
+    if stops { call.checked_sub(1) } else { None }
+}
+
+/// A stamp of these seconds and nanoseconds, of which there are fewer than a second has.
+pub fn stamp(seconds: i64, nanos: u32) -> Stamp
     ensures { IsStamp result }
 {
     Stamp {

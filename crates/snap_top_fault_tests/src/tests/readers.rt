@@ -7,7 +7,7 @@ ghost use Rattle.disk_memory.specs.Vault.{vault_view};
 use disk_memory::{GateFolder, GateVault, MemVault};
 use disk_model::Vault;
 use snap_top_memory::arrays::{Array, Disk, EMPTY, Left, SYNC, folder, run_first, run_with, vault};
-use snap_top_memory::cases::has_contents;
+use snap_top_memory::left::has_contents;
 use std::alloc::Global;
 use std::sync::atomic::AtomicBool;
 use std::test::Fail;

@@ -1,169 +1,335 @@
 // What stands in the way of a file, what an earlier fix left under its other name, and levels that are not whole.
-use crate::tests::cases::{Case, USUAL, plays};
-use crate::tests::fault::{Fault, Object};
+use crate::tests::arrays::{BEFORE, FIXED, SECOND, THIRD, WHOLE};
+use snap_top_memory::arrays::{Array, Disk, Failing, NONE};
+use snap_top_memory::cases::{Case, each_follows};
+use snap_top_memory::damage::Damage;
 use std::test::Fail;
+
+// The first disk has its one file in a directory.
+const DISKS: &[Disk] = &[&[("s/a", b"\x01", 1, 5)], SECOND, THIRD];
+
+const ARRAY: Array = Array {
+    disks: DISKS,
+    ..WHOLE
+};
+
+static SYNCED: Case = Case {
+    array: ARRAY,
+    ..BEFORE
+};
+
+// A fix that leaves all as it was synced.
+const USUAL: Case = Case {
+    array: ARRAY,
+    left: Some(DISKS),
+    ..FIXED
+};
+
+const BLOCKED: Case = Case {
+    status: 1,
+    out: "changed d1:s/a recorded 1 1.000000005 found nothing\n\
+          blocked d1:s/a\n\
+          fix: 0 blocks and 0 parities fixed, 1 findings left\n",
+    ..USUAL
+};
+
+const A_DIRECTORY: &[Disk] = &[&[("s/a/x", b"\x07", 1, 5)], SECOND, THIRD];
+
+const NO_DIRECTORY: &[Disk] = &[&[("s", b"\x07", 1, 5)], SECOND, THIRD];
+
+const WHOLE_BESIDE_A_DIRECTORY: &[Disk] = &[
+    &[
+        ("s/a", b"\x01", 1, 5),
+        ("s/a.unrecoverable/x", b"\x07", 1, 5),
+    ],
+    SECOND,
+    THIRD,
+];
+
+const CHANGED_BESIDE_A_DIRECTORY: &[Disk] = &[
+    &[
+        ("s/a", b"\x09", 2, 5),
+        ("s/a.unrecoverable/x", b"\x07", 1, 5),
+    ],
+    SECOND,
+    THIRD,
+];
+
+const BESIDE_ANOTHER: &[Disk] = &[
+    &[("s/a", b"\x01", 1, 5), ("s/b", b"\x07", 1, 5)],
+    SECOND,
+    THIRD,
+];
 
 #[test]
 fn what_stands_in_the_way_of_a_file_stays_and_blocks(rt: HostRuntime) -> Result<(), Fail> {
-    let blocked = Case {
-        status: 1,
-        out: "changed d1:s/a recorded 1 1.000000005 found nothing\nblocked d1:s/a\nfix: 0 blocks and 0 parities fixed, 1 findings left\n",
-        ..USUAL
-    };
-    let cases = [
+    static CASES: [Case; 5] = [
         // a directory in the place of the file
         Case {
-            tree: &[("s/a/x", b"\x07", 1)],
-            left: &[("s/a/x", b"\x07", 1)],
-            ..blocked
+            array: Array {
+                disks: A_DIRECTORY,
+                ..WHOLE
+            },
+            left: Some(A_DIRECTORY),
+            ..BLOCKED
         },
         // a file in the place of its directory
         Case {
-            tree: &[("s", b"\x07", 1)],
-            left: &[("s", b"\x07", 1)],
-            ..blocked
+            array: Array {
+                disks: NO_DIRECTORY,
+                ..WHOLE
+            },
+            left: Some(NO_DIRECTORY),
+            ..BLOCKED
         },
         // a directory in the place of its other name, where it is whole and where it is not
         Case {
-            tree: &[("s/a", b"\x01", 1), ("s/a.unrecoverable/x", b"\x07", 1)],
-            left: &[("s/a", b"\x01", 1), ("s/a.unrecoverable/x", b"\x07", 1)],
-            out: "blocked d1:s/a\nfix: 0 blocks and 0 parities fixed, 1 findings left\n",
-            ..blocked
+            array: Array {
+                disks: WHOLE_BESIDE_A_DIRECTORY,
+                ..WHOLE
+            },
+            left: Some(WHOLE_BESIDE_A_DIRECTORY),
+            out: "blocked d1:s/a\n\
+                  fix: 0 blocks and 0 parities fixed, 1 findings left\n",
+            ..BLOCKED
         },
         Case {
-            tree: &[("s/a", b"\x09", 2), ("s/a.unrecoverable/x", b"\x07", 1)],
-            left: &[("s/a", b"\x09", 2), ("s/a.unrecoverable/x", b"\x07", 1)],
-            out: "changed d1:s/a recorded 1 1.000000005 found 1 2.000000005\nblocked d1:s/a\nfix: 0 blocks and 0 parities fixed, 1 findings left\n",
-            ..blocked
+            array: Array {
+                disks: CHANGED_BESIDE_A_DIRECTORY,
+                ..WHOLE
+            },
+            left: Some(CHANGED_BESIDE_A_DIRECTORY),
+            out: "changed d1:s/a recorded 1 1.000000005 found 1 2.000000005\n\
+                  blocked d1:s/a\n\
+                  fix: 0 blocks and 0 parities fixed, 1 findings left\n",
+            ..BLOCKED
         },
         // a file that no record has
         Case {
-            tree: &[("s/a", b"\x01", 1), ("s/b", b"\x07", 1)],
-            left: &[("s/a", b"\x01", 1), ("s/b", b"\x07", 1)],
+            array: Array {
+                disks: BESIDE_ANOTHER,
+                ..WHOLE
+            },
+            left: Some(BESIDE_ANOTHER),
             ..USUAL
         },
     ];
-    plays(&rt, rt.alloc(), &cases)
+    each_follows(&rt, rt.alloc(), &SYNCED, &CASES)
 }
+
+const RENAMED: Case = Case {
+    out: "changed d1:s/a recorded 1 1.000000005 found nothing\n\
+          restored d1:s/a\n\
+          fix: 0 blocks and 0 parities fixed, 0 findings left\n",
+    ..USUAL
+};
 
 #[test]
 fn a_file_gets_its_bytes_its_size_its_time_and_its_name(rt: HostRuntime) -> Result<(), Fail> {
-    let renamed = Case {
-        out: "changed d1:s/a recorded 1 1.000000005 found nothing\nrestored d1:s/a\nfix: 0 blocks and 0 parities fixed, 0 findings left\n",
-        ..USUAL
-    };
-    let cases = [
-        // an earlier fix renamed it: its bytes are right, they are wrong, and there are more of them
+    static CASES: [Case; 7] = [
+        // an earlier fix renamed it: its bytes are right, there are more of them, and they are wrong
         Case {
-            tree: &[("s/a.unrecoverable", b"\x01", 7)],
-            ..renamed
+            array: Array {
+                disks: &[&[("s/a.unrecoverable", b"\x01", 7, 5)], SECOND, THIRD],
+                ..WHOLE
+            },
+            ..RENAMED
         },
         Case {
-            tree: &[("s/a.unrecoverable", b"\x01xyz", 7)],
-            ..renamed
+            array: Array {
+                disks: &[&[("s/a.unrecoverable", b"\x01xyz", 7, 5)], SECOND, THIRD],
+                ..WHOLE
+            },
+            ..RENAMED
         },
         Case {
-            tree: &[("s/a.unrecoverable", b"\x09", 1)],
-            out: "changed d1:s/a recorded 1 1.000000005 found nothing\nfixed 0 d1:s/a 0\nrestored d1:s/a\nfix: 1 blocks and 0 parities fixed, 0 findings left\n",
+            array: Array {
+                disks: &[&[("s/a.unrecoverable", b"\x09", 1, 5)], SECOND, THIRD],
+                ..WHOLE
+            },
+            out: "changed d1:s/a recorded 1 1.000000005 found nothing\n\
+                  fixed 0 d1:s/a 0\n\
+                  restored d1:s/a\n\
+                  fix: 1 blocks and 0 parities fixed, 0 findings left\n",
             ..USUAL
         },
         // it was written anew since: what is under the other name stays
         Case {
-            tree: &[("s/a", b"\x09", 2), ("s/a.unrecoverable", b"\x08", 3)],
-            left: &[("s/a", b"\x01", 1), ("s/a.unrecoverable", b"\x08", 3)],
-            out: "changed d1:s/a recorded 1 1.000000005 found 1 2.000000005\nfixed 0 d1:s/a 0\nrestored d1:s/a\nfix: 1 blocks and 0 parities fixed, 0 findings left\n",
+            array: Array {
+                disks: &[
+                    &[("s/a", b"\x09", 2, 5), ("s/a.unrecoverable", b"\x08", 3, 5)],
+                    SECOND,
+                    THIRD,
+                ],
+                ..WHOLE
+            },
+            out: "changed d1:s/a recorded 1 1.000000005 found 1 2.000000005\n\
+                  fixed 0 d1:s/a 0\n\
+                  restored d1:s/a\n\
+                  fix: 1 blocks and 0 parities fixed, 0 findings left\n",
+            left: Some(&[
+                &[("s/a", b"\x01", 1, 5), ("s/a.unrecoverable", b"\x08", 3, 5)],
+                SECOND,
+                THIRD,
+            ]),
             ..USUAL
         },
         // it is longer, empty, and of another time
         Case {
-            tree: &[("s/a", b"\x01xyz", 1)],
-            out: "changed d1:s/a recorded 1 1.000000005 found 4 1.000000005\nrestored d1:s/a\nfix: 0 blocks and 0 parities fixed, 0 findings left\n",
+            array: Array {
+                disks: &[&[("s/a", b"\x01xyz", 1, 5)], SECOND, THIRD],
+                ..WHOLE
+            },
+            out: "changed d1:s/a recorded 1 1.000000005 found 4 1.000000005\n\
+                  restored d1:s/a\n\
+                  fix: 0 blocks and 0 parities fixed, 0 findings left\n",
             ..USUAL
         },
         Case {
-            tree: &[("s/a", b"", 1)],
-            out: "changed d1:s/a recorded 1 1.000000005 found 0 1.000000005\nfixed 0 d1:s/a 0\nrestored d1:s/a\nfix: 1 blocks and 0 parities fixed, 0 findings left\n",
+            array: Array {
+                disks: &[&[("s/a", b"", 1, 5)], SECOND, THIRD],
+                ..WHOLE
+            },
+            out: "changed d1:s/a recorded 1 1.000000005 found 0 1.000000005\n\
+                  fixed 0 d1:s/a 0\n\
+                  restored d1:s/a\n\
+                  fix: 1 blocks and 0 parities fixed, 0 findings left\n",
             ..USUAL
         },
         Case {
-            tree: &[("s/a", b"\x01", 9)],
-            out: "changed d1:s/a recorded 1 1.000000005 found 1 9.000000005\nrestored d1:s/a\nfix: 0 blocks and 0 parities fixed, 0 findings left\n",
+            array: Array {
+                disks: &[&[("s/a", b"\x01", 9, 5)], SECOND, THIRD],
+                ..WHOLE
+            },
+            out: "changed d1:s/a recorded 1 1.000000005 found 1 9.000000005\n\
+                  restored d1:s/a\n\
+                  fix: 0 blocks and 0 parities fixed, 0 findings left\n",
             ..USUAL
         },
     ];
-    plays(&rt, rt.alloc(), &cases)
+    each_follows(&rt, rt.alloc(), &SYNCED, &CASES)
 }
+
+// No level has the stripe's block, and none is changed.
+const UNRECOVERABLE: Case = Case {
+    damage: Damage::Cut([0, 1023, 500]),
+    status: 1,
+    out: "changed d1:s/a recorded 1 1.000000005 found nothing\n\
+          unrecoverable 0 d1:s/a 0\n\
+          fix: 0 blocks and 0 parities fixed, 1 findings left\n",
+    stays: Some(0),
+    levels: &[],
+    ..USUAL
+};
+
+const NO_FILE: &[Disk] = &[&[], SECOND, THIRD];
+
+const OTHER_NAME: &[Disk] = &[&[("s/a.unrecoverable", b"\x08", 3, 5)], SECOND, THIRD];
 
 #[test]
 fn what_no_level_restores_keeps_its_bytes_under_its_other_name(
     rt: HostRuntime,
 ) -> Result<(), Fail> {
-    let lost = Case {
-        lengths: [0, 1023, 500],
-        mends: false,
-        status: 1,
-        out: "changed d1:s/a recorded 1 1.000000005 found nothing\nunrecoverable 0 d1:s/a 0\nfix: 0 blocks and 0 parities fixed, 1 findings left\n",
-        ..USUAL
-    };
-    let cases = [
+    static CASES: [Case; 3] = [
         Case {
-            tree: &[],
-            left: &[],
-            ..lost
+            array: Array {
+                disks: NO_FILE,
+                ..WHOLE
+            },
+            left: Some(NO_FILE),
+            ..UNRECOVERABLE
         },
         Case {
-            tree: &[("s/a.unrecoverable", b"\x08", 3)],
-            left: &[("s/a.unrecoverable", b"\x08", 3)],
-            ..lost
+            array: Array {
+                disks: OTHER_NAME,
+                ..WHOLE
+            },
+            left: Some(OTHER_NAME),
+            ..UNRECOVERABLE
         },
         Case {
-            tree: &[("s/a", b"\x09", 2), ("s/a.unrecoverable", b"\x08", 3)],
-            left: &[("s/a.unrecoverable", b"\x09", 2)],
-            out: "changed d1:s/a recorded 1 1.000000005 found 1 2.000000005\nunrecoverable 0 d1:s/a 0\nrenamed d1:s/a\nfix: 0 blocks and 0 parities fixed, 1 findings left\n",
-            ..lost
+            array: Array {
+                disks: &[
+                    &[("s/a", b"\x09", 2, 5), ("s/a.unrecoverable", b"\x08", 3, 5)],
+                    SECOND,
+                    THIRD,
+                ],
+                ..WHOLE
+            },
+            out: "changed d1:s/a recorded 1 1.000000005 found 1 2.000000005\n\
+                  unrecoverable 0 d1:s/a 0\n\
+                  renamed d1:s/a\n\
+                  fix: 0 blocks and 0 parities fixed, 1 findings left\n",
+            left: Some(&[&[("s/a.unrecoverable", b"\x09", 2, 5)], SECOND, THIRD]),
+            ..UNRECOVERABLE
         },
     ];
-    plays(&rt, rt.alloc(), &cases)
+    each_follows(&rt, rt.alloc(), &SYNCED, &CASES)
 }
+
+// The file is lost, and comes back.
+const RESTORED: Case = Case {
+    array: Array {
+        disks: NO_FILE,
+        ..WHOLE
+    },
+    out: "changed d1:s/a recorded 1 1.000000005 found nothing\n\
+          wrong-parity 0 parity\n\
+          fixed 0 d1:s/a 0\n\
+          fixed-parity 0 parity\n\
+          restored d1:s/a\n\
+          fix: 1 blocks and 1 parities fixed, 0 findings left\n",
+    ..USUAL
+};
+
+// The first level is read by this call.
+const UNREAD: Failing = Failing { vault: 3, ..NONE };
 
 #[test]
 fn a_level_that_is_missing_short_or_unread_is_not_asked(rt: HostRuntime) -> Result<(), Fail> {
-    let written = Case {
-        tree: &[],
-        out: "changed d1:s/a recorded 1 1.000000005 found nothing\nwrong-parity 0 parity\nfixed 0 d1:s/a 0\nfixed-parity 0 parity\nrestored d1:s/a\nfix: 1 blocks and 1 parities fixed, 0 findings left\n",
-        ..USUAL
-    };
-    let cases = [
+    static CASES: [Case; 5] = [
         Case {
-            lengths: [0, 1024, 1024],
-            ..written
+            damage: Damage::Cut([0, 1024, 1024]),
+            ..RESTORED
         },
         Case {
-            lengths: [500, 1024, 1024],
-            ..written
+            damage: Damage::Cut([500, 1024, 1024]),
+            ..RESTORED
         },
         // nothing else is damaged
         Case {
-            lengths: [1024, 1023, 0],
-            out: "wrong-parity 0 2-parity\nwrong-parity 0 3-parity\nfixed-parity 0 2-parity\nfixed-parity 0 3-parity\nfix: 0 blocks and 2 parities fixed, 0 findings left\n",
+            damage: Damage::Cut([1024, 1023, 0]),
+            out: "wrong-parity 0 2-parity\n\
+                  wrong-parity 0 3-parity\n\
+                  fixed-parity 0 2-parity\n\
+                  fixed-parity 0 3-parity\n\
+                  fix: 0 blocks and 2 parities fixed, 0 findings left\n",
             ..USUAL
         },
-        // the first level is read by the third call, and is not written where that fails
+        // where its reading fails, it is not written
         Case {
-            tree: &[],
-            fault: Fault::Call(Object::Vault, 3),
-            out: "changed d1:s/a recorded 1 1.000000005 found nothing\nio-parity 0 parity\nfixed 0 d1:s/a 0\nrestored d1:s/a\nfix: 1 blocks and 0 parities fixed, 0 findings left\n",
-            ..USUAL
+            failing: UNREAD,
+            out: "changed d1:s/a recorded 1 1.000000005 found nothing\n\
+                  io-parity 0 parity\n\
+                  fixed 0 d1:s/a 0\n\
+                  restored d1:s/a\n\
+                  fix: 1 blocks and 0 parities fixed, 0 findings left\n",
+            ..RESTORED
         },
         Case {
-            tree: &[],
-            left: &[],
-            lengths: [1024, 0, 0],
-            mends: false,
-            fault: Fault::Call(Object::Vault, 3),
-            status: 1,
-            out: "changed d1:s/a recorded 1 1.000000005 found nothing\nio-parity 0 parity\nunrecoverable 0 d1:s/a 0\nfix: 0 blocks and 0 parities fixed, 1 findings left\n",
+            array: Array {
+                disks: NO_FILE,
+                ..WHOLE
+            },
+            damage: Damage::Cut([1024, 0, 0]),
+            failing: UNREAD,
+            out: "changed d1:s/a recorded 1 1.000000005 found nothing\n\
+                  io-parity 0 parity\n\
+                  unrecoverable 0 d1:s/a 0\n\
+                  fix: 0 blocks and 0 parities fixed, 1 findings left\n",
+            left: Some(NO_FILE),
+            ..UNRECOVERABLE
         },
     ];
-    plays(&rt, rt.alloc(), &cases)
+    each_follows(&rt, rt.alloc(), &SYNCED, &CASES)
 }

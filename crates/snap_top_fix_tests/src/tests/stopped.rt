@@ -1,154 +1,201 @@
-// A fix of several files on two disks that are lost, which stops after each of its calls.
-use crate::tests::array::{Array, Disk, Synced, act, sync};
-use crate::tests::fault::{Fault, Object};
-use crate::tests::left::Done;
+// A fix of several files on two disks that are lost, of which a call fails, or all from one on, and the next fix.
+use crate::tests::arrays::{FIX, WHOLE};
+use snap_top_memory::arrays::{Array, Disk, Failing, Left, NONE};
+use snap_top_memory::cases::{Case, SYNCED, follow, run_after, vault_after};
+use snap_top_memory::damage::Damage;
+use snap_top_memory::left::{compare_kept, has_bytes};
+use snap_top_memory::next::{TORN, WRITTEN, has_failed, run_next};
 use std::alloc::Global;
 use std::test::Fail;
 use std::thread::Threads;
 
-const FIX: [&str; 4] = ["snapraid", "fix", "-c", "FILE"];
+const A: &[u8] = &[0x5a; 1500];
 
-const CONFIG: &str =
-    "blocksize 1\nparity p\n2-parity q\n3-parity r\ncontent c\ndata d1 a\ndata d2 b\ndata d3 e\n";
+const X: &[u8] = &[0x33; 2049];
 
-// What a crash may leave of a vault: other bytes wherever one was written and not handed to the disk.
-const TORN: [u8; 16384] = [0xff; 16384];
+const Y: &[u8] = &[0x0f; 3000];
 
-// The same, where all was written.
-const WRITTEN: [u8; 8] = [0xff; 8];
-
-const A: [u8; 1500] = [0x5a; 1500];
-
-const X: [u8; 2049] = [0x33; 2049];
-
-// The first block of it, and a part of the second.
-const SHORT: [u8; 1500] = [0x33; 1500];
-
-const Y: [u8; 3000] = [0x0f; 3000];
-
-const WHOLE: [Disk<'static>; 3] = [
-    &[("a", &A, 1), ("b/c", b"0123456789", 1), ("e", b"", 1)],
-    &[("x", &X, 1), ("z", b"abcde", 1)],
-    &[("y", &Y, 1)],
+const DISKS: &[Disk] = &[
+    &[
+        ("a", A, 1, 5),
+        ("b/c", b"0123456789", 1, 5),
+        ("e", b"", 1, 5),
+    ],
+    &[("x", X, 1, 5), ("z", b"abcde", 1, 5)],
+    &[("y", Y, 1, 5)],
 ];
 
-// What was lost, what an earlier fix left, and a file that grew.
-const DAMAGED: [Disk<'static>; 3] = [
-    &[("b/c.unrecoverable", b"0123456789", 7)],
-    &[("x.unrecoverable", &SHORT, 8), ("z", b"abcdefghi", 3)],
-    &[("y", &Y, 1)],
-];
-
-const FIXED: &str =
-    "changed d1:a recorded 1500 1.000000005 found nothing\nchanged d1:b/c recorded 10 1.000000005 found nothing\nchanged d1:e recorded 0 1.000000005 found nothing\nchanged d2:x recorded 2049 1.000000005 found nothing\nchanged d2:z recorded 5 1.000000005 found 9 3.000000005\nfixed 0 d1:a 0\nwrong-parity 1 parity\nfixed 1 d1:a 1\nfixed 1 d2:x 1\nfixed-parity 1 parity\nfixed 2 d2:x 2\nrestored d1:a\nrestored d1:b/c\nrestored d1:e\nrestored d2:x\nrestored d2:z\nfix: 4 blocks and 1 parities fixed, 0 findings left\n";
-
-const ARRAY: Array<'static> = Array {
-    config: CONFIG,
-    levels: 3,
-    disks: &WHOLE,
+static FIRST: Case = Case {
+    array: Array {
+        disks: DISKS,
+        ..WHOLE
+    },
+    out: "sync: 4 stripes synced, 0 pending\n",
+    ..SYNCED
 };
 
-const OBJECTS: [Object; 4] = [
-    Object::Vault,
-    Object::Disk(0),
-    Object::Disk(1),
-    Object::Disk(2),
-];
+// A fix of what was lost, what an earlier fix left, and a file that grew, where a level has a 0 in the place of its
+// byte 1,024.
+const BROKEN: Case = Case {
+    words: FIX,
+    array: Array {
+        disks: &[
+            &[("b/c.unrecoverable", b"0123456789", 7, 5)],
+            &[
+                ("x.unrecoverable", &[0x33; 1500], 8, 5),
+                ("z", b"abcdefghi", 3, 5),
+            ],
+            &[("y", Y, 1, 5)],
+        ],
+        ..WHOLE
+    },
+    damage: Damage::Byte(0, 1024, 0x5a ^ 0x33 ^ 0x0f),
+    out: "changed d1:a recorded 1500 1.000000005 found nothing\n\
+          changed d1:b/c recorded 10 1.000000005 found nothing\n\
+          changed d1:e recorded 0 1.000000005 found nothing\n\
+          changed d2:x recorded 2049 1.000000005 found nothing\n\
+          changed d2:z recorded 5 1.000000005 found 9 3.000000005\n\
+          fixed 0 d1:a 0\n\
+          wrong-parity 1 parity\n\
+          fixed 1 d1:a 1\n\
+          fixed 1 d2:x 1\n\
+          fixed-parity 1 parity\n\
+          fixed 2 d2:x 2\n\
+          restored d1:a\n\
+          restored d1:b/c\n\
+          restored d1:e\n\
+          restored d2:x\n\
+          restored d2:z\n\
+          fix: 4 blocks and 1 parities fixed, 0 findings left\n",
+    keeps: true,
+    stays: Some(1),
+    ..SYNCED
+};
+
+// What the next fix leaves: all as it was synced.
+static NEXT: Case = Case {
+    words: FIX,
+    array: WHOLE,
+    keeps: true,
+    stays: Some(0),
+    left: Some(DISKS),
+    ..SYNCED
+};
 
 // More calls than an object gets.
 const MANY: u64 = 100;
 
-// What every fix leaves: the whole disk's bytes, under one of the two names, the content, and the levels but for the wrong one.
-fn keeps_what_is_whole(done: &mut Done, damaged: &Synced) -> Result<bool, Fail> {
-    if !done.has(2, "y", &Y)? && !done.has(2, "y.unrecoverable", &Y)? {
-        return Ok(false);
-    }
-    Ok(done.vault_now()?.is_same_but(damaged, 0))
+// Whether the disk that was whole has its bytes, under one of the two names.
+fn keeps_whole_disk(alloc: Global, left: &mut Left) -> Result<bool, Fail> {
+    Ok(has_bytes(alloc, left, 2, "y", Y)? || has_bytes(alloc, left, 2, "y.unrecoverable", Y)?)
 }
 
-// What the next fix leaves of what a crash left.
-fn is_restored<R: Threads + Sync>(
+// What a fix left of which a call failed: besides the whole disk, the content and the levels but for the wrong one.
+fn break_fix<R: Threads + Sync>(
     rt: &R,
-    done: Done,
-    choice: &[u8],
-    synced: &Synced,
-) -> Result<bool, Fail> {
-    let mut again = done.act_again(rt, &FIX, CONFIG, choice)?;
-    if again.said.status != 0 || !again.holds(&WHOLE)? {
-        return Ok(false);
+    alloc: Global,
+    before: Left,
+    case: &Case,
+) -> Result<Left, Fail> {
+    let mut before = Some(before);
+    let mut given = vault_after(alloc, &mut before, case)?;
+    let mut left = run_after(rt, alloc, before, case)?;
+    if has_failed(&left) {
+        compare_kept(alloc, 0, &mut left, &mut given, case)?;
+        if !keeps_whole_disk(alloc, &mut left)? {
+            return Err("a whole disk is changed".into());
+        }
     }
-    Ok(again.vault_now()?.is_same(synced))
+    Ok(left)
 }
 
-// Whether the calls of a fix were all made, for it to be seen that what fails is none of them. Else it ends as it may, and the next
-// one restores all.
+// Whether the calls of a fix were all made, for it to be seen that what fails is none of them. Else it ends as it
+// may, and the next one restores all.
 fn ends<R: Threads + Sync>(
     rt: &R,
     alloc: Global,
-    fault: Fault,
+    failing: Failing,
     choice: &[u8],
-    synced: &Synced,
-    damaged: &Synced,
 ) -> Result<bool, Fail> {
-    let array = Array {
-        disks: &DAMAGED,
-        ..ARRAY
-    };
-    let mut done = act(rt, alloc, &FIX, array, damaged, fault)?;
-    if !done.has_failed() {
-        return Ok(done.said.is(0, FIXED, ""));
+    let before = follow(rt, alloc, 0, None, &FIRST)?;
+    let mut whole = before.reopened()?;
+    let mut case = BROKEN;
+    case.failing = failing;
+    let left = break_fix(rt, alloc, before, &case)?;
+    if !has_failed(&left) {
+        return Ok(left.is(0, case.out, ""));
     }
-    if !keeps_what_is_whole(&mut done, damaged)? || !is_restored(rt, done, choice, synced)? {
-        return Err(Fail::new(format_args!("{fault:?}")));
-    }
+    run_next(rt, alloc, 0, left, &mut whole, &NEXT, choice)?;
     Ok(false)
 }
 
-// The calls of an object fail, each in turn or all from then on, until there are no more.
+// A call fails, and then each after it in its place, until there are no more.
 fn fail_in_turn<R: Threads + Sync>(
     rt: &R,
     alloc: Global,
-    object: Object,
-    stops: bool,
+    first: Failing,
     choice: &[u8],
-    synced: &Synced,
-    damaged: &Synced,
 ) -> Result<(), Fail> {
-    for calls in 0..MANY {
-        let fault = if stops {
-            Fault::After(object, calls)
-        } else {
-            Fault::Call(object, calls + 1)
-        };
-        if ends(rt, alloc, fault, choice, synced, damaged)? {
+    let mut failing = first;
+    for _ in 0..MANY {
+        if ends(rt, alloc, failing, choice)? {
             return Ok(());
         }
+        failing = failing.later();
     }
-    Err(Fail::new(format_args!("{object:?} gets more calls")))
+    Err(Fail::new(format_args!("{first:?} gets more calls")))
 }
 
-// The calls of each object fail.
-fn fail_all<R: Threads + Sync>(
-    rt: &R,
-    alloc: Global,
-    stops: bool,
-    choice: &[u8],
-) -> Result<(), Fail> {
-    let synced = sync(rt, alloc, ARRAY)?;
-    let mut damaged = sync(rt, alloc, ARRAY)?;
-    damaged.damage(0, 1024, 0);
-    for object in OBJECTS {
-        fail_in_turn(rt, alloc, object, stops, choice, &synced, &damaged)?;
+#[test]
+fn wherever_a_fix_stops_the_next_one_restores_all(rt: HostRuntime) -> Result<(), Fail> {
+    static STOPS: [Failing; 4] = [
+        Failing {
+            vault: 1,
+            stops: true,
+            ..NONE
+        },
+        Failing {
+            folder: 1,
+            stops: true,
+            ..NONE
+        },
+        Failing {
+            disk: 1,
+            folder: 1,
+            stops: true,
+            ..NONE
+        },
+        Failing {
+            disk: 2,
+            folder: 1,
+            stops: true,
+            ..NONE
+        },
+    ];
+    for first in &STOPS {
+        fail_in_turn(&rt, rt.alloc(), *first, TORN)?;
     }
     Ok(())
 }
 
 #[test]
-fn wherever_a_fix_stops_the_next_one_restores_all(rt: HostRuntime) -> Result<(), Fail> {
-    fail_all(&rt, rt.alloc(), true, &TORN)
-}
-
-#[test]
 fn whichever_call_of_a_fix_fails_the_next_one_restores_all(rt: HostRuntime) -> Result<(), Fail> {
-    fail_all(&rt, rt.alloc(), false, &WRITTEN)
+    static FAULTS: [Failing; 4] = [
+        Failing { vault: 1, ..NONE },
+        Failing { folder: 1, ..NONE },
+        Failing {
+            disk: 1,
+            folder: 1,
+            ..NONE
+        },
+        Failing {
+            disk: 2,
+            folder: 1,
+            ..NONE
+        },
+    ];
+    for first in &FAULTS {
+        fail_in_turn(&rt, rt.alloc(), *first, WRITTEN)?;
+    }
+    Ok(())
 }

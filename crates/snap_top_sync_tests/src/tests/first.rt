@@ -1,7 +1,8 @@
 // First syncs, and what content and parity are then.
 use snap_top_memory::arrays::{Array, EMPTY, ONE};
-use snap_top_memory::cases::{Case, LISTED, Level, SYNCED, follows};
+use snap_top_memory::cases::{Case, LISTED, SYNCED, follows};
 use snap_top_memory::contents::{NO_FILE, ONE_FILE};
+use snap_top_memory::left::Level;
 use std::test::Fail;
 
 #[test]

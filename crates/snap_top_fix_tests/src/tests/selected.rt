@@ -25,6 +25,7 @@ const CHECKED: Case = Case {
     status: 1,
     out: "changed d2:x.txt recorded 1 1.000000005 found nothing\ncheck: 1 findings\n",
     keeps: true,
+    stays: Some(0),
     ..SYNCED
 };
 
@@ -62,6 +63,7 @@ fn only_what_is_selected_is_looked_at(rt: HostRuntime) -> Result<(), Fail> {
             err: "snapraid: no disk 'd3'\n",
             is_opened: false,
             keeps: false,
+            stays: None,
             ..CHECKED
         },
     ];

@@ -1,23 +1,9 @@
 // What a check finds where files or parity are damaged.
-use snap_top_memory::arrays::{Array, EMPTY};
+use crate::tests::arrays::{BEFORE, EMPTIED, FIRST, LOST, SECOND, THIRD, TWO_LEVELS, WHOLE};
+use snap_top_memory::arrays::Array;
 use snap_top_memory::cases::{Case, SYNCED, follows};
+use snap_top_memory::damage::Damage;
 use std::test::Fail;
-
-const WHOLE: Array = Array {
-    config: "blocksize 1\nparity p\n2-parity q\n3-parity r\ncontent c\ndata d1 a\ndata d2 b\ndata d3 e\n",
-    levels: 3,
-    disks: &[
-        &[("a", b"\x01", 1, 5)],
-        &[("a", b"\x02", 1, 5)],
-        &[("a", b"\x04", 1, 5)],
-    ],
-    ..EMPTY
-};
-
-const EMPTIED: Array = Array {
-    disks: &[&[], &[], &[("a", b"\x04", 1, 5)]],
-    ..WHOLE
-};
 
 // What a check prints of the three files, which were synced before.
 const CHECKED: Case = Case {
@@ -25,16 +11,14 @@ const CHECKED: Case = Case {
     array: WHOLE,
     status: 1,
     keeps: true,
+    stays: Some(0),
     ..SYNCED
 };
 
 #[test]
 fn two_lost_disks_are_known_by_the_levels_that_are_right(rt: HostRuntime) -> Result<(), Fail> {
     static CASES: [Case; 4] = [
-        Case {
-            array: WHOLE,
-            ..SYNCED
-        },
+        BEFORE,
         Case {
             status: 0,
             out: "check: 0 findings\n",
@@ -49,7 +33,7 @@ fn two_lost_disks_are_known_by_the_levels_that_are_right(rt: HostRuntime) -> Res
         },
         Case {
             array: EMPTIED,
-            damage: Some((0, 1)),
+            damage: Damage::Byte(0, 0, 1),
             out: "changed d1:a recorded 1 1.000000005 found nothing\n\
                   changed d2:a recorded 1 1.000000005 found nothing\n\
                   wrong-parity 0 parity\n\
@@ -60,12 +44,6 @@ fn two_lost_disks_are_known_by_the_levels_that_are_right(rt: HostRuntime) -> Res
     follows(&rt, rt.alloc(), &CASES)
 }
 
-const TWO_LEVELS: Array = Array {
-    config: "blocksize 1\nparity p\n2-parity q\ncontent c\ndata d1 a\ndata d2 b\ndata d3 e\n",
-    levels: 2,
-    ..WHOLE
-};
-
 #[test]
 fn more_blocks_are_lost_than_levels_are_right(rt: HostRuntime) -> Result<(), Fail> {
     static CASES: [Case; 2] = [
@@ -75,10 +53,10 @@ fn more_blocks_are_lost_than_levels_are_right(rt: HostRuntime) -> Result<(), Fai
         },
         Case {
             array: Array {
-                disks: &[&[], &[], &[("a", b"\x04", 1, 5)]],
+                disks: LOST,
                 ..TWO_LEVELS
             },
-            damage: Some((1, 1)),
+            damage: Damage::Byte(1, 0, 1),
             out: "changed d1:a recorded 1 1.000000005 found nothing\n\
                   changed d2:a recorded 1 1.000000005 found nothing\n\
                   unrecoverable 0 d1:a 0\n\
@@ -93,17 +71,10 @@ fn more_blocks_are_lost_than_levels_are_right(rt: HostRuntime) -> Result<(), Fai
 #[test]
 fn a_changed_bit_and_a_file_in_the_way_are_told(rt: HostRuntime) -> Result<(), Fail> {
     static CASES: [Case; 3] = [
-        Case {
-            array: WHOLE,
-            ..SYNCED
-        },
+        BEFORE,
         Case {
             array: Array {
-                disks: &[
-                    &[("a", b"\x01", 1, 5)],
-                    &[("a", b"\x03", 1, 5)],
-                    &[("a", b"\x04", 1, 5)],
-                ],
+                disks: &[FIRST, &[("a", b"\x03", 1, 5)], THIRD],
                 ..WHOLE
             },
             out: "silent 0 d2:a 0 recorded 6f089fc28e783140e096e62d987df68c \
@@ -113,11 +84,7 @@ fn a_changed_bit_and_a_file_in_the_way_are_told(rt: HostRuntime) -> Result<(), F
         },
         Case {
             array: Array {
-                disks: &[
-                    &[("a/x", b"\x07", 1, 5)],
-                    &[("a", b"\x02", 1, 5)],
-                    &[("a", b"\x04", 1, 5)],
-                ],
+                disks: &[&[("a/x", b"\x07", 1, 5)], SECOND, THIRD],
                 ..WHOLE
             },
             out: "changed d1:a recorded 1 1.000000005 found nothing\nblocked d1:a\ncheck: 2 findings\n",

@@ -1,3 +1,0 @@
-// Whole runs over objects in memory.
-mod damaged;
-mod selected;
