@@ -1,4 +1,5 @@
-//! Tests of `sync` through `snap_top::run`, over objects in memory that fail at one call, or that are read by several threads.
+//! Tests of `sync` through `snap_top::run`, over objects in memory that fail at one call, that are stopped after
+//! some, or that are read by several threads.
 #![tactic(auto)]
 
 #[cfg(test)]

@@ -1,3 +1,0 @@
-// Syncs that are stopped.
-mod again;
-mod stops;
