@@ -90,14 +90,17 @@ const BYTE: Disk<'static> = &[("a", b"1", 1, 5)];
 
 const TWO_DISKS: &str = "blocksize 1\nparity p\ncontent content\ndata d1 d\ndata d2 e\n";
 
-// Whether words over two disks with a file each end so, and the first readings of the two disks are made at once: a folder's
-// third call, after it was listed and the file looked at.
-fn reads_at_once<R: Threads + Sync>(
+// The vault that words by so many readers over two disks with a file each leave, if they end so, and so many of the
+// two folders see at their first reading that the other one is read. That is a folder's third call, after it was
+// listed and the file looked at.
+fn sees_readings<R: Threads + Sync>(
     rt: &R,
     alloc: Global,
     command: &str,
+    readers: &str,
     vault: MemVault,
     out: &str,
+    see: usize,
 ) -> Result<Option<MemVault>, Fail>
     requires settled { IsSettled (vault_view vault) }
     requires drafts { HasNoDraft (vault_view vault) }
@@ -109,10 +112,15 @@ fn reads_at_once<R: Threads + Sync>(
     let mut folders = Vec::new(alloc);
     folders.push(GateFolder::new(folder(alloc, BYTE)?, 3, &one, &two))?;
     folders.push(GateFolder::new(folder(alloc, BYTE)?, 3, &two, &one))?;
-    let words = ["snapraid", command, "-c", "FILE", "--readers", "2"];
+    let words = ["snapraid", command, "-c", "FILE", "--readers", readers];
     let left = run_with(rt, alloc, &words, TWO_DISKS, folders, vault)?;
-    let saw = left.outcome.folders.iter().all(|folder| folder.saw());
-    if !left.is(0, out, "") || left.outcome.folders.len() != 2 || !saw {
+    let saw = left
+        .outcome
+        .folders
+        .iter()
+        .filter(|folder| folder.saw())
+        .count();
+    if !left.is(0, out, "") || left.outcome.folders.len() != 2 || saw != see {
         return Ok(None);
     }
     Ok(Some(left.reopened()?))
@@ -123,11 +131,21 @@ fn two_disks_are_read_at_once(rt: HostRuntime) -> Result<(), Fail> {
     let alloc = rt.alloc();
     let first = vault(alloc, EMPTY)?;
     let done = "sync: 1 stripes synced, 0 pending\n";
-    let Some(synced) = reads_at_once(&rt, alloc, "sync", first, done)? else {
+    let Some(synced) = sees_readings(&rt, alloc, "sync", "2", first, done, 2)? else {
         return Err("a sync".into());
     };
-    let found = reads_at_once(&rt, alloc, "check", synced, "check: 0 findings\n")?;
+    let found = sees_readings(&rt, alloc, "check", "2", synced, "check: 0 findings\n", 2)?;
     assert!(rt; found.is_some(), "a check");
+    Ok(())
+}
+
+// One reader reads the second disk after the first one, which waited for that in vain.
+#[test]
+fn one_reader_reads_two_disks_in_turn(rt: HostRuntime) -> Result<(), Fail> {
+    let first = vault(rt.alloc(), EMPTY)?;
+    let done = "sync: 1 stripes synced, 0 pending\n";
+    let found = sees_readings(&rt, rt.alloc(), "sync", "1", first, done, 1)?;
+    assert!(rt; found.is_some());
     Ok(())
 }
 
