@@ -2,10 +2,12 @@
 use Rattle.std.proofs.Common.{◌≡◌, ◌≢◌, ℕ, ◌+◌, ◌<◌, ◌≤◌, List, [], ◌∷◌, ◌++◌, length, map, set, get_or, false, true, refl, sym, ap, ◌∙◌, subst, arith, below_more}
 use Rattle.std.proofs.lemmas.List.{length-map, length-set, length_push, map-set, get_or-map, get_or-set_same, get_or-set_other, get_or_append_left, get_or_at}
 use Rattle.disk_model.specs.Folder.{FolderView, ListFiles, IsFolderReading, quiet_folder}
+use Rattle.disk_model.specs.declared.answer.Answer.{Answer}
+use Rattle.disk_model.specs.declared.answer.Answer.TheVariants as answers
 use Rattle.array_scan.specs.declared.listing.ListingFault.{ListingFault}
 use Rattle.array_scan.specs.declared.listing.ListingFault.TheVariants.{Folder, Memory}
 use Rattle.array_scan.specs.Kept.{ListedFile}
-use Rattle.array_scan.specs.Listings.{Lists, FailsToList, folder_at, ListsFirst, ListsAll, FailsAt, FailsListing}
+use Rattle.array_scan.specs.Listings.{Lists, FailsToList, folder_at, IsAsked, ListsFirst, ListsAll, FailsAt, FailsListing}
 
 -- the first folders were listed, and these are their files
 pub record ListsSome (d : ℕ) (olds news : List FolderView) (lists : List (List ListedFile)) : Type 0 where
@@ -35,16 +37,16 @@ module _ {F : Type 0} (view : F → FolderView) (d : ℕ) (olds : List FolderVie
   many = length-map (set folders d after) view ∙ length-set folders d after ∙ sym (length-map folders view)
 
   -- the call that was made of it
-  call : (failed : _) → d < length folders → ListsSome d olds (map view folders) lists → IsFolderReading ListFiles failed (view (get_or folders d before)) (view after)
-      → IsFolderReading ListFiles failed (folder_at olds d) (folder_at (map view (set folders d after)) d)
-  call failed within some read =
-      subst (λ (v : FolderView). IsFolderReading ListFiles failed (folder_at olds d) v) (sym (now within))
-      (subst (λ (v : FolderView). IsFolderReading ListFiles failed v (view after)) (sym (lent within) ∙ some.others d (omega arith)) read)
+  call : (answer : Answer) → d < length folders → ListsSome d olds (map view folders) lists → IsFolderReading ListFiles answer (view (get_or folders d before)) (view after)
+      → IsFolderReading ListFiles answer (folder_at olds d) (folder_at (map view (set folders d after)) d)
+  call answer within some read =
+      subst (λ (v : FolderView). IsFolderReading ListFiles answer (folder_at olds d) v) (sym (now within))
+      (subst (λ (v : FolderView). IsFolderReading ListFiles answer v (view after)) (sym (lent within) ∙ some.others d (omega arith)) read)
 
-  earlier : d < length folders → ListsSome d olds (map view folders) lists → (k : ℕ) → k < d → IsFolderReading ListFiles false (folder_at olds k) (folder_at (map view (set folders d after)) k)
+  earlier : d < length folders → ListsSome d olds (map view folders) lists → (k : ℕ) → k < d → IsFolderReading ListFiles answers.Done (folder_at olds k) (folder_at (map view (set folders d after)) k)
   earlier within some k below =
       let apart : k ≢ d = (λ (e : k ≡ d). omega (arith, e, below)) in
-      subst (λ (v : FolderView). IsFolderReading ListFiles false (folder_at olds k) v) (sym (other k apart)) (some.each k below).call
+      subst (λ (v : FolderView). IsFolderReading ListFiles answers.Done (folder_at olds k) v) (sym (other k apart)) (some.each k below).call
 
   later : ListsSome d olds (map view folders) lists → (k : ℕ) → d < k → folder_at (map view (set folders d after)) k ≡ folder_at olds k
   later some k above =
@@ -71,11 +73,13 @@ module _ {F : Type 0} (view : F → FolderView) (d : ℕ) (olds : List FolderVie
       → Lists (view (get_or folders d before)) (view after) files → ListsSome (d + 1) olds (map view (set folders d after)) more
   lists_lent files more same within some one = subst (ListsSome (d + 1) olds (map view (set folders d after))) (sym same) (lists_more files within some one)
 
-  pub first_listed : d < length folders → ListsSome d olds (map view folders) lists → IsFolderReading ListFiles false (view (get_or folders d before)) (view after)
+  pub first_listed : d < length folders → ListsSome d olds (map view folders) lists → IsAsked (view (get_or folders d before)) (view after)
       → ListsFirst (d + 1) olds (map view (set folders d after))
   first_listed within some read = record {
     as_many = many ∙ some.as_many;
-    calls = below_more (λ k. IsFolderReading ListFiles false (folder_at olds k) (folder_at (map view (set folders d after)) k)) d (earlier within some) (call false within some read);
+    calls = below_more (λ k. IsAsked (folder_at olds k) (folder_at (map view (set folders d after)) k)) d
+        (λ k below. record { answer = answers.Done; call = earlier within some k below; unfailed = refl })
+        (record { answer = read.answer; call = call read.answer within some read.call; unfailed = read.unfailed });
     others = λ k from. later some k (omega arith);
   }
 
@@ -84,8 +88,8 @@ module _ {F : Type 0} (view : F → FolderView) (d : ℕ) (olds : List FolderVie
   fails_at (Folder disk) within some fails =
       subst (λ (n : ℕ). FailsAt n olds (map view (set folders d after))) (sym fails.0) (record {
         within = omega (arith, some.as_many, length-map folders view);
-        failed = call true within some fails.1;
+        failed = call answers.Failed within some fails.1;
         before = earlier within some;
         behind = later some;
       })
-  fails_at Memory within some fails = (d + 1, first_listed within some fails)
+  fails_at Memory within some fails = (d + 1, first_listed within some (record { answer = answers.OutOfMemory; call = fails; unfailed = refl }))

@@ -6,7 +6,8 @@ use Rattle.std.proofs.Math.ListN.{drop_of_length-le}
 use Rattle.std.proofs.Math.Nat.{zero-mul, suc-mul, mul-le-mul_right}
 use Rattle.std.proofs.lemmas.Grind.{div_ceil_times}
 use Rattle.disk_model.specs.Files.{Stays}
-use Rattle.disk_model.specs.Vault.{VaultView, VaultCall, DraftAppend, GoesOn, IsCall, SomeCalls, ChangesBy, DraftIs, staged_of, draft_of, copies_of, IsWellFormed}
+use Rattle.disk_model.specs.Vault.{VaultView, VaultCall, plain_done, DraftAppend, GoesOn, IsCall, SomeCalls, ChangesBy, DraftIs, staged_of, draft_of, copies_of, IsWellFormed}
+use Rattle.disk_model.specs.declared.answer.Answer.TheVariants.{Done}
 use Rattle.disk_model.specs.declared.draft.Draft.{Draft}
 use Rattle.disk_model.specs.declared.draft.Draft.TheVariants.{Absent, Open, Sealed}
 use Rattle.disk_model.specs.declared.fault.Failed.{Failed}
@@ -107,7 +108,7 @@ next_call size copy bytes rest piece old now so_far is = ap (DraftAppend copy) (
 -- the next piece is written
 pub filling_more : (size copy : ℕ) (bytes rest piece after : List ℕ) (old mid new : VaultView)
     → IsWellFormed mid → copy < copies_of old → piece ++ after ≡ rest → piece ≡ take size rest → after ≡ drop size rest → 0 < length rest
-    → Filling size copy bytes rest old mid → GoesOn mid new (record { call = DraftAppend copy piece; failed = false } ∷ []) → ChangesBy Stays mid new → DraftIs copy Open (staged_of mid copy ++ piece) mid new
+    → Filling size copy bytes rest old mid → GoesOn mid new (plain_done (DraftAppend copy piece) false ∷ []) → ChangesBy Stays mid new → DraftIs copy Open (staged_of mid copy ++ piece) mid new
     → Filling size copy bytes after old new
 filling_more size copy bytes rest piece after old mid new formed within split front back more so_far goes_on changes draft =
     let tells = so_far.calls.goes_on.tells in
@@ -119,7 +120,7 @@ filling_more size copy bytes rest piece after old mid new formed within split fr
     record {
       calls = more_calls old mid new _ so_far.calls goes_on;
       pieces = so_far.pieces + 1;
-      made = each_more (append_call size copy bytes) (DraftAppend copy piece) so_far.pieces false old mid new (next_call size copy bytes rest piece old mid so_far front) refl so_far.made goes_on;
+      made = each_more (append_call size copy bytes) (DraftAppend copy piece) so_far.pieces Done old mid new (next_call size copy bytes rest piece old mid so_far front) refl so_far.made goes_on;
       rest_is = back ∙ ap (drop size) so_far.rest_is ∙ drop-drop size (so_far.pieces * size) bytes ∙ ap (λ n. drop n bytes) sum;
       within = omega (arith, below, sum);
       changes = stays_then Stays old mid new tells so_far.changes changes (λ _. refl);

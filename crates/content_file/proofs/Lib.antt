@@ -17,6 +17,8 @@ pub mod LoadFeeds
 pub mod LoadLemmas
 pub mod LoadLoop
 pub mod OneSpelling
+pub mod OrderCopies
+pub mod OrderFeeds
 pub mod Parts
 pub mod Pieces
 pub mod ReadColumn

@@ -1,12 +1,14 @@
 -- How often a copy is asked for: its size, and pieces of it.
 use Rattle.std.proofs.Common.{◌≡◌, ◌≢◌, inl, inr, ℕ, ◌+◌, ◌-◌, ◌*◌, ◌<◌, ◌≤◌, min, List, [], ◌∷◌, ◌++◌, length, Bool, cond, IsTrue, Option, None, Some, Result, arith, eq-eqb, refl, sym, ◌∙◌, ap, subst, append_assoc, append-nil}
 use Rattle.std.specs.Option.{option_map}
-use Rattle.std.specs.Prelude.{◌==◌, is_err}
+use Rattle.std.specs.Prelude.{◌==◌}
 use Rattle.std.proofs.lemmas.Bool.Decides.{Decides-eqb, eqb_tells}
 use Rattle.std.proofs.lemmas.List.Sums.{sum_by-append}
+use Rattle.disk_model.specs.Answer.{vault_answer}
 use Rattle.disk_model.specs.Cause.{Grows}
 use Rattle.disk_model.specs.Files.{Stays, content_of}
 use Rattle.disk_model.specs.Vault.{VaultView, VaultDone, GoesOn, ChangesBy, IsReading, ContentSize, ContentRead}
+use Rattle.disk_model.specs.declared.answer.Answer.{Answer}
 use Rattle.disk_model.specs.declared.fault.Failed.{Failed}
 use Rattle.content_file.specs.Load.{most_read, is_size_of, is_piece_of, sizes_of, pieces_of, AsksNothing, most_pieces, most_pieces_of, ReadsPieces, ReadsCopyInPieces, ReadsInPieces}
 use Rattle.content_file.proofs.Fields.{some_is}
@@ -30,30 +32,30 @@ nothing_then copy first second one two = record {
 nothing_none : (copy : ℕ) → AsksNothing copy []
 nothing_none copy = record { size = refl; pieces = refl }
 
-grown_then : (old mid new : VaultView) (first second : List VaultDone) → Grows old.tells_calls old.calls mid.tells_calls mid.calls first → Grows mid.tells_calls mid.calls new.tells_calls new.calls second
+pub grown_then : (old mid new : VaultView) (first second : List VaultDone) → Grows old.tells_calls old.calls mid.tells_calls mid.calls first → Grows mid.tells_calls mid.calls new.tells_calls new.calls second
     → Grows old.tells_calls old.calls new.tells_calls new.calls (first ++ second)
 grown_then old mid new first second one two = record {
   told = λ t. one.told (two.told t);
   more = λ t. two.more t ∙ ap (λ cs. cs ++ second) (one.more (two.told t)) ∙ append_assoc old.calls first second;
 }
 
-grown_none : (v : VaultView) → Grows v.tells_calls v.calls v.tells_calls v.calls []
+pub grown_none : (v : VaultView) → Grows v.tells_calls v.calls v.tells_calls v.calls []
 grown_none v = record { told = λ t. t; more = λ t. sym (append-nil v.calls) }
 
 -- ---- one copy, piece by piece
 
 -- the call of one piece
-abbrev piece : ℕ → ℕ → ℕ → Bool → List VaultDone
-piece copy at n failed = record { call = ContentRead copy at n; failed = failed } ∷ []
+abbrev piece : ℕ → ℕ → ℕ → Answer → List VaultDone
+piece copy at n answer = record { call = ContentRead copy at n; answer = answer } ∷ []
 
-one_piece : (copy at n : ℕ) (failed : Bool) → pieces_of copy (piece copy at n failed) ≡ 1
-one_piece copy at n failed = ap (λ (b : Bool). 0 + cond b 1 0) (eq-eqb copy copy refl)
+one_piece : (copy at n : ℕ) (answer : Answer) → pieces_of copy (piece copy at n answer) ≡ 1
+one_piece copy at n answer = ap (λ (b : Bool). 0 + cond b 1 0) (eq-eqb copy copy refl)
 
-size_not_asked : (copy k at n : ℕ) (failed : Bool) → sizes_of k (piece copy at n failed) ≡ 0
-size_not_asked copy k at n failed = refl
+size_not_asked : (copy k at n : ℕ) (answer : Answer) → sizes_of k (piece copy at n answer) ≡ 0
+size_not_asked copy k at n answer = refl
 
-no_piece : (copy k at n : ℕ) (failed : Bool) → k ≢ copy → AsksNothing k (piece copy at n failed)
-no_piece copy k at n failed other = record { size = size_not_asked copy k at n failed; pieces = ap (λ (b : Bool). 0 + cond b 1 0) (decides_false (copy == k) (Decides-eqb copy k) (λ same. other (sym same))) }
+no_piece : (copy k at n : ℕ) (answer : Answer) → k ≢ copy → AsksNothing k (piece copy at n answer)
+no_piece copy k at n answer other = record { size = size_not_asked copy k at n answer; pieces = ap (λ (b : Bool). 0 + cond b 1 0) (decides_false (copy == k) (Decides-eqb copy k) (λ same. other (sym same))) }
 
 -- So many bytes of a copy were read, in whole pieces where more is to come.
 pub record CountsPieces (copy size : ℕ) (old now : VaultView) (at : ℕ) : Type 0 where
@@ -63,20 +65,20 @@ pub record CountsPieces (copy size : ℕ) (old now : VaultView) (at : ℕ) : Typ
 pub counts_none : (copy size : ℕ) (v : VaultView) → CountsPieces copy size v v 0
 counts_none copy size v = record { reads = record { done = []; grown = grown_none v; size = refl; few = omega arith; others = λ k other. nothing_none k }; whole = λ more. omega arith }
 
-module _ (copy size : ℕ) (old mid new : VaultView) (at n : ℕ) (failed : Bool) (before : CountsPieces copy size old mid at) (more : at < size) (goes_on : GoesOn mid new (piece copy at n failed)) where
+module _ (copy size : ℕ) (old mid new : VaultView) (at n : ℕ) (answer : Answer) (before : CountsPieces copy size old mid at) (more : at < size) (goes_on : GoesOn mid new (piece copy at n answer)) where
   abbrev calls : List VaultDone
-  calls = before.reads.done ++ piece copy at n failed
+  calls = before.reads.done ++ piece copy at n answer
 
   counted : pieces_of copy calls ≡ pieces_of copy before.reads.done + 1
-  counted = pieces_of-append copy before.reads.done _ ∙ ap (λ (m : ℕ). pieces_of copy before.reads.done + m) (one_piece copy at n failed)
+  counted = pieces_of-append copy before.reads.done _ ∙ ap (λ (m : ℕ). pieces_of copy before.reads.done + m) (one_piece copy at n answer)
 
   abbrev with_piece : ReadsPieces copy (most_pieces size) old new
   with_piece = record {
     done = calls;
     grown = grown_then old mid new _ _ before.reads.grown goes_on.calls;
-    size = omega (arith, sizes_of-append copy before.reads.done (piece copy at n failed), size_not_asked copy copy at n failed, before.reads.size);
+    size = omega (arith, sizes_of-append copy before.reads.done (piece copy at n answer), size_not_asked copy copy at n answer, before.reads.size);
     few = omega (arith, counted, before.whole more, more);
-    others = λ k other. nothing_then k before.reads.done _ (before.reads.others k other) (no_piece copy k at n failed other);
+    others = λ k other. nothing_then k before.reads.done _ (before.reads.others k other) (no_piece copy k at n answer other);
   }
 
   pub piece_more : ReadsPieces copy (most_pieces size) old new
@@ -88,23 +90,23 @@ module _ (copy size : ℕ) (old mid new : VaultView) (at n : ℕ) (failed : Bool
 -- ---- one copy, with its size
 
 -- the call that asks a size
-abbrev size_asked : ℕ → Bool → List VaultDone
-size_asked copy failed = record { call = ContentSize copy; failed = failed } ∷ []
+abbrev size_asked : ℕ → Answer → List VaultDone
+size_asked copy answer = record { call = ContentSize copy; answer = answer } ∷ []
 
-one_size : (copy : ℕ) (failed : Bool) → sizes_of copy (size_asked copy failed) ≡ 1
-one_size copy failed = ap (λ (b : Bool). 0 + cond b 1 0) (eq-eqb copy copy refl)
+one_size : (copy : ℕ) (answer : Answer) → sizes_of copy (size_asked copy answer) ≡ 1
+one_size copy answer = ap (λ (b : Bool). 0 + cond b 1 0) (eq-eqb copy copy refl)
 
-no_size : (copy k : ℕ) (failed : Bool) → k ≢ copy → AsksNothing k (size_asked copy failed)
-no_size copy k failed other = record { size = ap (λ (b : Bool). 0 + cond b 1 0) (decides_false (copy == k) (Decides-eqb copy k) (λ same. other (sym same))); pieces = refl }
+no_size : (copy k : ℕ) (answer : Answer) → k ≢ copy → AsksNothing k (size_asked copy answer)
+no_size copy k answer other = record { size = ap (λ (b : Bool). 0 + cond b 1 0) (decides_false (copy == k) (Decides-eqb copy k) (λ same. other (sym same))); pieces = refl }
 
 -- its size alone was asked
-pub size_alone : {T : Type 0} (copy : ℕ) (result : Result T Failed) (old new : VaultView) → IsReading (ContentSize copy) result old new → ReadsCopyInPieces copy old new
-size_alone copy result old new asked = record {
-  done = size_asked copy (is_err result);
+pub size_alone : {T : Type 0} (copy : ℕ) (gives : T → Answer) (result : Result T Failed) (old new : VaultView) → IsReading (ContentSize copy) gives result old new → ReadsCopyInPieces copy old new
+size_alone copy gives result old new asked = record {
+  done = size_asked copy (vault_answer gives result);
   grown = asked.called.goes_on.calls;
-  size = omega (arith, one_size copy (is_err result));
+  size = omega (arith, one_size copy (vault_answer gives result));
   few = λ told. omega arith;
-  others = λ k other. no_size copy k (is_err result) other;
+  others = λ k other. no_size copy k (vault_answer gives result) other;
 }
 
 -- a copy whose size was answered is there
@@ -113,16 +115,16 @@ pieces_for None size is = absurd (cc)
 pieces_for (Some bytes) size is = ap most_pieces (some_is size (length bytes) is)
 
 -- its size was asked, and then its pieces were read
-pub size_then_pieces : {T : Type 0} (copy size : ℕ) (result : Result T Failed) (found : Option ℕ) (old mid new : VaultView) → IsReading (ContentSize copy) result old mid
+pub size_then_pieces : {T : Type 0} (copy size : ℕ) (gives : T → Answer) (result : Result T Failed) (found : Option ℕ) (old mid new : VaultView) → IsReading (ContentSize copy) gives result old mid
     → (IsTrue old.tells → found ≡ option_map length (content_of old.files copy)) → found ≡ Some size → ReadsPieces copy (most_pieces size) mid new → ReadsCopyInPieces copy old new
-size_then_pieces copy size result found old mid new asked told_size some pieces =
-    let first : List VaultDone = size_asked copy (is_err result) in
+size_then_pieces copy size gives result found old mid new asked told_size some pieces =
+    let first : List VaultDone = size_asked copy (vault_answer gives result) in
     record {
       done = first ++ pieces.done;
       grown = grown_then old mid new _ _ asked.called.goes_on.calls pieces.grown;
-      size = omega (arith, sizes_of-append copy first pieces.done, one_size copy (is_err result), pieces.size);
+      size = omega (arith, sizes_of-append copy first pieces.done, one_size copy (vault_answer gives result), pieces.size);
       few = λ told. omega (arith, pieces_of-append copy first pieces.done, pieces.few, pieces_for (content_of old.files copy) size (sym some ∙ told_size told));
-      others = λ k other. nothing_then k first pieces.done (no_size copy k (is_err result) other) (pieces.others k other);
+      others = λ k other. nothing_then k first pieces.done (no_size copy k (vault_answer gives result) other) (pieces.others k other);
     }
 
 -- ---- the first copies

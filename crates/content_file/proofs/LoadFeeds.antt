@@ -1,10 +1,13 @@
 -- A copy is read piece by piece, and a decoder is fed with it.
-use Rattle.std.proofs.Common.{◌≡◌, inr, ℕ, ◌+◌, ◌-◌, ◌<◌, ◌≤◌, min, List, [], ◌++◌, length, take, drop, false, IsTrue, Option, Some, Result, Ok, Err, refl, sym, ap, subst, ◌∙◌, arith}
+use Rattle.std.proofs.Common.{◌≡◌, inr, ℕ, ◌+◌, ◌-◌, ◌<◌, ◌≤◌, min, List, [], ◌++◌, length, take, drop, false, IsTrue, Option, None, Some, Result, Ok, Err, refl, sym, ap, subst, ◌∙◌, arith}
 use Rattle.std.specs.Prelude.{unwrap_or}
 use Rattle.std.proofs.lemmas.List.{length-take, length-drop, take-take, take-append-drop, take-append-le, drop-take}
+use Rattle.disk_model.specs.Answer.{is_failure, size_answer}
 use Rattle.disk_model.specs.Bytes.{read_from}
 use Rattle.disk_model.specs.Files.{Stays, content_of}
 use Rattle.disk_model.specs.Vault.{VaultView, VaultCall, ChangesBy, ContentRead, IsReading, copies_of}
+use Rattle.disk_model.specs.declared.answer.Answer.{Answer}
+use Rattle.disk_model.specs.declared.answer.Answer.TheVariants.{Bytes}
 use Rattle.disk_model.specs.declared.fault.Failed.{Failed}
 use Rattle.disk_model.proofs.CallsLemmas.{only_none, only_one, only_then}
 use Rattle.disk_model.proofs.VaultLemmas.{no_calls, calls_then, one_call, changes_start}
@@ -35,20 +38,25 @@ reads_then copy old mid new one two =
       drafts = drafts_on old mid new tells one.drafts two.drafts;
     }
 
-pub reads_one : {T : Type 0} (copy : ℕ) (call : VaultCall) (result : Result T Failed) (old new : VaultView) → IsReadOf copy call → IsReading call result old new → ReadsCopy copy old new
-reads_one copy call result old new is one = record {
+pub reads_one : {T : Type 0} (copy : ℕ) (call : VaultCall) (gives : T → Answer) (result : Result T Failed) (old new : VaultView) → IsReadOf copy call → IsReading call gives result old new → ReadsCopy copy old new
+reads_one copy call gives result old new is one = record {
   calls = one_call old new _ one.called.goes_on;
   made = only_one (IsReadOf copy) old new call _ is one.called.goes_on;
   changes = one.changes;
   drafts = one.drafts;
 }
 
-pub quiet_one : {T : Type 0} (call : VaultCall) (x : T) (old new : VaultView) → IsReading call (Ok x) old new → NoneFailed old new
-quiet_one call x old new one = one_not_failed old new call false refl one.called.goes_on
+pub quiet_one : {T : Type 0} (call : VaultCall) (gives : T → Answer) (x : T) (old new : VaultView) → is_failure (gives x) ≡ false → IsReading call gives (Ok x) old new → NoneFailed old new
+quiet_one call gives x old new well one = one_not_failed old new call (gives x) well one.called.goes_on
 
-pub fails_last : {T : Type 0} (copy : ℕ) (call : VaultCall) (failed : Failed) (old mid new : VaultView) → copy < copies_of old → IsReadOf copy call → ReadsCopy copy old mid → IsReading {T = T} call (Err failed) mid new
+-- a copy's size is no failure
+pub size_answered : (size : Option ℕ) → is_failure (size_answer size) ≡ false
+size_answered None = refl
+size_answered (Some n) = refl
+
+pub fails_last : {T : Type 0} (copy : ℕ) (call : VaultCall) (gives : T → Answer) (failed : Failed) (old mid new : VaultView) → copy < copies_of old → IsReadOf copy call → ReadsCopy copy old mid → IsReading {T = T} call gives (Err failed) mid new
     → HasFailed old new copy
-fails_last copy call failed old mid new within is one two = failed_last old mid new call copy one.calls two.called.goes_on two.called.cause within is
+fails_last copy call gives failed old mid new within is one two = failed_last old mid new call copy one.calls two.called.goes_on two.called.cause within is
 
 pub read_piece : (copy at n : ℕ) → n ≤ most_read → IsReadOf copy (ContentRead copy at n)
 read_piece copy at n few = inr (at, n, few, refl)
@@ -86,7 +94,7 @@ pub record FeedsPiece (copy size : ℕ) (old mid new : VaultView) (before after 
   pub more : at < size
   pub room : length buffer ≡ most_read
   pub want_is : want ≡ min (length buffer) (size - at)
-  pub call : IsReading (ContentRead copy at (length (take want buffer))) (Ok count) mid new
+  pub call : IsReading (ContentRead copy at (length (take want buffer))) Bytes (Ok count) mid new
   pub found : IsTrue mid.tells → take count out ≡ read_from (unwrap_or (content_of mid.files copy) []) at (length (take want buffer))
   pub bound : count ≤ length out
   pub feeds : (bytes : List ℕ) → HasFed before bytes → HasFed after (bytes ++ take count (out ++ drop want buffer))
@@ -105,10 +113,10 @@ module _ (copy size : ℕ) (old mid new : VaultView) (before after : Decoder) (a
   within = omega (arith, asked_is, piece.want_is, piece.more)
 
   pub piece_reads : ReadsCopy copy old new
-  piece_reads = reads_then copy old mid new piece.one.reads (reads_one copy (ContentRead copy at asked) (Ok count) mid new (read_piece copy at asked few) piece.call)
+  piece_reads = reads_then copy old mid new piece.one.reads (reads_one copy (ContentRead copy at asked) Bytes (Ok count) mid new (read_piece copy at asked few) piece.call)
 
   pub piece_quiet : NoneFailed old new
-  piece_quiet = none_failed_then old mid new piece.one.none_failed (quiet_one (ContentRead copy at asked) count mid new piece.call)
+  piece_quiet = none_failed_then old mid new piece.one.none_failed (quiet_one (ContentRead copy at asked) Bytes count mid new refl piece.call)
 
   found_in : IsTrue old.tells → (bytes : List ℕ) → content_of old.files copy ≡ Some bytes → take count out ≡ take asked (drop at bytes)
   found_in told bytes held =

@@ -11,6 +11,7 @@ pub mod FlawText
 pub mod Giving
 pub mod Hashed
 pub mod Head
+pub mod InOrder
 pub mod Load
 pub mod Reading
 pub mod ReadingOn

@@ -1,10 +1,11 @@
 -- What loading from the content copies gives, and why.
 use Rattle.std.specs.Prelude.{◌≡◌, ◌≢◌, ◌⊎◌, ℕ, ◌+◌, ◌/◌, ◌<◌, ◌≤◌, ◌==◌, List, ◌∷◌, ◌++◌, length, Bool, true, false, IsTrue, Option, None, Some}
 use Rattle.std.specs.List.{AllByRecursion, count_by}
+use Rattle.disk_model.specs.Answer.{is_failure}
 use Rattle.disk_model.specs.Cause.{Rose, Grows}
 use Rattle.disk_model.specs.Calls.{MakesOnly}
 use Rattle.disk_model.specs.Files.{Stays, content_of}
-use Rattle.disk_model.specs.Vault.{VaultView, VaultCall, VaultDone, SomeCalls, ChangesBy, DraftsStay, ContentSize, ContentRead, copies_of}
+use Rattle.disk_model.specs.Vault.{VaultView, VaultCall, VaultDone, plain_done, SomeCalls, ChangesBy, DraftsStay, ContentSize, ContentRead, copies_of}
 use Rattle.file_table.specs.Table.{TableValue}
 use Rattle.file_table.specs.Valid.{IsValid}
 use Rattle.content_file.specs.Spelling.{spelling, IsContent}
@@ -38,19 +39,19 @@ pub record HasFailed (old new : VaultView) (copy : ℕ) : Type 0 where
   pub call : VaultCall
   pub later : List VaultDone
   pub read : IsReadOf copy call
-  pub made : IsTrue new.tells_calls → new.calls ≡ (old.calls ++ earlier) ++ record { call = call; failed = true } ∷ later
+  pub made : IsTrue new.tells_calls → new.calls ≡ (old.calls ++ earlier) ++ plain_done call true ∷ later
 
 -- none of the calls since failed
 pub record NoneFailed (old new : VaultView) : Type 0 where
   pub done : List VaultDone
   pub grown : Grows old.tells_calls old.calls new.tells_calls new.calls done
-  pub each : AllByRecursion (λ (d : VaultDone). d.failed ≡ false) done
+  pub each : AllByRecursion (λ (d : VaultDone). is_failure d.answer ≡ false) done
 
 -- none of the calls since that read this copy failed
 pub record IsReadWell (old new : VaultView) (copy : ℕ) : Type 0 where
   pub done : List VaultDone
   pub grown : Grows old.tells_calls old.calls new.tells_calls new.calls done
-  pub each : AllByRecursion (λ (d : VaultDone). IsReadOf copy d.call → d.failed ≡ false) done
+  pub each : AllByRecursion (λ (d : VaultDone). IsReadOf copy d.call → is_failure d.answer ≡ false) done
 
 -- a copy holds bytes that are no content file
 pub record IsDamaged (v : VaultView) (copy : ℕ) : Type 0 where

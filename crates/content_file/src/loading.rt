@@ -3,6 +3,7 @@ ghost use Rattle.std.specs.Prelude.{◌≡◌, ◌<◌, [], length, IfOk, IfErr,
 ghost use Rattle.disk_model.specs.Files.{content_of};
 ghost use Rattle.disk_model.specs.Vault.{copies_of};
 ghost use Rattle.content_file.specs.Decoding.{HasFed};
+ghost use Rattle.content_file.specs.InOrder.{FeedsToEnd, StopsAtPiece, ReadsCopyInOrder, IsReadInto, IsReadFor, ReadsInOrder, AreReadFor};
 ghost use Rattle.content_file.specs.Load.{ReadsCopy, ReadsBelow, ReadsPieces, ReadsCopyInPieces, ReadsInPieces, most_pieces, IsFedBy, IsFedAll, Loads, LoadsNot, HasFailed, NoneFailed, IsCopyOf, GivesNoTable, most_read};
 
 use crate::{Damage, Damages, DecodeFault, Decoder};
@@ -47,6 +48,8 @@ fn feed_copy<V: Vault>(
     ensures fed { OnOk result (IsTrue (V.view vault.old).tells → IsFedAll (content_of (V.view vault.old).files copy) size decoder.new) }
     ensures none_failed { OnOk result (NoneFailed (V.view vault.old) (V.view vault.new)) }
     ensures failed { OnErr result (HasFailed (V.view vault.old) (V.view vault.new) copy) }
+    ensures order { OnOk result (FeedsToEnd copy size decoder.new (V.view vault.old) (V.view vault.new)) }
+    ensures stopped { OnErr result (StopsAtPiece copy size (V.view vault.old) (V.view vault.new)) }
 {
     let mut at = 0;
     while at < size {
@@ -76,6 +79,7 @@ fn read_copy<V: Vault>(
     ensures found { IsTrue (V.view vault.old).tells → IfOk result (λ decoder. IsFedBy decoder (content_of (V.view vault.old).files copy)) }
     ensures none_failed { OnOk result (NoneFailed (V.view vault.old) (V.view vault.new)) }
     ensures cause { IfErr result (GivesNoTable (V.view vault.old) (V.view vault.new) copy) }
+    ensures order { ReadsCopyInOrder copy (IsReadInto result) (V.view vault.old) (V.view vault.new) }
 {
     let Ok(size) = vault.content_size(copy) else {
         return Err(CopyFault::Failed);
@@ -106,6 +110,7 @@ fn load_copy<V: Vault>(
     ensures found { IfOk result (λ table. IsCopyOf (V.view vault.old) copy table) }
     ensures none_failed { OnOk result (NoneFailed (V.view vault.old) (V.view vault.new)) }
     ensures cause { IfErr result (GivesNoTable (V.view vault.old) (V.view vault.new) copy) }
+    ensures order { ReadsCopyInOrder copy (IsReadFor result) (V.view vault.old) (V.view vault.new) }
 {
     let decoder = match read_copy(alloc, vault, copy, buffer) {
         Ok(Some(decoder)) => decoder,
@@ -130,6 +135,8 @@ fn load_by<V: Vault>(
     ensures pieces { ReadsInPieces (copies_of (V.view vault.old)) (V.view vault.old) (V.view vault.new) }
     ensures loaded { IfOk result (Loads (V.view vault.old) (V.view vault.new)) }
     ensures cause { IfErr result (LoadsNot (V.view vault.old) (V.view vault.new)) }
+    ensures order { ReadsInOrder (AreReadFor (copies_of (V.view vault.old)) result)
+        (V.view vault.old) (V.view vault.new) }
 {
     let mut failed = false;
     let mut damages = Damages::new(alloc);
@@ -163,6 +170,8 @@ pub fn load<V: Vault>(alloc: Global, vault: &mut V) -> Result<Option<Table>, Loa
     ensures pieces { ReadsInPieces (copies_of (V.view vault.old)) (V.view vault.old) (V.view vault.new) }
     ensures loaded { IfOk result (Loads (V.view vault.old) (V.view vault.new)) }
     ensures cause { IfErr result (LoadsNot (V.view vault.old) (V.view vault.new)) }
+    ensures order { ReadsInOrder (AreReadFor (copies_of (V.view vault.old)) result)
+        (V.view vault.old) (V.view vault.new) }
 {
     match vec![in alloc; 0u8; PIECE] {
         Ok(mut buffer) => load_by(alloc, vault, buffer.as_mut_slice()),

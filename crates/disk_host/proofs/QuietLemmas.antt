@@ -4,20 +4,21 @@ use Rattle.std.proofs.lemmas.List.{map-set}
 use Rattle.std.proofs.Math.Seq.{map-set_same}
 use Rattle.disk_model.specs.Cause.{Rose}
 use Rattle.disk_model.specs.Vault.{VaultCall, IsReading, DraftIs, quiet_vault}
+use Rattle.disk_model.specs.declared.answer.Answer.{Answer}
 use Rattle.disk_model.specs.declared.draft.Draft.{Draft}
 use Rattle.disk_model.specs.declared.fault.Failed.{Failed}
 
-still_reading : {T : Type 0} (call : VaultCall) (result : Result T Failed) (before after levels : ℕ) (drafts : List Draft) → before ≤ after → OnErr result (Rose before after)
-    → IsReading call result (quiet_vault before levels drafts) (quiet_vault after levels drafts)
-still_reading call result before after levels drafts later cause = search rules
+still_reading : {T : Type 0} (call : VaultCall) (gives : T → Answer) (result : Result T Failed) (before after levels : ℕ) (drafts : List Draft) → before ≤ after → OnErr result (Rose before after)
+    → IsReading call gives result (quiet_vault before levels drafts) (quiet_vault after levels drafts)
+still_reading call gives result before after levels drafts later cause = search rules
 
 -- a copy is replaced by one with the same draft
-pub reading : {X T : Type 0} (draft_in : X → Draft) (copies : List X) (i : ℕ) (copy d : X) (call : VaultCall) (result : Result T Failed) (before after levels : ℕ)
+pub reading : {X T : Type 0} (draft_in : X → Draft) (copies : List X) (i : ℕ) (copy d : X) (call : VaultCall) (gives : T → Answer) (result : Result T Failed) (before after levels : ℕ)
     → draft_in copy ≡ draft_in (get_or copies i d) → before ≤ after → OnErr result (Rose before after)
-    → IsReading call result (quiet_vault before levels (map draft_in copies)) (quiet_vault after levels (map draft_in (set copies i copy)))
-reading draft_in copies i copy d call result before after levels same later cause =
-    subst (λ (drafts : List Draft). IsReading call result (quiet_vault before levels (map draft_in copies)) (quiet_vault after levels drafts)) (sym (map-set_same draft_in copies i copy d same))
-    (still_reading call result before after levels (map draft_in copies) later cause)
+    → IsReading call gives result (quiet_vault before levels (map draft_in copies)) (quiet_vault after levels (map draft_in (set copies i copy)))
+reading draft_in copies i copy d call gives result before after levels same later cause =
+    subst (λ (drafts : List Draft). IsReading call gives result (quiet_vault before levels (map draft_in copies)) (quiet_vault after levels drafts)) (sym (map-set_same draft_in copies i copy d same))
+    (still_reading call gives result before after levels (map draft_in copies) later cause)
 
 -- a copy is replaced by one with this draft
 pub draft_is : {X : Type 0} (draft_in : X → Draft) (copies : List X) (i : ℕ) (copy : X) (draft : Draft) (content : List ℕ) (before after levels : ℕ)

@@ -1,7 +1,7 @@
 // How failures of the system are counted.
 ghost use Rattle.std.specs.Prelude.{◌≡◌, ◌≤◌, IfOk, OnOk, OnErr, IsTrue, IsErrOf, None, Some, false, is_err};
 ghost use Rattle.disk_model.specs.Cause.{Rose, AtMostOnce};
-ghost use Rattle.disk_model.specs.Folder.{file_failed, listing_failed};
+ghost use Rattle.disk_model.specs.Answer.{is_failure, done_answer, listing_answer};
 
 use disk_model::{Failed, FileFault, ListFault};
 use std::io;
@@ -42,10 +42,10 @@ pub(crate) fn counted_file<T: Drop>(
     ensures later { faults.old ≤ faults.new }
     ensures value { IfOk result (λ value. answer ≡ Ok (Some value)) }
     ensures missing { IsErrOf result FileFault.Missing → answer ≡ Ok None }
-    ensures same { file_failed result ≡ is_err answer }
-    ensures kept { file_failed result ≡ false → faults.new ≡ faults.old }
-    ensures cause { IsTrue (file_failed result) → Rose faults.old faults.new }
-    ensures once { IsTrue (file_failed result) → AtMostOnce faults.old faults.new }
+    ensures same { is_failure (done_answer result) ≡ is_err answer }
+    ensures kept { is_failure (done_answer result) ≡ false → faults.new ≡ faults.old }
+    ensures cause { IsTrue (is_failure (done_answer result)) → Rose faults.old faults.new }
+    ensures once { IsTrue (is_failure (done_answer result)) → AtMostOnce faults.old faults.new }
 {
     match answer {
         Ok(Some(value)) => Ok(value),
@@ -65,9 +65,9 @@ pub(crate) fn counted_listing<T: Drop>(
     ensures later { faults.old ≤ faults.new }
     ensures value { IfOk result (λ value. answer ≡ Ok value) }
     ensures same { is_err result ≡ is_err answer }
-    ensures kept { listing_failed result ≡ false → faults.new ≡ faults.old }
-    ensures cause { IsTrue (listing_failed result) → Rose faults.old faults.new }
-    ensures once { IsTrue (listing_failed result) → AtMostOnce faults.old faults.new }
+    ensures kept { is_failure (listing_answer result) ≡ false → faults.new ≡ faults.old }
+    ensures cause { IsTrue (is_failure (listing_answer result)) → Rose faults.old faults.new }
+    ensures once { IsTrue (is_failure (listing_answer result)) → AtMostOnce faults.old faults.new }
 {
     match answer {
         Ok(value) => Ok(value),

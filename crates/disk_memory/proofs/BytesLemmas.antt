@@ -126,3 +126,7 @@ bytes-resized file len one = bytes-append (take len file) (replicate (len - leng
 -- a slice of bytes
 pub slice_bytes : (bytes : List ℕ) → ((i : ℕ) → get_or bytes i 0 < 256) → AreBytes bytes
 slice_bytes bytes fits = All-from_get_or (λ byte. byte < 256) bytes 0 (λ i below. fits i)
+
+-- what a read gives has as many bytes as it answers
+pub count_is : (n count : ℕ) (out bytes : List ℕ) → take n out ≡ bytes → n ≤ length out → count ≡ length bytes → count ≡ n
+count_is n count out bytes found bound counted = omega (arith, counted, ap length found, length-take n out, bound)

@@ -6,11 +6,14 @@ use Rattle.std.specs.FinMap as map
 use Rattle.disk_model.specs.Bytes.{put, resized}
 use Rattle.disk_model.specs.Cause.{Rose, Grows}
 use Rattle.disk_model.specs.Tree.{Tree, File, file_of}
-use Rattle.disk_model.specs.Folder.{FolderView, FolderCall, FolderDone, file_failed}
+use Rattle.disk_model.specs.Answer.{is_failure, done_answer}
+use Rattle.disk_model.specs.Folder.{FolderView, FolderCall, FolderDone}
 use Rattle.disk_model.specs.Writing.{Does, MayDo, IsFolderWrite, ChangesFile, Writes, WritesPart, Resizes, Stamps}
 use Rattle.disk_model.specs.declared.meta.Stamp.{Stamp}
 use Rattle.disk_model.specs.declared.fault.FileFault.{FileFault}
 use Rattle.disk_model.specs.declared.fault.FileFault.TheVariants.{Missing}
+use Rattle.disk_model.specs.declared.answer.Answer.{Answer}
+use Rattle.disk_model.specs.declared.answer.Answer.TheVariants as answers
 use Rattle.disk_memory.specs.Calls.{folder_calls}
 use Rattle.disk_memory.specs.Files.{tree_of, changed, set_found, with_bytes, with_stamp}
 use Rattle.disk_memory.specs.Folder.{folder_view}
@@ -32,20 +35,23 @@ view_after f faults now tree = record {
   calls = folder_calls now.made.items;
 }
 
-abbrev pub done : FolderCall → Bool → FolderDone
-done call failed = record { call = call; failed = failed }
+abbrev pub done : FolderCall → Answer → FolderDone
+done call answer = record { call = call; answer = answer }
 
 module _ (f : MemFolder) (faults : ℕ) (now : Past FolderEntry) (tree : Tree) (call : FolderCall) where
-  pub wrote : faults ≡ f.schedule.faults → Grows (not f.past.lost) (folder_calls f.past.made.items) (not now.lost) (folder_calls now.made.items) (done call false ∷ [])
-      → Does f.keeps_stamps call (tree_of f.files.list.items) tree → IsFolderWrite call false (folder_view f) (view_after f faults now tree)
-  wrote same grows does = record {
-    called = record { goes_on = record { later = subst (λ n. f.schedule.faults ≤ n) (sym same) (omega arith); keeps_stamps = refl; closed = refl; tells = refl; calls = grows }; cause = λ (no : false ≡ true). absurd (cc) };
+  pub wrote : (answer : Answer) → is_failure answer ≡ false → faults ≡ f.schedule.faults → Grows (not f.past.lost) (folder_calls f.past.made.items) (not now.lost) (folder_calls now.made.items) (done call answer ∷ [])
+      → Does f.keeps_stamps call (tree_of f.files.list.items) tree → IsFolderWrite call answer (folder_view f) (view_after f faults now tree)
+  wrote answer unfailed same grows does = record {
+    called = record { goes_on = record { later = subst (λ n. f.schedule.faults ≤ n) (sym same) (omega arith); keeps_stamps = refl; closed = refl; tells = refl; calls = grows }; cause = λ failed. absurd (clash failed) };
     does = λ unfailed told. does;
-    may = λ (no : false ≡ true). absurd (cc);
+    may = λ failed. absurd (clash failed);
   }
+    where
+      clash : is_failure answer ≡ true → ⊥
+      clash failed = cc
 
-  pub failed : f.schedule.faults ≤ faults → Rose f.schedule.faults faults → Grows (not f.past.lost) (folder_calls f.past.made.items) (not now.lost) (folder_calls now.made.items) (done call true ∷ [])
-      → MayDo f.keeps_stamps call (tree_of f.files.list.items) tree → IsFolderWrite call true (folder_view f) (view_after f faults now tree)
+  pub failed : f.schedule.faults ≤ faults → Rose f.schedule.faults faults → Grows (not f.past.lost) (folder_calls f.past.made.items) (not now.lost) (folder_calls now.made.items) (done call answers.Failed ∷ [])
+      → MayDo f.keeps_stamps call (tree_of f.files.list.items) tree → IsFolderWrite call answers.Failed (folder_view f) (view_after f faults now tree)
   failed later rose grows may = record {
     called = record { goes_on = record { later = later; keeps_stamps = refl; closed = refl; tells = refl; calls = grows }; cause = λ failed. rose };
     does = λ (no : true ≡ false). absurd (cc);
@@ -55,16 +61,24 @@ module _ (f : MemFolder) (faults : ℕ) (now : Past FolderEntry) (tree : Tree) (
 abbrev answer_of : Bool → Result (Unit {0}) FileFault
 answer_of there = if there then Ok tt else Err Missing
 
+abbrev kept_of : Bool → Answer
+kept_of there = if there then answers.Done else answers.Missing
+
 -- a call that did its work where the file was there
-pub wrote_found : (there : Bool) (result : Result (Unit {0}) FileFault) → result ≡ answer_of there → (f : MemFolder) (faults : ℕ) (now : Past FolderEntry) (tree : Tree) (call : FolderCall)
-    → faults ≡ f.schedule.faults → Grows (not f.past.lost) (folder_calls f.past.made.items) (not now.lost) (folder_calls now.made.items) (done call false ∷ [])
-    → Does f.keeps_stamps call (tree_of f.files.list.items) tree → IsFolderWrite call (file_failed result) (folder_view f) (view_after f faults now tree)
-wrote_found there result answer f faults now tree call same grows does =
-    subst (λ b. IsFolderWrite call b (folder_view f) (view_after f faults now tree)) (sym (unfailed there) ∙ ap (λ (r : Result (Unit {0}) FileFault). file_failed r) (sym answer)) (wrote f faults now tree call same grows does)
+pub wrote_found : (there : Bool) (result : Result (Unit {0}) FileFault) (answer : Answer) → result ≡ answer_of there → answer ≡ kept_of there → (f : MemFolder) (faults : ℕ) (now : Past FolderEntry) (tree : Tree) (call : FolderCall)
+    → faults ≡ f.schedule.faults → Grows (not f.past.lost) (folder_calls f.past.made.items) (not now.lost) (folder_calls now.made.items) (done call answer ∷ [])
+    → Does f.keeps_stamps call (tree_of f.files.list.items) tree → IsFolderWrite call (done_answer result) (folder_view f) (view_after f faults now tree)
+wrote_found there result answer is kept f faults now tree call same grows does =
+    subst (λ a. IsFolderWrite call a (folder_view f) (view_after f faults now tree)) (kept ∙ as_kept there ∙ ap (λ (r : Result (Unit {0}) FileFault). done_answer r) (sym is))
+    (wrote f faults now tree call answer (ap is_failure kept ∙ unfailed there) same grows does)
   where
-    unfailed : (there : Bool) → file_failed (answer_of there) ≡ false
+    unfailed : (there : Bool) → is_failure (kept_of there) ≡ false
     unfailed true = refl
     unfailed false = refl
+
+    as_kept : (there : Bool) → kept_of there ≡ done_answer (answer_of there)
+    as_kept true = refl
+    as_kept false = refl
 
 -- a change of one file
 pub changes_file : (step : File → File) (R : File → File → Type 0) (path : List ℕ) (old new : Tree) → ((file : File) → R file (step file)) → new ≡ changed step path old → ChangesFile path R old new

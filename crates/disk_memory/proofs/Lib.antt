@@ -15,6 +15,7 @@ pub mod ReplayLemmas
 pub mod ScheduleLemmas
 pub mod SetLemmas
 pub mod SettledLemmas
+pub mod ScriptedLemmas
 pub mod StoreLemmas
 pub mod TreeLemmas
 pub mod VaultLemmas

@@ -1,6 +1,7 @@
 -- All contents that a copy of a vault may have are bytes, and there are no more of them than calls.
 use Rattle.std.proofs.Common.{ℕ, ◌+◌, ◌≤◌, zero, suc, List, [], ◌∷◌, length, get_or, Option, None, Some, IfSome, Bool, true, false, arith}
 use Rattle.std.proofs.lemmas.List.Elements.{All-head, All-tail}
+use Rattle.disk_model.specs.Answer.{is_failure}
 use Rattle.disk_model.specs.Bytes.{AreBytes}
 use Rattle.disk_model.specs.Machine.{Machine, Loose, settled, copy_of, draft_in, staged_in, published, after, replay, IsSteady, GivesBytes, AllGiveBytes}
 use Rattle.disk_model.specs.Vault.{VaultCall, VaultDone, ParityLen, ParityRead, ParityWrite, ParitySetLen, ParitySync, ContentSize, ContentRead, DraftBegin, DraftAppend, DraftSeal, Publish, is_sealed}
@@ -42,7 +43,7 @@ have_after m (Publish copy) failed steady have =
 pub have_replay : (m : Machine) (calls : List VaultDone) → IsSteady m → HaveBytes m → AllGiveBytes calls → HaveBytes (replay m calls)
 have_replay m [] steady have gives = have
 have_replay m (done ∷ calls) steady have gives =
-    have_replay (after m done.call done.failed) calls (steady_after m done.call done.failed steady (All-head (λ (d : VaultDone). GivesBytes d.call) done calls gives)) (have_after m done.call done.failed steady have)
+    have_replay (after m done.call (is_failure done.answer)) calls (steady_after m done.call (is_failure done.answer) steady (All-head (λ (d : VaultDone). GivesBytes d.call) done calls gives)) (have_after m done.call (is_failure done.answer) steady have)
     (All-tail (λ (d : VaultDone). GivesBytes d.call) done calls gives)
 
 pub settled_has : (content : Option (List ℕ)) → IfSome content AreBytes → HasBytes (settled content)
@@ -78,4 +79,4 @@ more_after m (Publish other) failed n few copy =
 
 pub more_replay : (m : Machine) (calls : List VaultDone) (n : ℕ) → AtMost n m → AtMost (n + length calls) (replay m calls)
 more_replay m [] n few copy = omega (arith, few copy)
-more_replay m (done ∷ calls) n few copy = omega (arith, more_replay (after m done.call done.failed) calls (n + 1) (more_after m done.call done.failed n few) copy)
+more_replay m (done ∷ calls) n few copy = omega (arith, more_replay (after m done.call (is_failure done.answer)) calls (n + 1) (more_after m done.call (is_failure done.answer) n few) copy)

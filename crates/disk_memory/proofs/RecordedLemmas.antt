@@ -3,19 +3,22 @@ use Rattle.std.proofs.Common.{◌≡◌, ◌⊎◌, inl, inr, ℕ, ◌<◌, ◌�
 use Rattle.std.proofs.lemmas.List.{map-set, set-get_or, get_or-map, get_or_past, length-map, drop-append-le, drop_all}
 use Rattle.std.proofs.lemmas.List.Elements.{All-append, All-nil, All-cons}
 use Rattle.std.proofs.lemmas.Bool.{cases_lt}
+use Rattle.disk_model.specs.Answer.{is_failure}
 use Rattle.disk_model.specs.Bytes.{put, resized}
 use Rattle.disk_model.specs.Cause.{Grows}
 use Rattle.disk_model.specs.Files.{Files, parity_of, content_of, with_parity, with_content}
 use Rattle.disk_model.specs.Machine.{Machine, Loose, no_file, settled, level_of, copy_of, draft_in, staged_in, files_of, with_level as with_level_of, with_copy as with_copy_of, published, after, replay, GivesBytes, AllGiveBytes}
 use Rattle.disk_model.specs.Unsynced.{Unsynced, synced, written, stretched}
 use Rattle.disk_model.specs.Vault.{VaultCall, VaultDone, ParityLen, ParityRead, ParityWrite, ParitySetLen, ParitySync, ContentSize, ContentRead, DraftBegin, DraftAppend, DraftSeal, Publish, is_sealed}
+use Rattle.disk_model.specs.declared.answer.Answer.{Answer}
+use Rattle.disk_model.specs.declared.answer.Answer.TheVariants.{Failed}
 use Rattle.disk_model.specs.declared.draft.Draft.{Draft}
 use Rattle.disk_model.specs.declared.draft.Draft.TheVariants.{Absent}
 use Rattle.disk_model.proofs.ByCallsLemmas.{opened_reads}
 use Rattle.disk_model.proofs.MachineLemmas.{replay_push}
 use Rattle.disk_memory.specs.Calls.{vault_call, vault_calls, vault_done}
 use Rattle.disk_memory.specs.Held.{Held}
-use Rattle.disk_memory.specs.Past.{Notes, Loses, Corrects}
+use Rattle.disk_memory.specs.Past.{answered, Notes, Loses, Ends}
 use Rattle.disk_memory.specs.Recorded.{opened_by, held_by, calls_since, held_after, is_quiet, IsRecorded}
 use Rattle.disk_memory.specs.RecordedLaws.{follows, untold}
 use Rattle.disk_memory.specs.declared.calls.VaultEntry.{VaultEntry}
@@ -23,8 +26,13 @@ use Rattle.disk_memory.specs.declared.past.Made.{Made}
 use Rattle.disk_memory.specs.declared.past.Past.{Past}
 use Rattle.disk_memory.proofs.PastLemmas.{grows_done, grows_failed}
 
-abbrev pub done_so : VaultCall → Bool → VaultDone
-done_so call failed = record { call = call; failed = failed }
+abbrev pub done_so : VaultCall → Answer → Bool → VaultDone
+done_so call given failed = record { call = call; answer = answered given failed }
+
+-- a call that gives this fails where it is said to
+failure_of : (given : Answer) → is_failure given ≡ false → (failed : Bool) → is_failure (answered given failed) ≡ failed
+failure_of given sound true = refl
+failure_of given sound false = sound
 
 -- ---- what reads give after a call
 
@@ -127,35 +135,38 @@ clash : {X : Type 0} (b : Bool) → b ≡ true → b ≡ false → X
 clash b is not_so = absurd (let no : true ≡ false = sym is ∙ not_so in cc)
 
 -- how one call was written down, from its note to its end
-pub record IsWritten (entry : Option VaultEntry) (done : Bool) (old mid new : Past VaultEntry) : Type 0 where
-  pub noted : IfSome entry (λ e. Notes e true old mid)
+pub record IsWritten (entry : Option VaultEntry) (given : Answer) (done : Bool) (old mid new : Past VaultEntry) : Type 0 where
+  pub noted : IfSome entry (λ e. Notes e Failed old mid)
   pub refused : IfNone entry (Loses old mid)
-  pub ok : done ≡ true → Corrects mid new
+  pub ok : done ≡ true → Ends given mid new
   pub failed : done ≡ false → new ≡ mid
 
-pub written_grows : (entry : Option VaultEntry) (call : VaultCall) (done : Bool) (old mid new : Past VaultEntry) → IsWritten entry done old mid new → IfSome entry (λ e. vault_call e ≡ call)
-    → Grows (not old.lost) (vault_calls old.made.items) (not new.lost) (vault_calls new.made.items) (done_so call (not done) ∷ [])
-written_grows entry call true old mid new is names = grows_done vault_call done_so entry call old mid new is.noted is.refused (is.ok refl) names
-written_grows entry call false old mid new is names =
-    subst (λ (p : Past VaultEntry). Grows (not old.lost) (vault_calls old.made.items) (not p.lost) (vault_calls p.made.items) (done_so call true ∷ [])) (sym (is.failed refl))
-    (grows_failed vault_call done_so entry call old mid is.noted is.refused names)
+abbrev told_so : VaultCall → Answer → VaultDone
+told_so call answer = record { call = call; answer = answer }
 
-mid_kept : (entry : Option VaultEntry) (old mid : Past VaultEntry) → IfSome entry (λ e. Notes e true old mid) → IfNone entry (Loses old mid) → mid.lost ≡ true → mid.made.items ≡ old.made.items
+pub written_grows : (entry : Option VaultEntry) (call : VaultCall) (given : Answer) (done : Bool) (old mid new : Past VaultEntry) → IsWritten entry given done old mid new → IfSome entry (λ e. vault_call e ≡ call)
+    → Grows (not old.lost) (vault_calls old.made.items) (not new.lost) (vault_calls new.made.items) (done_so call given (not done) ∷ [])
+written_grows entry call given true old mid new is names = grows_done vault_call told_so entry call old mid new is.noted is.refused (is.ok refl) names
+written_grows entry call given false old mid new is names =
+    subst (λ (p : Past VaultEntry). Grows (not old.lost) (vault_calls old.made.items) (not p.lost) (vault_calls p.made.items) (told_so call Failed ∷ [])) (sym (is.failed refl))
+    (grows_failed vault_call told_so entry call old mid is.noted is.refused names)
+
+mid_kept : (entry : Option VaultEntry) (old mid : Past VaultEntry) → IfSome entry (λ e. Notes e Failed old mid) → IfNone entry (Loses old mid) → mid.lost ≡ true → mid.made.items ≡ old.made.items
 mid_kept None old mid noted refused lost = refused.kept
 mid_kept (Some e) old mid noted refused lost = noted.kept lost
 
 -- a lost record stays as it was
-pub written_kept : (entry : Option VaultEntry) (done : Bool) (old mid new : Past VaultEntry) → IsWritten entry done old mid new → new.lost ≡ true → new.made.items ≡ old.made.items
-written_kept entry true old mid new is lost = let ends = is.ok refl in ends.kept lost ∙ mid_kept entry old mid is.noted is.refused (sym ends.lost ∙ lost)
-written_kept entry false old mid new is lost =
+pub written_kept : (entry : Option VaultEntry) (given : Answer) (done : Bool) (old mid new : Past VaultEntry) → IsWritten entry given done old mid new → new.lost ≡ true → new.made.items ≡ old.made.items
+written_kept entry given true old mid new is lost = let ends = is.ok refl in ends.kept lost ∙ mid_kept entry old mid is.noted is.refused (sym ends.lost ∙ lost)
+written_kept entry given false old mid new is lost =
     let same = is.failed refl in
     ap (λ (p : Past VaultEntry). p.made.items) same ∙ mid_kept entry old mid is.noted is.refused (sym (ap (λ (p : Past VaultEntry). p.lost) same) ∙ lost)
 
 pub since_more : (base : ℕ) (old new : List (Made VaultEntry)) (call : VaultDone) → base ≤ length old → vault_calls new ≡ vault_calls old ++ call ∷ [] → calls_since base new ≡ calls_since base old ++ call ∷ []
 since_more base old new call within more = ap (drop base) more ∙ drop-append-le base (vault_calls old) (call ∷ []) (omega (arith, within, length-map old vault_done))
 
-module _ (call : VaultCall) (failed : Bool) (base : ℕ) (opened now then : Held) (old new : Past VaultEntry)
-    (grows : Grows (not old.lost) (vault_calls old.made.items) (not new.lost) (vault_calls new.made.items) (done_so call failed ∷ []))
+module _ (call : VaultCall) (given : Answer) (sound : is_failure given ≡ false) (failed : Bool) (base : ℕ) (opened now then : Held) (old new : Past VaultEntry)
+    (grows : Grows (not old.lost) (vault_calls old.made.items) (not new.lost) (vault_calls new.made.items) (done_so call given failed ∷ []))
     (kept : new.lost ≡ true → new.made.items ≡ old.made.items)
     (gives : GivesBytes call) (is : IsRecorded old.lost base old.made.items opened now) (after_it : then ≡ held_after now call failed) where
   lost_on : new.lost ≡ true → IsRecorded new.lost base new.made.items opened then
@@ -173,17 +184,17 @@ module _ (call : VaultCall) (failed : Bool) (base : ℕ) (opened now then : Held
       let tells : IsTrue (not new.lost) = ap not told in
       let more = grows.more tells in
       let was = untold old.lost (grows.told tells) in
-      let since : calls_since base new.made.items ≡ calls_since base old.made.items ++ done_so call failed ∷ [] = since_more base old.made.items new.made.items (done_so call failed) is.within more in
+      let since : calls_since base new.made.items ≡ calls_since base old.made.items ++ done_so call given failed ∷ [] = since_more base old.made.items new.made.items (done_so call given failed) is.within more in
       let machine = replay (opened_by opened) (calls_since base old.made.items) in
       let whole : held_by (replay (opened_by opened) (calls_since base new.made.items)) ≡ then
       = ap (λ (cs : List VaultDone). held_by (replay (opened_by opened) cs)) since
-      ∙ ap held_by (replay_push (opened_by opened) (calls_since base old.made.items) (done_so call failed))
-      ∙ held_by_after machine call failed
+      ∙ ap held_by (replay_push (opened_by opened) (calls_since base old.made.items) (done_so call given failed))
+      ∙ ap (λ b. held_by (after machine call b)) (failure_of given sound failed) ∙ held_by_after machine call failed
       ∙ ap (λ (h : Held). held_after h call failed) (follows old.lost base old.made.items opened now is was)
       ∙ sym after_it in
       record {
-        within = omega (arith, is.within, ap length more, length-map old.made.items vault_done, length-map new.made.items vault_done, length-append (vault_calls old.made.items) (done_so call failed ∷ []));
-        gives = subst AllGiveBytes (sym since) (All-append (λ (d : VaultDone). GivesBytes d.call) (calls_since base old.made.items) (done_so call failed ∷ []) is.gives (All-cons (λ (d : VaultDone). GivesBytes d.call) (done_so call failed) [] gives (All-nil (λ (d : VaultDone). GivesBytes d.call))));
+        within = omega (arith, is.within, ap length more, length-map old.made.items vault_done, length-map new.made.items vault_done, length-append (vault_calls old.made.items) (done_so call given failed ∷ []));
+        gives = subst AllGiveBytes (sym since) (All-append (λ (d : VaultDone). GivesBytes d.call) (calls_since base old.made.items) (done_so call given failed ∷ []) is.gives (All-cons (λ (d : VaultDone). GivesBytes d.call) (done_so call given failed) [] gives (All-nil (λ (d : VaultDone). GivesBytes d.call))));
         parities = λ t. ap (λ (h : Held). h.files.parities) whole;
         contents = λ t. ap (λ (h : Held). h.files.contents) whole;
         drafts = λ t. ap (λ (h : Held). h.drafts) whole;

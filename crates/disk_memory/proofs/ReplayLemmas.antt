@@ -2,6 +2,7 @@
 use Rattle.std.proofs.Common.{◌≡◌, ℕ, ◌+◌, ◌<◌, List, [], ◌∷◌, ◌++◌, length, map, take, get_or, reverse, Bool, true, false, ◌&&◌, ◌||◌, nat_le, nat_lt, refl, sym, ◌∙◌, ap, arith}
 use Rattle.std.proofs.lemmas.List.{take_more, map-append, reverse-append}
 use Rattle.std.specs.List.{list_any}
+use Rattle.disk_model.specs.Answer.{is_failure}
 use Rattle.disk_model.specs.Machine.{Machine, after, replay}
 use Rattle.disk_model.specs.Unsynced.{is_touched}
 use Rattle.disk_model.proofs.MachineLemmas.{replay_push}
@@ -13,7 +14,7 @@ use Rattle.disk_memory.specs.declared.replay.Range.{Range}
 
 -- one more entry
 pub replay_more : (m : Machine) (entries : List (Made VaultEntry)) (i : ℕ) (made : Made VaultEntry) → i < length entries → made ≡ get_or entries i made
-    → replay m (vault_calls (take (i + 1) entries)) ≡ after (replay m (vault_calls (take i entries))) (vault_call made.call) made.failed
+    → replay m (vault_calls (take (i + 1) entries)) ≡ after (replay m (vault_calls (take i entries))) (vault_call made.call) (is_failure made.answer)
 replay_more m entries i made within is =
     ap (λ (es : List (Made VaultEntry)). replay m (vault_calls es)) (take_more entries i made within ∙ ap (λ (d : Made VaultEntry). take i entries ++ d ∷ []) (sym is))
     ∙ ap (replay m) (map-append vault_done (take i entries) (made ∷ []))

@@ -2,14 +2,17 @@
 use Rattle.std.proofs.Common.{◌≡◌, ◌⊎◌, inl, inr, ℕ, ◌+◌, ◌<◌, ◌≤◌, List, [], ◌∷◌, ◌++◌, length, get_or, set, map, not, IsTrue, Bool, true, false, cond, nat_lt, position, Option, None, Some, IfSome, Result, Ok, Err, OnOk, OnErr, is_err, refl, sym, ◌∙◌, ap, subst, arith}
 use Rattle.std.specs.List.{position_or_len}
 use Rattle.std.proofs.lemmas.List.{set-get_or, length-map, length-set, get_or-set_same}
+use Rattle.disk_model.specs.Answer.{plain, vault_answer}
 use Rattle.disk_model.specs.Bytes.{put, resized}
 use Rattle.disk_model.specs.Cause.{Rose, Grows}
 use Rattle.disk_model.specs.Files.{Files, parity_of, content_of, with_parity, with_content, TearsParity, StretchesParity, MayPublish, Stays}
 use Rattle.disk_model.specs.Machine.{Machine, settled, draft_in, staged_in, files_of, IsWithin, step_of, replay, images_of}
 use Rattle.disk_model.specs.Moments.{Images, LeavesBy, Remembers, AllLeft, MayLeave}
 use Rattle.disk_model.specs.Unsynced.{synced}
-use Rattle.disk_model.specs.Vault.{VaultView, VaultCall, VaultDone, ParityWrite, ParitySetLen, ParitySync, DraftBegin, DraftAppend, DraftSeal, Publish, IsCall, IsReading, ChangesBy, DraftsStay, DraftIs, Reads, Holds, is_sealed, draft_of, staged_of}
+use Rattle.disk_model.specs.Vault.{VaultView, VaultCall, VaultDone, ParityWrite, ParitySetLen, ParitySync, DraftBegin, DraftAppend, DraftSeal, Publish, IsCall, IsCallBy, IsReading, ChangesBy, DraftsStay, DraftIs, Reads, Holds, is_sealed, draft_of, staged_of}
 use Rattle.disk_model.specs.Vault as vault
+use Rattle.disk_model.specs.declared.answer.Answer.{Answer}
+use Rattle.disk_model.specs.declared.answer.Answer.TheVariants.{Done}
 use Rattle.disk_model.specs.declared.draft.Draft.{Draft}
 use Rattle.disk_model.specs.declared.draft.Draft.TheVariants.{Absent, Open, Sealed}
 use Rattle.disk_model.specs.declared.fault.Failed.{Failed}
@@ -17,8 +20,9 @@ use Rattle.disk_model.proofs.BytesLemmas.{torn_by_put, torn_not, stretched_by_re
 use Rattle.disk_model.proofs.ByCallsLemmas.{changes_by_call, remembers_by_call, holds_synced, holds_published}
 use Rattle.disk_model.proofs.MomentsLemmas.{leaves_more}
 use Rattle.disk_model.proofs.SteadyLemmas.{levels_stay, copies_stay}
-use Rattle.disk_memory.specs.Goes.{Goes, CountsFaults}
+use Rattle.disk_memory.specs.Goes.{Goes, GoesBy, CountsFaults}
 use Rattle.disk_memory.specs.Held.{Held}
+use Rattle.disk_memory.specs.Past.{answered}
 use Rattle.disk_memory.specs.Recorded.{opened_by, held_by, calls_since, held_after, is_quiet}
 use Rattle.disk_memory.specs.RecordedLaws.{follows, untold}
 use Rattle.disk_memory.specs.Schedule.{answer_of}
@@ -152,7 +156,7 @@ module _ (r : Recorded) where
 
 -- ---- one call
 
-module _ (faults later : ℕ) (r now : Recorded) (call : VaultCall) (failed : Bool) (goes : Goes call failed r now) where
+module _ {given : Answer} (faults later : ℕ) (r now : Recorded) (call : VaultCall) (failed : Bool) (goes : GoesBy call given failed r now) where
   abbrev old_view : VaultView
   old_view = view_of (value_of faults r)
 
@@ -162,22 +166,22 @@ module _ (faults later : ℕ) (r now : Recorded) (call : VaultCall) (failed : Bo
   pub still : IsTrue (not now.past.lost) → IsTrue (not r.past.lost)
   still told = goes.calls.told told
 
-  since_now : IsTrue (not now.past.lost) → calls_since now.base now.past.made.items ≡ calls_since r.base r.past.made.items ++ done_so call failed ∷ []
-  since_now told = ap (λ n. calls_since n now.past.made.items) goes.base ∙ since_more r.base r.past.made.items now.past.made.items (done_so call failed) r.recorded.within (goes.calls.more told)
+  since_now : IsTrue (not now.past.lost) → calls_since now.base now.past.made.items ≡ calls_since r.base r.past.made.items ++ done_so call given failed ∷ []
+  since_now told = ap (λ n. calls_since n now.past.made.items) goes.base ∙ since_more r.base r.past.made.items now.past.made.items (done_so call given failed) r.recorded.within (goes.calls.more told)
 
   -- what is said of the images by one call more is said of those now
-  pub by_more : (P : Images → Type 0) → (told : IsTrue (not now.past.lost)) → P (images_of (not now.past.lost) (opened_by (held r.opened)) (calls_since r.base r.past.made.items ++ done_so call failed ∷ [])) → P new_view.images
+  pub by_more : (P : Images → Type 0) → (told : IsTrue (not now.past.lost)) → P (images_of (not now.past.lost) (opened_by (held r.opened)) (calls_since r.base r.past.made.items ++ done_so call given failed ∷ [])) → P new_view.images
   by_more P told p =
       subst (λ (h : Held). P (images_of (not now.past.lost) (opened_by h) (calls_since now.base now.past.made.items))) (sym goes.opened)
       (subst (λ (cs : List VaultDone). P (images_of (not now.past.lost) (opened_by (held r.opened)) cs)) (sym (since_now told)) p)
 
   remembers : Remembers old_view.images new_view.images
   remembers told = by_more (λ images. (t : ℕ) (files : Files) → t ≤ old_view.images.moment → old_view.images.since t files → images.since t files) told
-      (remembers_by_call (opened_by (held r.opened)) (calls_since r.base r.past.made.items) (done_so call failed) (steady_store r.opened) r.recorded.gives (not r.past.lost) (not now.past.lost) told)
+      (remembers_by_call (opened_by (held r.opened)) (calls_since r.base r.past.made.items) (done_so call given failed) (steady_store r.opened) r.recorded.gives (not r.past.lost) (not now.past.lost) told)
 
   pub leaves : IsWithin (machine_of r) call → LeavesBy (step_of (machine_of r) call) old_view.images new_view.images
   leaves within =
-      let one = (changes_by_call (opened_by (held r.opened)) (calls_since r.base r.past.made.items) (done_so call failed) (steady_store r.opened) r.recorded.gives (not r.past.lost) (not now.past.lost) faults later within still).leaves in
+      let one = (changes_by_call (opened_by (held r.opened)) (calls_since r.base r.past.made.items) (done_so call given failed) (steady_store r.opened) r.recorded.gives (not r.past.lost) (not now.past.lost) faults later within still).leaves in
       record {
         told = still;
         later = λ told. by_more (λ images. old_view.images.moment ≤ images.moment) told (one.later told);
@@ -187,21 +191,31 @@ module _ (faults later : ℕ) (r now : Recorded) (call : VaultCall) (failed : Bo
             → (before : Files) × old_view.images.since old_view.images.moment before × step_of (machine_of r) call before files) told (one.at_end told);
       }
 
-  pub is_call : {T : Type 0} (result : Result T Failed) → is_err result ≡ failed → CountsFaults failed faults later → IsCall call result old_view new_view
-  is_call result is counts = record {
+  pub is_call_by : {T : Type 0} (answer : Answer) (result : Result T Failed) → answered given failed ≡ answer → is_err result ≡ failed → CountsFaults failed faults later
+      → IsCallBy (record { call = call; answer = answer }) result old_view new_view
+  is_call_by answer result same is counts = record {
     goes_on = record {
       later = counts.later;
       levels = goes.same.levels;
       copies = ap (λ (h : Held). length h.drafts) goes.now ∙ drafts_long_after (held r.store) call failed;
       tells = refl;
-      calls = subst (λ b. Grows (not r.past.lost) old_view.calls (not now.past.lost) new_view.calls (done_so call b ∷ [])) (sym is) goes.calls;
+      calls = subst (λ (a : Answer). Grows (not r.past.lost) old_view.calls (not now.past.lost) new_view.calls (record { call = call; answer = a } ∷ [])) same goes.calls;
     };
     cause = rose_err result failed (Rose faults later) is counts.cause;
     remembers = remembers;
   }
 
+-- what is kept of a call that gives nothing
+plain_end : (failed : Bool) → answered Done failed ≡ plain failed
+plain_end true = refl
+plain_end false = refl
+
+pub is_call : {T : Type 0} (faults later : ℕ) (r now : Recorded) (call : VaultCall) (failed : Bool) → Goes call failed r now → (result : Result T Failed) → is_err result ≡ failed → CountsFaults failed faults later
+    → IsCall call result (view_of (value_of faults r)) (view_of (value_of later now))
+is_call faults later r now call failed goes result is counts = is_call_by faults later r now call failed goes (plain (is_err result)) result (plain_end failed ∙ ap plain (sym is)) is counts
+
 -- a call of which reads show nothing
-module _ (faults later : ℕ) (r now : Recorded) (call : VaultCall) (failed : Bool) (goes : Goes call failed r now) (quiet : is_quiet call ≡ true) where
+module _ {given : Answer} (faults later : ℕ) (r now : Recorded) (call : VaultCall) (failed : Bool) (goes : GoesBy call given failed r now) (quiet : is_quiet call ≡ true) where
   pub same_held : held now.store ≡ held r.store
   same_held = goes.now ∙ sym (quiet_held (held r.store) call failed quiet)
 
@@ -214,8 +228,9 @@ module _ (faults later : ℕ) (r now : Recorded) (call : VaultCall) (failed : Bo
     leaves = leaves_more (step_of (machine_of r) call) Stays (view_of (value_of faults r)).images (view_of (value_of later now)).images (λ told. quiet_only (machine_of r) call quiet) (leaves faults later r now call failed goes within);
   }
 
-  pub reading : {T : Type 0} (result : Result T Failed) → IsWithin (machine_of r) call → is_err result ≡ failed → CountsFaults failed faults later → IsReading call result (view_of (value_of faults r)) (view_of (value_of later now))
-  reading result within is counts = record { called = is_call faults later r now call failed goes result is counts; changes = quiet_changes within; drafts = drafts_stay }
+  pub reading : {T : Type 0} (gives : T → Answer) (result : Result T Failed) → IsWithin (machine_of r) call → answered given failed ≡ vault_answer gives result → is_err result ≡ failed → CountsFaults failed faults later
+      → IsReading call gives result (view_of (value_of faults r)) (view_of (value_of later now))
+  reading gives result within same is counts = record { called = is_call_by faults later r now call failed goes (vault_answer gives result) result same is counts; changes = quiet_changes within; drafts = drafts_stay }
 
 -- a call with this end
 pub goes_as : {call : VaultCall} {failed end : Bool} (r now : Recorded) → failed ≡ end → Goes call failed r now → Goes call end r now

@@ -1,6 +1,7 @@
 -- The calls that a record keeps, as the traits name them.
 use Rattle.std.specs.Prelude.{ℕ, ◌+◌, List, map, Bool, true, false, unwrap_or, position}
 use Rattle.std.specs.Option.{option_map}
+use Rattle.disk_model.specs.Answer.{is_failure}
 use Rattle.disk_model.specs.Vault as vault
 use Rattle.disk_model.specs.Vault.{VaultCall, VaultDone}
 use Rattle.disk_model.specs.Folder as folder
@@ -30,7 +31,7 @@ vault_call (Publish copy) = vault.Publish copy
 
 -- with what became of it
 abbrev pub vault_done : Made VaultEntry → VaultDone
-vault_done m = record { call = vault_call m.call; failed = m.failed }
+vault_done m = record { call = vault_call m.call; answer = m.answer }
 
 abbrev pub vault_calls : List (Made VaultEntry) → List VaultDone
 vault_calls entries = map vault_done entries
@@ -66,7 +67,7 @@ folder_call (Rename path lost) = folder.Rename path lost
 
 -- with what became of it
 abbrev pub folder_done : Made FolderEntry → FolderDone
-folder_done m = record { call = folder_call m.call; failed = m.failed }
+folder_done m = record { call = folder_call m.call; answer = m.answer }
 
 abbrev pub folder_calls : List (Made FolderEntry) → List FolderDone
 folder_calls entries = map folder_done entries
@@ -78,7 +79,7 @@ opener_call (Open places) = OpenerOpen places.dirs.items places.parities.items p
 
 -- with what became of it
 abbrev pub opener_done : Made OpenerEntry → OpenerDone
-opener_done m = record { call = opener_call m.call; failed = m.failed }
+opener_done m = record { call = opener_call m.call; failed = is_failure m.answer }
 
 abbrev pub opener_calls : List (Made OpenerEntry) → List OpenerDone
 opener_calls entries = map opener_done entries

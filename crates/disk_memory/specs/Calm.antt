@@ -14,6 +14,11 @@ pub record IsCalm (failed : Bool) (old new : ℕ) : Type 0 where
   pub unfailed : failed ≡ false
   pub counts : new ≡ old
 
+-- the call failed only where P, and the count stays where it did not
+pub record IsCalmUnless (P : Type 0) (failed : Bool) (old new : ℕ) : Type 0 where
+  pub only : failed ≡ true → P
+  pub counts : failed ≡ false → new ≡ old
+
 -- an open folder that tells its tree and no calls
 abbrev pub calm_folder_view : CalmFolder → FolderView
 calm_folder_view f = record {

@@ -1,7 +1,9 @@
 -- Folders in memory.
 use Rattle.std.specs.Prelude.{[], Bool, true, false, not, IsTrue}
 use Rattle.std.specs.FinMap as map
+use Rattle.disk_model.specs.Answer.{is_failure}
 use Rattle.disk_model.specs.Folder.{FolderView, IsFolder}
+use Rattle.disk_model.specs.declared.answer.Answer.{Answer}
 use Rattle.disk_memory.specs.Calls.{folder_calls}
 use Rattle.disk_memory.specs.Files.{tree_of}
 use Rattle.disk_memory.specs.Schedule.{Plan, plan_of, ObeysOnRecord, ObeysExactly, ObeysUnless}
@@ -23,16 +25,16 @@ abbrev pub folder_plan : MemFolder → Plan
 folder_plan f = plan_of f.schedule
 
 -- one call of it was counted, and failed where it was to, or memory refused it
-abbrev pub FolderObeys : Bool → MemFolder → MemFolder → Type 0
-FolderObeys failed old new = ObeysOnRecord failed (folder_plan old) (folder_plan new) (not old.past.lost) (not new.past.lost)
+abbrev pub FolderObeys : Answer → MemFolder → MemFolder → Type 0
+FolderObeys answer old new = ObeysOnRecord (is_failure answer) (folder_plan old) (folder_plan new) (not old.past.lost) (not new.past.lost)
 
 -- and it failed nowhere else but where memory refused its entry in the record
-abbrev pub FolderObeysExactly : Bool → MemFolder → MemFolder → Type 0
-FolderObeysExactly failed old new = ObeysExactly failed (folder_plan old) (folder_plan new) (not old.past.lost) (not new.past.lost)
+abbrev pub FolderObeysExactly : Answer → MemFolder → MemFolder → Type 0
+FolderObeysExactly answer old new = ObeysExactly (is_failure answer) (folder_plan old) (folder_plan new) (not old.past.lost) (not new.past.lost)
 
 -- and it failed nowhere else, unless P
-abbrev pub FolderObeysUnless : Type 0 → Bool → MemFolder → MemFolder → Type 0
-FolderObeysUnless P failed old new = ObeysUnless P failed (folder_plan old) (folder_plan new) (not old.past.lost) (not new.past.lost)
+abbrev pub FolderObeysUnless : Type 0 → Answer → MemFolder → MemFolder → Type 0
+FolderObeysUnless P answer old new = ObeysUnless P (is_failure answer) (folder_plan old) (folder_plan new) (not old.past.lost) (not new.past.lost)
 
 -- an empty tree, no call yet
 abbrev pub fresh_folder : Bool → FolderView

@@ -3,19 +3,26 @@ use Rattle.std.specs.Prelude.{◌≡◌, ◌⊎◌, ℕ, ◌≤◌, [], ◌∷�
 use Rattle.disk_memory.specs.Held.{Held}
 use Rattle.disk_model.specs.Cause.{Rose, Grows}
 use Rattle.disk_model.specs.Vault.{VaultCall}
+use Rattle.disk_model.specs.declared.answer.Answer.{Answer}
+use Rattle.disk_model.specs.declared.answer.Answer.TheVariants.{Done}
 use Rattle.disk_memory.specs.Calls.{vault_calls}
+use Rattle.disk_memory.specs.Past.{answered}
 use Rattle.disk_memory.specs.Recorded.{held_after}
 use Rattle.disk_memory.specs.Store.{held, nothing_held, SameCounts}
 use Rattle.disk_memory.specs.declared.recorded.Recorded.{Recorded}
 use Rattle.disk_memory.specs.declared.store.Store.{Store}
 
--- the call is the last of the record, where that is not lost, and reads give what is held after it
-pub record Goes (call : VaultCall) (failed : Bool) (old new : Recorded) : Type 0 where
-  pub calls : Grows (not old.past.lost) (vault_calls old.past.made.items) (not new.past.lost) (vault_calls new.past.made.items) (record { call = call; failed = failed } ∷ [])
+-- the call, which gives this unless it failed, is the last of the record, where that is not lost, and reads give what is held after it
+pub record GoesBy (call : VaultCall) (given : Answer) (failed : Bool) (old new : Recorded) : Type 0 where
+  pub calls : Grows (not old.past.lost) (vault_calls old.past.made.items) (not new.past.lost) (vault_calls new.past.made.items) (record { call = call; answer = answered given failed } ∷ [])
   pub now : held new.store ≡ held_after (held old.store) call failed
   pub base : new.base ≡ old.base
   pub opened : held new.opened ≡ held old.opened
   pub same : SameCounts old.store new.store
+
+-- one that gives nothing
+abbrev pub Goes : VaultCall → Bool → Recorded → Recorded → Type 0
+Goes call failed old new = GoesBy call Done failed old new
 
 -- it failed where it may not do its work, and where memory refused its entry
 pub record MayAnswer (may done : Bool) (old new : Recorded) : Type 0 where

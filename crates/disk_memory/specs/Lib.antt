@@ -16,6 +16,7 @@ pub mod Recorded
 pub mod RecordedLaws
 pub mod Replay
 pub mod Schedule
+pub mod Scripted
 pub mod Sink
 pub mod Store
 pub mod Vault

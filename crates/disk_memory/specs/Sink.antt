@@ -1,5 +1,6 @@
 -- Sinks in memory.
 use Rattle.std.specs.Prelude.{[], ℕ, List, map, Bool, true, not}
+use Rattle.disk_model.specs.Answer.{is_failure}
 use Rattle.disk_model.specs.Sink.{SinkView, SinkDone}
 use Rattle.disk_memory.specs.Schedule.{Plan, plan_of, ObeysOnRecord}
 use Rattle.disk_memory.specs.declared.past.Made.{Made}
@@ -7,7 +8,7 @@ use Rattle.disk_memory.specs.declared.sink.MemSink.{MemSink}
 
 -- a write with what became of it
 abbrev pub sink_done : Made (List ℕ) → SinkDone
-sink_done m = record { bytes = m.call; failed = m.failed }
+sink_done m = record { bytes = m.call; failed = is_failure m.answer }
 
 -- it tells what was written, and its writes until memory refuses an entry
 abbrev pub sink_view : MemSink → SinkView

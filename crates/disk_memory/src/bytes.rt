@@ -41,7 +41,8 @@ impl Bytes {
     }
 
     pub fn of(bytes: Vec<u8>) -> Bytes
-        ensures { result ≡ bytes.items }
+        ensures same { result ≡ bytes.items }
+        ensures bytes { AreBytes result }
     {
         Bytes { bytes }
     }
@@ -63,6 +64,14 @@ impl Bytes {
         ensures { result ≡ length self.now }
     {
         self.bytes.len() as u64
+    }
+
+    // How many bytes a read from a place on gives, where there is room for so many.
+    pub fn count(&self, at: u64, room: usize) -> u64
+        ensures { result ≡ length (read_from self.now at room) }
+    {
+        let len = self.bytes.len() as u64;
+        len.saturating_sub(at).min(room as u64)
     }
 
     // Fills a front, as many bytes as there are from a place on.
@@ -121,6 +130,7 @@ impl Bytes {
     pub fn append(&mut self, bytes: &[u8]) -> Result<(), NoMemory>
         ensures ok { OnOk result (self.new ≡ self.old ++ bytes.now) }
         ensures err { OnErr result (self.new ≡ self.old) }
+        ensures full { OnErr result (0 < length bytes.now) }
     {
         self.bytes.extend_from_slice(bytes)?;
         Ok(())

@@ -37,7 +37,7 @@ impl Files {
     ghost use Rattle.disk_model.specs.Path.{IsValidPath};
     ghost use Rattle.std.specs.FinMap as map;
     ghost use Rattle.std.specs.Option.{option_map, option_copied};
-    ghost use Rattle.disk_model.specs.Bytes.{put, resized};
+    ghost use Rattle.disk_model.specs.Bytes.{AreBytes, put, resized};
     ghost use Rattle.disk_model.specs.Stamp.{IsStamp};
     ghost use Rattle.disk_model.specs.Writing.{made, renamed};
     ghost use Rattle.disk_model.specs.Tree.{file_of, listing_of, IsApart, IsFile, IsListing};
@@ -132,6 +132,22 @@ impl Files {
         };
         let file = &mut self.list[place];
         file.stamp = chosen(keeps, stamp, file.stamp);
+        true
+    }
+
+    // Gives a file another stamp and other bytes. Was it there?
+    pub fn rewrite(&mut self, path: &[u8], stamp: Stamp, bytes: Bytes) -> bool
+        requires stamp { IsStamp stamp }
+        requires bytes { AreBytes bytes }
+        ensures there { result ≡ map.contains_key (tree_of self.old.list.items) path.now }
+        ensures rewritten { tree_of self.new.list.items ≡ changed (λ _. record { stamp = stamp; bytes = bytes }) path.now (tree_of self.old.list.items) }
+    {
+        let Ok(place) = place_of(&self.list, path) else {
+            return false;
+        };
+        let file = &mut self.list[place];
+        file.stamp = stamp;
+        file.bytes = bytes;
         true
     }
 

@@ -11,7 +11,8 @@ use crate::name::{name_of, path_named, text_of};
 use crate::past::{Past, begin};
 use crate::schedule::Schedule;
 use disk_model::{
-    Failed, FileFault, FileInfo, Folder, ListFault, Meta, NoMemory, Path, Stamp, is_valid_path,
+    Answer, Failed, FileFault, FileInfo, Folder, ListFault, Meta, NoMemory, Path, Stamp,
+    is_valid_path,
 };
 use std::alloc::Global;
 
@@ -26,12 +27,14 @@ pub struct MemFolder {
 }
 
 impl MemFolder {
-    ghost use Rattle.std.specs.Prelude.{[], ◌↔◌, ◌∷◌, ◌++◌, OnOk, OnErr, IfOk, IsTrue, false};
+    ghost use Rattle.std.specs.Prelude.{[], ◌↔◌, ◌∷◌, ◌++◌, OnOk, OnErr, IfOk, IfSome, IsTrue, false};
     ghost use Rattle.std.specs.FinMap as map;
-    ghost use Rattle.disk_model.specs.Folder.{Allows};
+    ghost use Rattle.disk_model.specs.Folder.{FolderCall, Allows, IsFolderCall};
     ghost use Rattle.disk_model.specs.Tree.{path_of};
     ghost use Rattle.disk_model.specs.Stamp.{IsStamp};
     ghost use Rattle.disk_memory.specs.Schedule.{fresh_plan};
+    ghost use Rattle.disk_memory.specs.Calls.{folder_call};
+    ghost use Rattle.disk_memory.specs.Files.{changed};
     ghost use Rattle.disk_memory.specs.Folder.{folder_view, folder_plan, fresh_folder};
 
     /// An empty tree.
@@ -87,6 +90,29 @@ impl MemFolder {
         self.files.take(path.as_str().as_bytes()).is_some()
     }
 
+    /// Gives a file another stamp and other bytes. False exactly where it isn't there.
+    pub fn rewrite(&mut self, path: &Path, stamp: Stamp, bytes: Vec<u8>) -> bool
+        requires { IsStamp stamp }
+        ensures there { result ≡ map.contains_key (folder_view self.old).tree path.now }
+        ensures rewritten { folder_view self.new ≡ record (folder_view self.old) {
+          tree = changed (λ _. record { stamp = stamp; bytes = bytes.items }) path.now (folder_view self.old).tree;
+        } }
+        ensures plan { folder_plan self.new ≡ folder_plan self.old }
+    {
+        let name = path.as_str().as_bytes();
+        self.files.rewrite(name, stamp, Bytes::of(bytes))
+    }
+
+    // A call that is not made of the tree: it is counted and written down, and it fails.
+    pub(crate) fn refuse(&mut self, entry: Option<FolderEntry>) -> Failed
+        ensures called { (call : FolderCall) → IfSome entry (λ e. folder_call e ≡ call) →
+            IsFolderCall call Answer.Failed (folder_view self.old) (folder_view self.new) }
+        ensures tree { (folder_view self.new).tree ≡ (folder_view self.old).tree }
+    {
+        begin(&mut self.schedule, &mut self.past, entry);
+        self.schedule.fail()
+    }
+
     /// Adds a number to the list of failing calls.
     pub fn fail_at(&mut self, call: u64) -> Result<(), NoMemory>
         ensures same { folder_view self.new ≡ folder_view self.old }
@@ -116,6 +142,13 @@ pub fn found(there: bool) -> Result<(), FileFault>
     }
 }
 
+// The same, as it is kept.
+fn answer_where(there: bool) -> Answer
+    ensures { result ≡ (if there then Answer.Done else Answer.Missing) }
+{
+    if there { Answer::Done } else { Answer::Missing }
+}
+
 // Each call meets the trait's clauses, and fails as its schedule says (`scheduled`).
 impl Folder for MemFolder {
     ghost use Rattle.std.specs.Prelude.{◌≡◌, ◌≤◌, ◌<◌, ◌+◌, ◌^◌, length, take, not, IfOk, IfSome, IsTrue, Some, None, is_err};
@@ -124,7 +157,8 @@ impl Folder for MemFolder {
     ghost use Rattle.disk_model.specs.Stamp.{IsStamp};
     ghost use Rattle.disk_model.specs.Tree.{file_of, meta_of, path_of, IsListing, listed, listing_of};
     ghost use Rattle.disk_model.specs.Folder.{ListFiles, Look, ReadAt, Make, WriteAt, SetSize, SetStamp, Rename};
-    ghost use Rattle.disk_model.specs.Folder.{IsFolderReading, MissingExactly, MayHold, listing_failed, file_failed};
+    ghost use Rattle.disk_model.specs.Folder.{IsFolderReading, MissingExactly, MayHold};
+    ghost use Rattle.disk_model.specs.Answer.{plain, listing_answer, file_answer, done_answer};
     ghost use Rattle.disk_model.specs.Writing.{IsFolderWrite};
     ghost use Rattle.disk_memory.specs.Folder.{folder_view, FolderObeys, FolderObeysExactly, FolderObeysUnless, folder_well_formed};
     ghost use Rattle.disk_memory.specs.Files.{IsShorter};
@@ -138,10 +172,10 @@ impl Folder for MemFolder {
     }
 
     fn list(&mut self, alloc: Global) -> Result<Vec<FileInfo>, ListFault>
-        ensures call { IsFolderReading ListFiles (listing_failed result) (folder_view self.old) (folder_view self.new) }
+        ensures call { IsFolderReading ListFiles (listing_answer result) (folder_view self.old) (folder_view self.new) }
         ensures listing { IfOk result (λ files. IsListing (listed files.items)) }
         ensures found { IsTrue (folder_view self.old).tells → IfOk result (λ files. listed files.items ≡ listing_of (folder_view self.old).tree) }
-        ensures scheduled { FolderObeysExactly (listing_failed result) self.old self.new }
+        ensures scheduled { FolderObeysExactly (listing_answer result) self.old self.new }
     {
         if !begin(
             &mut self.schedule,
@@ -151,19 +185,24 @@ impl Folder for MemFolder {
             self.schedule.fail();
             return Err(ListFault::Failed);
         }
-        self.past.succeed();
         match self.files.infos(alloc) {
-            Ok(infos) => Ok(infos),
-            Err(NoMemory) => Err(ListFault::Memory),
+            Ok(infos) => {
+                self.past.end(Answer::Done);
+                Ok(infos)
+            }
+            Err(NoMemory) => {
+                self.past.end(Answer::OutOfMemory);
+                Err(ListFault::Memory)
+            }
         }
     }
 
     fn look(&mut self, path: &Path, lost: bool) -> Result<Meta, FileFault>
-        ensures call { IsFolderReading (Look path.now lost) (file_failed result) (folder_view self.old) (folder_view self.new) }
+        ensures call { IsFolderReading (Look path.now lost) (file_answer Answer.Saw result) (folder_view self.old) (folder_view self.new) }
         ensures missing { MissingExactly result (folder_view self.old) (path_of path.now lost) }
         ensures stamp { IfOk result (λ meta. IsStamp meta.stamp) }
         ensures found { IsTrue (folder_view self.old).tells → IfOk result (λ meta. option_map meta_of (file_of (folder_view self.old).tree (path_of path.now lost)) ≡ Some meta) }
-        ensures scheduled { FolderObeysExactly (file_failed result) self.old self.new }
+        ensures scheduled { FolderObeysExactly (file_answer Answer.Saw result) self.old self.new }
     {
         let entry = look_entry(path, lost);
         if !begin(&mut self.schedule, &mut self.past, entry) {
@@ -171,13 +210,19 @@ impl Folder for MemFolder {
             return Err(FileFault::Failed);
         }
         let name = name_of(path, lost);
-        self.past.succeed();
         match self.files.get(name.as_slice()) {
-            Some(file) => Ok(Meta {
-                size: file.bytes.len(),
-                stamp: file.stamp,
-            }),
-            None => Err(FileFault::Missing),
+            Some(file) => {
+                let meta = Meta {
+                    size: file.bytes.len(),
+                    stamp: file.stamp,
+                };
+                self.past.end(Answer::Saw(meta));
+                Ok(meta)
+            }
+            None => {
+                self.past.end(Answer::Missing);
+                Err(FileFault::Missing)
+            }
         }
     }
 
@@ -188,11 +233,11 @@ impl Folder for MemFolder {
         at: u64,
         out: &mut [u8],
     ) -> Result<usize, FileFault>
-        ensures call { IsFolderReading (ReadAt path.now lost at (length out.old)) (file_failed result) (folder_view self.old) (folder_view self.new) }
+        ensures call { IsFolderReading (ReadAt path.now lost at (length out.old)) (file_answer Answer.Bytes result) (folder_view self.old) (folder_view self.new) }
         ensures missing { MissingExactly result (folder_view self.old) (path_of path.now lost) }
         ensures bound { IfOk result (λ n. n ≤ length out.new) }
         ensures found { IsTrue (folder_view self.old).tells → IfOk result (λ n. IfSome (file_of (folder_view self.old).tree (path_of path.now lost)) (λ file. take n out.new ≡ read_from file.bytes at (length out.old))) }
-        ensures scheduled { FolderObeysExactly (file_failed result) self.old self.new }
+        ensures scheduled { FolderObeysExactly (file_answer Answer.Bytes result) self.old self.new }
     {
         let entry = read_entry(path, lost, at, out.len());
         if !begin(&mut self.schedule, &mut self.past, entry) {
@@ -200,18 +245,24 @@ impl Folder for MemFolder {
             return Err(FileFault::Failed);
         }
         let name = name_of(path, lost);
-        self.past.succeed();
         match self.files.get(name.as_slice()) {
-            Some(file) => Ok(file.bytes.read(at, out)),
-            None => Err(FileFault::Missing),
+            Some(file) => {
+                let count = file.bytes.read(at, out);
+                self.past.end(Answer::Bytes(count as u64));
+                Ok(count)
+            }
+            None => {
+                self.past.end(Answer::Missing);
+                Err(FileFault::Missing)
+            }
         }
     }
 
     fn make(&mut self, path: &Path) -> Result<(), Failed>
         requires { MayHold (folder_view self.old) path.now }
-        ensures call { IsFolderWrite (Make path.now) (is_err result)
+        ensures call { IsFolderWrite (Make path.now) (plain (is_err result))
             (folder_view self.old) (folder_view self.new) }
-        ensures scheduled { FolderObeysUnless (file_of (folder_view self.old).tree path.now ≡ None) (is_err result) self.old self.new }
+        ensures scheduled { FolderObeysUnless (file_of (folder_view self.old).tree path.now ≡ None) (plain (is_err result)) self.old self.new }
     {
         let entry = make_entry(path);
         if !begin(&mut self.schedule, &mut self.past, entry) {
@@ -219,7 +270,7 @@ impl Folder for MemFolder {
         }
         match self.files.make(self.alloc, path) {
             Ok(()) => {
-                self.past.succeed();
+                self.past.end(Answer::Done);
                 Ok(())
             }
             Err(NoMemory) => Err(self.schedule.fail()),
@@ -228,10 +279,10 @@ impl Folder for MemFolder {
 
     fn write_at(&mut self, path: &Path, at: u64, bytes: &[u8]) -> Result<(), FileFault>
         requires { at + length bytes.now < 2 ^ 64 }
-        ensures call { IsFolderWrite (WriteAt path.now at bytes.now) (file_failed result)
+        ensures call { IsFolderWrite (WriteAt path.now at bytes.now) (done_answer result)
             (folder_view self.old) (folder_view self.new) }
         ensures missing { MissingExactly result (folder_view self.old) path.now }
-        ensures scheduled { FolderObeysUnless (IsShorter (folder_view self.old).tree path.now (at + length bytes.now)) (file_failed result) self.old self.new }
+        ensures scheduled { FolderObeysUnless (IsShorter (folder_view self.old).tree path.now (at + length bytes.now)) (done_answer result) self.old self.new }
     {
         let entry = write_at_entry(self.alloc, path, at, bytes);
         if !begin(&mut self.schedule, &mut self.past, entry) {
@@ -242,15 +293,15 @@ impl Folder for MemFolder {
             self.schedule.fail();
             return Err(FileFault::Failed);
         };
-        self.past.succeed();
+        self.past.end(answer_where(there));
         found(there)
     }
 
     fn set_size(&mut self, path: &Path, size: u64) -> Result<(), FileFault>
-        ensures call { IsFolderWrite (SetSize path.now size) (file_failed result)
+        ensures call { IsFolderWrite (SetSize path.now size) (done_answer result)
             (folder_view self.old) (folder_view self.new) }
         ensures missing { MissingExactly result (folder_view self.old) path.now }
-        ensures scheduled { FolderObeysUnless (IsShorter (folder_view self.old).tree path.now size) (file_failed result) self.old self.new }
+        ensures scheduled { FolderObeysUnless (IsShorter (folder_view self.old).tree path.now size) (done_answer result) self.old self.new }
     {
         let entry = set_size_entry(path, size);
         if !begin(&mut self.schedule, &mut self.past, entry) {
@@ -261,37 +312,38 @@ impl Folder for MemFolder {
             self.schedule.fail();
             return Err(FileFault::Failed);
         };
-        self.past.succeed();
+        self.past.end(answer_where(there));
         found(there)
     }
 
     fn set_stamp(&mut self, path: &Path, stamp: Stamp) -> Result<bool, FileFault>
         requires { IsStamp stamp }
-        ensures call { IsFolderWrite (SetStamp path.now stamp) (file_failed result)
+        ensures call { IsFolderWrite (SetStamp path.now stamp) (file_answer Answer.Kept result)
             (folder_view self.old) (folder_view self.new) }
         ensures missing { MissingExactly result (folder_view self.old) path.now }
         ensures kept { IfOk result (λ kept. kept ≡ (folder_view self.old).keeps_stamps) }
-        ensures scheduled { FolderObeysExactly (file_failed result) self.old self.new }
+        ensures scheduled { FolderObeysExactly (file_answer Answer.Kept result) self.old self.new }
     {
         let entry = set_stamp_entry(path, stamp);
         if !begin(&mut self.schedule, &mut self.past, entry) {
             self.schedule.fail();
             return Err(FileFault::Failed);
         }
-        self.past.succeed();
         let name = path.as_str().as_bytes();
         if !self.files.stamp(name, stamp, self.keeps_stamps) {
+            self.past.end(Answer::Missing);
             return Err(FileFault::Missing);
         }
+        self.past.end(Answer::Kept(self.keeps_stamps));
         Ok(self.keeps_stamps)
     }
 
     fn rename(&mut self, path: &Path, lost: bool) -> Result<(), FileFault>
         requires { MayHold (folder_view self.old) (path_of path.now lost) }
-        ensures call { IsFolderWrite (Rename path.now lost) (file_failed result)
+        ensures call { IsFolderWrite (Rename path.now lost) (done_answer result)
             (folder_view self.old) (folder_view self.new) }
         ensures missing { MissingExactly result (folder_view self.old) (path_of path.now (not lost)) }
-        ensures scheduled { FolderObeys (file_failed result) self.old self.new }
+        ensures scheduled { FolderObeys (done_answer result) self.old self.new }
     {
         let entry = rename_entry(path, lost);
         if !begin(&mut self.schedule, &mut self.past, entry) {
@@ -302,7 +354,8 @@ impl Folder for MemFolder {
             self.schedule.fail();
             return Err(FileFault::Failed);
         };
-        self.past.succeed();
-        found(self.files.rename(name_of(path, !lost).as_slice(), to))
+        let there = self.files.rename(name_of(path, !lost).as_slice(), to);
+        self.past.end(answer_where(there));
+        found(there)
     }
 }

@@ -7,7 +7,7 @@ mod vault;
 pub use folder::GateFolder;
 pub use vault::GateVault;
 
-// How often the other gate's flag is looked at.
+// How often the other gate's flag is looked at, unless another number is given.
 const TURNS: u64 = 200_000_000;
 
 /// One of two gates. At its call it sets its own flag and then waits for the other's, for a while.
@@ -15,6 +15,8 @@ const TURNS: u64 = 200_000_000;
 struct Gate<'a> {
     call: u64,
     calls: u64,
+    // how often the other flag is looked at
+    turns: u64,
     mine: &'a AtomicBool,
     other: &'a AtomicBool,
     saw: bool,
@@ -30,6 +32,7 @@ impl<'a> Gate<'a> {
         Gate {
             call,
             calls: 0,
+            turns: TURNS,
             mine,
             other,
             saw: false,
@@ -41,14 +44,14 @@ impl<'a> Gate<'a> {
         self.calls = self.calls.saturating_add(1);
         if self.calls == self.call {
             self.mine.store(true, Ordering::SeqCst);
-            self.saw = wait(self.other);
+            self.saw = wait(self.other, self.turns);
         }
     }
 }
 
 // Whether the flag was seen before the turns were spent.
-fn wait(flag: &AtomicBool) -> bool {
-    for _ in 0..TURNS {
+fn wait(flag: &AtomicBool, turns: u64) -> bool {
+    for _ in 0..turns {
         if flag.load(Ordering::SeqCst) {
             return true;
         }

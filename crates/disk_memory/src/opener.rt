@@ -6,7 +6,7 @@ ghost use Rattle.disk_memory.specs.Given.{AreSoMany, CanGive};
 use crate::calls::{OpenerEntry, config_entry, open_entry};
 use crate::past::{Past, begin};
 use crate::schedule::Schedule;
-use disk_model::{Folder, NoMemory, OpenFault, Opened, Opener, Places, Vault};
+use disk_model::{Answer, Folder, NoMemory, OpenFault, Opened, Opener, Places, Vault};
 use std::alloc::Global;
 
 /// Gives its folders and its vault once.
@@ -96,7 +96,7 @@ impl<F: Folder, V: Vault> Opener for MemOpener<F, V> {
             self.schedule.fail();
             return Err(OpenFault::Failed);
         }
-        self.past.succeed();
+        self.past.end(Answer::Done);
         front_of(alloc, self.config.as_slice())
     }
 
@@ -130,7 +130,7 @@ impl<F: Folder, V: Vault> Opener for MemOpener<F, V> {
         }
         match self.held.take() {
             Some(opened) => {
-                self.past.succeed();
+                self.past.end(Answer::Done);
                 Ok(opened)
             }
             None => {

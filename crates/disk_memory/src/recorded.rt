@@ -12,7 +12,7 @@ use crate::image::{number_of, skip};
 use crate::past::Past;
 use crate::replay::Replay;
 use crate::store::Store;
-use disk_model::{Draft, NoMemory};
+use disk_model::{Answer, Draft, NoMemory};
 use std::alloc::Global;
 
 /// What a vault holds, what it held when it was opened, and its calls.
@@ -31,8 +31,9 @@ pub struct Recorded {
 
 impl Recorded {
     ghost use Rattle.std.specs.Prelude.{take, IfOk, OnOk, OnErr};
+    ghost use Rattle.disk_model.specs.Answer.{is_failure};
     ghost use Rattle.disk_model.specs.Bytes.{AreBytes};
-    ghost use Rattle.disk_memory.specs.Goes.{Goes, MayAnswer, IsAnswered, IsFreshRecord, IsOpenedRecord, Damages, SameRecord};
+    ghost use Rattle.disk_memory.specs.Goes.{Goes, GoesBy, MayAnswer, IsAnswered, IsFreshRecord, IsOpenedRecord, Damages, SameRecord};
     ghost use Rattle.disk_model.specs.Machine.{replay};
     ghost use Rattle.disk_memory.specs.Choice.{picked_image};
     ghost use Rattle.disk_memory.specs.Store.{opened_held};
@@ -133,14 +134,15 @@ impl Recorded {
         Ok(())
     }
 
-    // A call of which reads show nothing.
-    pub fn quiet(&mut self, may: bool, entry: VaultEntry) -> bool
-        requires { is_quiet (vault_call entry) ≡ true }
-        ensures goes { Goes (vault_call entry) (not result) self.old self.new }
+    // A call of which reads show nothing, and which gives this unless it fails.
+    pub fn quiet(&mut self, may: bool, entry: VaultEntry, given: Answer) -> bool
+        requires quiet { is_quiet (vault_call entry) ≡ true }
+        requires given { is_failure given ≡ false }
+        ensures goes { GoesBy (vault_call entry) given (not result) self.old self.new }
         ensures answer { IsAnswered may result self.old self.new }
     {
         let done = self.past.admit(may, Some(entry));
-        self.past.end(done);
+        self.past.end_if(done, given);
         done
     }
 
@@ -153,7 +155,7 @@ impl Recorded {
         let entry = write_entry(self.alloc, level, at, bytes);
         let may = self.past.admit(may, entry);
         let done = write_parity(&mut self.store, may, level, at, bytes);
-        self.past.end(done);
+        self.past.end_if(done, Answer::Done);
         done
     }
 
@@ -166,7 +168,7 @@ impl Recorded {
             .past
             .admit(may, Some(VaultEntry::ParitySetLen(level, len)));
         let done = set_parity_len(&mut self.store, may, level, len);
-        self.past.end(done);
+        self.past.end_if(done, Answer::Done);
         done
     }
 
@@ -177,7 +179,7 @@ impl Recorded {
     {
         let done = self.past.admit(may, Some(VaultEntry::DraftBegin(copy)));
         begin_draft(&mut self.store, done, copy);
-        self.past.end(done);
+        self.past.end_if(done, Answer::Done);
         done
     }
 
@@ -190,7 +192,7 @@ impl Recorded {
         let entry = append_entry(self.alloc, copy, bytes);
         let may = self.past.admit(may, entry);
         let done = append_draft(&mut self.store, may, copy, bytes);
-        self.past.end(done);
+        self.past.end_if(done, Answer::Done);
         done
     }
 
@@ -201,7 +203,7 @@ impl Recorded {
     {
         let done = self.past.admit(may, Some(VaultEntry::DraftSeal(copy)));
         seal_draft(&mut self.store, done, copy);
-        self.past.end(done);
+        self.past.end_if(done, Answer::Done);
         done
     }
 
@@ -212,7 +214,7 @@ impl Recorded {
     {
         let done = self.past.admit(may, Some(VaultEntry::Publish(copy)));
         publish_draft(&mut self.store, done, copy);
-        self.past.end(done);
+        self.past.end_if(done, Answer::Done);
         done
     }
 }

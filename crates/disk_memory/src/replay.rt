@@ -212,7 +212,7 @@ impl Replay {
         ensures { OnOk result (self.new ≡ replay self.old (vault_calls entries.now)) }
     {
         for made in entries {
-            self.apply(&made.call, made.failed)?;
+            self.apply(&made.call, made.failed())?;
         }
         Ok(())
     }

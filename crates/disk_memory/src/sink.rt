@@ -3,7 +3,7 @@ use crate::bytes::Bytes;
 use crate::calls::sink_entry;
 use crate::past::{Past, begin};
 use crate::schedule::Schedule;
-use disk_model::{Failed, NoMemory, Sink};
+use disk_model::{Answer, Failed, NoMemory, Sink};
 use std::alloc::Global;
 
 /// Keeps all that is written to it.
@@ -80,7 +80,7 @@ impl Sink for MemSink {
         if self.written.extend_from_slice(bytes).is_err() {
             return Err(self.schedule.fail());
         }
-        self.past.succeed();
+        self.past.end(Answer::Done);
         Ok(())
     }
 }

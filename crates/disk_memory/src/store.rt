@@ -174,6 +174,14 @@ impl Store {
         self.parities[level as usize].len()
     }
 
+    // How many bytes a read gives.
+    pub fn parity_count(&self, level: u32, at: u64, room: usize) -> u64
+        requires { level < self.now.levels }
+        ensures { result ≡ length (read_from (parity_of (held self.now).files level) at room) }
+    {
+        self.parities[level as usize].count(at, room)
+    }
+
     pub fn parity_read(&self, level: u32, at: u64, out: &mut [u8]) -> usize
         requires { level < self.now.levels }
         ensures bound { result ≤ length out.new }
@@ -212,6 +220,17 @@ impl Store {
         self.contents[copy as usize]
             .as_ref()
             .map(|bytes| bytes.len())
+    }
+
+    // How many bytes a read gives.
+    pub fn content_count(&self, copy: u32, at: u64, room: usize) -> u64
+        requires { copy < self.now.copies }
+        ensures { result ≡ length (read_from (unwrap_or (content_of (held self.now).files copy) []) at room) }
+    {
+        match &self.contents[copy as usize] {
+            Some(bytes) => bytes.count(at, room),
+            None => 0,
+        }
     }
 
     pub fn content_read(&self, copy: u32, at: u64, out: &mut [u8]) -> usize
@@ -259,6 +278,7 @@ impl Store {
         requires draft { draft_held (held self.old) copy ≡ Draft.Open }
         ensures ok { OnOk result (held self.new ≡ with_draft (held self.old) copy Draft.Open (staged_held (held self.old) copy ++ bytes.now)) }
         ensures err { OnErr result (held self.new ≡ held self.old) }
+        ensures full { OnErr result (0 < length bytes.now) }
         ensures same { SameCounts self.old self.new }
     {
         self.staged[copy as usize].append(bytes)

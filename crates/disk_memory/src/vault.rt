@@ -1,13 +1,14 @@
 // A vault in memory.
-ghost use Rattle.std.specs.Prelude.{◌≡◌, IfOk, IfSome};
+ghost use Rattle.std.specs.Prelude.{◌≡◌, IfOk, IfSome, false};
 ghost use Rattle.std.specs.Option.{option_copied};
+ghost use Rattle.disk_model.specs.Answer.{is_failure, size_answer};
 ghost use Rattle.disk_model.specs.Bytes.{AreBytes};
 
 use crate::bytes::Bytes;
 use crate::calls::{VaultEntry, first_write_in};
 use crate::recorded::Recorded;
 use crate::schedule::Schedule;
-use disk_model::{Draft, Failed, NoMemory, Vault};
+use disk_model::{Answer, Draft, Failed, NoMemory, Vault};
 use std::alloc::Global;
 
 /// All parity files and content copies, in memory.
@@ -29,12 +30,23 @@ fn copied(alloc: Global, bytes: Option<&[u8]>) -> Result<Option<Bytes>, NoMemory
     }
 }
 
+// What is kept of the size of a copy.
+fn answer_of_size(size: Option<u64>) -> Answer
+    ensures kept { result ≡ size_answer size }
+    ensures given { is_failure result ≡ false }
+{
+    match size {
+        Some(size) => Answer::Bytes(size),
+        None => Answer::Missing,
+    }
+}
+
 impl MemVault {
     ghost use Rattle.std.specs.Prelude.{◌<◌, [], ◌∷◌, ◌++◌, true, OnOk, OnErr, is_err};
     ghost use Rattle.disk_model.specs.Vault.{copies_of, IsSettled};
     ghost use Rattle.disk_memory.specs.Calls.{first_write, vault_call};
     ghost use Rattle.disk_memory.specs.Given.{HasNoDraft};
-    ghost use Rattle.disk_memory.specs.Goes.{Goes, CountsFaults};
+    ghost use Rattle.disk_memory.specs.Goes.{GoesBy, CountsFaults};
     ghost use Rattle.disk_memory.specs.Recorded.{is_quiet};
     ghost use Rattle.disk_memory.specs.Schedule.{fresh_plan};
     ghost use Rattle.disk_memory.specs.Store.{with_level, with_copy};
@@ -116,15 +128,16 @@ impl MemVault {
         }
     }
 
-    // A call of which reads show nothing.
-    fn quiet(&mut self, entry: VaultEntry) -> Result<(), Failed>
-        requires { is_quiet (vault_call entry) ≡ true }
-        ensures goes { Goes (vault_call entry) (is_err result) self.old.recorded self.new.recorded }
+    // A call of which reads show nothing, and which gives this unless it fails.
+    fn quiet(&mut self, entry: VaultEntry, given: Answer) -> Result<(), Failed>
+        requires quiet { is_quiet (vault_call entry) ≡ true }
+        requires given { is_failure given ≡ false }
+        ensures goes { GoesBy (vault_call entry) given (is_err result) self.old.recorded self.new.recorded }
         ensures counts { CountsFaults (is_err result) self.old.schedule.faults self.new.schedule.faults }
         ensures scheduled { VaultObeysExactly (is_err result) self.old self.new }
     {
         let fails = self.schedule.next_call();
-        let done = self.recorded.quiet(!fails, entry);
+        let done = self.recorded.quiet(!fails, entry, given);
         self.schedule.answer(done)
     }
 
@@ -179,24 +192,27 @@ impl Vault for MemVault {
 
     fn parity_len(&mut self, level: u32) -> Result<u64, Failed>
         requires { level < (vault_view self.old).levels }
-        ensures call { IsReading (ParityLen level) result (vault_view self.old) (vault_view self.new) }
+        ensures call { IsReading (ParityLen level) Answer.Bytes result (vault_view self.old) (vault_view self.new) }
         ensures found { IsTrue (vault_view self.old).tells → IfOk result (λ n. n ≡ length (parity_of (vault_view self.old).files level)) }
         ensures scheduled { VaultObeysExactly (is_err result) self.old self.new }
     {
-        match self.quiet(VaultEntry::ParityLen(level)) {
-            Ok(()) => Ok(self.recorded.store.parity_len(level)),
+        let len = self.recorded.store.parity_len(level);
+        match self.quiet(VaultEntry::ParityLen(level), Answer::Bytes(len)) {
+            Ok(()) => Ok(len),
             Err(failed) => Err(failed),
         }
     }
 
     fn parity_read(&mut self, level: u32, at: u64, out: &mut [u8]) -> Result<usize, Failed>
         requires { level < (vault_view self.old).levels }
-        ensures call { IsReading (ParityRead level at (length out.old)) result (vault_view self.old) (vault_view self.new) }
+        ensures call { IsReading (ParityRead level at (length out.old)) Answer.Bytes result (vault_view self.old) (vault_view self.new) }
         ensures bound { IfOk result (λ n. n ≤ length out.new) }
         ensures found { IsTrue (vault_view self.old).tells → IfOk result (λ n. take n out.new ≡ read_from (parity_of (vault_view self.old).files level) at (length out.old)) }
         ensures scheduled { VaultObeysExactly (is_err result) self.old self.new }
     {
-        match self.quiet(VaultEntry::ParityRead(level, at, out.len())) {
+        let count = self.recorded.store.parity_count(level, at, out.len());
+        let entry = VaultEntry::ParityRead(level, at, out.len());
+        match self.quiet(entry, Answer::Bytes(count)) {
             Ok(()) => Ok(self.recorded.store.parity_read(level, at, out)),
             Err(failed) => Err(failed),
         }
@@ -237,29 +253,32 @@ impl Vault for MemVault {
         ensures synced { OnOk result (Holds (λ files. parity_of files level ≡ parity_of (vault_view self.old).files level) (vault_view self.new)) }
         ensures scheduled { VaultObeysExactly (is_err result) self.old self.new }
     {
-        self.quiet(VaultEntry::ParitySync(level))
+        self.quiet(VaultEntry::ParitySync(level), Answer::Done)
     }
 
     fn content_size(&mut self, copy: u32) -> Result<Option<u64>, Failed>
         requires { copy < copies_of (vault_view self.old) }
-        ensures call { IsReading (ContentSize copy) result (vault_view self.old) (vault_view self.new) }
+        ensures call { IsReading (ContentSize copy) size_answer result (vault_view self.old) (vault_view self.new) }
         ensures found { IsTrue (vault_view self.old).tells → IfOk result (λ n. n ≡ option_map length (content_of (vault_view self.old).files copy)) }
         ensures scheduled { VaultObeysExactly (is_err result) self.old self.new }
     {
-        match self.quiet(VaultEntry::ContentSize(copy)) {
-            Ok(()) => Ok(self.recorded.store.content_size(copy)),
+        let size = self.recorded.store.content_size(copy);
+        match self.quiet(VaultEntry::ContentSize(copy), answer_of_size(size)) {
+            Ok(()) => Ok(size),
             Err(failed) => Err(failed),
         }
     }
 
     fn content_read(&mut self, copy: u32, at: u64, out: &mut [u8]) -> Result<usize, Failed>
         requires { copy < copies_of (vault_view self.old) }
-        ensures call { IsReading (ContentRead copy at (length out.old)) result (vault_view self.old) (vault_view self.new) }
+        ensures call { IsReading (ContentRead copy at (length out.old)) Answer.Bytes result (vault_view self.old) (vault_view self.new) }
         ensures bound { IfOk result (λ n. n ≤ length out.new) }
         ensures found { IsTrue (vault_view self.old).tells → IfOk result (λ n. take n out.new ≡ read_from (unwrap_or (content_of (vault_view self.old).files copy) []) at (length out.old)) }
         ensures scheduled { VaultObeysExactly (is_err result) self.old self.new }
     {
-        match self.quiet(VaultEntry::ContentRead(copy, at, out.len())) {
+        let count = self.recorded.store.content_count(copy, at, out.len());
+        let entry = VaultEntry::ContentRead(copy, at, out.len());
+        match self.quiet(entry, Answer::Bytes(count)) {
             Ok(()) => Ok(self.recorded.store.content_read(copy, at, out)),
             Err(failed) => Err(failed),
         }

@@ -5,6 +5,7 @@ mod gate;
 mod image;
 mod opener;
 mod play;
+mod scripted;
 mod sink;
 mod steps;
 mod vault;

@@ -3,6 +3,8 @@ use Rattle.std.proofs.Common.{◌≡◌, inl, inr, ℕ, List, [], ◌∷◌, ◌
 use Rattle.std.proofs.lemmas.List.{get_or_past}
 use Rattle.std.specs.FinMap as map
 use Rattle.disk_model.specs.Bytes.{Torn}
+use Rattle.disk_model.specs.Answer.{is_failure}
+use Rattle.disk_model.specs.declared.answer.Answer.{Answer}
 use Rattle.disk_model.specs.Folder.{FolderView, FolderCall, FolderDone, ListFiles, Look, ReadAt, Make, WriteAt, SetSize, SetStamp, Rename, IsFolder, IsFolderReading}
 use Rattle.disk_model.specs.Stopped.{MayBeLeft, IsAnswered, AreAnswered}
 use Rattle.disk_model.specs.Tree.{Tree, File, file_of, IsTree}
@@ -64,22 +66,22 @@ does_may keeps (Rename path lost) old new does = inr does
 one_left : (keeps : Bool) (done : FolderDone) (old new : Tree) → IsTree new → MayDo keeps done.call old new → MayBeLeft keeps (done ∷ []) old new
 one_left keeps done old new tree may = (new, tree, (false, subst (λ (call : FolderCall). MayDo keeps call old new) (sym (found_here done.call)) may), refl)
 
-abbrev done_of : FolderCall → Bool → FolderDone
-done_of call failed = record { call = call; failed = failed }
+abbrev done_of : FolderCall → Answer → FolderDone
+done_of call answer = record { call = call; answer = answer }
 
 -- what a writing call leaves that answers
-pub write_is_left : (call : FolderCall) (failed : Bool) (old new : FolderView) → IsTrue old.tells → IsFolder new → IsFolderWrite call failed old new
-    → MayBeLeft old.keeps_stamps (done_of call failed ∷ []) old.tree new.tree
-write_is_left call failed old new told folder write = one_left old.keeps_stamps (done_of call failed) old.tree new.tree (folder.tree (write.called.goes_on.tells ∙ told)) (by failed refl)
+pub write_is_left : (call : FolderCall) (answer : Answer) (old new : FolderView) → IsTrue old.tells → IsFolder new → IsFolderWrite call answer old new
+    → MayBeLeft old.keeps_stamps (done_of call answer ∷ []) old.tree new.tree
+write_is_left call answer old new told folder write = one_left old.keeps_stamps (done_of call answer) old.tree new.tree (folder.tree (write.called.goes_on.tells ∙ told)) (by (is_failure answer) refl)
   where
-    by : (b : Bool) → failed ≡ b → MayDo old.keeps_stamps call old.tree new.tree
+    by : (b : Bool) → is_failure answer ≡ b → MayDo old.keeps_stamps call old.tree new.tree
     by false is = does_may old.keeps_stamps call old.tree new.tree (write.does is told)
     by true is = write.may is told
 
 -- and a reading one
-pub reading_is_left : (call : FolderCall) (failed : Bool) (old new : FolderView) → IsTrue old.tells → IsFolder new → IsFolderReading call failed old new
-    → MayBeLeft old.keeps_stamps (done_of call failed ∷ []) old.tree new.tree
-reading_is_left call failed old new told folder reading = one_left old.keeps_stamps (done_of call failed) old.tree new.tree (folder.tree (reading.called.goes_on.tells ∙ told))
+pub reading_is_left : (call : FolderCall) (answer : Answer) (old new : FolderView) → IsTrue old.tells → IsFolder new → IsFolderReading call answer old new
+    → MayBeLeft old.keeps_stamps (done_of call answer ∷ []) old.tree new.tree
+reading_is_left call answer old new told folder reading = one_left old.keeps_stamps (done_of call answer) old.tree new.tree (folder.tree (reading.called.goes_on.tells ∙ told))
     (subst (λ (t : Tree). MayDo old.keeps_stamps call old.tree t) (sym (reading.tree told)) (may_stay old.keeps_stamps call old.tree))
 
 -- more calls
@@ -104,9 +106,9 @@ left_later keeps first more old new is left = left_then keeps first more old new
 one_answered : (done : FolderDone) (calls : List FolderDone) (old mid new : FolderView) → IsTrue old.tells → IsFolder mid → IsAnswered done old mid
     → (mid.tells ≡ old.tells → mid.keeps_stamps ≡ old.keeps_stamps → MayBeLeft old.keeps_stamps calls mid.tree new.tree) → MayBeLeft old.keeps_stamps (done ∷ calls) old.tree new.tree
 one_answered done calls old mid new told folder (inl reading) rest =
-    left_then old.keeps_stamps (done ∷ []) calls old.tree mid.tree new.tree (reading_is_left done.call done.failed old mid told folder reading) (rest reading.called.goes_on.tells reading.called.goes_on.keeps_stamps)
+    left_then old.keeps_stamps (done ∷ []) calls old.tree mid.tree new.tree (reading_is_left done.call done.answer old mid told folder reading) (rest reading.called.goes_on.tells reading.called.goes_on.keeps_stamps)
 one_answered done calls old mid new told folder (inr write) rest =
-    left_then old.keeps_stamps (done ∷ []) calls old.tree mid.tree new.tree (write_is_left done.call done.failed old mid told folder write) (rest write.called.goes_on.tells write.called.goes_on.keeps_stamps)
+    left_then old.keeps_stamps (done ∷ []) calls old.tree mid.tree new.tree (write_is_left done.call done.answer old mid told folder write) (rest write.called.goes_on.tells write.called.goes_on.keeps_stamps)
 
 -- a folder that answers its calls stands among what a stop may leave
 pub answered_is_left : (calls : List FolderDone) (old new : FolderView) → IsTrue old.tells → AreAnswered calls old new → MayBeLeft old.keeps_stamps calls old.tree new.tree

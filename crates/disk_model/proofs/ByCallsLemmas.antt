@@ -8,7 +8,8 @@ use Rattle.disk_model.specs.Files.{Files, parity_of, content_of, with_parity, wi
 use Rattle.disk_model.specs.Machine.{Machine, Loose, no_file, settled, level_of, copy_of, draft_in, staged_in, files_of, with_level, with_copy, published, after, replay, IsImage, IsCopyImage, IsOneOf, IsSteady, AllGiveBytes, IsWithin, step_of, by_calls, opened_with, images_of}
 use Rattle.disk_model.specs.Moments.{MayLeave, Remembers}
 use Rattle.disk_model.specs.Unsynced.{Unsynced, IsFileImage, synced}
-use Rattle.disk_model.specs.Vault.{VaultCall, VaultDone, ParityLen, ParityRead, ParityWrite, ParitySetLen, ParitySync, ContentSize, ContentRead, DraftBegin, DraftAppend, DraftSeal, Publish, HasFiles, IsWellFormed, IsSettled, ChangesBy, Holds, is_sealed}
+use Rattle.disk_model.specs.Answer.{is_failure}
+use Rattle.disk_model.specs.Vault.{plain_done, VaultCall, VaultDone, ParityLen, ParityRead, ParityWrite, ParitySetLen, ParitySync, ContentSize, ContentRead, DraftBegin, DraftAppend, DraftSeal, Publish, HasFiles, IsWellFormed, IsSettled, ChangesBy, Holds, is_sealed}
 use Rattle.disk_model.specs.declared.draft.Draft.TheVariants.{Sealed}
 use Rattle.disk_model.proofs.BytesLemmas.{no_bytes, torn_by_put, torn_not, stretched_by_resized, stretched_not}
 use Rattle.disk_model.proofs.MachineLemmas.{left_now, replay_push, files_are_image, steps_leave, machine_remembers, write_leaves, set_len_leaves, sync_leaves, publish_leaves}
@@ -149,9 +150,9 @@ module _ (opened : Machine) (calls : List VaultDone) (done : VaultDone) (steady 
   pub changes_by_call : (told now_told : Bool) (faults now_faults : ℕ) → IsWithin (replay opened calls) done.call → (IsTrue now_told → IsTrue told)
       → ChangesBy (step_of (replay opened calls) done.call) (by_calls opened calls told faults) (by_calls opened (calls ++ done ∷ []) now_told now_faults)
   changes_by_call told now_told faults now_faults within still = record {
-    reads = λ t. subst (λ m. step_of (replay opened calls) done.call (files_of (replay opened calls)) (files_of m)) (sym (replay_push opened calls done)) (reads_step (replay opened calls) done.call done.failed);
+    reads = λ t. subst (λ m. step_of (replay opened calls) done.call (files_of (replay opened calls)) (files_of m)) (sym (replay_push opened calls done)) (reads_step (replay opened calls) done.call (is_failure done.answer));
     leaves = steps_leave (step_of (replay opened calls) done.call) told now_told opened calls done still
-        (image_step (replay opened calls) done.call done.failed (steady_replay opened calls steady gives) within);
+        (image_step (replay opened calls) done.call (is_failure done.answer) (steady_replay opened calls steady gives) within);
   }
 
   -- after it, no image that might have been left before is forgotten
@@ -165,8 +166,8 @@ left_is_image told opened calls files left = subst (λ (cs : List VaultDone). Is
 
 -- P of what reads give and of each image
 holds_after : (P : Files → Type 0) (opened : Machine) (calls : List VaultDone) (done : VaultDone) (told : Bool) (faults : ℕ)
-    → P (files_of (after (replay opened calls) done.call done.failed))
-    → ((files : Files) → IsImage (after (replay opened calls) done.call done.failed) files → P files)
+    → P (files_of (after (replay opened calls) done.call (is_failure done.answer)))
+    → ((files : Files) → IsImage (after (replay opened calls) done.call (is_failure done.answer)) files → P files)
     → Holds P (by_calls opened (calls ++ done ∷ []) told faults)
 holds_after P opened calls done told faults reads images = record {
   reads = λ t. subst (λ (m : Machine). P (files_of m)) (sym (replay_push opened calls done)) reads;
@@ -175,11 +176,11 @@ holds_after P opened calls done told faults reads images = record {
 
 -- a level that was synced
 pub holds_synced : (opened : Machine) (calls : List VaultDone) (level : ℕ) (told : Bool) (faults : ℕ) → IsSteady opened → AllGiveBytes calls → level < length (replay opened calls).levels
-    → Holds (λ files. parity_of files level ≡ parity_of (files_of (replay opened calls)) level) (by_calls opened (calls ++ record { call = ParitySync level; failed = false } ∷ []) told faults)
+    → Holds (λ files. parity_of files level ≡ parity_of (files_of (replay opened calls)) level) (by_calls opened (calls ++ plain_done (ParitySync level) false ∷ []) told faults)
 holds_synced opened calls level told faults steady gives within =
     let m = replay opened calls in
     let is = (steady_replay opened calls steady gives).levels level in
-    holds_after (λ files. parity_of files level ≡ parity_of (files_of m) level) opened calls (record { call = ParitySync level; failed = false }) told faults
+    holds_after (λ files. parity_of files level ≡ parity_of (files_of m) level) opened calls (plain_done (ParitySync level) false) told faults
     (ap (λ files. parity_of files level) (synced_reads m level))
     (λ files image. (sync_leaves m level within is files image).1 ∙ sym (level_reads m level))
 
@@ -193,14 +194,14 @@ only_new bytes content image = by image.is
 
 -- a copy of which a sealed draft was published
 pub holds_published : (opened : Machine) (calls : List VaultDone) (copy : ℕ) (told : Bool) (faults : ℕ) → copy < length (replay opened calls).copies → draft_in (replay opened calls) copy ≡ Sealed
-    → Holds (λ files. content_of files copy ≡ Some (staged_in (replay opened calls) copy)) (by_calls opened (calls ++ record { call = Publish copy; failed = false } ∷ []) told faults)
+    → Holds (λ files. content_of files copy ≡ Some (staged_in (replay opened calls) copy)) (by_calls opened (calls ++ plain_done (Publish copy) false ∷ []) told faults)
 holds_published opened calls copy told faults within is_sealed_now =
     let m = replay opened calls in
     let bytes = staged_in m copy in
     let next = published (is_sealed (draft_in m copy)) false bytes (copy_of m copy) in
     let is : next ≡ settled (Some bytes) = ap (λ draft. published (is_sealed draft) false bytes (copy_of m copy)) is_sealed_now in
     let put : copy_of (with_copy m copy next) copy ≡ settled (Some bytes) = get_or-set_same m.copies copy next (settled None) within ∙ is in
-    holds_after (λ files. content_of files copy ≡ Some bytes) opened calls (record { call = Publish copy; failed = false }) told faults
+    holds_after (λ files. content_of files copy ≡ Some bytes) opened calls (plain_done (Publish copy) false) told faults
     (copy_reads (after m (Publish copy) false) copy ∙ ap (λ (c : Loose). c.read) put)
     (λ files image. only_new bytes (content_of files copy)
     (subst (λ (c : Loose). IsCopyImage c (content_of files copy)) put (image.contents copy (omega (arith, within, length-set m.copies copy next)))))

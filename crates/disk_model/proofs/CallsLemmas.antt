@@ -1,11 +1,14 @@
 -- Calls of some kind, one after another.
-use Rattle.std.proofs.Common.{◌≡◌, ◌≤◌, ℕ, List, [], ◌∷◌, ◌++◌, map, Bool, true, false, IsTrue, Result, Ok, Err, OnOk, OnErr, refl, sym, ◌∙◌, ap, subst, append_assoc, arith, All}
+use Rattle.std.proofs.Common.{◌≡◌, ◌≤◌, ℕ, List, [], ◌∷◌, ◌++◌, Bool, true, false, IsTrue, Result, Ok, Err, OnOk, OnErr, refl, sym, ◌∙◌, ap, ap₂, subst, append_assoc, arith, All}
 use Rattle.std.proofs.lemmas.List.{append-nil, map-append}
-use Rattle.std.proofs.lemmas.List.Elements.{All-append, All-nil, All-cons, All-head, All-tail, All-map, All-weaker}
+use Rattle.std.proofs.lemmas.List.Elements.{All-append, All-nil, All-cons, All-head, All-tail}
 use Rattle.disk_model.specs.Cause.{Rose}
-use Rattle.disk_model.specs.Calls.{WentWell, MakesOnly, Makes, LastFailed, FailsBy, MakesThese, FailsAmong, gone_well}
-use Rattle.disk_model.specs.Vault.{VaultView, VaultCall, VaultDone, GoesOn, SomeCalls, IsCall}
-use Rattle.disk_model.specs.declared.fault.Failed.{Failed}
+use Rattle.disk_model.specs.Calls.{WentWell, MakesOnly, Makes, LastFailed, FailsBy, MakesThese, FailsAmong, WentWellAs, gone_well}
+use Rattle.disk_model.specs.Answer.{is_failure}
+use Rattle.disk_model.specs.Vault.{VaultView, VaultCall, VaultDone, VaultOutcome, plain_done, outcome_of, GoesOn, SomeCalls, IsCall}
+use Rattle.disk_model.specs.declared.answer.Answer.{Answer}
+use Rattle.disk_model.specs.declared.answer.Answer.TheVariants.{Failed, OutOfMemory, Missing, Done, Saw, Bytes, Kept}
+use Rattle.disk_model.specs.declared.fault.Failed.{Failed as Fault}
 
 abbrev Is : (VaultCall → Type 0) → VaultDone → Type 0
 Is P d = P d.call
@@ -15,8 +18,8 @@ Is P d = P d.call
 pub only_none : (P : VaultCall → Type 0) (v : VaultView) → MakesOnly P v v
 only_none P v = record { done = []; grown = record { told = λ t. t; more = λ t. sym (append-nil v.calls) }; each = All-nil (Is P) }
 
-pub only_one : (P : VaultCall → Type 0) (old new : VaultView) (call : VaultCall) (failed : Bool) → P call → GoesOn old new (record { call = call; failed = failed } ∷ []) → MakesOnly P old new
-only_one P old new call failed is goes_on = record { done = record { call = call; failed = failed } ∷ []; grown = goes_on.calls; each = All-cons (Is P) (record { call = call; failed = failed }) [] is (All-nil (Is P)) }
+pub only_one : (P : VaultCall → Type 0) (old new : VaultView) (call : VaultCall) (answer : Answer) → P call → GoesOn old new (record { call = call; answer = answer } ∷ []) → MakesOnly P old new
+only_one P old new call answer is goes_on = record { done = record { call = call; answer = answer } ∷ []; grown = goes_on.calls; each = All-cons (Is P) (record { call = call; answer = answer }) [] is (All-nil (Is P)) }
 
 pub only_then : (P : VaultCall → Type 0) (old mid new : VaultView) → MakesOnly P old mid → MakesOnly P mid new → MakesOnly P old new
 only_then P old mid new one two = record {
@@ -37,11 +40,11 @@ pub makes_none : (P : VaultCall → Type 0) (v : VaultView) → Makes P v v
 makes_none P v = record { done = []; grown = record { told = λ t. t; more = λ t. sym (append-nil v.calls) }; each = All-nil (WentWell P) }
 
 -- a call that went well
-pub makes_one : (P : VaultCall → Type 0) (old new : VaultView) (call : VaultCall) (failed : Bool) → P call → failed ≡ false → GoesOn old new (record { call = call; failed = failed } ∷ []) → Makes P old new
-makes_one P old new call failed is well goes_on = record {
-  done = record { call = call; failed = failed } ∷ [];
+pub makes_one : (P : VaultCall → Type 0) (old new : VaultView) (call : VaultCall) (answer : Answer) → P call → is_failure answer ≡ false → GoesOn old new (record { call = call; answer = answer } ∷ []) → Makes P old new
+makes_one P old new call answer is well goes_on = record {
+  done = record { call = call; answer = answer } ∷ [];
   grown = goes_on.calls;
-  each = All-cons (WentWell P) (record { call = call; failed = failed }) [] (record { is = is; unfailed = well }) (All-nil (WentWell P));
+  each = All-cons (WentWell P) (record { call = call; answer = answer }) [] (record { is = is; unfailed = well }) (All-nil (WentWell P));
 }
 
 pub makes_then : (P : VaultCall → Type 0) (old mid new : VaultView) → Makes P old mid → Makes P mid new → Makes P old new
@@ -66,16 +69,26 @@ makes_only P old new makes = record { done = makes.done; grown = makes.grown; ea
 
 -- ---- where the last failed
 
+-- the one answer that is a failure
+pub failure_is : (answer : Answer) → is_failure answer ≡ true → answer ≡ Failed
+failure_is Failed is = refl
+failure_is OutOfMemory is = absurd (let clash : false ≡ true = is in cc)
+failure_is Missing is = absurd (let clash : false ≡ true = is in cc)
+failure_is Done is = absurd (let clash : false ≡ true = is in cc)
+failure_is (Saw meta) is = absurd (let clash : false ≡ true = is in cc)
+failure_is (Bytes n) is = absurd (let clash : false ≡ true = is in cc)
+failure_is (Kept kept) is = absurd (let clash : false ≡ true = is in cc)
+
 -- a call that failed
-pub fails_one : (P : VaultCall → Type 0) (old new : VaultView) (call : VaultCall) (failed : Bool) → P call → failed ≡ true → Rose old.faults new.faults
-    → GoesOn old new (record { call = call; failed = failed } ∷ []) → FailsBy P old new
-fails_one P old new call failed is ill rose goes_on = record {
+pub fails_one : (P : VaultCall → Type 0) (old new : VaultView) (call : VaultCall) (answer : Answer) → P call → is_failure answer ≡ true → Rose old.faults new.faults
+    → GoesOn old new (record { call = call; answer = answer } ∷ []) → FailsBy P old new
+fails_one P old new call answer is ill rose goes_on = record {
   rose = rose;
   earlier = [];
   each = All-nil (WentWell P);
   call = call;
   is = is;
-  made = λ t. goes_on.calls.more t ∙ ap (λ (b : Bool). old.calls ++ (let d : VaultDone = record { call = call; failed = b } in d) ∷ []) ill;
+  made = λ t. goes_on.calls.more t ∙ ap (λ (a : Answer). old.calls ++ (let d : VaultDone = record { call = call; answer = a } in d) ∷ []) (failure_is answer ill);
 }
 
 -- after calls that went well
@@ -90,7 +103,7 @@ fails_after P old mid new later still one two = record {
 }
   where
     last : List VaultDone
-    last = record { call = two.call; failed = true } ∷ []
+    last = plain_done two.call true ∷ []
 
 pub fails_wider : (P Q : VaultCall → Type 0) (faults : ℕ) (calls : List VaultDone) (new : VaultView) → ((call : VaultCall) → P call → Q call) → LastFailed P faults calls new → LastFailed Q faults calls new
 fails_wider P Q faults calls new wider fails = record {
@@ -104,36 +117,47 @@ fails_wider P Q faults calls new wider fails = record {
 
 -- ---- calls in a given order
 
+pub well_then : (one two : List VaultCall) (done more : List VaultDone) → WentWellAs one done → WentWellAs two more → WentWellAs (one ++ two) (done ++ more)
+well_then one two done more a b =
+    map-append outcome_of done more ∙ ap₂ (λ (xs ys : List VaultOutcome). xs ++ ys) a b ∙ sym (map-append gone_well one two)
+
+pub well_one : (call : VaultCall) (answer : Answer) → is_failure answer ≡ false → WentWellAs (call ∷ []) (record { call = call; answer = answer } ∷ [])
+well_one call answer well = ap (λ (failed : Bool). (let o : VaultOutcome = record { call = call; failed = failed } in o) ∷ []) well
+
 pub these_none : (v : VaultView) → MakesThese [] v v
-these_none v = record { told = λ t. t; more = λ t. sym (append-nil v.calls) }
+these_none v = record { done = []; are = refl; grown = record { told = λ t. t; more = λ t. sym (append-nil v.calls) } }
 
 -- one more that went well
-pub these_more : (calls : List VaultCall) (call : VaultCall) (failed : Bool) (old mid new : VaultView) → failed ≡ false → MakesThese calls old mid
-    → GoesOn mid new (record { call = call; failed = failed } ∷ []) → MakesThese (calls ++ call ∷ []) old new
-these_more calls call failed old mid new well one goes_on = record {
-  told = λ t. one.told (goes_on.calls.told t);
-  more = λ t.
-      goes_on.calls.more t
-      ∙ ap (λ (b : Bool). mid.calls ++ (let d : VaultDone = record { call = call; failed = b } in d) ∷ []) well
-      ∙ ap (λ cs. cs ++ gone_well call ∷ []) (one.more (goes_on.calls.told t))
-      ∙ append_assoc old.calls (map gone_well calls) (gone_well call ∷ [])
-      ∙ ap (λ cs. old.calls ++ cs) (sym (map-append gone_well calls (call ∷ [])));
+pub these_more : (calls : List VaultCall) (call : VaultCall) (answer : Answer) (old mid new : VaultView) → is_failure answer ≡ false → MakesThese calls old mid
+    → GoesOn mid new (record { call = call; answer = answer } ∷ []) → MakesThese (calls ++ call ∷ []) old new
+these_more calls call answer old mid new well one goes_on = record {
+  done = one.done ++ record { call = call; answer = answer } ∷ [];
+  are = well_then calls (call ∷ []) one.done (record { call = call; answer = answer } ∷ []) one.are (well_one call answer well);
+  grown = record {
+    told = λ t. one.grown.told (goes_on.calls.told t);
+    more = λ t.
+        goes_on.calls.more t
+        ∙ ap (λ cs. cs ++ record { call = call; answer = answer } ∷ []) (one.grown.more (goes_on.calls.told t))
+        ∙ append_assoc old.calls one.done (record { call = call; answer = answer } ∷ []);
+  };
 }
 
 -- one more that failed
-pub among_one : (earlier later : List VaultCall) (call : VaultCall) (failed : Bool) (old mid new : VaultView) → failed ≡ true → old.faults ≤ mid.faults → Rose mid.faults new.faults
-    → MakesThese earlier old mid → GoesOn mid new (record { call = call; failed = failed } ∷ []) → FailsAmong (earlier ++ call ∷ later) old new
-among_one earlier later call failed old mid new ill grown rose one goes_on = record {
+pub among_one : (earlier later : List VaultCall) (call : VaultCall) (answer : Answer) (old mid new : VaultView) → is_failure answer ≡ true → old.faults ≤ mid.faults → Rose mid.faults new.faults
+    → MakesThese earlier old mid → GoesOn mid new (record { call = call; answer = answer } ∷ []) → FailsAmong (earlier ++ call ∷ later) old new
+among_one earlier later call answer old mid new ill grown rose one goes_on = record {
   rose = omega (arith, grown, rose);
   earlier = earlier;
   call = call;
   later = later;
   whole = refl;
+  done = one.done;
+  are = one.are;
   made = λ t.
       goes_on.calls.more t
-      ∙ ap (λ (b : Bool). mid.calls ++ (let d : VaultDone = record { call = call; failed = b } in d) ∷ []) ill
-      ∙ ap (λ cs. cs ++ record { call = call; failed = true } ∷ []) (one.more (goes_on.calls.told t))
-      ∙ append_assoc old.calls (map gone_well earlier) (record { call = call; failed = true } ∷ []);
+      ∙ ap (λ (a : Answer). mid.calls ++ (let d : VaultDone = record { call = call; answer = a } in d) ∷ []) (failure_is answer ill)
+      ∙ ap (λ cs. cs ++ plain_done call true ∷ []) (one.grown.more (goes_on.calls.told t))
+      ∙ append_assoc old.calls one.done (plain_done call true ∷ []);
 }
 
 -- of a list in two parts
@@ -145,20 +169,40 @@ all_here : (P : VaultCall → Type 0) (xs : List VaultCall) (y : VaultCall) (ys 
 all_here P [] y ys all = All-head P y ys all
 all_here P (x ∷ xs) y ys all = all_here P xs y ys (All-tail P x (xs ++ y ∷ ys) all)
 
-went_well_all : (P : VaultCall → Type 0) (calls : List VaultCall) → All P calls → All (WentWell P) (map gone_well calls)
-went_well_all P calls all = All-map (WentWell P) gone_well calls (All-weaker P (λ (call : VaultCall). WentWell P (gone_well call)) (λ call is. record { is = is; unfailed = refl }) calls all)
+-- each of these is of a kind that the calls are of, and did not fail
+well_as_all : (P : VaultCall → Type 0) (calls : List VaultCall) (done : List VaultDone) → WentWellAs calls done → All P calls → All (WentWell P) done
+well_as_all P [] [] are all = All-nil (WentWell P)
+well_as_all P [] (d ∷ done) are all = absurd cc
+well_as_all P (call ∷ calls) [] are all = absurd cc
+well_as_all P (call ∷ calls) (d ∷ done) are all =
+    All-cons (WentWell P) d done (record { is = subst P (sym call_is) (All-head P call calls all); unfailed = well })
+    (well_as_all P calls done (ap rest are) (All-tail P call calls all))
+  where
+    here : List VaultOutcome → VaultOutcome
+    here [] = gone_well call
+    here (o ∷ os) = o
+
+    rest : List VaultOutcome → List VaultOutcome
+    rest [] = []
+    rest (o ∷ os) = os
+
+    call_is : d.call ≡ call
+    call_is = ap (λ (os : List VaultOutcome). (here os).call) are
+
+    well : is_failure d.answer ≡ false
+    well = ap (λ (os : List VaultOutcome). (here os).failed) are
 
 -- they are of some kind
 pub these_make : (P : VaultCall → Type 0) (calls : List VaultCall) (old new : VaultView) → All P calls → MakesThese calls old new → Makes P old new
-these_make P calls old new all these = record { done = map gone_well calls; grown = these; each = went_well_all P calls all }
+these_make P calls old new all these = record { done = these.done; grown = these.grown; each = well_as_all P calls these.done these.are all }
 
 pub among_fails : (P : VaultCall → Type 0) (calls : List VaultCall) (old new : VaultView) → All P calls → FailsAmong calls old new → FailsBy P old new
 among_fails P calls old new all among =
     let split = subst (All P) among.whole all in
     record {
       rose = among.rose;
-      earlier = map gone_well among.earlier;
-      each = went_well_all P among.earlier (all_front P among.earlier (among.call ∷ among.later) split);
+      earlier = among.done;
+      each = well_as_all P among.earlier among.done among.are (all_front P among.earlier (among.call ∷ among.later) split);
       call = among.call;
       is = all_here P among.earlier among.call among.later split;
       made = among.made;
@@ -166,13 +210,13 @@ among_fails P calls old new all among =
 
 -- ---- one call, by its answer
 
-pub call_makes : {T : Type 0} (P : VaultCall → Type 0) (call : VaultCall) (result : Result T Failed) (old new : VaultView) → P call → IsCall call result old new → OnOk result (Makes P old new)
-call_makes P call (Ok x) old new is called = makes_one P old new call false is refl called.goes_on
+pub call_makes : {T : Type 0} (P : VaultCall → Type 0) (call : VaultCall) (result : Result T Fault) (old new : VaultView) → P call → IsCall call result old new → OnOk result (Makes P old new)
+call_makes P call (Ok x) old new is called = makes_one P old new call Done is refl called.goes_on
 call_makes P call (Err e) old new is called = tt
 
-pub call_fails : {T : Type 0} (P : VaultCall → Type 0) (call : VaultCall) (result : Result T Failed) (old new : VaultView) → P call → IsCall call result old new → OnErr result (FailsBy P old new)
+pub call_fails : {T : Type 0} (P : VaultCall → Type 0) (call : VaultCall) (result : Result T Fault) (old new : VaultView) → P call → IsCall call result old new → OnErr result (FailsBy P old new)
 call_fails P call (Ok x) old new is called = tt
-call_fails P call (Err e) old new is called = fails_one P old new call true is refl called.cause called.goes_on
+call_fails P call (Err e) old new is called = fails_one P old new call Failed is refl called.cause called.goes_on
 
 -- what is done after calls that went well
 pub then_makes : {T E : Type 0} (P : VaultCall → Type 0) (result : Result T E) (old mid new : VaultView) → Makes P old mid → OnOk result (Makes P mid new) → OnOk result (Makes P old new)

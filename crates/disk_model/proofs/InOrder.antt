@@ -1,25 +1,29 @@
 -- Calls in a given order: of two lists, of each of so many numbers.
-use Rattle.std.proofs.Common.{◌≡◌, ℕ, zero, suc, ◌+◌, ◌-◌, ◌<◌, ◌≤◌, List, [], ◌∷◌, ◌++◌, map, Bool, true, false, IsTrue, Result, Ok, Err, OnOk, OnErr, refl, sym, ◌∙◌, ap, subst, append_assoc, arith}
+use Rattle.std.proofs.Common.{◌≡◌, ℕ, zero, suc, ◌+◌, ◌-◌, ◌<◌, ◌≤◌, List, [], ◌∷◌, ◌++◌, map, true, false, IsTrue, Result, Ok, Err, OnOk, OnErr, refl, sym, ◌∙◌, ap, subst, append_assoc, arith}
 use Rattle.std.specs.List.{range_with_len, flat_map}
 use Rattle.std.proofs.lemmas.List.{append-nil, map-append}
 use Rattle.std.proofs.lemmas.List.FromFn.{map-range_with_len_more}
 use Rattle.std.proofs.lemmas.Grind.{flat_map-append}
-use Rattle.disk_model.specs.Calls.{MakesThese, FailsAmong, gone_well}
+use Rattle.disk_model.specs.Answer.{is_failure}
+use Rattle.disk_model.specs.Calls.{MakesThese, FailsAmong}
 use Rattle.disk_model.specs.Cause.{Rose}
-use Rattle.disk_model.specs.Vault.{VaultView, VaultCall, VaultDone, GoesOn, SomeCalls, IsCall}
+use Rattle.disk_model.specs.Vault.{plain_done, VaultView, VaultCall, VaultDone, GoesOn, SomeCalls, IsCall}
+use Rattle.disk_model.specs.declared.answer.Answer.{Answer}
+use Rattle.disk_model.specs.declared.answer.Answer.TheVariants as answers
+use Rattle.disk_model.specs.declared.answer.Answer.TheVariants.{Done}
 use Rattle.disk_model.specs.declared.fault.Failed.{Failed}
-use Rattle.disk_model.proofs.CallsLemmas.{these_none, these_more, among_one}
+use Rattle.disk_model.proofs.CallsLemmas.{well_then, these_none, these_more, among_one}
 
 -- ---- two lists
 
 pub these_then : (one two : List VaultCall) (old mid new : VaultView) → MakesThese one old mid → MakesThese two mid new → MakesThese (one ++ two) old new
 these_then one two old mid new a b = record {
-  told = λ t. a.told (b.told t);
-  more = λ t.
-      b.more t
-      ∙ ap (λ cs. cs ++ map gone_well two) (a.more (b.told t))
-      ∙ append_assoc old.calls (map gone_well one) (map gone_well two)
-      ∙ ap (λ cs. old.calls ++ cs) (sym (map-append gone_well one two));
+  done = a.done ++ b.done;
+  are = well_then one two a.done b.done a.are b.are;
+  grown = record {
+    told = λ t. a.grown.told (b.grown.told t);
+    more = λ t. b.grown.more t ∙ ap (λ cs. cs ++ b.done) (a.grown.more (b.grown.told t)) ∙ append_assoc old.calls a.done b.done;
+  };
 }
 
 -- the first list was made, and a call of the second failed
@@ -30,16 +34,17 @@ among_then one two old mid new later still a b = record {
   call = b.call;
   later = b.later;
   whole = ap (λ cs. one ++ cs) b.whole ∙ sym (append_assoc one b.earlier (b.call ∷ b.later));
+  done = a.done ++ b.done;
+  are = well_then one b.earlier a.done b.done a.are b.are;
   made = λ t.
       b.made t
-      ∙ ap (λ cs. cs ++ (map gone_well b.earlier ++ last)) (a.more (still t))
-      ∙ append_assoc old.calls (map gone_well one) (map gone_well b.earlier ++ last)
-      ∙ ap (λ cs. old.calls ++ cs) (sym (append_assoc (map gone_well one) (map gone_well b.earlier) last))
-      ∙ ap (λ cs. old.calls ++ (cs ++ last)) (sym (map-append gone_well one b.earlier));
+      ∙ ap (λ cs. cs ++ (b.done ++ last)) (a.grown.more (still t))
+      ∙ append_assoc old.calls a.done (b.done ++ last)
+      ∙ ap (λ cs. old.calls ++ cs) (sym (append_assoc a.done b.done last));
 }
   where
     last : List VaultDone
-    last = record { call = b.call; failed = true } ∷ []
+    last = plain_done b.call true ∷ []
 
 -- a call of the first list failed
 pub among_front : (one two : List VaultCall) (old new : VaultView) → FailsAmong one old new → FailsAmong (one ++ two) old new
@@ -49,18 +54,20 @@ among_front one two old new a = record {
   call = a.call;
   later = a.later ++ two;
   whole = ap (λ cs. cs ++ two) a.whole ∙ append_assoc a.earlier (a.call ∷ a.later) two;
+  done = a.done;
+  are = a.are;
   made = a.made;
 }
 
 -- ---- one call, by its answer
 
 pub call_these : {T : Type 0} (call : VaultCall) (result : Result T Failed) (old new : VaultView) → IsCall call result old new → OnOk result (MakesThese (call ∷ []) old new)
-call_these call (Ok x) old new called = these_more [] call false old old new refl (these_none old) called.goes_on
+call_these call (Ok x) old new called = these_more [] call Done old old new refl (these_none old) called.goes_on
 call_these call (Err e) old new called = tt
 
 pub call_among : {T : Type 0} (call : VaultCall) (result : Result T Failed) (old new : VaultView) → IsCall call result old new → OnErr result (FailsAmong (call ∷ []) old new)
 call_among call (Ok x) old new called = tt
-call_among call (Err e) old new called = among_one [] [] call true old old new refl (omega arith) called.cause (these_none old) called.goes_on
+call_among call (Err e) old new called = among_one [] [] call answers.Failed old old new refl (omega arith) called.cause (these_none old) called.goes_on
 
 -- what is done after calls that went well
 pub then_these : {T E : Type 0} (one two : List VaultCall) (result : Result T E) (old mid new : VaultView) → MakesThese one old mid → OnOk result (MakesThese two mid new) → OnOk result (MakesThese (one ++ two) old new)
@@ -111,20 +118,20 @@ each_split : (call : ℕ → VaultCall) (k n : ℕ) → k < n → each_of call k
 each_split call k n below = sym (map-append call (range_with_len 0 k) (k ∷ range_with_len (k + 1) (n - suc k))) ∙ ap (map call) (range_split k n below)
 
 -- the call on one number more went well
-pub each_more : (call : ℕ → VaultCall) (made : VaultCall) (k : ℕ) (failed : Bool) (old mid new : VaultView) → made ≡ call k → failed ≡ false
-    → MakesThese (each_of call k) old mid → GoesOn mid new (record { call = made; failed = failed } ∷ []) → MakesThese (each_of call (k + 1)) old new
-each_more call made k failed old mid new is well so_far goes_on =
+pub each_more : (call : ℕ → VaultCall) (made : VaultCall) (k : ℕ) (answer : Answer) (old mid new : VaultView) → made ≡ call k → is_failure answer ≡ false
+    → MakesThese (each_of call k) old mid → GoesOn mid new (record { call = made; answer = answer } ∷ []) → MakesThese (each_of call (k + 1)) old new
+each_more call made k answer old mid new is well so_far goes_on =
     subst (λ calls. MakesThese calls old new)
     (ap (λ c. each_of call k ++ c ∷ []) is ∙ sym (map-range_with_len_more call 0 k k (omega arith)))
-    (these_more (each_of call k) made failed old mid new well so_far goes_on)
+    (these_more (each_of call k) made answer old mid new well so_far goes_on)
 
 -- it failed
-pub each_fails : (call : ℕ → VaultCall) (made : VaultCall) (k n : ℕ) (failed : Bool) (old mid new : VaultView) → k < n → made ≡ call k → failed ≡ true → old.faults ≤ mid.faults → Rose mid.faults new.faults
-    → MakesThese (each_of call k) old mid → GoesOn mid new (record { call = made; failed = failed } ∷ []) → FailsAmong (each_of call n) old new
-each_fails call made k n failed old mid new below is ill later rose so_far goes_on =
+pub each_fails : (call : ℕ → VaultCall) (made : VaultCall) (k n : ℕ) (answer : Answer) (old mid new : VaultView) → k < n → made ≡ call k → is_failure answer ≡ true → old.faults ≤ mid.faults → Rose mid.faults new.faults
+    → MakesThese (each_of call k) old mid → GoesOn mid new (record { call = made; answer = answer } ∷ []) → FailsAmong (each_of call n) old new
+each_fails call made k n answer old mid new below is ill later rose so_far goes_on =
     subst (λ calls. FailsAmong calls old new)
     (ap (λ c. each_of call k ++ c ∷ map call (range_with_len (k + 1) (n - suc k))) is ∙ each_split call k n below)
-    (among_one (each_of call k) (map call (range_with_len (k + 1) (n - suc k))) made failed old mid new ill later rose so_far goes_on)
+    (among_one (each_of call k) (map call (range_with_len (k + 1) (n - suc k))) made answer old mid new ill later rose so_far goes_on)
 
 -- the calls for one number more went well
 pub all_more : (calls : ℕ → List VaultCall) (k : ℕ) (old mid new : VaultView) → MakesThese (all_of calls k) old mid → MakesThese (calls k) mid new → MakesThese (all_of calls (k + 1)) old new

@@ -6,6 +6,7 @@ use Rattle.disk_model.specs.Bytes.{AreBytes, resized, Torn, Stretched}
 use Rattle.disk_model.specs.Files.{Files, parity_of, content_of, with_parity, with_content, TearsParity, StretchesParity, MayPublish}
 use Rattle.disk_model.specs.Moments.{Images, MayLeave, ComesBy, LeavesBy, Remembers}
 use Rattle.disk_model.specs.Unsynced.{Unsynced, IsFileImage, synced, IsUnsynced}
+use Rattle.disk_model.specs.Answer.{is_failure}
 use Rattle.disk_model.specs.Vault.{VaultDone, ParityWrite, ParitySetLen, ParitySync, Publish, is_sealed}
 use Rattle.disk_model.specs.Machine.{Machine, Loose, no_file, settled, level_of, copy_of, draft_in, staged_in, files_of, with_level, published, after, replay, IsImage, IsCopyImage, IsOneOf, IsSteady, images_of}
 use Rattle.disk_model.proofs.BytesLemmas.{torn_by_put, stretched_by_resized, length-resized}
@@ -157,9 +158,9 @@ publish_leaves m copy failed within fits files image =
     )
 
 -- the last call of a list
-pub replay_push : (m : Machine) (calls : List VaultDone) (done : VaultDone) → replay m (calls ++ done ∷ []) ≡ after (replay m calls) done.call done.failed
+pub replay_push : (m : Machine) (calls : List VaultDone) (done : VaultDone) → replay m (calls ++ done ∷ []) ≡ after (replay m calls) done.call (is_failure done.answer)
 replay_push m [] done = refl
-replay_push m (first ∷ calls) done = replay_push (after m first.call first.failed) calls done
+replay_push m (first ∷ calls) done = replay_push (after m first.call (is_failure first.answer)) calls done
 
 -- what reads give is an image
 pub files_are_image : (m : Machine) → IsSteady m → IsImage m (files_of m)
@@ -173,7 +174,7 @@ files_are_image m steady = record {
 -- images go on by the machine's steps
 pub steps_leave : (step : Files → Files → Type 0) (told now_told : Bool) (opened : Machine) (calls : List VaultDone) (done : VaultDone)
     → (IsTrue now_told → IsTrue told)
-    → ((files : Files) → IsImage (after (replay opened calls) done.call done.failed) files → (before : Files) × IsImage (replay opened calls) before × step before files)
+    → ((files : Files) → IsImage (after (replay opened calls) done.call (is_failure done.answer)) files → (before : Files) × IsImage (replay opened calls) before × step before files)
     → LeavesBy step (images_of told opened calls) (images_of now_told opened (calls ++ done ∷ []))
 steps_leave step told now_told opened calls done still follows =
     call_leaves step told now_told opened calls done still (λ files image. follows files (subst (λ m. IsImage m files) (replay_push opened calls done) image))

@@ -7,6 +7,7 @@ use Rattle.disk_model.specs.Bytes.{AreBytes, put, resized}
 use Rattle.disk_model.specs.Files.{Files, parity_of, content_of}
 use Rattle.disk_model.specs.Machine.{Machine, Loose, no_file, settled, level_of, copy_of, draft_in, staged_in, with_level, with_copy, with_draft, published, after, replay, opened_with, IsSteady, GivesBytes, AllGiveBytes}
 use Rattle.disk_model.specs.Unsynced.{Unsynced, IsUnsynced, synced}
+use Rattle.disk_model.specs.Answer.{is_failure}
 use Rattle.disk_model.specs.Vault.{VaultCall, VaultDone, ParityLen, ParityRead, ParityWrite, ParitySetLen, ParitySync, ContentSize, ContentRead, DraftBegin, DraftAppend, DraftSeal, Publish, HasFiles, is_sealed}
 use Rattle.disk_model.specs.declared.draft.Draft.{Draft}
 use Rattle.disk_model.specs.declared.draft.Draft.TheVariants.{Absent}
@@ -99,7 +100,7 @@ steady_after m (Publish copy) failed steady gives =
 pub steady_replay : (m : Machine) (calls : List VaultDone) → IsSteady m → AllGiveBytes calls → IsSteady (replay m calls)
 steady_replay m [] steady gives = steady
 steady_replay m (done ∷ calls) steady gives =
-    steady_replay (after m done.call done.failed) calls (steady_after m done.call done.failed steady (All-head (λ (d : VaultDone). GivesBytes d.call) done calls gives))
+    steady_replay (after m done.call (is_failure done.answer)) calls (steady_after m done.call (is_failure done.answer) steady (All-head (λ (d : VaultDone). GivesBytes d.call) done calls gives))
     (All-tail (λ (d : VaultDone). GivesBytes d.call) done calls gives)
 
 -- how many levels and drafts it has
@@ -138,11 +139,11 @@ copies_after m (Publish copy) failed = length-set m.copies copy _
 
 pub levels_stay : (m : Machine) (calls : List VaultDone) → length (replay m calls).levels ≡ length m.levels
 levels_stay m [] = refl
-levels_stay m (done ∷ calls) = levels_stay (after m done.call done.failed) calls ∙ levels_after m done.call done.failed
+levels_stay m (done ∷ calls) = levels_stay (after m done.call (is_failure done.answer)) calls ∙ levels_after m done.call (is_failure done.answer)
 
 pub copies_stay : (m : Machine) (calls : List VaultDone) → length (replay m calls).copies ≡ length m.copies
 copies_stay m [] = refl
-copies_stay m (done ∷ calls) = copies_stay (after m done.call done.failed) calls ∙ copies_after m done.call done.failed
+copies_stay m (done ∷ calls) = copies_stay (after m done.call (is_failure done.answer)) calls ∙ copies_after m done.call (is_failure done.answer)
 
 -- one that was just opened
 

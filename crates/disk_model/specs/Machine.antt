@@ -1,5 +1,6 @@
 -- What a stop may leave of a vault at each moment, from what it held when it was opened and its list of calls alone.
 use Rattle.std.specs.Prelude.{◌≡◌, ◌⊎◌, ℕ, ◌<◌, ◌≤◌, List, [], ◌∷◌, ◌++◌, length, map, take, replicate, get_or, set, Option, None, Some, IfSome, Bool, true, false, IsTrue, if◌then◌else◌, All}
+use Rattle.disk_model.specs.Answer.{is_failure}
 use Rattle.disk_model.specs.Bytes.{put, resized, AreBytes}
 use Rattle.disk_model.specs.Files.{Files, parity_of, content_of, TearsParity, StretchesParity, MayPublish, Stays}
 use Rattle.disk_model.specs.Unsynced.{Unsynced, IsFileImage, synced, written, stretched, IsUnsynced}
@@ -88,7 +89,7 @@ after m (Publish copy) failed = with_draft (with_copy m copy (published (is_seal
 
 abbrev pub replay : Machine → List VaultDone → Machine
 replay m [] = m
-replay m (done ∷ calls) = replay (after m done.call done.failed) calls
+replay m (done ∷ calls) = replay (after m done.call (is_failure done.answer)) calls
 
 -- the files are an image of the vault: one choice for all levels and copies
 pub record IsImage (m : Machine) (files : Files) : Type 0 where

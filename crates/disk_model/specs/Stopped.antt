@@ -83,7 +83,7 @@ pub record StandsKept (path : List ℕ) (calls : List FolderDone) (before : File
 
 -- one call that reads or writes was answered
 abbrev pub IsAnswered : FolderDone → FolderView → FolderView → Type 0
-IsAnswered done old new = IsFolderReading done.call done.failed old new ⊎ IsFolderWrite done.call done.failed old new
+IsAnswered done old new = IsFolderReading done.call done.answer old new ⊎ IsFolderWrite done.call done.answer old new
 
 -- just these calls were answered, one after another
 abbrev pub AreAnswered : List FolderDone → FolderView → FolderView → Type 0

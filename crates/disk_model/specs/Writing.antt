@@ -1,9 +1,11 @@
 -- What the writing calls of a folder make of its files.
 use Rattle.std.specs.Prelude.{◌≡◌, ◌⊎◌, ℕ, ◌<◌, ◌≤◌, List, [], length, slice_index, Option, None, Some, Bool, not, false, IsTrue, if◌then◌else◌}
 use Rattle.std.specs.FinMap as map
+use Rattle.disk_model.specs.Answer.{is_failure}
 use Rattle.disk_model.specs.Bytes.{put, resized, Torn}
 use Rattle.disk_model.specs.Folder.{FolderView, FolderCall, ListFiles, Look, ReadAt, Make, WriteAt, SetSize, SetStamp, Rename, IsFolderCall, TreeBy}
 use Rattle.disk_model.specs.Tree.{Tree, File, file_of, path_of}
+use Rattle.disk_model.specs.declared.answer.Answer.{Answer}
 use Rattle.disk_model.specs.declared.meta.Stamp.{Stamp}
 
 -- the file at the path, where there is one, became another by this step, and all else stays
@@ -74,7 +76,7 @@ MayDo keeps (SetStamp path stamp) old new = OrNot (Does keeps (SetStamp path sta
 MayDo keeps (Rename path lost) old new = OrNot (Does keeps (Rename path lost)) old new
 
 -- a call that writes
-pub record IsFolderWrite (call : FolderCall) (failed : Bool) (old new : FolderView) : Type 0 where
-  pub called : IsFolderCall call failed old new
-  pub does : failed ≡ false → TreeBy (Does old.keeps_stamps call) old new
-  pub may : IsTrue failed → TreeBy (MayDo old.keeps_stamps call) old new
+pub record IsFolderWrite (call : FolderCall) (answer : Answer) (old new : FolderView) : Type 0 where
+  pub called : IsFolderCall call answer old new
+  pub does : is_failure answer ≡ false → TreeBy (Does old.keeps_stamps call) old new
+  pub may : IsTrue (is_failure answer) → TreeBy (MayDo old.keeps_stamps call) old new

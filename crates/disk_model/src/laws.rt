@@ -8,7 +8,7 @@ ghost use Rattle.disk_model.specs.Path.{IsRecordPath};
 ghost use Rattle.disk_model.specs.Stopped.{MayBeLeft, LeavesAlone, IsOwnOrApart, KeepsPlace, EachCall, StandsKept, AreAnswered};
 ghost use Rattle.disk_model.specs.Tree.{Tree, File, file_of, path_of, IsTree};
 ghost use Rattle.disk_model.specs.Writing.{Does};
-ghost use Rattle.disk_model.specs.Vault.{VaultDone, ParitySync, Publish, HasFiles, IsWellFormed, ChangesBy, Holds, IsSettled};
+ghost use Rattle.disk_model.specs.Vault.{VaultDone, plain_done, ParitySync, Publish, HasFiles, IsWellFormed, ChangesBy, Holds, IsSettled};
 
 use crate::{Draft, Stamp};
 
@@ -27,11 +27,11 @@ pub fn a_vault_by_its_calls_meets_the_trait()
     ensures synced { (opened : Machine) (calls : List VaultDone) (level : ℕ) (told : Bool) (faults : ℕ) →
         IsSteady opened → AllGiveBytes calls → level < length (replay opened calls).levels →
         Holds (λ files. parity_of files level ≡ parity_of (files_of (replay opened calls)) level)
-        (by_calls opened (calls ++ record { call = ParitySync level; failed = false } ∷ []) told faults) }
+        (by_calls opened (calls ++ plain_done (ParitySync level) false ∷ []) told faults) }
     ensures published { (opened : Machine) (calls : List VaultDone) (copy : ℕ) (told : Bool) (faults : ℕ) →
         copy < length (replay opened calls).copies → draft_in (replay opened calls) copy ≡ Draft.Sealed →
         Holds (λ files. content_of files copy ≡ Some (staged_in (replay opened calls) copy))
-        (by_calls opened (calls ++ record { call = Publish copy; failed = false } ∷ []) told faults) }
+        (by_calls opened (calls ++ plain_done (Publish copy) false ∷ []) told faults) }
 {}
 
 /// A vault that was just opened is in order, reads as what it was opened with, and a stop leaves just that.

@@ -1,12 +1,13 @@
 // All parity files and content copies as one object, so that one moment means the same for all of them.
 ghost use Rattle.std.specs.Prelude.{◌≡◌, ◌≢◌, ◌+◌, ◌^◌, ◌<◌, ◌≤◌, ◌++◌, [], length, take, IfOk, OnOk, OnErr, IsTrue, unwrap_or};
 ghost use Rattle.std.specs.Option.{option_map};
+ghost use Rattle.disk_model.specs.Answer.{size_answer};
 ghost use Rattle.disk_model.specs.Bytes.{put, resized, read_from};
 ghost use Rattle.disk_model.specs.Files.{parity_of, content_of, TearsParity, StretchesParity, MayPublish, Stays};
 ghost use Rattle.disk_model.specs.Vault.{VaultView, ParityLen, ParityRead, ParityWrite, ParitySetLen, ParitySync, ContentSize, ContentRead, DraftBegin, DraftAppend, DraftSeal, Publish};
 ghost use Rattle.disk_model.specs.Vault.{copies_of, draft_of, staged_of, is_sealed, IsCall, IsReading, ChangesBy, Reads, Holds, DraftIs, DraftsStay, IsWellFormed};
 
-use crate::{Draft, Failed};
+use crate::{Answer, Draft, Failed};
 
 /// Parity files, numbered by level, and content copies. A call answers `Failed` only where `faults` rose in it.
 /// Where a vault tells what a stop may leave, `changes` says it of each moment within the call and of its end.
@@ -28,13 +29,13 @@ pub trait Vault: Send {
     /// The number of a parity file's bytes, 0 where there is no file.
     fn parity_len(&mut self, level: u32) -> Result<u64, Failed>
         requires { level < (view self.old).levels }
-        ensures call { IsReading (ParityLen level) result (view self.old) (view self.new) }
+        ensures call { IsReading (ParityLen level) Answer.Bytes result (view self.old) (view self.new) }
         ensures found { IsTrue (view self.old).tells → IfOk result (λ n. n ≡ length (parity_of (view self.old).files level)) };
 
     /// Fills a front of `out`: as many bytes as the parity file has from there.
     fn parity_read(&mut self, level: u32, at: u64, out: &mut [u8]) -> Result<usize, Failed>
         requires { level < (view self.old).levels }
-        ensures call { IsReading (ParityRead level at (length out.old)) result (view self.old) (view self.new) }
+        ensures call { IsReading (ParityRead level at (length out.old)) Answer.Bytes result (view self.old) (view self.new) }
         ensures bound { IfOk result (λ n. n ≤ length out.new) }
         ensures found { IsTrue (view self.old).tells → IfOk result (λ n. take n out.new ≡ read_from (parity_of (view self.old).files level) at (length out.old)) };
 
@@ -66,13 +67,13 @@ pub trait Vault: Send {
     /// The number of a copy's bytes, `None` exactly where there is no file.
     fn content_size(&mut self, copy: u32) -> Result<Option<u64>, Failed>
         requires { copy < copies_of (view self.old) }
-        ensures call { IsReading (ContentSize copy) result (view self.old) (view self.new) }
+        ensures call { IsReading (ContentSize copy) size_answer result (view self.old) (view self.new) }
         ensures found { IsTrue (view self.old).tells → IfOk result (λ n. n ≡ option_map length (content_of (view self.old).files copy)) };
 
     /// Fills a front of `out`: as many bytes as the copy has from there, none where there is no file.
     fn content_read(&mut self, copy: u32, at: u64, out: &mut [u8]) -> Result<usize, Failed>
         requires { copy < copies_of (view self.old) }
-        ensures call { IsReading (ContentRead copy at (length out.old)) result (view self.old) (view self.new) }
+        ensures call { IsReading (ContentRead copy at (length out.old)) Answer.Bytes result (view self.old) (view self.new) }
         ensures bound { IfOk result (λ n. n ≤ length out.new) }
         ensures found { IsTrue (view self.old).tells → IfOk result (λ n. take n out.new ≡ read_from (unwrap_or (content_of (view self.old).files copy) []) at (length out.old)) };
 

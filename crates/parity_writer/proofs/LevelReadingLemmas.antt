@@ -10,6 +10,7 @@ use Rattle.disk_model.specs.Bytes.{read_from}
 use Rattle.disk_model.specs.Cause.{RoseBy}
 use Rattle.disk_model.specs.Files.{Files, parity_of, Stays}
 use Rattle.disk_model.specs.Vault.{VaultView, VaultDone, ParityRead, GoesOn, IsReading}
+use Rattle.disk_model.specs.declared.answer.Answer.TheVariants.{Bytes}
 use Rattle.disk_model.proofs.VaultLemmas.{changes_start, stays_then}
 use Rattle.parity_writer.specs.LevelReading.{LevelReading, has_failed, kept_level, level_done, calls_of, IsReadingOf, ReadsLevel, ReadsLevels}
 use Rattle.parity_writer.specs.LevelsValue.{LevelValue, HaveSize, no_level}
@@ -18,11 +19,13 @@ use Rattle.parity_writer.proofs.Keeping.{drafts_start, drafts_then}
 
 -- so many bytes came
 pub level_came : (size stripe level at n got : ℕ) (out : List ℕ) (value : LevelValue) (old new : VaultView) → at ≡ stripe * size → n ≡ size → length out ≡ size → got ≤ length out
-    → value ≡ kept_level (length out) (Some (take got out)) → IsReading (ParityRead level at n) (Ok got) old new
+    → value ≡ kept_level (length out) (Some (take got out)) → IsReading (ParityRead level at n) Bytes (Ok got) old new
     → (IsTrue old.tells → take got out ≡ read_from (parity_of old.files level) at n) → ReadsLevel size stripe level value old new
 level_came size stripe level at n got out value old new at_is n_is long few kept reading found =
-    let done_is : (let d : VaultDone = record { call = ParityRead level at n; failed = false } in d) ≡ level_done size stripe level (Some (take got out))
-    = ap₂ (λ (a : ℕ) (m : ℕ). let d : VaultDone = record { call = ParityRead level a m; failed = false } in d) at_is n_is in
+    let came : got ≡ length (take got out) = omega (arith, few, length-take got out) in
+    let done_is : (let d : VaultDone = record { call = ParityRead level at n; answer = Bytes got } in d) ≡ level_done size stripe level (Some (take got out))
+    = ap₂ (λ (a : ℕ) (m : ℕ). let d : VaultDone = record { call = ParityRead level a m; answer = Bytes got } in d) at_is n_is
+    ∙ ap (λ (b : ℕ). let d : VaultDone = record { call = ParityRead level (stripe * size) size; answer = Bytes b } in d) came in
     record {
       reading = Some (take got out);
       is_kept = kept ∙ ap (λ (k : ℕ). kept_level k (Some (take got out))) long;

@@ -42,7 +42,7 @@ bytes_kept shape (Some cell) Beyond at = refl
 bytes_kept shape (Some cell) (Unread seen) at = refl
 bytes_kept shape (Some cell) (Gone seen) at = refl
 bytes_kept shape (Some cell) (Part seen got) at = refl
-bytes_kept shape (Some cell) (Whole seen bytes) at = whole_bytes bytes shape.block_size (omega (arith, at))
+bytes_kept shape (Some cell) (Whole seen bytes) at = whole_bytes bytes shape.block_size (omega (arith, at.size))
 
 digest_kept : (shape : Shape) (reading : CellReading) → (kept shape reading).digest ≡ digest_read shape reading
 digest_kept shape NoBlock = refl
@@ -65,8 +65,8 @@ block_closes shape (Some cell) (Unread seen) at is_there = absurd is_there
 block_closes shape (Some cell) (Gone seen) at is_there = absurd is_there
 block_closes shape (Some cell) (Part seen got) at is_there = absurd is_there
 block_closes shape (Some cell) (Whole seen bytes) at is_there = record {
-  hash = ap (λ (xs : List ℕ). digest_read shape (Whole seen xs)) (sym (resized_same bytes (real_length shape cell) at));
-  zeros = λ i past. get_or_past bytes i 0 (omega (arith, past, at));
+  hash = ap (λ (xs : List ℕ). digest_read shape (Whole seen xs)) (sym (resized_same bytes (real_length shape cell) at.size));
+  zeros = λ i past. get_or_past bytes i 0 (omega (arith, past, at.size));
 }
 
 module _ (is_of : IsOfItsCell) (table : TableValue) (starts : StartsValue) (stripe : ℕ) (window : WindowValue) (i : ℕ) (readings : List CellReading) (folders : List FolderView)

@@ -7,8 +7,8 @@ use Rattle.cauchy.specs.Matrix.{parity_of as level_of}
 use Rattle.disk_model.specs.Bytes.{put}
 use Rattle.disk_model.specs.Cause.{Rose}
 use Rattle.disk_model.specs.Files.{Files, parity_of}
-use Rattle.disk_model.specs.Ran.{RanAll, RanUpTo, vault_done, log_of}
-use Rattle.disk_model.specs.Vault.{VaultView, VaultCall, GoesOn, state_of}
+use Rattle.disk_model.specs.Ran.{RanAll, RanUpTo, log_of}
+use Rattle.disk_model.specs.Vault.{VaultView, VaultCall, GoesOn, plain_done, state_of}
 use Rattle.disk_model.proofs.BytesLemmas.{length-put, torn_by_put}
 use Rattle.parity_writer.specs.Keeps.{WritesBlock}
 use Rattle.parity_writer.specs.Parity.{Row, Rows, with_row, HasLevel, HoldsRows, IsOutsideAll, WritesBlocks}
@@ -17,16 +17,16 @@ use Rattle.parity_writer.proofs.KeepsLemmas.{keeps_nothing_less, keeps_then}
 use Rattle.parity_writer.proofs.SumLemmas.{length-level, byte_of_level}
 
 -- a call that went well, and one that failed
-pub one_went_well : (call wanted : VaultCall) (old new : VaultView) → call ≡ wanted → GoesOn old new (record { call = call; failed = false } ∷ [])
-    → RanAll vault_done (wanted ∷ []) (log_of (state_of old)) (log_of (state_of new))
+pub one_went_well : (call wanted : VaultCall) (old new : VaultView) → call ≡ wanted → GoesOn old new (plain_done call false ∷ [])
+    → RanAll (wanted ∷ []) (log_of (state_of old)) (log_of (state_of new))
 one_went_well call wanted old new is goes_on =
-    subst (λ (it : VaultCall). RanAll vault_done (it ∷ []) (log_of (state_of old)) (log_of (state_of new))) is (record { later = goes_on.later; grown = goes_on.calls })
+    subst (λ (it : VaultCall). RanAll (it ∷ []) (log_of (state_of old)) (log_of (state_of new))) is (record { later = goes_on.later; done = plain_done call false ∷ []; are = refl; grown = goes_on.calls })
 
-pub one_failed : (call wanted : VaultCall) (old new : VaultView) → call ≡ wanted → Rose old.faults new.faults → GoesOn old new (record { call = call; failed = true } ∷ [])
-    → RanUpTo vault_done (wanted ∷ []) (log_of (state_of old)) (log_of (state_of new))
+pub one_failed : (call wanted : VaultCall) (old new : VaultView) → call ≡ wanted → Rose old.faults new.faults → GoesOn old new (plain_done call true ∷ [])
+    → RanUpTo (wanted ∷ []) (log_of (state_of old)) (log_of (state_of new))
 one_failed call wanted old new is rose goes_on =
-    subst (λ (it : VaultCall). RanUpTo vault_done (it ∷ []) (log_of (state_of old)) (log_of (state_of new))) is
-    (record { rose = rose; earlier = []; call = call; later = []; whole = refl; grown = goes_on.calls })
+    subst (λ (it : VaultCall). RanUpTo (it ∷ []) (log_of (state_of old)) (log_of (state_of new))) is
+    (record { rose = rose; earlier = []; call = call; later = []; whole = refl; done = []; are = refl; grown = goes_on.calls })
 
 -- the blocks of two stripes do not meet
 pub apart : (size n a b i : ℕ) → n ≡ size → a ≢ b → i < size → (a * size + i < b * size) ⊎ (b * size + n ≤ a * size + i)

@@ -5,6 +5,8 @@ use Rattle.disk_model.specs.Bytes.{resized, read_from}
 use Rattle.disk_model.specs.Cause.{RoseBy}
 use Rattle.disk_model.specs.Files.{parity_of, Stays}
 use Rattle.disk_model.specs.Vault.{VaultView, VaultDone, ParityRead, GoesOn, ChangesBy, DraftsStay}
+use Rattle.disk_model.specs.declared.answer.Answer.{Answer}
+use Rattle.disk_model.specs.declared.answer.Answer.TheVariants as answers
 use Rattle.parity_writer.specs.declared.levels.LevelRead.{LevelRead}
 use Rattle.parity_writer.specs.declared.levels.LevelRead.TheVariants as here
 use Rattle.parity_writer.specs.LevelsValue.{LevelValue, no_level}
@@ -29,11 +31,16 @@ kept_level block_size (Some bytes) = record {
   block = resized bytes block_size;
 }
 
+-- what the vault answered: that it failed, or the count of the bytes that came
+abbrev pub level_answer : LevelReading → Answer
+level_answer None = answers.Failed
+level_answer (Some bytes) = answers.Bytes (length bytes)
+
 -- the one call for a level
 abbrev pub level_done : ℕ → ℕ → ℕ → LevelReading → VaultDone
 level_done block_size stripe level reading = record {
   call = ParityRead level (stripe * block_size) block_size;
-  failed = has_failed reading;
+  answer = level_answer reading;
 }
 
 -- the calls for levels from the first on, in order

@@ -1,5 +1,5 @@
 -- What comes before anything is read of parity or written.
-use Rattle.std.proofs.Common.{◌≡◌, ℕ, List, [], length, get_or, All, false, sym, ap, ◌∙◌, arith}
+use Rattle.std.proofs.Common.{◌≡◌, ℕ, List, [], length, get_or, All, false, refl, sym, ap, ◌∙◌, arith}
 use Rattle.std.proofs.lemmas.List.{get_or_past, length-map}
 use Rattle.std.proofs.lemmas.List.Elements.{All-from_get_or}
 use Rattle.std.proofs.lemmas.List.FromFn.{length-map-range_with_len, get_or-map-range_with_len}
@@ -9,6 +9,7 @@ use Rattle.array_scan.specs.declared.listing.ListingFault.{ListingFault}
 use Rattle.array_scan.specs.declared.listing.ListingFault.TheVariants as listing
 use Rattle.disk_model.specs.Folder.{FolderView, quiet_folder}
 use Rattle.disk_model.specs.Tree.{IsListing}
+use Rattle.disk_model.specs.declared.answer.Answer.TheVariants.{Done}
 use Rattle.file_table.specs.Table.{TableValue}
 use Rattle.snap_config.specs.declared.options.Selection.{Selection}
 use Rattle.snap_fix.specs.Beginning.{BeginsNot, of_listing}
@@ -29,7 +30,7 @@ all_listed olds news lists as_many all = (
   length olds,
   record {
     as_many = as_many;
-    calls = λ d lt. (all.each d lt).call;
+    calls = λ d lt. record { answer = Done; call = (all.each d lt).call; unfailed = refl };
     others = λ d behind. get_or_past news d (quiet_folder 0 false) (omega (arith, behind, as_many)) ∙ sym (get_or_past olds d (quiet_folder 0 false) behind);
   },
 )

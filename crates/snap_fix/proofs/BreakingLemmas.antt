@@ -3,8 +3,7 @@ use Rattle.std.proofs.Common.{◌≡◌, ℕ, zero, suc, ◌+◌, ◌-◌, ◌�
 use Rattle.std.specs.List.{range_with_len, flat_map}
 use Rattle.std.proofs.lemmas.List.{append-nil}
 use Rattle.array_scan.proofs.PlacingLemmas.{flat_range_more}
-use Rattle.disk_model.specs.Ran.{vault_done}
-use Rattle.disk_model.specs.Vault.{VaultView, VaultDone, GoesOn}
+use Rattle.disk_model.specs.Vault.{plain_done, VaultView, VaultDone, GoesOn}
 use Rattle.snap_report.specs.declared.answer.RunFault.{RunFault}
 use Rattle.snap_report.specs.declared.answer.RunFault.TheVariants.{Folder, Vault, Memory}
 use Rattle.snap_fix.specs.Breaking.{FailsAfter, FailsIn}
@@ -21,7 +20,7 @@ in_more whole more done fails = record {
   call = fails.call;
   writes = fails.writes;
   rest = fails.rest ++ more;
-  whole_is = ap (λ (calls : List VaultDone). calls ++ more) fails.whole_is ∙ append_assoc fails.front (vault_done fails.call false ∷ fails.rest) more;
+  whole_is = ap (λ (calls : List VaultDone). calls ++ more) fails.whole_is ∙ append_assoc fails.front (plain_done fails.call false ∷ fails.rest) more;
   done_is = fails.done_is;
 }
 
@@ -32,8 +31,8 @@ in_behind front whole done fails = record {
   call = fails.call;
   writes = fails.writes;
   rest = fails.rest;
-  whole_is = ap (λ (calls : List VaultDone). front ++ calls) fails.whole_is ∙ sym (append_assoc front fails.front (vault_done fails.call false ∷ fails.rest));
-  done_is = ap (λ (calls : List VaultDone). front ++ calls) fails.done_is ∙ sym (append_assoc front fails.front (vault_done fails.call true ∷ []));
+  whole_is = ap (λ (calls : List VaultDone). front ++ calls) fails.whole_is ∙ sym (append_assoc front fails.front (plain_done fails.call false ∷ fails.rest));
+  done_is = ap (λ (calls : List VaultDone). front ++ calls) fails.done_is ∙ sym (append_assoc front fails.front (plain_done fails.call true ∷ []));
 }
 
 pub fails_more : (whole more : List VaultDone) (old new : VaultView) → FailsAfter [] whole old new → FailsAfter [] (whole ++ more) old new
@@ -60,7 +59,7 @@ pub level_after : (plan : FixPlan) (facts : StripeFacts) (level : ℕ) (front be
     (old mid new : VaultView) → GoesOn old mid front → FailsAtLevel plan facts level before mid new
     → FailsAtLevel plan facts level (front ++ before) old new
 level_after plan facts level front before old mid new ran part =
-    let done = done_well (writes_below plan facts level) ++ vault_done (level_write plan facts part.row level) true ∷ [] in
+    let done = done_well (writes_below plan facts level) ++ plain_done (level_write plan facts part.row level) true ∷ [] in
     record {
       within = part.within;
       wrong = part.wrong;

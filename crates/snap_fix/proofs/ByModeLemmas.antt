@@ -40,7 +40,7 @@ first_stay : (count : ℕ) (olds news : List FolderView) → ListsFirst count ol
 first_stay count olds news first d below = by (cases_lt d count)
   where
     by : (d < count) ⊎ (count ≤ d) → TreeStays (folder_at olds d) (folder_at news d)
-    by (inl under) = (first.calls d under).tree
+    by (inl under) = (first.calls d under).call.tree
     by (inr over) = same_stays _ _ (first.others d over)
 
 failed_stay : (disk : ℕ) (olds news : List FolderView) → FailsAt disk olds news → AllStay olds news

@@ -18,11 +18,12 @@ use Rattle.snap_fix.specs.declared.finishing.Finish.{Finish}
 use Rattle.snap_fix.specs.declared.state.FileState.{FileState}
 use Rattle.snap_fix.specs.Breaking.{FolderFails}
 use Rattle.snap_fix.specs.Counts.{AreCounts}
-use Rattle.snap_fix.specs.Ending.{AreDone, CanFinishAll, CanFinishColumn, FinishesAll, FinishesFiles, FinishesNotAll, FinishesFile, IsDone, all_finish_news, column_news, column_news_at, finish_at, finishes_at, is_finished, states_at}
+use Rattle.snap_fix.specs.Ending.{AreColumnFinishCalls, AreDone, FailsAtRecord, CanFinishAll, CanFinishColumn, FinishesAll, FinishesFiles, FinishesNotAll, FinishesFile, IsDone, all_finish_news, column_news, column_news_at, finish_at, finishes_at, is_finished, states_at}
 use Rattle.snap_fix.specs.EndingSteps.{CanEndColumn, EndsColumn, EndsNotColumn, column_outside}
 use Rattle.snap_fix.specs.Mending.{StatesFit}
 use Rattle.snap_fix.specs.Plan.{FixPlan, records_in}
 use Rattle.snap_fix.specs.Repairing.{outside}
+use Rattle.snap_fix.specs.State.{FolderMakesBy}
 use Rattle.snap_fix.proofs.EndingTellLemmas.{columns_before, events_same, events_split, finishes_before, finishes_last}
 use Rattle.snap_fix.proofs.EndingWantedLemmas.{column_wanted, columns_wanted, first_columns, wanted_columns}
 use Rattle.snap_fix.proofs.TellingLemmas.{Joins, Tells, events_to, tells_as, tells_more, tells_nothing, told_as}
@@ -113,6 +114,15 @@ module _ (plan : FixPlan) (first : StartsValue) (firsts : List (List FileState))
         (subst (λ (s : List Start). FolderFails (FinishesFile plan d s (states_at firsts d)) (view_of (get_or folders d before)) (view_of after)) same_starts
         (subst (λ (s : List FileState). FolderFails (FinishesFile plan d (starts_at starts.columns d) s) (view_of (get_or folders d before)) (view_of after)) same_states fails)))
 
+    part_here : (done : List Finish) (told : List Event)
+        → FailsAtRecord plan d (starts_at starts.columns d) (states_at states d) done told (view_of (get_or folders d before)) (view_of after)
+        → FailsAtRecord plan d (starts_at first.columns d) (states_at firsts d) done told (folder_at olds d) (folder_at (map view_of (set folders d after)) d)
+    part_here done told part =
+        subst (λ (v : FolderView). FailsAtRecord plan d (starts_at first.columns d) (states_at firsts d) done told (folder_at olds d) v) (sym now_here)
+        (subst (λ (v : FolderView). FailsAtRecord plan d (starts_at first.columns d) (states_at firsts d) done told v (view_of after)) lent
+        (subst (λ (s : List Start). FailsAtRecord plan d s (states_at firsts d) done told (view_of (get_or folders d before)) (view_of after)) same_starts
+        (subst (λ (s : List FileState). FailsAtRecord plan d (starts_at starts.columns d) s done told (view_of (get_or folders d before)) (view_of after)) same_states part)))
+
     -- what would be done to a record of it is by what it was
     done_here : (i : ℕ) (finish : Finish) → IsDone plan d (starts_at starts.columns d) (states_at states d) (view_of (get_or folders d before)) i finish
         → IsDone plan d (starts_at first.columns d) (states_at firsts d) (folder_at olds d) i finish
@@ -188,13 +198,20 @@ module _ (plan : FixPlan) (first : StartsValue) (firsts : List (List FileState))
         folders = many_now;
         fails = record {
           within = within;
-          before = λ k near. (column_before broke.done k near).makes;
+          before = λ k near.
+              subst (λ (fs : List Finish). FolderMakesBy (AreColumnFinishCalls plan k (starts_at first.columns k) (states_at firsts k) fs) (folder_at olds k)
+              (folder_at (map view_of (set folders d after)) k))
+              (sym (first_columns plan first firsts olds given (d + 1) k given_long (omega (arith, near)))) (column_before broke.done k near).makes;
           here = calls_here broke.fails;
           behind = λ k past below. now_other k (λ same. omega (arith, same, past)) ∙ so_far.later k (omega (arith, past));
         };
         finishes = all_finishes;
         are = are;
         first = front;
+        last = broke.first;
+        part = subst (λ (fs : List Finish). FailsAtRecord plan d (starts_at first.columns d) (states_at firsts d) fs broke.first (folder_at olds d)
+            (folder_at (map view_of (set folders d after)) d)) (sym finishes_here) (part_here broke.done broke.first broke.part);
+        first_is = refl;
         rest = broke.rest ++ tail;
         events = events_split of d (length plan.table.columns) within
             ∙ ap (λ (es : List Event). events_to of d ++ (es ++ tail)) (ap (column_news plan d) finishes_here ∙ broke.events)

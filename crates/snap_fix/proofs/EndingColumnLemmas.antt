@@ -19,17 +19,18 @@ use Rattle.snap_fix.specs.declared.finishing.Finish.{Finish}
 use Rattle.snap_fix.specs.declared.finishing.Finish.TheVariants.{Kept}
 use Rattle.snap_fix.specs.declared.state.FileState.{FileState}
 use Rattle.snap_fix.specs.Counts.{AreCounts}
-use Rattle.snap_fix.specs.Ending.{CanFinishFile, FinishesFile, HoldsEnd, IsDone, StandsEnd, column_news, finish_at, is_finished, news_of, record_calls, record_news, state_at, states_at}
-use Rattle.snap_fix.specs.EndingSteps.{CanEndColumn, CanEndRecord, EndsColumn, EndsNotColumn, EndsNotRecord, EndsRecord, FinishesThis, column_outside}
-use Rattle.snap_fix.specs.Finishing.{FitsTree, HoldsFinished, IsFinishCall, SameNames, StandsWhole, bytes_now, finish_calls, finish_of}
+use Rattle.snap_fix.specs.Ending.{AreFinishCalls, CanFinishFile, FinishesFile, FinishesThis, HoldsEnd, IsDone, StandsEnd, column_news, finish_at, is_finished, news_of, record_calls, record_news, state_at, states_at}
+use Rattle.snap_fix.specs.EndingSteps.{CanEndColumn, CanEndRecord, EndsColumn, EndsNotColumn, EndsNotRecord, EndsRecord, column_outside}
+use Rattle.snap_fix.specs.Finishing.{FitsTree, HoldsFinished, IsFinishCall, SameNames, StandsWhole, bytes_now, finish_calls, finish_of, was_gone}
 use Rattle.snap_fix.specs.Mending.{StatesFit}
 use Rattle.snap_fix.specs.Order.{FolderWrites}
 use Rattle.snap_fix.specs.Plan.{FixPlan, entry_at, records_in}
-use Rattle.snap_fix.specs.State.{WellCall, FolderMakes, OthersStay, no_state, record_path, state_in}
+use Rattle.snap_fix.specs.State.{AreStepCalls, FolderMakesBy, OthersStay, WellCall, no_state, record_path, state_in}
 use Rattle.snap_fix.proofs.EndingFilesLemmas.{fits_stays, free_stays, holds_on, holds_since, names_stay, whole_on, whole_since}
 use Rattle.snap_fix.proofs.EndingTellLemmas.{events_after, events_split, finish_before, finish_last, records_before}
-use Rattle.snap_fix.proofs.EndingWantedLemmas.{all_wanted, first_news, wanted_from}
-use Rattle.snap_fix.proofs.FolderCallLemmas.{makes_none, makes_then, makes_well_wider}
+use Rattle.snap_fix.proofs.EndingWantedLemmas.{all_wanted, first_done, first_news, wanted_from}
+use Rattle.snap_fix.proofs.FinishPartsLemmas.{finish_calls_as, finish_calls_more, first_calls_each, no_finish_calls}
+use Rattle.snap_fix.proofs.FolderCallLemmas.{makes_by_none, makes_by_then, makes_by_wider, makes_each, step_calls_wider}
 use Rattle.snap_fix.proofs.FolderFailsLemmas.{fails_then, fails_wider}
 use Rattle.snap_fix.proofs.OrderLemmas.{writes_none, writes_then}
 use Rattle.snap_fix.proofs.RecordPathsLemmas.{ArePaths, names_distinct}
@@ -59,7 +60,7 @@ module _ (plan : FixPlan) (d : ℕ) (first : StartsValue) (firsts : List (List F
     pub other_states : (k : ℕ) → k < length plan.table.columns → k ≢ d → states_at states k ≡ states_at firsts k
     pub later_starts : (i : ℕ) → n ≤ i → start_in (starts_at starts.columns d) i ≡ start_in starts_of i
     pub later_states : (i : ℕ) → n ≤ i → state_in states d i ≡ state_at states_of i
-    pub makes : FolderMakes (WellCall (FinishesFile plan d starts_of states_of)) folder now
+    pub makes : FolderMakesBy (AreFinishCalls plan d starts_of states_of done n) folder now
     pub is : (i : ℕ) → i < n → is_finished plan d i ≡ true → IsDone plan d starts_of states_of folder i (finish_at done i)
     pub holds : IsTrue folder.tells → (i : ℕ) → i < n → is_finished plan d i ≡ true
         → HoldsEnd plan d starts_of states_of folder.keeps_stamps i (finish_at done i) folder.tree now.tree
@@ -87,7 +88,7 @@ module _ (plan : FixPlan) (d : ℕ) (first : StartsValue) (firsts : List (List F
     other_states = λ k below other. refl;
     later_starts = λ i from. refl;
     later_states = λ i from. refl;
-    makes = makes_none (WellCall (FinishesFile plan d starts_of states_of)) folder;
+    makes = makes_by_none (AreFinishCalls plan d starts_of states_of [] 0) folder (no_finish_calls plan d starts_of states_of []);
     is = λ i below finished. absurd (omega (arith, below));
     holds = λ told i below finished. absurd (omega (arith, below));
     whole = λ told i below finished lost. absurd (omega (arith, below));
@@ -142,17 +143,15 @@ module _ (plan : FixPlan) (d : ℕ) (first : StartsValue) (firsts : List (List F
     abbrev Some : FolderCall → Type 0
     Some = FinishesFile plan d starts_of states_of
 
-    call_next : (call : FolderCall) → This call → Some call
-    call_next call is = record {
-      i = n;
-      within = within;
-      finished = is.0;
-      is = subst (λ (s : Start). IsFinishCall (state_at states_of n).lost (entry_at plan d n).listed s (state_at states_of n) (path_at n) (record_at plan.table.columns d n).meta call) same_start
-          (subst (λ (s : FileState). IsFinishCall s.lost (entry_at plan d n).listed (start_in (starts_at starts.columns d) n) s (path_at n) (record_at plan.table.columns d n).meta call) same_state is.1);
-    }
+    this_next : (call : FolderCall) → This call → FinishesThis plan d n starts_of states_of call
+    this_next call is = (
+      is.0,
+      subst (λ (s : Start). IsFinishCall (state_at states_of n).lost (entry_at plan d n).listed s (state_at states_of n) (path_at n) (record_at plan.table.columns d n).meta call) same_start
+          (subst (λ (s : FileState). IsFinishCall s.lost (entry_at plan d n).listed (start_in (starts_at starts.columns d) n) s (path_at n) (record_at plan.table.columns d n).meta call) same_state is.1),
+    )
 
-    calls_next : {new : FolderView} → FolderMakes (WellCall This) mid new → FolderMakes (WellCall Some) mid new
-    calls_next makes = makes_well_wider This Some call_next makes
+    call_next : (call : FolderCall) → This call → Some call
+    call_next call is = let next = this_next call is in record { i = n; within = within; finished = next.0; is = next.1 }
 
     -- what was done to it is by its first start and state, in the folder as it was
     abbrev finish_next : List Start → List FileState → Bool → Finish
@@ -269,7 +268,11 @@ module _ (plan : FixPlan) (d : ℕ) (first : StartsValue) (firsts : List (List F
             (λ j near. one.other_states k j (inl other)) ∙ so_far.other_states k below other;
         later_starts = λ i from. one.other_starts d i (inr (λ same. omega (arith, same, from))) ∙ so_far.later_starts i (omega (arith, from));
         later_states = λ i from. one.other_states d i (inr (λ same. omega (arith, same, from))) ∙ so_far.later_states i (omega (arith, from));
-        makes = makes_then (WellCall (FinishesFile plan d starts_of states_of)) so_far.makes (calls_next one.makes);
+        makes = makes_by_then (AreFinishCalls plan d starts_of states_of so_far.done n) (AreStepCalls This (was_gone one.finish)) (AreFinishCalls plan d starts_of states_of all_done (n + 1))
+            (λ calls next are step. finish_calls_more plan d starts_of states_of so_far.done all_done n calls next finish_is are
+            (subst (λ (f : Finish). AreStepCalls (FinishesThis plan d n starts_of states_of) (was_gone f) next) (sym finish_here)
+            (step_calls_wider This (FinishesThis plan d n starts_of states_of) (was_gone one.finish) this_next next step)))
+            so_far.makes one.makes;
         is = is_all;
         holds = holds_all;
         whole = whole_all;
@@ -316,10 +319,21 @@ module _ (plan : FixPlan) (d : ℕ) (first : StartsValue) (firsts : List (List F
         let before_too = tells_as view standing stands plan.table.columns news (events_to (record_news plan d so_far.done) n) so_counts lines_old lines reports_old reports
         (first_news plan d starts_of states_of folder so_far.done n so_far.long) before in
         record {
-          fails = fails_then P folder mid new so_far.makes (fails_wider This P call_next broke.fails);
+          fails = fails_then P folder mid new
+              (makes_each (AreFinishCalls plan d starts_of states_of so_far.done n) (WellCall P) (first_calls_each plan d starts_of states_of so_far.done n (omega (arith, within))) so_far.makes)
+              (fails_wider This P call_next broke.fails);
           done = done;
           is = all_wanted plan d starts_of states_of folder so_far.done n so_far.long so_far.is;
           first = news;
+          part = record {
+            n = n;
+            within = within;
+            told_is = refl;
+            mid = mid;
+            first = makes_by_wider (AreFinishCalls plan d starts_of states_of so_far.done n) (AreFinishCalls plan d starts_of states_of done n)
+                (λ calls. finish_calls_as plan d starts_of states_of so_far.done done n calls (λ i below. first_done plan d starts_of states_of folder so_far.done n i so_far.long below)) so_far.makes;
+            fails = fails_wider This (FinishesThis plan d n starts_of states_of) this_next broke.fails;
+          };
           rest = events_after (record_news plan d done) n (length (records_in plan.table d));
           events = events_split (record_news plan d done) n (length (records_in plan.table d)) within;
           told = told_as view standing stands plan.table.columns news (news ++ []) lines_old lines_new reports_old reports_new (sym (append-nil news))
@@ -342,7 +356,7 @@ module _ (plan : FixPlan) (d : ℕ) (first : StartsValue) (firsts : List (List F
         other_starts = ended.other_starts;
         other_states = ended.other_states;
         finishes = record {
-          makes = ended.makes;
+          makes = subst (λ (m : ℕ). FolderMakesBy (AreFinishCalls plan d starts_of states_of ended.done m) folder now) all ended.makes;
           is = λ i below. ended.is i (omega (arith, below, all));
           holds = λ told i below. ended.holds told i (omega (arith, below, all));
           whole = λ told i below. ended.whole told i (omega (arith, below, all));

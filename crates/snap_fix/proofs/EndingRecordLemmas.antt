@@ -16,13 +16,13 @@ use Rattle.snap_fix.specs.declared.finishing.Finish.{Finish}
 use Rattle.snap_fix.specs.declared.finishing.Finish.TheVariants.{Kept, Gone}
 use Rattle.snap_fix.specs.declared.state.FileState.{FileState}
 use Rattle.snap_fix.specs.Counts.{AreCounts}
-use Rattle.snap_fix.specs.Ending.{finish_news, is_finished, news_of, states_at}
-use Rattle.snap_fix.specs.EndingSteps.{CanEndRecord, EndsNotRecord, EndsRecord, FinishesThis, column_outside}
-use Rattle.snap_fix.specs.Finishing.{CanFinish, FinishesNot, FinishesRecord, FitsTree, IsFinishCall, finish_calls, finish_of}
+use Rattle.snap_fix.specs.Ending.{FinishesThis, finish_news, is_finished, news_of, states_at}
+use Rattle.snap_fix.specs.EndingSteps.{CanEndRecord, EndsNotRecord, EndsRecord, column_outside}
+use Rattle.snap_fix.specs.Finishing.{CanFinish, FinishesNot, FinishesRecord, FitsTree, IsFinishCall, finish_calls, finish_of, was_gone}
 use Rattle.snap_fix.specs.Order.{FolderWrites}
 use Rattle.snap_fix.specs.Plan.{FixPlan, entry_at, records_in}
-use Rattle.snap_fix.specs.State.{WellCall, record_path, state_in}
-use Rattle.snap_fix.proofs.FolderCallLemmas.{makes_none, makes_well_wider}
+use Rattle.snap_fix.specs.State.{record_path, state_in}
+use Rattle.snap_fix.proofs.FolderCallLemmas.{step_none, step_wider}
 use Rattle.snap_fix.proofs.FolderFailsLemmas.{fails_wider}
 use Rattle.snap_fix.proofs.OrderLemmas.{writes_none}
 use Rattle.snap_fix.proofs.TellingLemmas.{told_as}
@@ -71,7 +71,7 @@ module _ (plan : FixPlan) (d i : ℕ) (starts : StartsValue) (states : List (Lis
       states_fit = does.states_fit;
       other_starts = does.other_starts;
       other_states = does.other_states;
-      makes = makes_well_wider (CallBy listed) (FinishesThis plan d i (starts_at starts.columns d) (states_at states d)) (call_of listed finished same) does.makes;
+      makes = step_wider (CallBy listed) (FinishesThis plan d i (starts_at starts.columns d) (states_at states d)) (was_gone finish) (call_of listed finished same) does.makes;
       is = λ is.
           subst (λ (l : Option Meta).
           (finish ≡ finish_of (record_at plan.table.columns d i).meta l (start_in (starts_at starts.columns d) i) (state_in states d i) folder.keeps_stamps)
@@ -99,7 +99,7 @@ module _ (plan : FixPlan) (d i : ℕ) (starts : StartsValue) (states : List (Lis
       states_fit = can.states_fit;
       other_starts = λ k j other. refl;
       other_states = λ k j other. refl;
-      makes = makes_none (WellCall (FinishesThis plan d i (starts_at starts.columns d) (states_at states d))) folder;
+      makes = step_none (FinishesThis plan d i (starts_at starts.columns d) (states_at states d)) folder;
       is = λ is. absurd (clash is);
       holds = λ tells is. absurd (clash is);
       whole = λ tells is. absurd (clash is);

@@ -5,14 +5,14 @@ use Rattle.std.proofs.lemmas.Bool.{cases_lt}
 use Rattle.std.proofs.lemmas.List.{map-append}
 use Rattle.array_scan.proofs.PlacingLemmas.{flat_range_more}
 use Rattle.disk_model.specs.Files.{Files, Stays, parity_of}
-use Rattle.disk_model.specs.Ran.{vault_done, log_of}
-use Rattle.disk_model.specs.Vault.{VaultView, VaultCall, VaultDone, GoesOn, ChangesBy, DraftsStay, IsWellFormed, state_of}
-use Rattle.disk_model.proofs.RanLemmas.{ran_none, ran_all_then}
+use Rattle.disk_model.specs.Vault.{plain_done, VaultView, VaultCall, VaultDone, GoesOn, ChangesBy, DraftsStay, IsWellFormed}
 use Rattle.disk_model.proofs.VaultLemmas.{no_calls, calls_then, changes_start, stays_then}
 use Rattle.snap_fix.specs.Breaking.{FailsAfter, broke_parity}
 use Rattle.snap_fix.specs.Ending.{IsLevelSettled, Syncs, SyncsNot, sync_call, sync_if, written_syncs}
 use Rattle.snap_fix.specs.Underway.{done_well}
 use Rattle.snap_fix.proofs.BreakingLemmas.{fails_behind, fails_more, flat_split}
+use Rattle.snap_fix.proofs.LookingLemmas.{vault_goes_on}
+use Rattle.snap_fix.proofs.MendedVaultLemmas.{goes_on_none}
 
 -- what holds whichever fault it was
 pub on_err : {T E : Type 0} (result : Result T E) (P : Type 0) → P → IfErr result (λ fault. P)
@@ -28,7 +28,7 @@ syncs_none : (v : VaultView) → Syncs [] v v
 syncs_none v = record {
   some = no_calls v;
   drafts = record { state = refl; bytes = λ told. refl };
-  ran = ran_none vault_done (log_of (state_of v));
+  ran = goes_on_none v;
   changes = changes_start Stays v (λ files. refl);
 }
 
@@ -36,7 +36,7 @@ syncs_then : (one two : List VaultCall) (old mid new : VaultView) → Syncs one 
 syncs_then one two old mid new a b = record {
   some = calls_then old mid new a.some b.some;
   drafts = drafts_then old mid new a.some.goes_on.tells a.drafts b.drafts;
-  ran = ran_all_then vault_done one two (log_of (state_of old)) (log_of (state_of mid)) (log_of (state_of new)) a.ran b.ran;
+  ran = subst (GoesOn old new) (sym (map-append (λ (call : VaultCall). plain_done call false) one two)) (vault_goes_on old mid new (done_well one) (done_well two) a.ran b.ran);
   changes = stays_then Stays old mid new a.some.goes_on.tells a.changes b.changes (λ files. refl);
 }
 
@@ -95,16 +95,6 @@ any_later (done ∷ front) back one = or_right (broke_parity done) (list_any bro
     or_right true b is = cc
     or_right false b is = is
 
--- just these calls were made
-pub syncs_go_on : (calls : List VaultCall) (old new : VaultView) → Syncs calls old new → GoesOn old new (done_well calls)
-syncs_go_on calls old new syncs = record {
-  later = syncs.ran.later;
-  levels = syncs.some.goes_on.levels;
-  copies = syncs.some.goes_on.copies;
-  tells = syncs.some.goes_on.tells;
-  calls = syncs.ran.grown;
-}
-
 -- the first ones of all syncs, and then that of the next level failed
 syncs_fail : (written : List Bool) (level : ℕ) (old mid new : VaultView) → level < length written → Syncs (flat_map (sync_call written) (range_with_len 0 level)) old mid
     → FailsAfter [] (done_well (sync_call written level)) mid new → FailsAfter [] (done_well (written_syncs written)) old new
@@ -116,11 +106,11 @@ syncs_fail written level old mid new below synced fails =
     split.1 ∙ ap (λ (calls : List VaultCall). calls ++ split.0) (sym (flat_range_more (sync_call written) level)) ∙ append_assoc front next split.0 in
     subst (λ (calls : List VaultCall). FailsAfter [] (done_well calls) old new) (sym whole)
     (subst (λ (calls : List VaultDone). FailsAfter [] calls old new) (sym (well_then front (next ++ split.0)))
-    (fails_behind (done_well front) (done_well (next ++ split.0)) old mid new (syncs_go_on front old mid synced)
+    (fails_behind (done_well front) (done_well (next ++ split.0)) old mid new synced.ran
     (subst (λ (calls : List VaultDone). FailsAfter [] calls mid new) (sym (well_then next split.0)) (fails_more (done_well next) (done_well split.0) mid new fails))))
   where
     well_then : (one two : List VaultCall) → done_well (one ++ two) ≡ done_well one ++ done_well two
-    well_then one two = map-append (λ (call : VaultCall). vault_done call false) one two
+    well_then one two = map-append (λ (call : VaultCall). plain_done call false) one two
 
 pub synced_not : (written : List Bool) (level : ℕ) (is : Bool) (old mid new : VaultView) → is ≡ get_or written level false → level < length written → SyncedTo written level old mid
     → SyncsNot (sync_if is level) mid new → SyncsNot (written_syncs written) old new

@@ -13,9 +13,9 @@ use Rattle.snap_fix.specs.declared.finishing.Finish.{Finish}
 use Rattle.snap_fix.specs.declared.finishing.Finish.TheVariants.{Kept, Renamed, Gone}
 use Rattle.snap_fix.specs.declared.state.FileState.{FileState}
 use Rattle.snap_fix.specs.Breaking.{FolderFails}
-use Rattle.snap_fix.specs.Finishing.{CanFinish, FinishesNot, FinishesRecord, IsFinishCall, IsWholeCall, finish_calls, finish_of, is_changed, is_stamped, lost_finish, same_stamp, stamped_finish, whole_finish}
+use Rattle.snap_fix.specs.Finishing.{CanFinish, FinishesNot, FinishesRecord, IsFinishCall, IsWholeCall, finish_calls, finish_of, is_changed, is_stamped, lost_finish, same_stamp, stamped_finish, was_gone, whole_finish}
 use Rattle.snap_fix.specs.FinishSteps.{BreaksBy, FinishesBy, IsReady}
-use Rattle.snap_fix.specs.State.{WellCall, FolderMakes, stands, state_in}
+use Rattle.snap_fix.specs.State.{StepMakes, stands, state_in}
 use Rattle.snap_fix.proofs.FinishWholeLemmas.{stands_whole}
 
 -- ---- where a call is due, the file is not kept as it is
@@ -54,6 +54,19 @@ module _ (path : List ℕ) (listed : Option Meta) (meta : Meta) (start : Start) 
 
   not_kept : (keeps : Bool) (call : FolderCall) → IsFinishCall state.lost listed start state path meta call → finish_of meta listed start state keeps ≢ Kept
   not_kept keeps call due = some_done keeps state.lost call due
+
+-- what is to be done to a file is never that it is gone
+none_gone : (meta : Meta) (listed : Option Meta) (start : Start) (state : FileState) (keeps : Bool) → was_gone (finish_of meta listed start state keeps) ≡ false
+none_gone meta listed start state keeps = by state.lost (stands start.place state.touched) (is_stamped meta listed start state) (is_changed meta start state) keeps
+  where
+    by : (lost standing stamped changed keeps : Bool)
+        → was_gone (cond lost (cond standing Renamed Kept) (cond stamped (stamped_finish changed keeps) Kept)) ≡ false
+    by true true stamped changed keeps = refl
+    by true false stamped changed keeps = refl
+    by false standing false changed keeps = refl
+    by false standing true true keeps = refl
+    by false standing true false true = refl
+    by false standing true false false = refl
 
 -- ---- of a table
 
@@ -110,9 +123,9 @@ module _ (table : TableValue) (d i : ℕ) (listed : Option Meta) (starts : Start
     pub is_ready : IsValid table → IsReady path listed meta start state folder
     is_ready valid = here (λ p m s t. IsReady p listed m s t folder) (ready_there valid)
 
-    makes_there : (new : FolderView) → FolderMakes (WellCall (IsFinishCall state.lost listed start state path meta)) folder new
-        → FolderMakes (WellCall (IsFinishCall state_there.lost listed start_there state_there path_there meta_there)) folder new
-    makes_there new makes = there (λ p m s t. FolderMakes (WellCall (IsFinishCall t.lost listed s t p m)) folder new) makes
+    makes_there : (new : FolderView) → StepMakes (IsFinishCall state.lost listed start state path meta) true folder new
+        → StepMakes (IsFinishCall state_there.lost listed start_there state_there path_there meta_there) true folder new
+    makes_there new makes = there (λ p m s t. StepMakes (IsFinishCall t.lost listed s t p m) true folder new) makes
 
     -- it was finished
     pub is_finished : (finish : Finish) (new : FolderView)
@@ -127,7 +140,8 @@ module _ (table : TableValue) (d i : ℕ) (listed : Option Meta) (starts : Start
           states_fit = can.states_fit;
           other_starts = λ k j other. refl;
           other_states = λ k j other. refl;
-          makes = it.makes;
+          makes = subst (λ (missing : Bool). StepMakes (IsFinishCall state_there.lost listed start_there state_there path_there meta_there) missing folder new)
+              (sym (ap was_gone it.is ∙ none_gone meta_there listed start_there state_there folder.keeps_stamps)) it.makes;
           holds = it.holds;
           whole = λ told kept. stands_whole path_there listed meta_there start_there state_there folder.tree new.tree (can.fits told) folder.keeps_stamps finish kept it.is (it.holds told);
           others = it.others;

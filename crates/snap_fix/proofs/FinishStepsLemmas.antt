@@ -2,7 +2,10 @@
 use Rattle.std.proofs.Common.{◌≡◌, ◌≢◌, ◌⊎◌, inl, inr, ℕ, ◌==◌, List, [], ◌∷◌, ◌++◌, if◌then◌else◌, Bool, true, false, not, ◌||◌, cond, Option, None, Result, IfOk, IfErr, Err, IsTrue, refl, sym, ◌∙◌, ap, ap₂, subst}
 use Rattle.std.proofs.lemmas.List.{append-nil}
 use Rattle.disk_model.specs.Bytes.{resized}
-use Rattle.disk_model.specs.Folder.{FolderView, FolderCall, IsFolder, Make, Rename, SetSize, SetStamp, MissingExactly, file_failed}
+use Rattle.disk_model.specs.Answer.{done_answer, file_answer}
+use Rattle.disk_model.specs.Folder.{FolderView, FolderCall, IsFolder, Make, Rename, SetSize, SetStamp, MissingExactly}
+use Rattle.disk_model.specs.declared.answer.Answer.TheVariants as answers
+use Rattle.disk_model.specs.declared.answer.Answer.TheVariants.{Done}
 use Rattle.disk_model.specs.Tree.{Tree, file_of, path_of}
 use Rattle.disk_model.specs.Writing.{IsFolderWrite, Does}
 use Rattle.disk_model.specs.declared.fault.FileFault.{FileFault}
@@ -19,9 +22,9 @@ use Rattle.snap_fix.specs.Breaking.{FolderFails}
 use Rattle.snap_fix.specs.Finishing.{HoldsFinished, IsFinishCall, IsWholeCall, bytes_now, finish_calls, finish_of, is_changed, is_stamped, lost_after, lost_calls, lost_finish, same_stamp, size_calls, stamped_finish, whole_calls, whole_finish}
 use Rattle.snap_fix.specs.FinishSteps.{BreaksBy, FinishesBy, FitsSize, IsLostCall, IsPlaced, IsPutCall, IsReady, IsSizeCall, SetsUp, SizesBy, Stands}
 use Rattle.snap_fix.specs.Order.{FolderWrites, put_calls, set_up_calls}
-use Rattle.snap_fix.specs.State.{WellCall, FolderMakes, stands}
+use Rattle.snap_fix.specs.State.{StepMakes, stands}
 use Rattle.snap_fix.proofs.FinishCallsLemmas.{breaks_one, breaks_then, breaks_wider, when_ok}
-use Rattle.snap_fix.proofs.FolderCallLemmas.{makes_none, makes_then, makes_well_wider, makes_well_write, others_same}
+use Rattle.snap_fix.proofs.FolderCallLemmas.{others_same, step_none, step_then, step_wider, step_write}
 use Rattle.snap_fix.proofs.FolderFailsLemmas.{fails_one}
 use Rattle.snap_fix.proofs.OrderLemmas.{writes_none, writes_one, writes_then}
 use Rattle.snap_fix.proofs.FinishTreeLemmas.{holds_stamped, same_names, some_is_some, stands_lost, stands_made, stands_moved, stands_sized, stands_stamped, stands_there}
@@ -31,7 +34,7 @@ use Rattle.snap_fix.proofs.FinishTreeLemmas.{holds_stamped, same_names, some_is_
 -- it stands there
 pub sets_up_nothing : (path : List ℕ) (place : Place) (touched : Bool) (old : FolderView) → IsPlaced path place touched old → stands place touched ≡ true → SetsUp path place touched old old
 sets_up_nothing path place touched old placed standing = record {
-  makes = makes_none (WellCall (IsPutCall place touched path)) old;
+  makes = step_none (IsPutCall place touched path) old;
   stays = λ there told. refl;
   stand = λ told. stands_there path place touched old.tree (placed.tree told) standing;
   wrote = subst (λ (b : Bool). FolderWrites (if b then [] else set_up_calls place path) old old) (sym standing) (writes_none old);
@@ -39,22 +42,21 @@ sets_up_nothing path place touched old placed standing = record {
 
 -- it is renamed back
 pub sets_up_back : {T : Type 0} (path : List ℕ) (place : Place) (touched : Bool) (result : Result T FileFault) (old new : FolderView) → IsFolder new → IsPlaced path place touched old
-    → place ≡ Lost → IsFolderWrite (Rename path false) (file_failed result) old new → IfOk result (λ _. SetsUp path place touched old new)
-sets_up_back path place touched result old new formed placed lost wrote = when_ok result (SetsUp path place touched old new) (λ well.
+    → place ≡ Lost → IsFolderWrite (Rename path false) (done_answer result) old new → IfOk result (λ _. SetsUp path place touched old new)
+sets_up_back path place touched result old new formed placed lost wrote = when_ok (λ _. Done) result (Rename path false) old new (SetsUp path place touched old new) wrote (λ given made.
     let placed_lost : IsPlaced path Lost touched old = subst (λ (p : Place). IsPlaced path p touched old) lost placed in
-    let made : IsFolderWrite (Rename path false) false old new = subst (λ (failed : Bool). IsFolderWrite (Rename path false) failed old new) well wrote in
     let sets : SetsUp path Lost touched old new = record {
-      makes = makes_well_write (IsPutCall Lost touched path) formed made (refl, inl (refl, refl));
+      makes = step_write (IsPutCall Lost touched path) false formed made refl refl (refl, inl (refl, refl));
       stays = λ standing. absurd (let clash : false ≡ true = standing in cc);
       stand = λ told. stands_moved path touched old.tree new.tree (placed_lost.tree told) (made.does refl told);
       wrote = writes_one (Rename path false) refl made;
     } in subst (λ (p : Place). SetsUp path p touched old new) (sym lost) sets)
 
 pub breaks_back : {T : Type 0} (path : List ℕ) (place : Place) (touched : Bool) (result : Result T FileFault) (old new : FolderView) → IsFolder new → IsPlaced path place touched old
-    → place ≡ Lost → IsFolderWrite (Rename path false) (file_failed result) old new → MissingExactly result old (path_of path true)
+    → place ≡ Lost → IsFolderWrite (Rename path false) (done_answer result) old new → MissingExactly result old (path_of path true)
     → IfErr result (λ fault. BreaksBy fault (IsPutCall place touched path) old new)
 breaks_back path place touched result old new formed placed lost wrote missing =
-    breaks_one result (IsPutCall place touched path) (Rename path false) (path_of path true) old new formed wrote missing (λ told. (placed.tree told).lost lost) refl
+    breaks_one (λ _. Done) result (IsPutCall place touched path) (Rename path false) (path_of path true) old new formed wrote missing (λ told. (placed.tree told).lost lost) refl
     (ap (λ (p : Place). stands p touched) lost, inl (lost, refl))
 
 -- it is made
@@ -65,19 +67,19 @@ nowhere Lost touched absent (inl is) = absurd (cc)
 nowhere Lost touched absent (inr is) = absurd (cc)
 
 pub sets_up_new : (path : List ℕ) (place : Place) (touched : Bool) (old new : FolderView) → IsFolder new → IsPlaced path place touched old → stands place touched ≡ false
-    → (place ≡ Plain) ⊎ (place ≡ Nowhere) → IsFolderWrite (Make path) false old new → SetsUp path place touched old new
+    → (place ≡ Plain) ⊎ (place ≡ Nowhere) → IsFolderWrite (Make path) Done old new → SetsUp path place touched old new
 sets_up_new path place touched old new formed placed absent either wrote =
     let is = nowhere place touched absent either in
     let placed_nowhere : IsPlaced path Nowhere touched old = subst (λ (p : Place). IsPlaced path p touched old) is.0 placed in
     let sets : SetsUp path Nowhere touched old new = record {
-      makes = makes_well_write (IsPutCall Nowhere touched path) formed wrote (is.1, inr (refl, refl));
+      makes = step_write (IsPutCall Nowhere touched path) false formed wrote refl refl (is.1, inr (refl, refl));
       stays = λ standing. absurd (let clash : true ≡ false = sym standing ∙ is.1 in cc);
       stand = λ told. let made = wrote.does refl told in stands_made path touched made.0 old.tree new.tree (placed_nowhere.tree told) is.1 made.1;
       wrote = subst (λ (b : Bool). FolderWrites (if b then [] else Make path ∷ []) old new) (sym is.1) (writes_one (Make path) refl wrote);
     } in subst (λ (p : Place). SetsUp path p touched old new) (sym is.0) sets
 
 pub breaks_new : (path : List ℕ) (place : Place) (touched : Bool) (old new : FolderView) → IsFolder new → stands place touched ≡ false → (place ≡ Plain) ⊎ (place ≡ Nowhere)
-    → IsFolderWrite (Make path) true old new → FolderFails (IsPutCall place touched path) old new
+    → IsFolderWrite (Make path) answers.Failed old new → FolderFails (IsPutCall place touched path) old new
 breaks_new path place touched old new formed absent either wrote =
     fails_one (IsPutCall place touched path) (Make path) old new (absent, inr ((nowhere place touched absent either).0, refl)) refl formed wrote
 
@@ -86,18 +88,17 @@ breaks_new path place touched old new formed absent either wrote =
 -- it has it
 pub size_kept : (path : List ℕ) (before size : ℕ) (old : FolderView) → (before == size) ≡ true → FitsSize path before size old old
 size_kept path before size old same = record {
-  makes = makes_none (WellCall (IsSizeCall path before size)) old;
+  makes = step_none (IsSizeCall path before size) old;
   tree = λ told. subst (λ (b : Bool). SizesBy b path size old.tree old.tree) (sym same) refl;
   wrote = subst (λ (b : Bool). FolderWrites (if b then [] else SetSize path size ∷ []) old old) (sym same) (writes_none old);
 }
 
 -- it differs
 pub size_set : {T : Type 0} (path : List ℕ) (before size : ℕ) (result : Result T FileFault) (old new : FolderView) → IsFolder new → (before == size) ≡ false
-    → IsFolderWrite (SetSize path size) (file_failed result) old new → IfOk result (λ _. FitsSize path before size old new)
-size_set path before size result old new formed other wrote = when_ok result (FitsSize path before size old new) (λ well.
-    let made : IsFolderWrite (SetSize path size) false old new = subst (λ (failed : Bool). IsFolderWrite (SetSize path size) failed old new) well wrote in
+    → IsFolderWrite (SetSize path size) (done_answer result) old new → IfOk result (λ _. FitsSize path before size old new)
+size_set path before size result old new formed other wrote = when_ok (λ _. Done) result (SetSize path size) old new (FitsSize path before size old new) wrote (λ given made.
     record {
-      makes = makes_well_write (IsSizeCall path before size) formed made (other, refl);
+      makes = step_write (IsSizeCall path before size) false formed made refl refl (other, refl);
       tree = λ told. subst (λ (b : Bool). SizesBy b path size old.tree new.tree) (sym other) (made.does refl told);
       wrote = subst (λ (b : Bool). FolderWrites (if b then [] else SetSize path size ∷ []) old new) (sym other) (writes_one (SetSize path size) refl made);
     })
@@ -128,13 +129,13 @@ module _ (path : List ℕ) (listed : Option Meta) (meta : Meta) (start : Start) 
   -- its size is not set
   pub whole_not_sized : (fault : FileFault) (old mid new : FolderView) → SetsUp path start.place state.touched old mid → BreaksBy fault Size mid new → BreaksBy fault Whole old new
   whole_not_sized fault old mid new sets broke =
-      breaks_then fault Whole old mid new (makes_well_wider Put Whole of_put sets.makes) (breaks_wider fault Size Whole mid new of_size broke)
+      breaks_then fault Whole old mid new (step_wider Put Whole false of_put sets.makes) (breaks_wider fault Size Whole mid new of_size broke)
 
 -- ---- the file stands whole, but for its stamp
 
 -- These calls were made, it stands under its path with its size, and nothing changed where nothing was to be done.
 pub record IsFit (path : List ℕ) (listed : Option Meta) (meta : Meta) (start : Start) (state : FileState) (old new : FolderView) : Type 0 where
-  pub makes : FolderMakes (WellCall (IsWholeCall listed start state path meta)) old new
+  pub makes : StepMakes (IsWholeCall listed start state path meta) false old new
   pub stand : IsTrue old.tells
       → Stands path (resized (bytes_now old.tree path) meta.size) (lost_after start.place (file_of old.tree (path_of path true))) old.tree new.tree
   pub stays : is_changed meta start state ≡ false → IsTrue old.tells → new.tree ≡ old.tree
@@ -153,9 +154,9 @@ size_stays false path size old new is changes = absurd (cc)
 pub is_fit : (path : List ℕ) (listed : Option Meta) (meta : Meta) (start : Start) (state : FileState) (old mid new : FolderView) → IsReady path listed meta start state old
     → SetsUp path start.place state.touched old mid → FitsSize path state.size meta.size mid new → IsFit path listed meta start state old new
 is_fit path listed meta start state old mid new ready sets fits = record {
-  makes = makes_then (WellCall (IsWholeCall listed start state path meta))
-      (makes_well_wider (IsPutCall start.place state.touched path) (IsWholeCall listed start state path meta) (of_put path listed meta start state) sets.makes)
-      (makes_well_wider (IsSizeCall path state.size meta.size) (IsWholeCall listed start state path meta) (of_size path listed meta start state) fits.makes);
+  makes = step_then (IsWholeCall listed start state path meta) false
+      (step_wider (IsPutCall start.place state.touched path) (IsWholeCall listed start state path meta) false (of_put path listed meta start state) sets.makes)
+      (step_wider (IsSizeCall path state.size meta.size) (IsWholeCall listed start state path meta) false (of_size path listed meta start state) fits.makes);
   stand = λ told.
       stands_sized path (bytes_now old.tree path) (lost_after start.place (file_of old.tree (path_of path true))) meta.size state.size old.tree mid.tree new.tree
       (sets.stand told) (ready.fits told).size (fits.tree (sets.makes.goes_on.tells ∙ told));
@@ -182,12 +183,12 @@ of_stamp path listed meta start state due = inr (inr (inr (due, refl)))
 -- its stamp is not set
 pub whole_not_stamped : (fault : FileFault) (path : List ℕ) (listed : Option Meta) (meta : Meta) (start : Start) (state : FileState) (changed : Bool) (old mid new : FolderView) → IsFolder new
     → IsFit path listed meta start state old mid → changed ≡ is_changed meta start state → (changed || not (same_stamp meta.stamp listed)) ≡ true
-    → IsFolderWrite (SetStamp path meta.stamp) (file_failed {T = Bool} (Err fault)) mid new → MissingExactly {T = Bool} (Err fault) mid path
+    → IsFolderWrite (SetStamp path meta.stamp) (file_answer {T = Bool} answers.Kept (Err fault)) mid new → MissingExactly {T = Bool} (Err fault) mid path
     → BreaksBy fault (IsWholeCall listed start state path meta) old new
 whole_not_stamped fault path listed meta start state changed old mid new formed fit changed_is needed wrote missing =
     let Whole = IsWholeCall listed start state path meta in
     breaks_then fault Whole old mid new fit.makes
-    (breaks_one {T = Bool} (Err fault) Whole (SetStamp path meta.stamp) path mid new formed wrote missing (fit_there path listed meta start state old mid fit) refl
+    (breaks_one {T = Bool} answers.Kept (Err fault) Whole (SetStamp path meta.stamp) path mid new formed wrote missing (fit_there path listed meta start state old mid fit) refl
     (of_stamp path listed meta start state (stamp_due listed meta start state changed changed_is needed)))
 
 -- ---- it is finished
@@ -223,7 +224,7 @@ whole_kept path listed meta start state changed old new fit changed_is none =
 -- its stamp is set, where stamps are kept
 pub whole_stamped : (path : List ℕ) (listed : Option Meta) (meta : Meta) (start : Start) (state : FileState) (changed stamped : Bool) (finish : Finish) (old mid new : FolderView) → IsFolder new
     → IsFit path listed meta start state old mid → changed ≡ is_changed meta start state → (changed || not (same_stamp meta.stamp listed)) ≡ true
-    → IsFolderWrite (SetStamp path meta.stamp) false mid new → stamped ≡ mid.keeps_stamps → finish ≡ stamped_finish changed stamped
+    → IsFolderWrite (SetStamp path meta.stamp) (answers.Kept stamped) mid new → stamped ≡ mid.keeps_stamps → finish ≡ stamped_finish changed stamped
     → FinishesBy (whole_finish meta listed start state old.keeps_stamps) finish (IsWholeCall listed start state path meta) (whole_calls listed start state path meta) meta start state path old new
 whole_stamped path listed meta start state changed stamped finish old mid new formed fit changed_is needed wrote stamped_is finish_is =
     let change = is_changed meta start state in
@@ -241,25 +242,25 @@ whole_stamped path listed meta start state changed stamped finish old mid new fo
     (no_stamp_set path meta.stamp mid.tree new.tree (subst (λ (b : Bool). Does b (SetStamp path meta.stamp) mid.tree new.tree) no (does told)) ∙ fit.stays none told) in
     record {
       is = is ∙ sym (ap (λ (b : Bool). cond b (stamped_finish change keeps) Kept) due);
-      makes = makes_then (WellCall Whole) fit.makes (makes_well_write Whole formed wrote (of_stamp path listed meta start state due));
+      makes = step_then Whole false fit.makes (step_write Whole false formed wrote refl refl (of_stamp path listed meta start state due));
       holds = λ told.
           subst (λ (f : Finish). HoldsFinished f keeps meta start state (bytes_now old.tree path) path old.tree new.tree) (sym is)
           (holds_stamped change keeps meta start state (bytes_now old.tree path) path old.tree new.tree (both told).0 (unkept told));
       others = λ told. (both told).1;
       wrote = stamped_calls path listed meta start state true old new due
-          (writes_then (put_calls start.place state.touched path ++ size_calls state.size meta.size path) (SetStamp path meta.stamp ∷ []) fit.wrote (writes_one (SetStamp path meta.stamp) refl wrote));
+          (writes_then (put_calls start.place state.touched path ++ size_calls state.size meta.size path) (SetStamp path meta.stamp ∷ []) fit.wrote (writes_one (SetStamp path meta.stamp) refl (subst (λ (b : Bool). IsFolderWrite (SetStamp path meta.stamp) (answers.Kept b) mid new) stamped_is wrote)));
     }
 
 -- ---- a file with a lost block
 
 pub lost_renamed : (path : List ℕ) (meta : Meta) (start : Start) (state : FileState) (old new : FolderView) → IsFolder new → IsPlaced path start.place state.touched old
-    → stands start.place state.touched ≡ true → IsFolderWrite (Rename path true) false old new
+    → stands start.place state.touched ≡ true → IsFolderWrite (Rename path true) Done old new
     → FinishesBy (lost_finish start state) Renamed (IsLostCall start state path) (lost_calls start state path) meta start state path old new
 lost_renamed path meta start state old new formed placed standing wrote =
     let both = λ (told : IsTrue old.tells). stands_lost path old.tree new.tree ((placed.tree told).plain standing) (wrote.does refl told) in
     record {
       is = sym (ap (λ (b : Bool). cond b Renamed Kept) standing);
-      makes = makes_well_write (IsLostCall start state path) formed wrote (standing, refl);
+      makes = step_write (IsLostCall start state path) false formed wrote refl refl (standing, refl);
       holds = λ told. (both told).0;
       others = λ told. (both told).1;
       wrote = subst (λ (b : Bool). FolderWrites (if b then Rename path true ∷ [] else []) old new) (sym standing) (writes_one (Rename path true) refl wrote);
@@ -270,17 +271,17 @@ pub lost_kept : (path : List ℕ) (meta : Meta) (start : Start) (state : FileSta
     → FinishesBy (lost_finish start state) Kept (IsLostCall start state path) (lost_calls start state path) meta start state path old old
 lost_kept path meta start state old absent = record {
   is = sym (ap (λ (b : Bool). cond b Renamed Kept) absent);
-  makes = makes_none (WellCall (IsLostCall start state path)) old;
+  makes = step_none (IsLostCall start state path) old;
   holds = λ told. same_names path old.tree old.tree refl;
   others = λ told. others_same path old.tree old.tree refl;
   wrote = subst (λ (b : Bool). FolderWrites (if b then Rename path true ∷ [] else []) old old) (sym absent) (writes_none old);
 }
 
 pub lost_not_renamed : (fault : FileFault) (path : List ℕ) (start : Start) (state : FileState) (old new : FolderView) → IsFolder new → IsPlaced path start.place state.touched old
-    → stands start.place state.touched ≡ true → IsFolderWrite (Rename path true) (file_failed {T = Unit {0}} (Err fault)) old new → MissingExactly {T = Unit {0}} (Err fault) old (path_of path false)
+    → stands start.place state.touched ≡ true → IsFolderWrite (Rename path true) (done_answer {T = Unit {0}} (Err fault)) old new → MissingExactly {T = Unit {0}} (Err fault) old (path_of path false)
     → BreaksBy fault (IsLostCall start state path) old new
 lost_not_renamed fault path start state old new formed placed standing wrote missing =
-    breaks_one {T = Unit {0}} (Err fault) (IsLostCall start state path) (Rename path true) (path_of path false) old new formed wrote missing
+    breaks_one {T = Unit {0}} (λ _. Done) (Err fault) (IsLostCall start state path) (Rename path true) (path_of path false) old new formed wrote missing
     (λ told. (placed.tree told).plain standing) refl (standing, refl)
 
 -- ---- a file with or without one

@@ -32,13 +32,12 @@ use Rattle.snap_fix.specs.Looking.{AreAllLevelsOf, numbers_of, unread_in}
 use Rattle.snap_fix.specs.Mended.{AnswersFit, Mended, all_mended_events, is_wrong_level, mended_events}
 use Rattle.snap_fix.specs.Plan.{FixPlan}
 use Rattle.snap_fix.specs.Spare.{SpareView}
-use Rattle.snap_fix.specs.State.{WellCall}
-use Rattle.snap_fix.specs.Underway.{AddsZeros, AreUnderway, HoldsWrong, IsMendCall, IsMendedLevel, done_well, mend_calls, stripe_calls, wrong_writes}
+use Rattle.snap_fix.specs.Underway.{AddsZeros, AreStripeCalls, AreUnderway, HoldsWrong, IsMendedLevel, done_well, mend_calls, stripe_calls, wrong_writes}
 use Rattle.snap_fix.proofs.AskedLemmas.{asks_none, asks_then}
 use Rattle.snap_fix.proofs.BreakingLemmas.{breaks_then}
 use Rattle.snap_fix.proofs.FixCountLemmas.{count_append, parity_io_in_stripe}
-use Rattle.snap_fix.proofs.FolderCallLemmas.{makes_none}
-use Rattle.snap_fix.proofs.KeptStartsLemmas.{well_then}
+use Rattle.snap_fix.proofs.FolderCallLemmas.{makes_by_none}
+use Rattle.snap_fix.proofs.KeptStartsLemmas.{no_stripe_calls, stripe_makes, well_then}
 use Rattle.snap_fix.proofs.LookingLemmas.{vault_goes_on}
 use Rattle.snap_fix.proofs.MendedVaultLemmas.{Precede, all_levels_append, goes_on_none, holds_append, holds_still, levels_before, mend_calls_append, mends_append, mends_nothing, zeros_append}
 use Rattle.snap_fix.proofs.StartsKeptLemmas.{keeps_starts_same, keeps_starts_then}
@@ -247,7 +246,7 @@ module _ {W R : Type 0} (view : W → SinkView) (standing : R → ReportView) (s
     holds = λ told. All-nil (λ (facts : StripeFacts). HoldsWrong plan facts s.vault.files);
     parity_io = omega arith;
     spare = asks_none plan s.spare;
-    makes = λ d below. makes_none (WellCall (IsMendCall plan s.starts d [])) (folder_at s.folders d);
+    makes = λ d below. makes_by_none (AreStripeCalls plan s.starts d []) (folder_at s.folders d) (no_stripe_calls plan s.starts d);
     underway = λ before firsts fixable is. subst (λ (stripes : List Mended). AreUnderway plan stripes firsts s.folders s.starts s.states) (sym (append-nil before)) is;
   }
 
@@ -274,7 +273,7 @@ module _ {W R : Type 0} (view : W → SinkView) (standing : R → ReportView) (s
         holds = λ told. All-cons (λ (facts : StripeFacts). HoldsWrong plan facts new.vault.files) it.mended.facts [] (it.holds told) (All-nil (λ (facts : StripeFacts). HoldsWrong plan facts new.vault.files));
         parity_io = rw (only) rose;
         spare = it.spare;
-        makes = it.makes;
+        makes = λ d below. stripe_makes plan old.starts d it.mended (it.makes d below);
         underway = it.underway;
       }
 

@@ -4,6 +4,7 @@ use Rattle.disk_model.specs.Folder.{FolderView, FolderCall, ListFiles, Look, Rea
 use Rattle.file_table.specs.Table.{column_at, record_at}
 use Rattle.file_table.specs.declared.block.Cell.{Cell}
 use Rattle.file_table.proofs.CellInLemmas.{cell_in-Some}
+use Rattle.snap_report.specs.Answer.{is_reading}
 use Rattle.stripe_reader.specs.Columns.{folder_at}
 use Rattle.stripe_reader.specs.Starts.{StartsValue, start_in, starts_at}
 use Rattle.stripe_reader.specs.declared.starts.Place.{Place}
@@ -18,8 +19,10 @@ use Rattle.snap_fix.specs.FixCourse.{IsFixCall, IsForPlace, IsForRecord, MakeFix
 use Rattle.snap_fix.specs.Mended.{Mended, has_lost, is_blocked_cell, is_repaired, known_block}
 use Rattle.snap_fix.specs.Plan.{FixPlan, cell_at, entry_at, has_selected, is_in_scope, records_in, selects_cell}
 use Rattle.snap_fix.specs.State.{AnyCall, FolderMakes, KeepsStarts, StaysPlace, record_path, state_in}
-use Rattle.snap_fix.specs.Underway.{IsMendCall, SetsUpOneOf}
-use Rattle.snap_fix.proofs.FolderCallLemmas.{makes_any, makes_any_wider, makes_then}
+use Rattle.snap_fix.specs.Underway.{IsMendCall, IsStripeCall, SetsUpOneOf}
+use Rattle.snap_fix.proofs.FinishPartsLemmas.{finish_calls_any}
+use Rattle.snap_fix.proofs.FolderCallLemmas.{makes_any_wider, makes_then}
+use Rattle.snap_fix.proofs.KeptStartsLemmas.{stripes_any}
 use Rattle.snap_fix.proofs.MendedFactsLemmas.{and_parts}
 use Rattle.snap_fix.proofs.RepairMarkLemmas.{both, not_blocked}
 
@@ -49,14 +52,27 @@ for_place plan starts d stripes place path is =
 
 pub mend_is_fix : (plan : FixPlan) (starts : StartsValue) (d : ℕ) (stripes : List Mended) (call : FolderCall) → IsMendCall plan starts d stripes call → IsFixCall plan starts d stripes call
 mend_is_fix plan starts d stripes ListFiles is = is
-mend_is_fix plan starts d stripes (Look path lost) is = is
-mend_is_fix plan starts d stripes (ReadAt path lost at n) is = is
+mend_is_fix plan starts d stripes (Look path lost) is = tt
+mend_is_fix plan starts d stripes (ReadAt path lost at n) is = tt
 mend_is_fix plan starts d stripes (Make path) is = for_place plan starts d stripes Nowhere path is
 mend_is_fix plan starts d stripes (WriteAt path at bytes) is = is
 mend_is_fix plan starts d stripes (SetSize path size) is = absurd is
 mend_is_fix plan starts d stripes (SetStamp path stamp) is = absurd is
 mend_is_fix plan starts d stripes (Rename path true) is = absurd is
 mend_is_fix plan starts d stripes (Rename path false) is = for_place plan starts d stripes Lost path is
+
+reading_is_fix : (plan : FixPlan) (starts : StartsValue) (d : ℕ) (stripes : List Mended) (call : FolderCall) → is_reading call ≡ true → IsFixCall plan starts d stripes call
+reading_is_fix plan starts d stripes ListFiles is = absurd cc
+reading_is_fix plan starts d stripes (Look path lost) is = tt
+reading_is_fix plan starts d stripes (ReadAt path lost at n) is = tt
+reading_is_fix plan starts d stripes (Make path) is = absurd cc
+reading_is_fix plan starts d stripes (WriteAt path at bytes) is = absurd cc
+reading_is_fix plan starts d stripes (SetSize path size) is = absurd cc
+reading_is_fix plan starts d stripes (SetStamp path stamp) is = absurd cc
+reading_is_fix plan starts d stripes (Rename path lost) is = absurd cc
+
+pub stripe_is_fix : (plan : FixPlan) (starts : StartsValue) (d : ℕ) (stripes : List Mended) (call : FolderCall) → IsStripeCall plan starts d stripes call → IsFixCall plan starts d stripes call
+stripe_is_fix plan starts d stripes call is = ⊎_elim (reading_is_fix plan starts d stripes call) (mend_is_fix plan starts d stripes call) is
 
 -- ---- when files are finished
 
@@ -111,9 +127,9 @@ module _ (plan : FixPlan) (d : ℕ) (stripes : List Mended) (begun later : Start
 
 module _ (plan : FixPlan) (begun : StartsValue) (stripes : List Mended) (firsts news : List FolderView) where
   -- blocks were written
-  pub fix_calls_of_writing : ((d : ℕ) → d < length plan.table.columns → FolderMakes (AnyCall (IsMendCall plan begun d stripes)) (folder_at firsts d) (folder_at news d))
+  pub fix_calls_of_writing : ((d : ℕ) → d < length plan.table.columns → FolderMakes (AnyCall (IsStripeCall plan begun d stripes)) (folder_at firsts d) (folder_at news d))
       → MakeFixCalls plan begun stripes firsts news
-  fix_calls_of_writing makes d below = makes_any_wider (IsMendCall plan begun d stripes) (IsFixCall plan begun d stripes) (mend_is_fix plan begun d stripes) (makes d below)
+  fix_calls_of_writing makes d below = makes_any_wider (IsStripeCall plan begun d stripes) (IsFixCall plan begun d stripes) (stripe_is_fix plan begun d stripes) (makes d below)
 
   module _ (written : Written) (writes : WritesFiles plan begun stripes firsts written) where
     -- all blocks were written, and then some files finished
@@ -122,7 +138,7 @@ module _ (plan : FixPlan) (begun : StartsValue) (stripes : List Mended) (firsts 
         → MakeFixCalls plan begun stripes firsts news
     fix_calls_of finishes d below =
         makes_then (AnyCall (IsFixCall plan begun d stripes))
-        (makes_any_wider (IsMendCall plan begun d stripes) (IsFixCall plan begun d stripes) (mend_is_fix plan begun d stripes) (makes_any (IsMendCall plan begun d stripes) (writes.makes d below)))
+        (makes_any_wider (IsStripeCall plan begun d stripes) (IsFixCall plan begun d stripes) (stripe_is_fix plan begun d stripes) (stripes_any plan begun d stripes (writes.makes d below)))
         (makes_any_wider (FinishesOne plan d written.starts written.states) (IsFixCall plan begun d stripes)
         (finish_is_fix plan d stripes begun written.starts written.states writes.stood (writes.underway.each d below).lost) (finishes d below))
 
@@ -130,4 +146,4 @@ module _ (plan : FixPlan) (begun : StartsValue) (stripes : List Mended) (firsts 
     pub fix_calls_of_all : (finishes : List (List Finish)) → ((d : ℕ) → d < length plan.table.columns
         → FinishesColumn plan written.starts written.states d finishes (folder_at written.folders d) (folder_at news d))
         → MakeFixCalls plan begun stripes firsts news
-    fix_calls_of_all finishes finished = fix_calls_of (λ d below. makes_any (FinishesOne plan d written.starts written.states) (finished d below).makes)
+    fix_calls_of_all finishes finished = fix_calls_of (λ d below. finish_calls_any plan d written.starts written.states finishes (finished d below).makes)

@@ -25,7 +25,7 @@ use Rattle.snap_report.specs.declared.pages.Lines.{Lines}
 use Rattle.snap_report.proofs.PutsLemmas.{puts_then}
 use Rattle.snap_report.proofs.ToldLemmas.{told_then}
 use Rattle.stripe_reader.specs.Columns.{folder_at}
-use Rattle.stripe_reader.specs.Starts.{StartsValue}
+use Rattle.stripe_reader.specs.Starts.{StartsValue, starts_at}
 use Rattle.snap_fix.specs.declared.beginning.Work.{Work}
 use Rattle.snap_fix.specs.declared.counts.Counts.{Counts}
 use Rattle.snap_fix.specs.declared.fixing.Totals.{Totals}
@@ -37,7 +37,7 @@ use Rattle.snap_fix.specs.Counts.{AreCounts}
 use Rattle.snap_fix.specs.Course.{IsPlan, Outside, outside}
 use Rattle.snap_fix.specs.Breaking.{FailsAfter}
 use Rattle.snap_fix.specs.BrokenStripe.{broken_events}
-use Rattle.snap_fix.specs.Ending.{FinishesAll, FinishesNotAll, FinishesOne, SyncsNot, SyncsWritten, all_finish_news, written_syncs}
+use Rattle.snap_fix.specs.Ending.{AreColumnFinishCalls, FinishesAll, FinishesNotAll, FinishesOne, SyncsNot, SyncsWritten, all_finish_news, finishes_at, states_at, written_syncs}
 use Rattle.snap_fix.specs.Facts.{StripeFacts}
 use Rattle.snap_fix.specs.Findings.{opening_events}
 use Rattle.snap_fix.specs.FixBreaking.{BreaksFiles, BreaksLast, FixBreaks}
@@ -49,9 +49,10 @@ use Rattle.snap_fix.specs.Looking.{AreAllLevelsOf, numbers_of, unread_in}
 use Rattle.snap_fix.specs.Mended.{AnswersFit, Mended, all_mended_events}
 use Rattle.snap_fix.specs.Plan.{FixPlan, starts_of, stripes_of}
 use Rattle.snap_fix.specs.Repairing.{outside as files_outside}
+use Rattle.snap_fix.specs.Reads.{AreReadAhead, AreReadBy, FolderReads}
 use Rattle.snap_fix.specs.Spare.{SpareView}
-use Rattle.snap_fix.specs.State.{AnyCall, FolderMakes, WellCall, first_states}
-use Rattle.snap_fix.specs.Underway.{AreFixable, AreUnderway, IsMendCall, done_well, mend_calls}
+use Rattle.snap_fix.specs.State.{AnyCall, FolderMakes, first_states}
+use Rattle.snap_fix.specs.Underway.{AreFixable, AreUnderway, IsStripeCall, done_well, mend_calls}
 use Rattle.snap_fix.proofs.BreakingLemmas.{fails_after}
 use Rattle.snap_fix.proofs.FixAllLemmas.{facts_last, mends_in_last, tells_exact}
 use Rattle.snap_fix.proofs.FixCallLemmas.{fix_calls_of, fix_calls_of_writing}
@@ -61,10 +62,11 @@ use Rattle.snap_fix.proofs.FixFilesLemmas.{fixes_files}
 use Rattle.snap_fix.proofs.FixIntoLemmas.{folder_gained, vault_gained}
 use Rattle.snap_fix.proofs.FixStartLemmas.{begun_underway, stripes_ascending, underway_begun}
 use Rattle.snap_fix.proofs.FixVaultLemmas.{fixes_vault, flag_is, holds_synced, mends_synced, rose_on, syncs_are}
-use Rattle.snap_fix.proofs.FolderCallLemmas.{makes_any}
+use Rattle.snap_fix.proofs.FinishPartsLemmas.{finish_calls_each, finish_writes}
 use Rattle.snap_fix.proofs.FolderFailsLemmas.{fails_gained, in_column_any}
-use Rattle.snap_fix.proofs.KeptStartsLemmas.{files_any, well_then}
+use Rattle.snap_fix.proofs.KeptStartsLemmas.{files_any, stripe_makes, stripes_any, well_then}
 use Rattle.snap_fix.proofs.PresentLemmas.{StartsFitFolders, present_at_first, starts_fit_first}
+use Rattle.snap_fix.proofs.ReadsLemmas.{ahead_none, quiet_in_column, reads_on, reads_wider}
 use Rattle.snap_fix.proofs.StartsKeptLemmas.{keeps_starts_then}
 
 -- ---- which events were told
@@ -138,7 +140,7 @@ module _ {W R : Type 0} (view : W → SinkView) (standing : R → ReportView) (s
           stood = keeps_starts_then starts broke.starts cells.starts broke.stood cells.stood;
           underway = cells.underway earlier mids fixable (broke.underway [] mids fixable underway_start);
           makes = λ d below. well_then plan starts broke.starts broke.stood d earlier (last ∷ [])
-              (broke.makes d below) (cells.makes d below);
+              (broke.makes d below) (stripe_makes plan broke.starts d last (cells.makes d below));
         };
         folders = refl;
       }
@@ -200,8 +202,9 @@ module _ {W R : Type 0} (view : W → SinkView) (standing : R → ReportView) (s
           });
           told = told_then view standing stands table.columns opening broke.first old.lines opened_lines lines_mid old.reports opened_reports reports_mid opened broke.told;
           folders = broke.folders ∙ begun.as_many;
+          reads = broke.reads;
           calls = fix_calls_of_writing plan starts broke.stripes mids folders_mid
-              (λ d within. subst (λ (its : List Mended). FolderMakes (AnyCall (IsMendCall plan starts d its)) (folder_at mids d) (folder_at folders_mid d)) (sym broke.stripes_are)
+              (λ d within. subst (λ (its : List Mended). FolderMakes (AnyCall (IsStripeCall plan starts d its)) (folder_at mids d) (folder_at folders_mid d)) (sym broke.stripes_are)
               (files_any plan fault starts states broke.earlier broke.last mids folders_mid broke.makes d within));
           broke = broke_opened plan fault broke.first mids folders_mid old.vault vault_mid broke.broke;
         }
@@ -224,6 +227,10 @@ module _ {W R : Type 0} (view : W → SinkView) (standing : R → ReportView) (s
 
       writes : WritesFiles plan starts stripes mids all_written
       writes = record { stood = fixed.fixes.stood; underway = fixed.fixes.underway [] mids fixable underway_start; makes = fixed.fixes.makes }
+
+      reads_all : (d : ℕ) → d < length table.columns → FolderReads (AreReadAhead plan starts d (facts_of stripes) []) (folder_at mids d) (folder_at folders_mid d)
+      reads_all d within = reads_wider (AreReadBy plan starts starts_mid d (facts_of stripes)) (AreReadAhead plan starts d (facts_of stripes) [])
+          (ahead_none plan starts starts_mid d (facts_of stripes)) (fixed.reads d within)
 
       numbers_are : numbers_of (facts_of stripes) ≡ stripes_of plan
       numbers_are = fixed.numbers_are ∙ begun.stripes
@@ -307,7 +314,8 @@ module _ {W R : Type 0} (view : W → SinkView) (standing : R → ReportView) (s
             );
             told = told_stripes;
             folders = writes.underway.folders ∙ begun.as_many;
-            calls = fix_calls_of_writing plan starts stripes mids folders_mid (λ d within. makes_any (IsMendCall plan starts d stripes) (writes.makes d within));
+            reads = reads_all;
+            calls = fix_calls_of_writing plan starts stripes mids folders_mid (λ d within. stripes_any plan starts d stripes (writes.makes d within));
             broke = record {
               rose = omega (arith, sum, none, before, rose);
               call = vault_gained old.vault vault_mid vault_new fixed.fixes.vault.calls not_synced.calls not_synced.call;
@@ -336,7 +344,9 @@ module _ {W R : Type 0} (view : W → SinkView) (standing : R → ReportView) (s
             let none = none_opening (is_io_of disk) (io_no_file disk) plan in
             let no_more = none_finishing_first (is_io_of disk) (io_no_file disk) plan broke.finishes broke.first broke.rest broke.events in
             let fails = broke.fails in
-            let makes = in_column_any disk (length table.columns) (λ (d : ℕ). FinishesOne plan d starts_mid states_mid) folders_mid folders_new fails in
+            let makes = in_column_any disk (length table.columns) (λ (d : ℕ). AreColumnFinishCalls plan d (starts_at starts_mid.columns d) (states_at states_mid d) (finishes_at broke.finishes d))
+            (λ (d : ℕ). FinishesOne plan d starts_mid states_mid) folders_mid folders_new fails
+            (λ d. finish_calls_each plan d (starts_at starts_mid.columns d) (states_at states_mid d) (finishes_at broke.finishes d)) in
             let before = fixed.io disk fails.within in
             let rose = fails.here.rose in
             record {
@@ -365,6 +375,9 @@ module _ {W R : Type 0} (view : W → SinkView) (standing : R → ReportView) (s
                     finishes = broke.finishes;
                     are = broke.are;
                     finished = broke.first;
+                    last = broke.last;
+                    part = broke.part;
+                    finished_is = broke.first_is;
                     rest = broke.rest;
                     events = sym (append_assoc opening mended broke.first);
                     finished_are = broke.events;
@@ -376,12 +389,17 @@ module _ {W R : Type 0} (view : W → SinkView) (standing : R → ReportView) (s
               told = told_with broke.first broke.told;
               folders = broke.folders ∙ writes.underway.folders ∙ begun.as_many;
               calls = fix_calls_of plan starts stripes mids folders_new all_written writes makes;
+              reads = λ d within. reads_on (AreReadAhead plan starts d (facts_of stripes) []) (reads_all d within)
+                  (quiet_in_column disk (length table.columns) (λ (k : ℕ). AreColumnFinishCalls plan k (starts_at starts_mid.columns k) (states_at states_mid k) (finishes_at broke.finishes k))
+                  (λ (k : ℕ). FinishesOne plan k starts_mid states_mid) folders_mid folders_new
+                  (λ k. finish_writes plan k (starts_at starts_mid.columns k) (states_at states_mid k))
+                  (λ k. finish_calls_each plan k (starts_at starts_mid.columns k) (states_at states_mid k) (finishes_at broke.finishes k)) fails d within);
               broke = (
                 fails.within,
                 record {
                   rose = omega (arith, sum, more, none, no_more, before, rose);
-                  call = folder_gained (WellCall (IsMendCall plan starts disk stripes)) (AnyCall (FinishesOne plan disk starts_mid states_mid))
-                      (folder_at mids disk) (folder_at folders_mid disk) (folder_at folders_new disk) (writes.makes disk fails.within) (makes disk fails.within)
+                  call = folder_gained (folder_at mids disk) (folder_at folders_mid disk) (folder_at folders_new disk)
+                      (writes.makes disk fails.within).goes_on (makes disk fails.within).goes_on
                       (fails_gained (FinishesOne plan disk starts_mid states_mid) fails.here);
                 },
               );
@@ -418,7 +436,7 @@ module _ {W R : Type 0} (view : W → SinkView) (standing : R → ReportView) (s
               spare = fixed.fixes.spare;
               vault = all_synced levels levels_are written_are none_written formed synced;
               finishes = finished.finishes;
-              files = fixes_files plan starts stripes mids folders_new all_written finished.finishes writes (finished.folders ∙ writes.underway.folders) finished.columns;
+              files = fixes_files plan starts stripes mids folders_new all_written finished.finishes writes (finished.folders ∙ writes.underway.folders) finished.columns fixed.reads;
               unread = λ d within. rose_through d _ _ within (fixed.unread d within) (finished.columns d within).makes.goes_on.later;
               io = λ d within.
                   let sum = count_append (is_io_of d) opening (mended ++ finish_news) in

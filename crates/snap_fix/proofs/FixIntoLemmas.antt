@@ -5,7 +5,7 @@ use Rattle.std.proofs.lemmas.Bool.{cases_lt}
 use Rattle.std.proofs.lemmas.List.{map-append, append-nil, length-map, length-append, get_or_append_left, get_or_push, take_more, length-take-le, take-append-drop}
 use Rattle.std.proofs.lemmas.List.Elements.{All-nil, All-cons}
 use Rattle.file_table.proofs.ListFacts.{AllPairs-take}
-use Rattle.disk_model.specs.Folder.{FolderView, FolderDone}
+use Rattle.disk_model.specs.Folder.{FolderView, FolderDone, FolderGoesOn, SomeFolderCalls}
 use Rattle.disk_model.specs.Sink.{SinkView}
 use Rattle.disk_model.specs.Vault.{VaultView, SomeCalls}
 use Rattle.parity_writer.specs.LevelReading.{has_failed}
@@ -28,12 +28,15 @@ use Rattle.snap_fix.specs.Looking.{facts_at, no_facts, numbers_of}
 use Rattle.snap_fix.specs.Marks.{slots_at}
 use Rattle.snap_fix.specs.Mended.{AnswersFit, Mended, all_mended_events, mended_events}
 use Rattle.snap_fix.specs.Plan.{FixPlan}
-use Rattle.snap_fix.specs.State.{AnyCall, FolderMakes}
+use Rattle.snap_fix.specs.Reads.{FolderReads, IsQuiet}
+use Rattle.snap_fix.specs.State.{AnyCall}
 use Rattle.snap_fix.specs.Underway.{FixUnderway, HoldsWrong, IsMendCall, stripe_calls, stripe_reads}
 use Rattle.snap_fix.proofs.FixAllLemmas.{answered_then, asked_then, breaks_in_last, facts_append, facts_then, fixes_none, fixes_then, levels_then, precede, unread_then}
 use Rattle.snap_fix.proofs.FixCountLemmas.{count_append, parity_io_in_stripe}
-use Rattle.snap_fix.proofs.KeptStartsLemmas.{cells_any, files_one, files_then}
+use Rattle.snap_fix.proofs.FolderCallLemmas.{makes_some}
+use Rattle.snap_fix.proofs.KeptStartsLemmas.{cells_any, cells_quiet, files_one, files_then}
 use Rattle.snap_fix.proofs.MendedVaultLemmas.{Precede}
+use Rattle.snap_fix.proofs.ReadsLemmas.{quiet_none, quiet_then}
 use Rattle.snap_fix.proofs.WindowLemmas.{slots_same}
 
 -- ---- calls that were gained, after others
@@ -53,10 +56,10 @@ gained_after {A = A} p old mid now front grown gained = record {
   one = any_later p front gained.gained gained.one;
 }
 
-pub folder_gained : (P Q : FolderDone → Type 0) (old mid new : FolderView) → FolderMakes P old mid → FolderMakes Q mid new
+pub folder_gained : (old mid new : FolderView) {first more : List FolderDone} → FolderGoesOn old mid first → FolderGoesOn mid new more
     → (IsTrue new.tells_calls → Gained broke_folder mid.calls new.calls) → IsTrue new.tells_calls → Gained broke_folder old.calls new.calls
-folder_gained P Q old mid new one two call tells =
-    gained_after broke_folder old.calls mid.calls new.calls one.done (one.goes_on.calls.more (two.goes_on.calls.told tells)) (call tells)
+folder_gained old mid new {first = first} one two call tells =
+    gained_after broke_folder old.calls mid.calls new.calls first (one.calls.more (two.calls.told tells)) (call tells)
 
 pub vault_gained : (old mid new : VaultView) → SomeCalls old mid → SomeCalls mid new
     → (IsTrue new.tells_calls → Gained broke_parity mid.calls new.calls) → IsTrue new.tells_calls → Gained broke_parity old.calls new.calls
@@ -85,6 +88,7 @@ module _ {W R : Type 0} (view : W → SinkView) (standing : R → ReportView) (s
     numbers_are = sym none;
     slots = λ k below. absurd (omega (arith, below));
     fixes = fixes_none view standing stands plan totals s fits counted;
+    quiet = λ d below. quiet_none (folder_at s.folders d);
   }
 
   module _ (all : List ℕ) (ascending : AreAscending all) (i : ℕ) (within : i < length all) (first : WindowValue) (one : Totals) (old mid : FixScene W R)
@@ -127,26 +131,28 @@ module _ {W R : Type 0} (view : W → SinkView) (standing : R → ReportView) (s
         → mended.facts.slots ≡ slots_at window i → length window.lanes ≡ length first.lanes → ((d : ℕ) → slot_at window i d ≡ slot_at first i d)
         → ((stripes others : List Mended) → AreTotals plan stripes one → AreTotals plan others two → AreTotals plan (stripes ++ others) both)
         → FixesAll view standing stands plan (mended ∷ []) mid new two
+        → ((d : ℕ) → d < length plan.table.columns → FolderReads IsQuiet (folder_at mid.folders d) (folder_at new.folders d))
         → FixesInto view standing stands plan (take (i + 1) all) first old new both
-    into_more window two both new number slots lanes same and more = record {
+    into_more window two both new number slots lanes same and more quiet = record {
       stripes = so_far.stripes ++ mended ∷ [];
       numbers_are = numbers_so number;
       slots = slots_more window slots lanes same;
       fixes = fixes_then view standing stands plan so_far.stripes (mended ∷ []) one two both old mid new (before_it number) and so_far.fixes more;
+      quiet = λ d below. quiet_then (so_far.quiet d below) (quiet d below);
     }
 
   -- one stripe broke off, after those before it
   broke_more : (fault : RunFault) (xs : List Mended) (front first : List Event) (unread : ℕ) (one : Totals) (old mid new : FixScene W R)
       → front ≡ all_mended_events plan xs → count_by is_parity_io first ≤ unread
       → FixesAll view standing stands plan xs old mid one
-      → ((d : ℕ) → d < length plan.table.columns → (Q : FolderDone → Type 0) × FolderMakes Q (folder_at mid.folders d) (folder_at new.folders d)) → SomeCalls mid.vault new.vault
+      → ((d : ℕ) → d < length plan.table.columns → SomeFolderCalls (folder_at mid.folders d) (folder_at new.folders d)) → SomeCalls mid.vault new.vault
       → IsBrokenBy plan fault unread mid.folders new.folders mid.vault new.vault
       → HasBrokenInto plan fault (front ++ first) old.folders new.folders old.vault new.vault
   broke_more (Folder disk) xs front first unread one old mid new front_is few fixes makes calls (within, broke) = (
     within,
     record {
       rose = let later = (fixes.makes disk within).goes_on.later in let rose = broke.rose in omega (arith, later, rose);
-      call = folder_gained _ (makes disk within).0 (folder_at old.folders disk) (folder_at mid.folders disk) (folder_at new.folders disk) (fixes.makes disk within) (makes disk within).1 broke.call;
+      call = folder_gained (folder_at old.folders disk) (folder_at mid.folders disk) (folder_at new.folders disk) (fixes.makes disk within).goes_on (makes disk within).goes_on broke.call;
     },
   )
   broke_more Vault xs front first unread one old mid new front_is few fixes makes calls broke =
@@ -208,9 +214,8 @@ module _ {W R : Type 0} (view : W → SinkView) (standing : R → ReportView) (s
           makes = subst (λ (its : List Mended). BreaksFolders plan old.starts old.states fault its mended old.folders new.folders) none
               (files_then plan fault old.starts mid.starts old.states mid.states so_far.fixes.stood xs [] mended old.folders mid.folders new.folders so_far.fixes.makes so_far.fixes.underway
               (files_one plan fault mid.starts mid.states mended mid.folders new.folders broke.makes));
+          quiet = λ d below. quiet_then (so_far.quiet d below) (cells_quiet fault plan mended mid.starts mid.states mid.folders new.folders broke.makes d below);
           broke = broke_more fault xs front broke.first (count_by has_failed readings) one old mid new refl (omega (arith, few, fewer)) so_far.fixes
-              (λ d below. (
-                AnyCall (IsMendCall plan mid.starts d ys),
-                cells_any fault plan mended mid.starts mid.states mid.folders new.folders broke.makes d below,
-              )) broke.vault.calls broke.broke;
+              (λ d below. makes_some (AnyCall (IsMendCall plan mid.starts d ys)) (cells_any fault plan mended mid.starts mid.states mid.folders new.folders broke.makes d below))
+              broke.vault.calls broke.broke;
         }

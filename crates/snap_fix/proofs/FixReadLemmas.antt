@@ -1,5 +1,5 @@
 -- The stripes of a window, read of the folders of a fix.
-use Rattle.std.proofs.Common.{◌≡◌, ℕ, ◌+◌, ◌<◌, ◌≤◌, List, [], ◌∷◌, length, map, take, get_or, Bool, IsTrue, refl, sym, ap, ◌∙◌, subst, arith, cond}
+use Rattle.std.proofs.Common.{◌≡◌, ℕ, ◌+◌, ◌<◌, ◌≤◌, List, [], ◌∷◌, length, map, take, get_or, Bool, true, IsTrue, refl, sym, ap, ◌∙◌, subst, arith, cond}
 use Rattle.std.specs.List.{count_by}
 use Rattle.std.proofs.Math.ListN.{get_or-map as get_or-map-at}
 use Rattle.std.proofs.lemmas.List.{append-nil, length-map, get_or-map, ext_get_or, get_or-take, length-take-le}
@@ -8,9 +8,11 @@ use Rattle.disk_model.specs.Cause.{RoseBy}
 use Rattle.disk_model.specs.Folder.{FolderView, FolderCall}
 use Rattle.disk_model.specs.Tree.{Tree}
 use Rattle.file_table.specs.declared.shape.Shape.{Shape}
+use Rattle.snap_report.specs.Answer.{is_reading}
 use Rattle.stripe_reader.specs.Column.{IsReadingOf, ReadsColumn, no_task}
 use Rattle.stripe_reader.specs.Columns.{ReadsWindow, folder_at}
-use Rattle.stripe_reader.specs.Reading.{CellReading, NoBlock, Nowhere, Beyond, Unread, Gone, Part, Whole, Task, task_at, is_unread}
+use Rattle.stripe_reader.specs.Reading.{CellReading, NoBlock, Nowhere, Beyond, Unread, Gone, Part, Whole, Task, task_at, tasks_at, is_unread}
+use Rattle.stripe_reader.specs.FolderCalls.{AreColumnCalls}
 use Rattle.stripe_reader.specs.Slot.{kept}
 use Rattle.stripe_reader.specs.SlotValue.{SlotValue}
 use Rattle.stripe_reader.specs.Starts.{StartsValue}
@@ -24,30 +26,33 @@ use Rattle.snap_fix.specs.Marks.{slots_at}
 use Rattle.snap_fix.specs.Mended.{Mended, column_writes}
 use Rattle.snap_fix.specs.Order.{FolderWrites}
 use Rattle.snap_fix.specs.Plan.{FixPlan, records_in}
-use Rattle.snap_fix.specs.State.{WellCall, FolderMakes, HoldsColumn}
+use Rattle.snap_fix.specs.Reads.{FolderReads}
+use Rattle.snap_fix.specs.State.{FolderMakesBy, HoldsColumn}
 use Rattle.snap_fix.specs.StripeOrder.{writes_after}
-use Rattle.snap_fix.specs.Underway.{AreUnderway, FixUnderway, IsMendCall}
+use Rattle.snap_fix.specs.Underway.{AreStripeCalls, AreUnderway, FixUnderway}
 use Rattle.stripe_reader.specs.Starts.{starts_at}
 use Rattle.snap_fix.proofs.FixCountLemmas.{count_cons, failed_in, slot_unread, unread_slots}
-use Rattle.snap_fix.proofs.FolderCallLemmas.{calls_then, makes_column_reading, makes_some}
+use Rattle.snap_fix.proofs.FolderCallLemmas.{calls_then, makes_column_reading}
+use Rattle.snap_fix.proofs.KeptStartsLemmas.{reads_makes}
 use Rattle.snap_fix.proofs.OrderLemmas.{column_read, writes_then}
+use Rattle.snap_fix.proofs.ReadsLemmas.{column_reads}
 
 -- ---- the calls of a reading
 
-pub reading_makes : (plan : FixPlan) (starts : StartsValue) (d : ℕ) (stripes : List Mended) (shape : Shape) (tasks : List Task) (slots : List SlotValue) (old new : FolderView) → ReadsColumn shape tasks slots old new
-    → FolderMakes (WellCall (IsMendCall plan starts d stripes)) old new
-reading_makes plan starts d stripes shape tasks slots old new read =
-    makes_column_reading (IsMendCall plan starts d stripes) (λ path lost. tt) (λ path lost at n. tt) tasks read.readings read.folder
+pub reading_makes : (plan : FixPlan) (starts : StartsValue) (d : ℕ) (shape : Shape) (tasks : List Task) (slots : List SlotValue) (old new : FolderView) → ReadsColumn shape tasks slots old new
+    → FolderMakesBy (AreStripeCalls plan starts d []) old new
+reading_makes plan starts d shape tasks slots old new read =
+    reads_makes plan starts d (makes_column_reading (λ (call : FolderCall). is_reading call ≡ true) (λ path lost. refl) (λ path lost at n. refl) tasks read.readings read.folder)
 
 -- ---- a fix goes on over a reading
 
 module _ (plan : FixPlan) (starts : StartsValue) (numbers : List ℕ) (before window : WindowValue) (olds mids : List FolderView)
     (read : ReadsWindow plan.table starts numbers before window olds mids) (columns : length olds ≡ length plan.table.columns) where
-  abbrev near : (d : ℕ) → d < length plan.table.columns → d < length olds
+  abbrev pub near : (d : ℕ) → d < length plan.table.columns → d < length olds
   near d below = omega (arith, below, columns)
 
-  pub window_makes : (stripes : List Mended) (d : ℕ) → d < length plan.table.columns → FolderMakes (WellCall (IsMendCall plan starts d stripes)) (folder_at olds d) (folder_at mids d)
-  window_makes stripes d below = reading_makes plan starts d stripes plan.table.shape _ _ (folder_at olds d) (folder_at mids d) (read.each d (near d below))
+  pub window_makes : (d : ℕ) → d < length plan.table.columns → FolderMakesBy (AreStripeCalls plan starts d []) (folder_at olds d) (folder_at mids d)
+  window_makes d below = reading_makes plan starts d plan.table.shape _ _ (folder_at olds d) (folder_at mids d) (read.each d (near d below))
 
   pub underway_read : (stripes : List Mended) (firsts : List FolderView) (places : StartsValue) (states : List (List FileState)) → AreUnderway plan stripes firsts olds places states → AreUnderway plan stripes firsts mids places states
   underway_read stripes firsts places states is = record {
@@ -57,7 +62,7 @@ module _ (plan : FixPlan) (starts : StartsValue) (numbers : List ℕ) (before wi
         let first = folder_at firsts d in
         let records = records_in plan.table d in
         record {
-          calls = calls_then its.calls (makes_some (WellCall (IsMendCall plan starts d stripes)) (window_makes stripes d below));
+          calls = calls_then its.calls (let makes = window_makes d below in record { done = makes.done; goes_on = makes.goes_on });
           holds = λ told.
               let was : IsTrue (folder_at olds d).tells = subst IsTrue (sym its.calls.goes_on.tells) told in
               let same = (read.each d (near d below)).folder.tree was in
@@ -102,6 +107,18 @@ module _ (plan : FixPlan) (starts : StartsValue) (numbers : List ℕ) (before wi
               (its.are_of k (omega (arith, within, length-map numbers task_of)));
           is_kept = slot_here k d below ∙ slot_is plan.table.shape task_of numbers k (lane_at window d) (folder_at olds d) (folder_at mids d) its within;
         }
+
+    -- and that keeps what was read of it
+    pub slot_read : (k d : ℕ) → k < length stripes → (column : d < length plan.table.columns)
+        → slot_of (facts_at (facts_of stripes) k) d ≡ kept plan.table.shape (get_or (read.each d (near d column)).readings k NoBlock)
+    slot_read k d below column =
+        slot_here k d below
+        ∙ slot_is plan.table.shape (task_at plan.table starts d) numbers k (lane_at window d) (folder_at olds d) (folder_at mids d) (read.each d (near d column)) (omega (arith, below, few))
+
+    -- the calls of the reading
+    pub window_reads : (d : ℕ) → (column : d < length plan.table.columns)
+        → FolderReads (AreColumnCalls (tasks_at plan.table starts d numbers) (read.each d (near d column)).readings) (folder_at olds d) (folder_at mids d)
+    window_reads d column = column_reads (tasks_at plan.table starts d numbers) (read.each d (near d column)).readings (read.each d (near d column)).folder
 
     kept_unread : (shape : Shape) (reading : CellReading) → slot_unread (kept shape reading) ≡ is_unread reading
     kept_unread shape NoBlock = refl

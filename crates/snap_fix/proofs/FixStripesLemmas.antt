@@ -7,7 +7,7 @@ use Rattle.std.proofs.lemmas.Bool.{cases_lt}
 use Rattle.std.proofs.lemmas.List.{map-append, append-nil, length-map, length-append, get_or_append_left, get_or-append_right, take-append-le, take-append-drop}
 use Rattle.file_table.proofs.ListFacts.{AllPairs-take}
 use Rattle.disk_model.specs.Cause.{RoseBy}
-use Rattle.disk_model.specs.Folder.{FolderCall, FolderView}
+use Rattle.disk_model.specs.Folder.{FolderCall, FolderDone, FolderView}
 use Rattle.disk_model.specs.Sink.{SinkView}
 use Rattle.file_table.specs.Table.{TableValue}
 use Rattle.snap_report.specs.Answer.{is_io_of, is_parity_io}
@@ -17,28 +17,33 @@ use Rattle.snap_report.specs.declared.answer.RunFault.TheVariants.{Folder, Vault
 use Rattle.snap_report.specs.declared.events.Event.{Event}
 use Rattle.snap_report.proofs.ToldLemmas.{told_then}
 use Rattle.stripe_reader.specs.Columns.{ReadsWindow, folder_at}
+use Rattle.stripe_reader.specs.FolderCalls.{AreColumnCalls}
+use Rattle.stripe_reader.specs.Reading.{CellReading, NoBlock, tasks_at}
+use Rattle.stripe_reader.specs.Slot.{kept}
 use Rattle.stripe_reader.specs.Starts.{StartsFit, StartsValue}
 use Rattle.stripe_reader.specs.WindowValue.{WindowValue}
 use Rattle.snap_fix.specs.declared.beginning.Work.{Work}
 use Rattle.snap_fix.specs.declared.fixing.Totals.{Totals}
 use Rattle.snap_fix.specs.declared.state.FileState.{FileState}
 use Rattle.snap_fix.specs.Checking.{IsWorkFor, plan_for}
-use Rattle.snap_fix.specs.Facts.{StripeFacts}
+use Rattle.snap_fix.specs.Facts.{StripeFacts, slot_of}
 use Rattle.snap_fix.specs.FixRun.{AreAscending, BreaksFolders, BreaksInto, BreaksStripes, BreaksWindow, FixesAll, FixesInto, FixesStripes, FixesWindow, HasBroken, HasBrokenInto, KeepsFixWork, with_folders}
 use Rattle.snap_fix.specs.Fixing.{AreReadThen, AreTotals, FixScene, IsReadThen, SceneFits, facts_of, mended_at, no_mended}
 use Rattle.snap_fix.specs.Looking.{facts_at, no_facts, numbers_of, unread_cells}
 use Rattle.snap_fix.specs.Marks.{slots_at}
 use Rattle.snap_fix.specs.Mended.{Mended, all_mended_events}
 use Rattle.snap_fix.specs.Plan.{EntriesFit, FixPlan}
-use Rattle.snap_fix.specs.State.{AnyCall, WellCall, FolderMakes}
-use Rattle.snap_fix.specs.Underway.{AreFixable, AreUnderway, FixUnderway, IsMendCall}
+use Rattle.snap_fix.specs.Reads.{AreReadAhead, AreReadBy, FolderReads}
+use Rattle.snap_fix.specs.State.{AnyCall, FolderMakes, FolderMakesBy}
+use Rattle.snap_fix.specs.Underway.{AreFixable, AreStripeCalls, AreUnderway, FixUnderway, IsStripeCall}
 use Rattle.snap_fix.proofs.FixAllLemmas.{answered_then, asked_then, breaks_in_last, facts_append, facts_then, fixes_none, fixes_then, levels_then, precede, tells_first, tells_then, unread_then}
 use Rattle.snap_fix.proofs.FixCountLemmas.{count_append, io_in_cells}
 use Rattle.snap_fix.proofs.FixIntoLemmas.{count_first, folder_gained, vault_gained}
-use Rattle.snap_fix.proofs.FixReadLemmas.{cell_read, cells_unread, underway_read, window_makes}
-use Rattle.snap_fix.proofs.FolderCallLemmas.{makes_then}
-use Rattle.snap_fix.proofs.KeptStartsLemmas.{files_any, files_then}
+use Rattle.snap_fix.proofs.FixReadLemmas.{cell_read, cells_unread, near, slot_read, underway_read, window_makes, window_reads}
+use Rattle.snap_fix.proofs.KeptStartsLemmas.{files_any, files_then, well_then}
 use Rattle.snap_fix.proofs.MendedVaultLemmas.{Precede}
+use Rattle.snap_fix.proofs.ReadsLemmas.{ahead_then, all_looked, read_append, read_until, reads_on, reads_then, reads_wider, stripes_unread}
+use Rattle.snap_fix.proofs.StartsKeptLemmas.{keeps_starts_same}
 
 -- what follows of an answer, whichever it is
 pub if_ok : {T E : Type 0} (result : Result T E) (P Q : T → Type 0) → ((x : T) → P x → Q x) → IfOk result P → IfOk result Q
@@ -62,16 +67,17 @@ module _ {W R : Type 0} (view : W → SinkView) (standing : R → ReportView) (s
     read = λ firsts fixable is k below. absurd (omega (arith, below));
     unread = λ d below. omega arith;
     io = λ d below. omega arith;
+    reads = λ d below. stripes_unread plan s.starts d (folder_at s.folders d);
   }
 
   module _ (numbers : List ℕ) (before window : WindowValue) (mid : FixScene W R) (mids : List FolderView) (read : ReadsWindow plan.table mid.starts numbers before window mid.folders mids)
       (fits : SceneFits plan mid) where
     -- the calls of the reading
-    reads : (stripes : List Mended) (d : ℕ) → d < length plan.table.columns → FolderMakes (WellCall (IsMendCall plan mid.starts d stripes)) (folder_at mid.folders d) (folder_at mids d)
-    reads stripes d below = window_makes plan mid.starts numbers before window mid.folders mids read fits.folders stripes d below
+    reads : (d : ℕ) → d < length plan.table.columns → FolderMakesBy (AreStripeCalls plan mid.starts d []) (folder_at mid.folders d) (folder_at mids d)
+    reads d below = window_makes plan mid.starts numbers before window mid.folders mids read fits.folders d below
 
     told_as : (d : ℕ) → d < length plan.table.columns → (folder_at mids d).tells ≡ (folder_at mid.folders d).tells
-    told_as d below = (reads [] d below).goes_on.tells
+    told_as d below = (reads d below).goes_on.tells
 
     -- what was done after the window was read was done since before it
     since_read : (stripes : List Mended) (totals : Totals) (new : FixScene W R) → FixesAll view standing stands plan stripes (with_folders mid mids) new totals → FixesAll view standing stands plan stripes mid new totals
@@ -92,7 +98,7 @@ module _ {W R : Type 0} (view : W → SinkView) (standing : R → ReportView) (s
       holds = fixes.holds;
       parity_io = fixes.parity_io;
       spare = fixes.spare;
-      makes = λ d below. makes_then (WellCall (IsMendCall plan mid.starts d stripes)) (reads stripes d below) (fixes.makes d below);
+      makes = λ d below. well_then plan mid.starts mid.starts (keeps_starts_same mid.starts) d [] stripes (reads d below) (fixes.makes d below);
       underway = λ earlier firsts fixable is. fixes.underway earlier firsts fixable
           (underway_read plan mid.starts numbers before window mid.folders mids read fits.folders earlier firsts mid.starts mid.states is);
     }
@@ -156,6 +162,37 @@ module _ {W R : Type 0} (view : W → SinkView) (standing : R → ReportView) (s
               subst (λ (facts : StripeFacts). IsReadThen plan old.starts firsts (xs ++ ys) k facts) (facts_here k far)
               (read_now firsts (k - length xs) (omega (arith, below, far, length-append xs ys)) (so_far.fixes.underway [] firsts fixable start) k far)
 
+      -- the calls that read: those before the window, and then those of it
+      abbrev Before : ℕ → List FolderDone → Type 0
+      Before d = AreReadBy plan old.starts mid.starts d (facts_of xs)
+
+      abbrev seen_of : (d : ℕ) → d < length plan.table.columns → List CellReading
+      seen_of d below = (read.each d (near plan mid.starts numbers before window mid.folders mids read fits.folders d below)).readings
+
+      slots_seen : (d : ℕ) (below : d < length plan.table.columns) (k : ℕ) → k < length (facts_of ys) → slot_of (facts_at (facts_of ys) k) d ≡ kept plan.table.shape (get_or (seen_of d below) k NoBlock)
+      slots_seen d below k inside = slot_read plan mid.starts numbers before window mid.folders mids read fits.folders ys few slots k d
+          (omega (arith, inside, length-map ys (λ (it : Mended). it.facts))) below
+
+      ahead_of : (d : ℕ) (below : d < length plan.table.columns) (later : List ℕ) → FolderReads (AreReadAhead plan old.starts d (facts_of (xs ++ ys)) (behind ++ later)) (folder_at old.folders d) (folder_at mids d)
+      ahead_of d below later =
+          reads_then (Before d) (AreColumnCalls (tasks_at plan.table mid.starts d numbers) (seen_of d below)) (AreReadAhead plan old.starts d (facts_of (xs ++ ys)) (behind ++ later))
+          (λ first_calls more is are.
+          subst (λ (its : List StripeFacts). AreReadAhead plan old.starts d its (behind ++ later) (first_calls ++ more)) (sym (facts_append xs ys))
+          (ahead_then plan old.starts mid.starts d (facts_of xs) (facts_of ys) behind later (behind ++ later) (seen_of d below) first_calls more refl is
+          (subst (λ (ns : List ℕ). AreColumnCalls (tasks_at plan.table mid.starts d ns) (seen_of d below) more) numbers_are are) (slots_seen d below)))
+          (so_far.reads d below) (window_reads plan mid.starts numbers before window mid.folders mids read fits.folders ys few slots d below)
+
+      both_read : (d : ℕ) (below : d < length plan.table.columns) → behind ≡ [] → FolderReads (AreReadBy plan old.starts mid.starts d (facts_of (xs ++ ys))) (folder_at old.folders d) (folder_at mids d)
+      both_read d below none =
+          reads_then (Before d) (AreColumnCalls (tasks_at plan.table mid.starts d numbers) (seen_of d below)) (AreReadBy plan old.starts mid.starts d (facts_of (xs ++ ys)))
+          (λ first_calls more is are.
+          subst (λ (its : List StripeFacts). AreReadBy plan old.starts mid.starts d its (first_calls ++ more)) (sym (facts_append xs ys))
+          (read_append plan old.starts mid.starts mid.starts d (facts_of xs) (facts_of ys) first_calls more is
+          (all_looked plan mid.starts d (facts_of ys) (seen_of d below) more
+          (subst (λ (ns : List ℕ). AreColumnCalls (tasks_at plan.table mid.starts d ns) (seen_of d below) more)
+          (numbers_are ∙ ap (λ (its : List ℕ). numbers_of (facts_of ys) ++ its) none) are) (slots_seen d below))))
+          (so_far.reads d below) (window_reads plan mid.starts numbers before window mid.folders mids read fits.folders ys few slots d below)
+
       -- cells that were not read: those before the window, and those of it
       unread_both : (d : ℕ) → unread_cells d (facts_of (xs ++ ys)) ≡ unread_cells d (facts_of xs) + unread_cells d (facts_of ys)
       unread_both d = ap (unread_cells d) (facts_append xs ys) ∙ count_append _ (facts_of xs) (facts_of ys)
@@ -202,6 +239,10 @@ module _ {W R : Type 0} (view : W → SinkView) (standing : R → ReportView) (s
           fixes = fixes_then view standing stands plan xs ys one two both old mid new
               (precede xs ys (ascend first one old so_far ys [] all_here into.slots items done count ascending refl numbers_is)) and so_far.fixes (since_read ys two new into.fixes);
           read = read_more first one old so_far ys [] all_here into.slots;
+          reads = λ d below.
+              reads_wider (AreReadBy plan old.starts mid.starts d (facts_of (xs ++ ys))) (AreReadBy plan old.starts new.starts d (facts_of (xs ++ ys)))
+              (λ done is. read_until plan old.starts mid.starts new.starts d (facts_of (xs ++ ys)) done into.fixes.stood is)
+              (reads_on (AreReadBy plan old.starts mid.starts d (facts_of (xs ++ ys))) (both_read first one old so_far ys [] all_here into.slots d below refl) (into.quiet d below));
           unread = unread;
           io = λ d below. let few = io_in_cells plan d (xs ++ ys) in let rose = unread d below in omega (arith, few, rose);
         }
@@ -217,14 +258,14 @@ module _ {W R : Type 0} (view : W → SinkView) (standing : R → ReportView) (s
         stood = into.makes.stood;
         states = into.makes.states;
         mids = into.makes.mids;
-        makes = λ d below. makes_then (WellCall (IsMendCall plan mid.starts d into.earlier)) (reads into.earlier d below) (into.makes.makes d below);
+        makes = λ d below. well_then plan mid.starts mid.starts (keeps_starts_same mid.starts) d [] into.earlier (reads d below) (into.makes.makes d below);
         underway = λ earlier firsts fixable is. into.makes.underway earlier firsts fixable
             (underway_read plan mid.starts numbers before window mid.folders mids read fits.folders earlier firsts mid.starts mid.states is);
         breaks = into.makes.breaks;
       }
 
       abbrev Since : ℕ → FolderCall → Type 0
-      Since d = IsMendCall plan mid.starts d (into.earlier ++ into.last ∷ [])
+      Since d = IsStripeCall plan mid.starts d (into.earlier ++ into.last ∷ [])
 
       since_any : (d : ℕ) → d < length plan.table.columns → FolderMakes (AnyCall (Since d)) (folder_at mid.folders d) (folder_at new.folders d)
       since_any = files_any plan fault mid.starts mid.states into.earlier into.last mid.folders new.folders since
@@ -251,10 +292,8 @@ module _ {W R : Type 0} (view : W → SinkView) (standing : R → ReportView) (s
               let before = unread_since first one old so_far into.stripes into.behind into.numbers_are into.slots disk (folder_at mids disk).faults within (omega arith) in
               let rose = broke.rose in
               omega (arith, counted, told, xs_few, ys_few, both, before, rose);
-          call = folder_gained (WellCall (IsMendCall plan old.starts disk so_far.stripes)) (AnyCall (Since disk))
-              (folder_at old.folders disk) (folder_at mid.folders disk) (folder_at new.folders disk) (so_far.fixes.makes disk within) (since_any disk within)
-              (folder_gained (WellCall (IsMendCall plan mid.starts disk into.stripes)) (AnyCall (Since disk))
-              (folder_at mid.folders disk) (folder_at mids disk) (folder_at new.folders disk) (reads into.stripes disk within) (into_any disk within) broke.call);
+          call = folder_gained (folder_at old.folders disk) (folder_at mid.folders disk) (folder_at new.folders disk) (so_far.fixes.makes disk within).goes_on (since_any disk within).goes_on
+              (folder_gained (folder_at mid.folders disk) (folder_at mids disk) (folder_at new.folders disk) (reads disk within).goes_on (into_any disk within).goes_on broke.call);
         },
       )
       broke_then Vault broke = record {
@@ -294,6 +333,9 @@ module _ {W R : Type 0} (view : W → SinkView) (standing : R → ReportView) (s
             folders = into.folders ∙ read.folders ∙ so_far.fixes.fits.folders ∙ sym fits_old.folders;
             answered = answered_then plan xs ys old.folders mids (λ d below. told_as d below ∙ (so_far.fixes.makes d below).goes_on.tells) so_far.fixes.answered into.answered;
             cells = read_more first one old so_far ys into.behind into.numbers_are into.slots;
+            reads = λ d below.
+                reads_on (AreReadAhead plan old.starts d (facts_of (xs ++ ys)) (into.behind ++ left))
+                (ahead_of first one old so_far ys into.behind into.numbers_are into.slots d below left) (into.quiet d below);
             readings = so_far.fixes.readings ++ into.readings;
             read = levels_then plan xs ys old.vault mid.vault so_far.fixes.readings into.readings so_far.fixes.vault before so_far.fixes.read into.read;
             ran = breaks_in_last fault plan into.level xs into.earlier into.last so_far.fixes.readings into.readings old.vault mid.vault new.vault before_last

@@ -15,7 +15,6 @@ use Rattle.snap_fix.specs.Looking.{unread_in}
 use Rattle.snap_fix.specs.Mended.{Mended}
 use Rattle.snap_fix.specs.Plan.{FixPlan}
 use Rattle.snap_fix.specs.Underway.{AddsZeros, HoldsWrong, IsMendedLevel, KeepsLevels, done_well, mend_calls}
-use Rattle.snap_fix.proofs.EndingSyncLemmas.{syncs_go_on}
 
 -- ---- what stays of what was done
 
@@ -101,7 +100,7 @@ module _ (plan : FixPlan) (stripes : List Mended) (readings : List (List LevelRe
   -- all calls were made
   pub fixes_ran : GoesOn old mid (mend_calls plan facts readings) → GoesOn old new (fix_calls plan stripes readings)
   fixes_ran ran = subst (λ (calls : List VaultCall). GoesOn old new (mend_calls plan facts readings ++ done_well calls)) (syncs_are plan stripes levels long flags)
-      (calls_on old mid new (mend_calls plan facts readings) (done_well (written_syncs levels)) ran (syncs_go_on (written_syncs levels) mid new synced.syncs))
+      (calls_on old mid new (mend_calls plan facts readings) (done_well (written_syncs levels)) ran synced.syncs.ran)
 
   -- The levels that were written anew are synced.
   pub fixes_vault : IsWellFormed new → GoesOn old mid (mend_calls plan facts readings) → RoseBy (unread_in readings) old.faults mid.faults → MendsVault plan facts old mid

@@ -2,7 +2,6 @@
 use Rattle.std.proofs.Common.{◌≡◌, ℕ, ◌<◌, ◌≤◌, ◌^◌, List, [], ◌∷◌, ◌++◌, length, Bool, refl, sym, ap, ◌∙◌, subst, append_assoc, arith}
 use Rattle.std.specs.Vec.{with_items}
 use Rattle.std.proofs.lemmas.List.{with_items_is}
-use Rattle.disk_model.specs.Folder.{FolderCall}
 use Rattle.disk_model.specs.Sink.{SinkView}
 use Rattle.disk_model.specs.Vault.{VaultView, GoesOn}
 use Rattle.snap_report.specs.Report.{ReportView}
@@ -11,7 +10,6 @@ use Rattle.snap_report.specs.declared.answer.RunFault.TheVariants as fault
 use Rattle.snap_report.specs.declared.events.Event.{Event}
 use Rattle.snap_report.specs.declared.pages.Lines.{Lines}
 use Rattle.snap_report.proofs.ToldLemmas.{told_then}
-use Rattle.stripe_reader.specs.Columns.{folder_at}
 use Rattle.stripe_reader.specs.WindowValue.{WindowValue}
 use Rattle.snap_fix.specs.declared.fixing.Totals.{Totals}
 use Rattle.snap_fix.specs.declared.marking.CellMark.{CellMark}
@@ -33,8 +31,8 @@ use Rattle.snap_fix.specs.Room.{IsRoomFor}
 use Rattle.snap_fix.specs.Spare.{IsSpareFor}
 use Rattle.snap_fix.specs.Underway.{IsMendCall, ShowsFacts, stripe_reads}
 use Rattle.snap_fix.proofs.FixedCountLemmas.{totals_of, writes_one}
-use Rattle.snap_fix.proofs.FixedVaultLemmas.{call_as, fails_stripe, mends_vault, mends_zeros, ran_stripe, read_broke, reading_calls, reads_mend, reads_stripe, vault_broke, well_makes_as, were_read}
-use Rattle.snap_fix.proofs.FolderFailsLemmas.{fails_gained, in_column_wider}
+use Rattle.snap_fix.proofs.FixedVaultLemmas.{fails_stripe, mends_vault, mends_zeros, ran_stripe, read_broke, reading_calls, reads_mend, reads_stripe, vault_broke, were_read}
+use Rattle.snap_fix.proofs.FolderFailsLemmas.{fails_gained}
 use Rattle.snap_fix.proofs.MendedCounts.{events_split}
 use Rattle.snap_fix.proofs.TellingLemmas.{events_to}
 use Rattle.snap_fix.proofs.WindowLemmas.{length_tried, levels_one}
@@ -149,7 +147,7 @@ module _ {W R : Type 0} (view : W → SinkView) (standing : R → ReportView) (s
           zeros = mends_zeros plan facts (is_searched plan stripe) stripe mid.levels old.vault vault new.vault reads parity.zeros;
           holds = parity.holds;
           spare = asks;
-          makes = λ d within. well_makes_as plan old.starts d facts [] files.answers (folder_at old.folders d) (folder_at new.folders d) (files.makes facts refl shown d within);
+          makes = files.makes facts refl shown;
           underway = files.underway facts refl shown;
         }
 
@@ -188,8 +186,7 @@ module _ {W R : Type 0} (view : W → SinkView) (standing : R → ReportView) (s
             starts = new.starts;
             states = new.states;
             stood = files.stood;
-            makes = λ d within. well_makes_as plan old.starts d facts [] files.answers
-                (folder_at old.folders d) (folder_at new.folders d) (files.makes facts refl shown d within);
+            makes = files.makes facts refl shown;
             underway = files.underway facts refl shown;
           };
           broke = vault_broke plan facts (is_searched plan stripe) stripe mid.levels old.vault vault new.vault reads _ parity.calls
@@ -204,13 +201,12 @@ module _ {W R : Type 0} (view : W → SinkView) (standing : R → ReportView) (s
       → AsksSpare plan (facts ∷ []) old.spare new.spare
       → BreaksStripe view standing stands plan stripe i before old new (fault.Folder disk)
   folder_failed new disk same files asks =
-      let part = files.events facts refl shown in
+      let part = files.broke facts refl shown in
       let answers : List Bool = part.0 in
       let cells_to : List Event = events_to (cell_news plan (record { facts = facts; answers = answers })) disk in
       let levels : List Event = all_level_news plan facts in
       let then_read : ReadsAlone new.vault = subst ReadsAlone (sym same) read_alone in
-      let Call : List Bool → ℕ → FolderCall → Type 0 = λ its d. IsMendCall plan old.starts d (record { facts = facts; answers = its } ∷ []) in
-      let fails = files.fails facts refl shown in
+      let fails = part.3 in
       let within = fails.within in
       let split = events_split (cell_news plan (record { facts = facts; answers = answers })) disk
       (length plan.table.columns) (omega (arith, within)) in
@@ -236,6 +232,6 @@ module _ {W R : Type 0} (view : W → SinkView) (standing : R → ReportView) (s
         read = then_read.read;
         ran = then_read.ran;
         vault = subst (MendsVault plan [] old.vault) (sym same) (reads_mend plan [] (is_searched plan stripe) stripe mid.levels old.vault vault reads);
-        makes = in_column_wider disk (length plan.table.columns) (Call []) old.folders new.folders fails (Call answers) (λ d. call_as plan old.starts d facts [] answers);
-        broke = (fails.within, record { rose = fails.here.rose; call = fails_gained (Call [] disk) fails.here });
+        makes = fails;
+        broke = (fails.within, record { rose = fails.here.rose; call = fails_gained (IsMendCall plan old.starts disk (record { facts = facts; answers = answers } ∷ [])) fails.here });
       }

@@ -1,31 +1,23 @@
 -- What is done to the vault and to folders in a stripe that is written anew: its levels are read, and then the wrong ones written.
-use Rattle.std.proofs.Common.{◌≡◌, ℕ, zero, suc, ◌+◌, ◌≤◌, ◌||◌, count_by, List, [], ◌∷◌, ◌++◌, Bool, true, false, IsTrue, refl, sym, ap, ◌∙◌, subst, append_assoc, arith}
-use Rattle.std.specs.Prelude.{Contains}
+use Rattle.std.proofs.Common.{◌≡◌, ℕ, ◌+◌, ◌≤◌, ◌||◌, count_by, List, [], ◌∷◌, ◌++◌, Bool, true, false, IsTrue, ap, ◌∙◌, subst, append_assoc, arith}
 use Rattle.std.specs.List.{list_any}
 use Rattle.std.proofs.lemmas.List.{append-nil}
 use Rattle.disk_model.specs.Cause.{Rose, RoseBy}
 use Rattle.disk_model.specs.Files.{Files, Stays}
-use Rattle.disk_model.specs.Folder.{FolderView, FolderCall, ListFiles, Look, ReadAt, Make, WriteAt, SetSize, SetStamp, Rename}
 use Rattle.disk_model.specs.Vault.{VaultView, VaultDone, GoesOn, SomeCalls, ChangesBy, DraftsStay}
 use Rattle.disk_model.proofs.VaultLemmas.{calls_then, changes_start, stays_then}
 use Rattle.parity_writer.specs.LevelReading.{LevelReading, calls_of, has_failed}
 use Rattle.parity_writer.specs.LevelsValue.{LevelsValue}
 use Rattle.snap_report.specs.Answer.{Gained}
-use Rattle.stripe_reader.specs.Starts.{StartsValue}
-use Rattle.stripe_reader.specs.declared.starts.Place.{Place}
-use Rattle.stripe_reader.specs.declared.starts.Place.TheVariants.{Lost, Nowhere}
 use Rattle.snap_fix.specs.Breaking.{broke_parity}
 use Rattle.snap_fix.specs.BrokenStripe.{FailsAtLevel}
 use Rattle.snap_fix.specs.Examining.{ReadsTried}
 use Rattle.snap_fix.specs.Facts.{StripeFacts}
 use Rattle.snap_fix.specs.Fixing.{LevelsWereRead, MendsVault, VaultBroke}
 use Rattle.snap_fix.specs.Looking.{AreAllLevelsOf, LevelsAreRead, level_reads, unread_in}
-use Rattle.snap_fix.specs.Mended.{Mended}
 use Rattle.snap_fix.specs.Plan.{FixPlan}
-use Rattle.snap_fix.specs.State.{WellCall, FolderMakes}
-use Rattle.snap_fix.specs.Underway.{AddsZeros, IsMendCall, IsMendedLevel, KeepsLevels, SetsUpCell, SetsUpOneOf, WritesCell, done_well, stripe_calls, stripe_reads, wrong_writes}
+use Rattle.snap_fix.specs.Underway.{AddsZeros, IsMendedLevel, KeepsLevels, done_well, stripe_calls, stripe_reads, wrong_writes}
 use Rattle.snap_fix.proofs.BreakingLemmas.{level_after}
-use Rattle.snap_fix.proofs.FolderCallLemmas.{makes_wider, well_wider}
 use Rattle.snap_fix.proofs.LookingLemmas.{vault_goes_on}
 use Rattle.snap_fix.proofs.WrittenLevelLemmas.{keeps_nothing}
 
@@ -175,44 +167,3 @@ module _ (plan : FixPlan) (facts : StripeFacts) (searched : Bool) (stripe : ℕ)
       any_later : (front back : List VaultDone) → IsTrue (list_any broke_parity back) → IsTrue (list_any broke_parity (front ++ back))
       any_later [] back one = one
       any_later (done ∷ front) back one = or_right (broke_parity done) (list_any broke_parity (front ++ back)) (any_later front back one)
-
--- ---- the calls of a folder, whatever is said of the files that were gone
-
--- the one stripe has these facts
-facts_are : (facts : StripeFacts) (answers : List Bool) (mended : Mended) → Contains (record { facts = facts; answers = answers } ∷ []) mended → facts ≡ mended.facts
-facts_are facts answers mended (zero, within, same) = ap (λ (it : Mended). it.facts) same
-facts_are facts answers mended (suc k, within, same) = absurd (omega (arith, within))
-
-sets_up_as : (plan : FixPlan) (starts : StartsValue) (d : ℕ) (facts : StripeFacts) (one other : List Bool) (place : Place) (path : List ℕ)
-    → SetsUpOneOf plan starts d (record { facts = facts; answers = one } ∷ []) place path
-    → SetsUpOneOf plan starts d (record { facts = facts; answers = other } ∷ []) place path
-sets_up_as plan starts d facts one other place path is = record {
-  mended = record { facts = facts; answers = other };
-  is_one = (0, omega arith, refl);
-  sets_up = subst (λ (its : StripeFacts). SetsUpCell plan starts d its place path) (sym (facts_are facts one is.mended is.is_one)) is.sets_up;
-}
-
-pub call_as : (plan : FixPlan) (starts : StartsValue) (d : ℕ) (facts : StripeFacts) (one other : List Bool) (call : FolderCall)
-    → IsMendCall plan starts d (record { facts = facts; answers = one } ∷ []) call → IsMendCall plan starts d (record { facts = facts; answers = other } ∷ []) call
-call_as plan starts d facts one other ListFiles is = is
-call_as plan starts d facts one other (Look path lost) is = tt
-call_as plan starts d facts one other (ReadAt path lost at n) is = tt
-call_as plan starts d facts one other (Make path) is = sets_up_as plan starts d facts one other Nowhere path is
-call_as plan starts d facts one other (WriteAt path at bytes) is = record {
-  mended = record { facts = facts; answers = other };
-  is_one = (0, omega arith, refl);
-  writes = subst (λ (its : StripeFacts). WritesCell plan d its path at bytes) (sym (facts_are facts one is.mended is.is_one)) is.writes;
-}
-call_as plan starts d facts one other (SetSize path size) is = is
-call_as plan starts d facts one other (SetStamp path stamp) is = is
-call_as plan starts d facts one other (Rename path true) is = is
-call_as plan starts d facts one other (Rename path false) is = sets_up_as plan starts d facts one other Lost path is
-
-module _ (plan : FixPlan) (starts : StartsValue) (d : ℕ) (facts : StripeFacts) (one other : List Bool) where
-  -- the calls of the stripe, by these answers
-  abbrev CallBy : List Bool → FolderCall → Type 0
-  CallBy answers = IsMendCall plan starts d (record { facts = facts; answers = answers } ∷ [])
-
-  pub well_makes_as : (old new : FolderView) → FolderMakes (WellCall (CallBy one)) old new → FolderMakes (WellCall (CallBy other)) old new
-  well_makes_as old new makes =
-      makes_wider (WellCall (CallBy one)) (WellCall (CallBy other)) (well_wider (CallBy one) (CallBy other) (call_as plan starts d facts one other)) makes

@@ -4,6 +4,7 @@ use Rattle.std.specs.List.{list_any}
 use Rattle.std.proofs.lemmas.Bool.{cases_lt}
 use Rattle.std.proofs.lemmas.List.Elements.{All-append, All-cons, All-nil}
 use Rattle.disk_model.specs.Folder.{FolderView, FolderCall, FolderDone, IsFolder}
+use Rattle.disk_model.specs.declared.answer.Answer.TheVariants.{Failed}
 use Rattle.disk_model.specs.Stopped.{MayBeLeft}
 use Rattle.disk_model.specs.Writing.{IsFolderWrite}
 use Rattle.disk_model.proofs.AnsweredLemmas.{write_is_left, left_then, left_is_tree}
@@ -12,18 +13,18 @@ use Rattle.stripe_reader.specs.Columns.{folder_at}
 use Rattle.stripe_reader.proofs.FolderLemmas.{goes_on_then}
 use Rattle.snap_fix.specs.Breaking.{FailsInColumn, FolderFails}
 use Rattle.snap_fix.specs.State.{AnyCall, WellCall, FolderMakes}
-use Rattle.snap_fix.proofs.FolderCallLemmas.{makes_any, makes_none, makes_well_wider, well_wider}
+use Rattle.snap_fix.proofs.FolderCallLemmas.{makes_any, makes_each, makes_none, well_wider}
 
 -- ---- of one folder
 
 -- one call failed
-pub fails_one : (P : FolderCall → Type 0) (call : FolderCall) (old new : FolderView) → P call → is_reading call ≡ false → IsFolder new → IsFolderWrite call true old new → FolderFails P old new
+pub fails_one : (P : FolderCall → Type 0) (call : FolderCall) (old new : FolderView) → P call → is_reading call ≡ false → IsFolder new → IsFolderWrite call Failed old new → FolderFails P old new
 fails_one P call old new is writes formed wrote = record {
   rose = wrote.called.cause cc;
-  done = record { call = call; failed = true } ∷ [];
+  done = record { call = call; answer = Failed } ∷ [];
   fails = record { front = []; each = All-nil (WellCall P); call = call; is = is; writes = writes; done_is = refl };
   goes_on = wrote.called.goes_on;
-  left = λ told tree. write_is_left call true old new told formed wrote;
+  left = λ told tree. write_is_left call Failed old new told formed wrote;
 }
 
 -- after others that went well
@@ -39,7 +40,7 @@ fails_then P old mid new one two =
         call = last.call;
         is = last.is;
         writes = last.writes;
-        done_is = ap (λ (calls : List FolderDone). one.done ++ calls) last.done_is ∙ sym (append_assoc one.done last.front (record { call = last.call; failed = true } ∷ []));
+        done_is = ap (λ (calls : List FolderDone). one.done ++ calls) last.done_is ∙ sym (append_assoc one.done last.front (record { call = last.call; answer = Failed } ∷ []));
       };
       goes_on = goes_on_then old mid new one.done two.done one.goes_on two.goes_on;
       left = λ told is.
@@ -74,19 +75,19 @@ fails_any P one =
     record {
       done = one.done;
       each = subst (All (AnyCall P)) (sym last.done_is)
-          (All-append (AnyCall P) last.front (record { call = last.call; failed = true } ∷ []) (λ k none within. (last.each k none within).0)
-          (All-cons (AnyCall P) (record { call = last.call; failed = true }) [] last.is (All-nil (AnyCall P))));
+          (All-append (AnyCall P) last.front (record { call = last.call; answer = Failed } ∷ []) (λ k none within. (last.each k none within).0)
+          (All-cons (AnyCall P) (record { call = last.call; answer = Failed }) [] last.is (All-nil (AnyCall P))));
       goes_on = one.goes_on;
       left = one.left;
     }
 
-any_last : (front : List FolderDone) (call : FolderCall) → is_reading call ≡ false → IsTrue (list_any broke_folder (front ++ record { call = call; failed = true } ∷ []))
-any_last [] call writes = or_left (broke_folder (record { call = call; failed = true })) false (ap (λ (reads : Bool). cond reads false true) writes)
+any_last : (front : List FolderDone) (call : FolderCall) → is_reading call ≡ false → IsTrue (list_any broke_folder (front ++ record { call = call; answer = Failed } ∷ []))
+any_last [] call writes = or_left (broke_folder (record { call = call; answer = Failed })) false (ap (λ (reads : Bool). cond reads false true) writes)
   where
     or_left : (a b : Bool) → a ≡ true → IsTrue (a || b)
     or_left true b is = cc
     or_left false b is = absurd cc
-any_last (done ∷ front) call writes = or_right (broke_folder done) (list_any broke_folder (front ++ record { call = call; failed = true } ∷ [])) (any_last front call writes)
+any_last (done ∷ front) call writes = or_right (broke_folder done) (list_any broke_folder (front ++ record { call = call; answer = Failed } ∷ [])) (any_last front call writes)
   where
     or_right : (a b : Bool) → IsTrue b → IsTrue (a || b)
     or_right true b is = cc
@@ -102,18 +103,12 @@ fails_gained P one tells = record {
 
 -- ---- of the folders of all columns
 
-module _ (disk columns : ℕ) (P : ℕ → FolderCall → Type 0) (olds news : List FolderView) (one : FailsInColumn disk columns P olds news) where
-  pub in_column_wider : (Q : ℕ → FolderCall → Type 0) → ((d : ℕ) (call : FolderCall) → P d call → Q d call) → FailsInColumn disk columns Q olds news
-  in_column_wider Q wider = record {
-    within = one.within;
-    before = λ d near. makes_well_wider (P d) (Q d) (wider d) (one.before d near);
-    here = fails_wider (P disk) (Q disk) (wider disk) one.here;
-    behind = one.behind;
-  }
-
-  pub in_column_any : (d : ℕ) → d < columns → FolderMakes (AnyCall (P d)) (folder_at olds d) (folder_at news d)
-  in_column_any d below = elim (cases_lt d disk) [
-    | inl near ↦ makes_any (P d) (one.before d near)
+module _ (disk columns : ℕ) (Before : ℕ → List FolderDone → Type 0) (P : ℕ → FolderCall → Type 0) (olds news : List FolderView)
+    (one : FailsInColumn disk columns Before P olds news) where
+  pub in_column_any : ((d : ℕ) (done : List FolderDone) → Before d done → All (WellCall (P d)) done) → (d : ℕ) → d < columns
+      → FolderMakes (AnyCall (P d)) (folder_at olds d) (folder_at news d)
+  in_column_any well d below = elim (cases_lt d disk) [
+    | inl near ↦ makes_any (P d) (makes_each (Before d) (WellCall (P d)) (well d) (one.before d near))
     | inr from ↦ elim (cases_lt disk d) [
       | inl past ↦ subst (FolderMakes (AnyCall (P d)) (folder_at olds d)) (sym (one.behind d past below)) (makes_none (AnyCall (P d)) (folder_at olds d))
       | inr not_past ↦

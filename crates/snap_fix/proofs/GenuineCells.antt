@@ -51,12 +51,12 @@ fetched_long : (stood : Place) (size : ℕ) (path : List ℕ) (at n : ℕ) (seen
 fetched_long place.Nowhere size path at n seen bytes by = let clash : Whole seen bytes ≡ Nowhere = by in absurd cc
 fetched_long place.Plain size path at n seen bytes by =
     (elim (nat_le (at + n) size) as (λ (b : Bool). IsReadingBy (if b then Fetch path false at n else Known Beyond) (Whole seen bytes) → length bytes ≡ n) [
-      | true ↦ λ is. is
+      | true ↦ λ is. is.size
       | false ↦ λ is. let clash : Whole seen bytes ≡ Beyond = is in absurd cc
     ]) by
 fetched_long place.Lost size path at n seen bytes by =
     (elim (nat_le (at + n) size) as (λ (b : Bool). IsReadingBy (if b then Fetch path true at n else Known Beyond) (Whole seen bytes) → length bytes ≡ n) [
-      | true ↦ λ is. is
+      | true ↦ λ is. is.size
       | false ↦ λ is. let clash : Whole seen bytes ≡ Beyond = is in absurd cc
     ]) by
 

@@ -3,7 +3,10 @@ use Rattle.std.proofs.Common.{◌≡◌, inl, inr, ℕ, ◌+◌, max, List, [], 
 use Rattle.std.proofs.lemmas.List.{append-nil}
 use Rattle.std.specs.Prelude.{IfErr}
 use Rattle.std.specs.Result.{IsErrAnd}
-use Rattle.disk_model.specs.Folder.{FolderView, FolderCall, Make, WriteAt, Rename, IsFolder, MissingExactly, file_failed}
+use Rattle.disk_model.specs.Answer.{done_answer}
+use Rattle.disk_model.specs.Folder.{FolderView, FolderCall, Make, WriteAt, Rename, IsFolder, MissingExactly}
+use Rattle.disk_model.specs.declared.answer.Answer.TheVariants as answers
+use Rattle.disk_model.specs.declared.answer.Answer.TheVariants.{Done}
 use Rattle.disk_model.specs.Tree.{Tree, file_of, path_of}
 use Rattle.disk_model.specs.Writing.{IsFolderWrite}
 use Rattle.disk_model.specs.declared.fault.FileFault.{FileFault}
@@ -15,8 +18,8 @@ use Rattle.stripe_reader.specs.declared.starts.Place.TheVariants.{Lost, Nowhere}
 use Rattle.snap_fix.specs.declared.state.FileState.{FileState}
 use Rattle.snap_fix.specs.Mending.{IsSetUpCall, IsBlockCall, CanSetUp, GoesOnBy, SetsUp, WritesBytes, EndsBy}
 use Rattle.snap_fix.specs.Order.{FolderWrites, put_calls, set_up_calls}
-use Rattle.snap_fix.specs.State.{WellCall, Write, FolderMakes, HoldsRecord, StaysPlace, stands}
-use Rattle.snap_fix.proofs.FolderCallLemmas.{makes_none, makes_then, makes_well_write, makes_well_wider, others_same, others_then, others_changed, others_made, others_renamed}
+use Rattle.snap_fix.specs.State.{Write, HoldsRecord, StaysPlace, StepMakes, stands}
+use Rattle.snap_fix.proofs.FolderCallLemmas.{others_same, others_then, others_changed, others_made, others_renamed, step_makes, step_none, step_then, step_wider, step_write}
 use Rattle.snap_fix.proofs.FolderFailsLemmas.{fails_one, fails_then}
 use Rattle.snap_fix.proofs.MendedRecordLemmas.{plain_start, touched_state, written_state, lost_there, plain_there, renamed_back, made_anew, written_more}
 use Rattle.snap_fix.proofs.OrderLemmas.{writes_none, writes_one, writes_then}
@@ -32,9 +35,9 @@ not_told false none = refl
 
 module _ (path : List ℕ) (start : Start) (state : FileState) (old : FolderView) where
   -- nothing was done
-  pub goes_nowhere : (P : FolderCall → Type 0) → GoesOnBy P [] path start state old start state old
+  pub goes_nowhere : (P : FolderCall → Type 0) → GoesOnBy P false [] path start state old start state old
   goes_nowhere P = record {
-    makes = makes_none (WellCall P) old;
+    makes = step_none P old;
     same_size = refl;
     stood = inl refl;
     size = refl;
@@ -52,11 +55,11 @@ module _ (path : List ℕ) (start : Start) (state : FileState) (old : FolderView
   }
 
   -- renamed back
-  pub sets_up_renamed : (new : FolderView) → IsFolder new → start.place ≡ Lost → IsFolderWrite (Rename path false) false old new
+  pub sets_up_renamed : (new : FolderView) → IsFolder new → start.place ≡ Lost → IsFolderWrite (Rename path false) Done old new
       → SetsUp path start state old (plain_start start) (touched_state state) new
   sets_up_renamed new formed lost call = record {
     goes_on = record {
-      makes = makes_well_write (IsSetUpCall start.place path) formed call (inl (lost, refl));
+      makes = step_write (IsSetUpCall start.place path) false formed call refl refl (inl (lost, refl));
       same_size = refl;
       stood = inr (lost, refl);
       size = refl;
@@ -71,11 +74,11 @@ module _ (path : List ℕ) (start : Start) (state : FileState) (old : FolderView
   }
 
   -- made
-  pub sets_up_made : (new : FolderView) → IsFolder new → start.place ≡ Nowhere → state.touched ≡ false → IsFolderWrite (Make path) false old new
+  pub sets_up_made : (new : FolderView) → IsFolder new → start.place ≡ Nowhere → state.touched ≡ false → IsFolderWrite (Make path) Done old new
       → SetsUp path start state old start (touched_state state) new
   sets_up_made new formed nowhere untouched call = record {
     goes_on = record {
-      makes = makes_well_write (IsSetUpCall start.place path) formed call (inr (nowhere, refl));
+      makes = step_write (IsSetUpCall start.place path) false formed call refl refl (inr (nowhere, refl));
       same_size = refl;
       stood = inl refl;
       size = refl;
@@ -91,9 +94,9 @@ module _ (path : List ℕ) (start : Start) (state : FileState) (old : FolderView
   }
 
   -- nothing is known of the files
-  pub goes_untold : (P : FolderCall → Type 0) (start_new : Start) (state_new : FileState) (new : FolderView) → old.tells ≡ false → FolderMakes (WellCall P) old new
+  pub goes_untold : (P : FolderCall → Type 0) (start_new : Start) (state_new : FileState) (new : FolderView) → old.tells ≡ false → StepMakes P true old new
       → start_new.size ≡ start.size → StaysPlace start.place start_new.place → state_new.size ≡ state.size → state_new.lost ≡ state.lost → (state.touched ≡ true → state_new.touched ≡ true)
-      → GoesOnBy P [] path start state old start_new state_new new
+      → GoesOnBy P true [] path start state old start_new state_new new
   goes_untold P start_new state_new new untold makes size stood state_size lost stays = record {
     makes = makes;
     same_size = size;
@@ -112,26 +115,26 @@ module _ (path : List ℕ) (start : Start) (state : FileState) (old : FolderView
 
 module _ (path : List ℕ) (start : Start) (state : FileState) (old : FolderView) (can : CanSetUp path start state old) where
   -- the file under the other name was gone, or renaming it failed
-  pub rename_ends : (fault : FileFault) (new : FolderView) → IsFolder new → start.place ≡ Lost → IsFolderWrite (Rename path false) (file_failed {T = Unit {0}} (Err fault)) old new
+  pub rename_ends : (fault : FileFault) (new : FolderView) → IsFolder new → start.place ≡ Lost → IsFolderWrite (Rename path false) (done_answer {T = Unit {0}} (Err fault)) old new
       → MissingExactly {T = Unit {0}} (Err fault) old (path_of path true) → EndsBy fault (IsSetUpCall start.place path) path start state old start state new
   rename_ends Failed new formed lost call missing = fails_one (IsSetUpCall start.place path) (Rename path false) old new (inl (lost, refl)) refl formed call
   rename_ends Missing new formed lost call missing =
       let untold = not_told old.tells (λ told. let far = can.so_far told in lost_there start state far.writes path far.first old.tree far.holds lost (missing told)) in
       record {
         untold = untold;
-        goes_on = goes_untold path start state old (IsSetUpCall start.place path) start state new untold (makes_well_write (IsSetUpCall start.place path) formed call (inl (lost, refl))) refl (inl refl) refl refl (λ touched. touched);
+        goes_on = goes_untold path start state old (IsSetUpCall start.place path) start state new untold (step_write (IsSetUpCall start.place path) true formed call refl refl (inl (lost, refl))) refl (inl refl) refl refl (λ touched. touched);
       }
 
   -- making it failed
-  pub make_fails : (new : FolderView) → IsFolder new → start.place ≡ Nowhere → IsFolderWrite (Make path) true old new → EndsBy Failed (IsSetUpCall start.place path) path start state old start state new
+  pub make_fails : (new : FolderView) → IsFolder new → start.place ≡ Nowhere → IsFolderWrite (Make path) answers.Failed old new → EndsBy Failed (IsSetUpCall start.place path) path start state old start state new
   make_fails new formed nowhere call = fails_one (IsSetUpCall start.place path) (Make path) old new (inr (nowhere, refl)) refl formed call
 
   module _ (start_mid : Start) (state_mid : FileState) (mid : FolderView) (set : SetsUp path start state old start_mid state_mid mid) (at : ℕ) (bytes : List ℕ) where
     abbrev Block : FolderCall → Type 0
     Block = IsBlockCall start.place path at bytes
 
-    set_makes : FolderMakes (WellCall Block) old mid
-    set_makes = makes_well_wider (IsSetUpCall start.place path) Block (λ call is. inr is) set.goes_on.makes
+    set_makes : StepMakes Block false old mid
+    set_makes = step_wider (IsSetUpCall start.place path) Block false (λ call is. inr is) set.goes_on.makes
 
     set_holds : IsTrue old.tells → (first : Tree) (writes : List Write) → HoldsRecord start state writes path first old.tree → HoldsRecord start_mid state_mid writes path first mid.tree
     set_holds told first writes held = subst (λ (ws : List Write). HoldsRecord start_mid state_mid ws path first mid.tree) (append-nil writes) (set.goes_on.holds told first writes held)
@@ -143,11 +146,11 @@ module _ (path : List ℕ) (start : Start) (state : FileState) (old : FolderView
     told_before told = subst IsTrue set.goes_on.makes.goes_on.tells told
 
     -- written
-    pub writes_bytes : (new : FolderView) → IsFolder new → IsFolderWrite (WriteAt path at bytes) false mid new
+    pub writes_bytes : (new : FolderView) → IsFolder new → IsFolderWrite (WriteAt path at bytes) Done mid new
         → WritesBytes path at bytes start state old start_mid (written_state state_mid (at + length bytes)) new
     writes_bytes new formed call = record {
       goes_on = record {
-        makes = makes_then (WellCall Block) set_makes (makes_well_write Block formed call (inl refl));
+        makes = step_then Block false set_makes (step_write Block false formed call refl refl (inl refl));
         same_size = set.goes_on.same_size;
         stood = set.goes_on.stood;
         size = ap (λ (n : ℕ). max n (at + length bytes)) set.goes_on.size;
@@ -162,12 +165,12 @@ module _ (path : List ℕ) (start : Start) (state : FileState) (old : FolderView
     }
 
     -- the file was gone, or the write failed
-    pub write_ends : (fault : FileFault) (new : FolderView) → IsFolder new → IsFolderWrite (WriteAt path at bytes) (file_failed {T = Unit {0}} (Err fault)) mid new
+    pub write_ends : (fault : FileFault) (new : FolderView) → IsFolder new → IsFolderWrite (WriteAt path at bytes) (done_answer {T = Unit {0}} (Err fault)) mid new
         → MissingExactly {T = Unit {0}} (Err fault) mid path → EndsBy fault Block path start state old start_mid state_mid new
-    write_ends Failed new formed call missing = fails_then Block old mid new set_makes (fails_one Block (WriteAt path at bytes) mid new (inl refl) refl formed call)
+    write_ends Failed new formed call missing = fails_then Block old mid new (step_makes Block false set_makes) (fails_one Block (WriteAt path at bytes) mid new (inl refl) refl formed call)
     write_ends Missing new formed call missing = record {
       untold = untold;
-      goes_on = goes_untold path start state old Block start_mid state_mid new untold (makes_then (WellCall Block) set_makes (makes_well_write Block formed call (inl refl)))
+      goes_on = goes_untold path start state old Block start_mid state_mid new untold (step_then Block true set_makes (step_write Block true formed call refl refl (inl refl)))
           set.goes_on.same_size set.goes_on.stood set.goes_on.size set.goes_on.same_lost set.goes_on.stays_touched;
     }
       where

@@ -1,5 +1,6 @@
 mod FinishNameLemmas
 mod FinishCallsLemmas
+mod FinishPartsLemmas
 mod FinishTreeLemmas
 mod FinishStepsLemmas
 mod FinishWholeLemmas
@@ -98,3 +99,4 @@ mod ByModeLemmas
 mod OrderLemmas
 mod StripeOrderLemmas
 mod BreakingLemmas
+mod ReadsLemmas

@@ -9,9 +9,8 @@ use Rattle.cauchy.specs.Matrix.{parity_of as level_of}
 use Rattle.disk_model.specs.Cause.{Rose}
 use Rattle.disk_model.specs.Bytes.{put}
 use Rattle.disk_model.specs.Files.{Files, parity_of, with_parity, TearsParity}
-use Rattle.disk_model.specs.Ran.{vault_done}
 use Rattle.disk_model.specs.Sink.{SinkView}
-use Rattle.disk_model.specs.Vault.{VaultView, VaultCall, ParityWrite, GoesOn, SomeCalls, ChangesBy, DraftsStay, Reads}
+use Rattle.disk_model.specs.Vault.{plain_done, VaultView, VaultCall, ParityWrite, GoesOn, SomeCalls, ChangesBy, DraftsStay, Reads}
 use Rattle.disk_model.proofs.VaultLemmas.{one_call, calls_then, changes_start, changes_then}
 use Rattle.file_table.specs.Table.{Column}
 use Rattle.parity_writer.specs.LevelsValue.{LevelValue, LevelsValue, level_at, no_level}
@@ -56,7 +55,7 @@ module _ {W R : Type 0} (view : W → SinkView) (standing : R → ReportView) (s
 
   -- a write that went well
   pub level_written : bytes ≡ level_of r size row
-      → GoesOn old.vault new.vault (record { call = ParityWrite r at bytes; failed = false } ∷ [])
+      → GoesOn old.vault new.vault (plain_done (ParityWrite r at bytes) false ∷ [])
       → Reads (λ (files : Files). parity_of files r ≡ put (parity_of old.vault.files r) at bytes) new.vault
       → ChangesBy (TearsParity r at (length bytes)) old.vault new.vault → DraftsStay old.vault new.vault
       → Told view standing stands columns (FixedParity stripe r ∷ []) old.lines new.lines old.reports new.reports
@@ -81,7 +80,7 @@ module _ {W R : Type 0} (view : W → SinkView) (standing : R → ReportView) (s
 module _ {W R : Type 0} (view : W → SinkView) (standing : R → ReportView) (stands : R → List Event → Type 0) (columns : List Column)
     (size stripe r at : ℕ) (row : Row) (bytes : List ℕ) (old new : VaultView) (lines : Lines W) (reports : List R) (at_is : at ≡ stripe * size) (long : length bytes ≡ size) where
   pub level_not_written : bytes ≡ level_of r size row → Rose old.faults new.faults
-      → GoesOn old new (record { call = ParityWrite r at bytes; failed = true } ∷ [])
+      → GoesOn old new (plain_done (ParityWrite r at bytes) true ∷ [])
       → ChangesBy (TearsParity r at (length bytes)) old new → DraftsStay old new
       → WritesNotLevel view standing stands columns size stripe r row (levels_outside old lines reports) (levels_outside new lines reports)
   level_not_written bytes_are rose goes_on changes drafts = record {
@@ -163,7 +162,7 @@ module _ {W R : Type 0} (view : W → SinkView) (standing : R → ReportView) (s
   writes_more r more is =
       ap (λ (ns : List ℕ). done_well (flat_map (wrong_write plan facts facts.row) ns)) (range_more r)
       ∙ ap done_well (flat_map-append (wrong_write plan facts facts.row) (range_with_len 0 r) (r ∷ []))
-      ∙ map-append (λ (call : VaultCall). vault_done call false) (writes_to r) (wrong_write plan facts facts.row r ++ [])
+      ∙ map-append (λ (call : VaultCall). plain_done call false) (writes_to r) (wrong_write plan facts facts.row r ++ [])
       ∙ ap (λ (calls : List VaultCall). done_well (writes_to r) ++ done_well calls) (append-nil (wrong_write plan facts facts.row r) ∙ is)
 
   not_written : (r : ℕ) (row : Option Row) → is_wrong_level plan facts r ≡ false → wrong_write plan facts row r ≡ []
@@ -177,14 +176,14 @@ module _ {W R : Type 0} (view : W → SinkView) (standing : R → ReportView) (s
   -- the write of one more wrong level failed
   pub levels_not : (r : ℕ) (row : Row) (old mid new : VaultView) → is_wrong_level plan facts r ≡ true
       → facts.row ≡ Some row → r < length facts.levels → GoesOn old mid (done_well (writes_to r))
-      → Reads (HoldsBelow plan facts r) mid → GoesOn mid new (vault_done (level_write plan facts row r) true ∷ [])
+      → Reads (HoldsBelow plan facts r) mid → GoesOn mid new (plain_done (level_write plan facts row r) true ∷ [])
       → ChangesBy (TearsParity r (facts.stripe * size) size) mid new → FailsAtLevel plan facts r [] old new
   levels_not r row old mid new wrong row_is below so_far holds fails changes = record {
     within = below;
     wrong = wrong;
     row = row;
     row_is = row_is;
-    goes_on = vault_goes_on old mid new (done_well (writes_to r)) (vault_done (level_write plan facts row r) true ∷ [])
+    goes_on = vault_goes_on old mid new (done_well (writes_to r)) (plain_done (level_write plan facts row r) true ∷ [])
         so_far fails;
     holds = λ tells k its near is_wrong is.
         let told_before : IsTrue mid.tells = sym fails.tells ∙ tells in
@@ -317,8 +316,8 @@ module _ {W R : Type 0} (view : W → SinkView) (standing : R → ReportView) (s
         (shows.row ∙ ap (λ (k : Bool). row_if k window i) (known_where_wrong plan stripe i r (level_at levels r) known window wrong))
         (omega (arith, below, many facts shows)) (so_far facts shows).ran
         (so_far facts shows).holds
-        (subst (λ (n : ℕ). GoesOn mid.vault new.vault (vault_done (ParityWrite r (facts.stripe * n) (level_of r n (row_at window i))) true ∷ [])) size_is
-        (subst (λ (s : ℕ). GoesOn mid.vault new.vault (vault_done (ParityWrite r (s * size) (level_of r size (row_at window i))) true ∷ [])) (sym shows.stripe_is) fails.ran))
+        (subst (λ (n : ℕ). GoesOn mid.vault new.vault (plain_done (ParityWrite r (facts.stripe * n) (level_of r n (row_at window i))) true ∷ [])) size_is
+        (subst (λ (s : ℕ). GoesOn mid.vault new.vault (plain_done (ParityWrite r (s * size) (level_of r size (row_at window i))) true ∷ [])) (sym shows.stripe_is) fails.ran))
         (subst (λ (n : ℕ). ChangesBy (TearsParity r (facts.stripe * n) n) mid.vault new.vault) size_is
         (subst (λ (s : ℕ). ChangesBy (TearsParity r (s * size) size) mid.vault new.vault) (sym shows.stripe_is) fails.changes));
     told = λ facts shows.

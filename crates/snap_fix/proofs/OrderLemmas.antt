@@ -1,15 +1,15 @@
 -- The calls of a folder that write, one after another.
-use Rattle.std.proofs.Common.{◌≡◌, List, [], ◌∷◌, ◌++◌, All, Bool, true, false, not, filter, if◌then◌else◌, refl, sym, ap, ap₂, ◌∙◌, arith}
+use Rattle.std.proofs.Common.{◌≡◌, List, [], ◌∷◌, ◌++◌, All, map, Bool, true, false, not, filter, if◌then◌else◌, refl, sym, ap, ap₂, ◌∙◌, arith, subst}
 use Rattle.std.proofs.lemmas.List.{append-nil, map-append}
 use Rattle.std.proofs.lemmas.List.Elements.{All-head, All-tail, All-weaker, filter-append}
 use Rattle.disk_model.specs.Folder.{FolderView, FolderCall, FolderDone, FolderGoesOn}
 use Rattle.disk_model.specs.Writing.{IsFolderWrite}
 use Rattle.snap_report.specs.Answer.{is_reading}
 use Rattle.stripe_reader.specs.Column.{ReadsBy}
-use Rattle.stripe_reader.specs.FolderCalls.{AreColumnCalls, succeeds}
+use Rattle.stripe_reader.specs.FolderCalls.{AreColumnCalls}
 use Rattle.stripe_reader.specs.Reading.{CellReading, Task}
 use Rattle.stripe_reader.proofs.FolderLemmas.{goes_on_then}
-use Rattle.snap_fix.specs.Order.{FolderWrites, is_writing}
+use Rattle.snap_fix.specs.Order.{FolderWrites, answer_to, is_writing, went_well}
 use Rattle.snap_fix.specs.State.{WellCall}
 use Rattle.snap_fix.proofs.FolderCallLemmas.{well_column}
 
@@ -26,22 +26,27 @@ pub writes_then : (one two : List FolderCall) {old mid new : FolderView} → Fol
 writes_then one two {old = old} {mid = mid} {new = new} first more = record {
   done = first.done ++ more.done;
   goes_on = goes_on_then old mid new first.done more.done first.goes_on more.goes_on;
-  are = filter-append is_writing first.done more.done ∙ ap₂ (λ (a b : List FolderDone). a ++ b) first.are more.are ∙ sym (map-append succeeds one two);
+  are =
+      let keeps = old.keeps_stamps in
+      let later = subst (λ (k : Bool). filter is_writing more.done ≡ map (went_well k) two) first.goes_on.keeps_stamps more.are in
+      filter-append is_writing first.done more.done ∙ ap₂ (λ (a b : List FolderDone). a ++ b) first.are later
+      ∙ sym (map-append (went_well keeps) one two);
 }
 
 -- one call that writes
-pub writes_one : (call : FolderCall) {old new : FolderView} → is_reading call ≡ false → IsFolderWrite call false old new → FolderWrites (call ∷ []) old new
-writes_one call writing wrote = record {
-  done = succeeds call ∷ [];
+pub writes_one : (call : FolderCall) {old new : FolderView} → is_reading call ≡ false → IsFolderWrite call (answer_to old.keeps_stamps call) old new
+    → FolderWrites (call ∷ []) old new
+writes_one call {old = old} writing wrote = record {
+  done = went_well old.keeps_stamps call ∷ [];
   goes_on = wrote.called.goes_on;
-  are = ap (λ (reading : Bool). if not reading then succeeds call ∷ [] else []) writing;
+  are = ap (λ (reading : Bool). if not reading then went_well old.keeps_stamps call ∷ [] else []) writing;
 }
 
 -- calls that only read
 abbrev pub Reads : FolderDone → Type 0
 Reads done = is_reading done.call ≡ true
 
-none_write : (done : List FolderDone) → All Reads done → filter is_writing done ≡ []
+pub none_write : (done : List FolderDone) → All Reads done → filter is_writing done ≡ []
 none_write [] all = refl
 none_write (one ∷ done) all =
     ap (λ (reading : Bool). if not reading then one ∷ filter is_writing done else filter is_writing done) (All-head Reads one done all)

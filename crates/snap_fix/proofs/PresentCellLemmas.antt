@@ -1,8 +1,8 @@
 -- What is read of a cell is what stood there at first, where what was written to its file since then is other bytes of it.
 use Rattle.std.proofs.Common.{◌≡◌, ◌≢◌, ◌⊎◌, inl, inr, ⊎_elim, ℕ, ◌+◌, ◌*◌, ◌<◌, ◌≤◌, ◌==◌, nat_le, List, [], ◌∷◌, length, take, drop, get_or, All, Bool, true, false, if◌then◌else◌, Option, None, Some, IsTrue, refl, sym, ap, ◌∙◌, subst, arith}
-use Rattle.std.proofs.lemmas.Bool.{cases_lt, eqb-true, eq-eqb, leb-true}
+use Rattle.std.proofs.lemmas.Bool.{cases_lt, leb-true}
 use Rattle.std.proofs.lemmas.Nat.{row_fits}
-use Rattle.std.proofs.lemmas.List.{ext_get_or, get_or-drop, get_or-take, length-drop, length-take, length-take-le}
+use Rattle.std.proofs.lemmas.List.{ext_get_or, get_or-drop, get_or-take, length-drop, length-take-le}
 use Rattle.std.proofs.lemmas.List.Elements.{All-head, All-tail}
 use Rattle.disk_model.specs.Bytes.{put, read_from}
 use Rattle.disk_model.specs.Folder.{FolderView}
@@ -106,15 +106,19 @@ like_given shape at n (Some file) (Some other) same =
     subst (λ (bytes : List ℕ). IsLike shape (came (meta_of file) n bytes) (came (meta_of other) n (read_from other.bytes at n))) (sym same)
     (like_came shape (meta_of file) (meta_of other) (read_from other.bytes at n) (length (read_from other.bytes at n) == n))
 
-given_fetched : (at n : ℕ) (file : Option File) → IsFetched n (given_of file at n)
-given_fetched at n None = tt
-given_fetched at n (Some file) = by (read_from file.bytes at n) refl (length (read_from file.bytes at n) == n) refl
-  where
-    by : (bytes : List ℕ) → bytes ≡ read_from file.bytes at n → (whole : Bool) → (length bytes == n) ≡ whole → IsFetched n (if whole then Whole (meta_of file) bytes else Part (meta_of file) (length bytes))
-    by bytes are true is = eqb-true (length bytes) n is
-    by bytes are false is =
-        let other : length bytes ≢ n = λ same. let yes : (length bytes == n) ≡ true = eq-eqb (length bytes) n same in cc in
-        omega (arith, other, ap (λ (bs : List ℕ). length bs) are, length-take n (drop at file.bytes))
+fetched_came : (n : ℕ) (one other : Meta) (bytes : List ℕ) (whole : Bool) → IsFetched n (if whole then Whole one bytes else Part one (length bytes))
+    → IsFetched n (if whole then Whole other bytes else Part other (length bytes))
+fetched_came n one other bytes true is = is
+fetched_came n one other bytes false is = is
+
+-- what the one gives was fetched, and so may be what the other gives
+fetched_same : (at n : ℕ) (one other : Option File) → GiveSame at n one other → IsFetched n (given_of one at n) → IsFetched n (given_of other at n)
+fetched_same at n None None same is = tt
+fetched_same at n None (Some file) same is = absurd same
+fetched_same at n (Some file) None same is = absurd same
+fetched_same at n (Some file) (Some other) same is =
+    subst (λ (bytes : List ℕ). IsFetched n (came (meta_of other) n bytes)) same
+    (fetched_came n (meta_of file) (meta_of other) (read_from file.bytes at n) (length (read_from file.bytes at n) == n) is)
 
 given_seen : (at n : ℕ) (file : Option File) → IsSeenIn file (given_of file at n)
 given_seen at n None = tt
@@ -169,7 +173,7 @@ module _ (shape : Shape) (first now : FolderView) (slot : SlotValue) where
         let was : IsTrue now.tells = subst IsTrue (sym tells) told in
         present_as (Fetch path lost_first at n) read.reading (given_of stood at n) read.is_kept
         (subst (λ (reading : CellReading). IsLike shape reading (given_of stood at n)) (sym (read.is_of.given was answered)) (like_given shape at n (file_of now.tree (path_of path lost)) stood (same told)))
-        (record { by = given_fetched at n stood; given = λ t not. refl; saw = λ t. given_seen at n stood })
+        (record { by = fetched_same at n (file_of now.tree (path_of path lost)) stood (same told) (subst (IsFetched n) (read.is_of.given was answered) read.is_of.by); given = λ t not. refl; saw = λ t. given_seen at n stood })
     present_read answered false is =
         present_as (Fetch path lost_first at n) read.reading read.reading read.is_kept (like_itself shape read.reading)
         (record { by = read.is_of.by; given = λ told not. untold told; saw = λ told. untold told })

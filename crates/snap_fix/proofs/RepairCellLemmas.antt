@@ -28,10 +28,10 @@ use Rattle.snap_fix.specs.Mending.{StatesFit, IsBlockCall, CanWrite, block_start
 use Rattle.snap_fix.specs.Plan.{FixPlan, cell_at, entry_at, records_in, selects_cell}
 use Rattle.snap_fix.specs.RepairSteps.{ColumnOutside, IsMendedAs, CanMendColumn, MendsColumn, MendsNotColumn, WritesBlockOf, WritesNotBlockOf, is_repaired_by, is_lost_by}
 use Rattle.snap_fix.specs.Order.{FolderWrites, block_calls}
-use Rattle.snap_fix.specs.State.{WellCall, Write, HoldsTold, FolderMakes, KeepsStarts, has_some, size_after, state_in}
+use Rattle.snap_fix.specs.State.{Write, HoldsTold, FolderMakesBy, KeepsStarts, StepMakes, has_some, size_after, state_in}
 use Rattle.snap_fix.specs.StripeOrder.{stripe_writes}
-use Rattle.snap_fix.specs.Underway.{IsMendCall, IsColumnUnderway, SetsUpOneOf, ShowsFacts, is_damaged_mark, is_given_mark}
-use Rattle.snap_fix.proofs.FolderCallLemmas.{makes_none, makes_some, makes_well_wider, some_none}
+use Rattle.snap_fix.specs.Underway.{AreMendCalls, IsMendCall, IsColumnUnderway, SetsUpOneOf, ShowsFacts, is_damaged_mark, is_given_mark}
+use Rattle.snap_fix.proofs.FolderCallLemmas.{some_none, step_none, step_wider}
 use Rattle.snap_fix.proofs.FolderFailsLemmas.{fails_wider}
 use Rattle.snap_fix.proofs.MendedFactsLemmas.{and_parts, block_known, repaired_shown, lost_shown, writes_same, writes_more, loses_by}
 use Rattle.snap_fix.proofs.RepairLemmas.{RecordGoesOn, record_still, column_lost, underway_more, state_same, state_other, row_same, states_fit-with, starts_fit-with}
@@ -71,6 +71,13 @@ module _ {W R : Type 0} (view : W → SinkView) (standing : R → ReportView) (s
     not_written : (mended : Mended) → Shown false mended → is_written plan mended d ≡ false
     not_written mended shown = ap (λ (b : Bool). b && answer_of mended d) (repaired_not false mended shown)
 
+    -- no call is made for it
+    no_calls : (mended : Mended) → Shown false mended → (folder : FolderView) → FolderMakesBy (AreMendCalls plan old.starts d mended) folder folder
+    no_calls mended shown folder =
+        subst (λ (missing : Bool). StepMakes (IsMendCall plan old.starts d (mended ∷ [])) missing folder folder)
+        (sym (ap (λ (b : Bool). b && not (answer_of mended d)) (repaired_not false mended shown)))
+        (step_none (IsMendCall plan old.starts d (mended ∷ [])) folder)
+
     -- of a record it loses the block of its cell, if that is lost
     loses_then : (lost : Bool) → is_lost_by plan stripe mark known d ≡ lost → (mended : Mended) → Shown false mended → (k : ℕ)
         → loses plan d k mended ≡ (is_of k (cell_at plan mended.facts.stripe d) && lost)
@@ -99,7 +106,7 @@ module _ {W R : Type 0} (view : W → SinkView) (standing : R → ReportView) (s
       counts = λ mended shown. subst (λ (events : List Event). AreCounts events none_written.counts) (sym (no_news mended shown)) (record { found = refl; left = refl });
       blocks = λ mended shown. sym (ap (λ (b : Bool). if b then 1 else 0) (not_written mended shown));
       few = omega arith;
-      makes = λ facts is shows. makes_none (WellCall (IsMendCall plan old.starts d (record { facts = facts; answers = [] } ∷ []))) old.folder;
+      makes = λ mended shown. no_calls mended shown old.folder;
       underway = λ mended shown stripes first fixable before.
           underway_more plan d stripes mended first old.folder old.folder old.starts old.starts old.states old.states before
           (some_none old.folder)
@@ -131,8 +138,7 @@ module _ {W R : Type 0} (view : W → SinkView) (standing : R → ReportView) (s
       counts = λ mended shown. subst (λ (events : List Event). AreCounts events none_written.counts) (sym (no_news mended shown)) (record { found = refl; left = refl });
       blocks = λ mended shown. sym (ap (λ (b : Bool). if b then 1 else 0) (not_written mended shown));
       few = omega arith;
-      makes = λ facts is shows. subst (FolderMakes (WellCall (IsMendCall plan old.starts d (record { facts = facts; answers = [] } ∷ []))) old.folder) (sym same_folder)
-          (makes_none (WellCall (IsMendCall plan old.starts d (record { facts = facts; answers = [] } ∷ []))) old.folder);
+      makes = λ mended shown. subst (FolderMakesBy (AreMendCalls plan old.starts d mended) old.folder) (sym same_folder) (no_calls mended shown old.folder);
       underway = λ mended shown stripes first fixable before.
           underway_more plan d stripes mended first old.folder new.folder old.starts new.starts old.states new.states before
           (subst (SomeFolderCalls old.folder) (sym same_folder) (some_none old.folder))
@@ -232,19 +238,19 @@ module _ {W R : Type 0} (view : W → SinkView) (standing : R → ReportView) (s
       abbrev place : Place
       place = (start_in (starts_at old.starts.columns d) cell.rec).place
 
-      call_of : (facts : StripeFacts) → facts.stripe ≡ stripe → ShowsFacts plan facts i marks known window → (call : FolderCall)
-          → IsBlockCall place (cell_path plan.table d cell) (block_start plan.table cell) bytes call → IsMendCall plan old.starts d (record { facts = facts; answers = [] } ∷ []) call
-      call_of facts is shows call = λ made. elim made [
+      call_of : (mended : Mended) → mended.facts.stripe ≡ stripe → ShowsFacts plan mended.facts i marks known window → (call : FolderCall)
+          → IsBlockCall place (cell_path plan.table d cell) (block_start plan.table cell) bytes call → IsMendCall plan old.starts d (mended ∷ []) call
+      call_of mended is shows call = λ made. elim made [
         | inl write ↦ subst Mends (sym write) (record {
-          mended = record { facts = facts; answers = [] };
+          mended = mended;
           is_one = (0, omega arith, refl);
           writes = record {
-            repaired = repaired_of facts is shows;
+            repaired = repaired_of mended.facts is shows;
             cell = cell;
-            cell_is = cell_of facts is;
+            cell_is = cell_of mended.facts is;
             path_is = refl;
             at_is = refl;
-            bytes_are = bytes_are ∙ block_of facts is shows;
+            bytes_are = bytes_are ∙ block_of mended.facts is shows;
           };
         })
         | inr up ↦ elim up [
@@ -254,38 +260,40 @@ module _ {W R : Type 0} (view : W → SinkView) (standing : R → ReportView) (s
       ]
         where
           this : List Mended
-          this = record { facts = facts; answers = [] } ∷ []
+          this = mended ∷ []
 
           Mends : FolderCall → Type 0
           Mends = IsMendCall plan old.starts d this
 
           sets_up : (there : Place) → place ≡ there → SetsUpOneOf plan old.starts d this there (cell_path plan.table d cell)
           sets_up there stood = record {
-            mended = record { facts = facts; answers = [] };
+            mended = mended;
             is_one = (0, omega arith, refl);
             sets_up = record {
-              repaired = repaired_of facts is shows;
+              repaired = repaired_of mended.facts is shows;
               cell = cell;
-              cell_is = cell_of facts is;
+              cell_is = cell_of mended.facts is;
               path_is = refl;
               stood = stood;
             };
           }
 
-      calls_of : (facts : StripeFacts) → facts.stripe ≡ stripe → ShowsFacts plan facts i marks known window → (new : FolderView)
-          → FolderMakes (WellCall (IsBlockCall place (cell_path plan.table d cell) (block_start plan.table cell) bytes)) old.folder new
-          → FolderMakes (WellCall (IsMendCall plan old.starts d (record { facts = facts; answers = [] } ∷ []))) old.folder new
-      calls_of facts is shows new makes =
-          makes_well_wider (IsBlockCall place (cell_path plan.table d cell) (block_start plan.table cell) bytes) (IsMendCall plan old.starts d (record { facts = facts; answers = [] } ∷ []))
-          (call_of facts is shows) makes
+      calls_of : (written : Bool) (mended : Mended) → Shown written mended → (new : FolderView)
+          → StepMakes (IsBlockCall place (cell_path plan.table d cell) (block_start plan.table cell) bytes) (not written) old.folder new
+          → FolderMakesBy (AreMendCalls plan old.starts d mended) old.folder new
+      calls_of written mended shown new makes =
+          subst (λ (missing : Bool). StepMakes (IsMendCall plan old.starts d (mended ∷ [])) missing old.folder new)
+          (sym (ap₂ (λ (repaired answer : Bool). repaired && not answer) (repaired_of mended.facts shown.stripe_is shown.shows) shown.answer_is))
+          (step_wider (IsBlockCall place (cell_path plan.table d cell) (block_start plan.table cell) bytes) (IsMendCall plan old.starts d (mended ∷ [])) (not written)
+          (call_of mended shown.stripe_is shown.shows) makes)
 
       -- a call failed
       pub column_not : (new : ColumnOutside W R) → WritesNotBlockOf view standing stands plan.table d cell bytes old new
           → MendsNotColumn view standing stands plan stripe i d window marks known old new
       column_not new fails = record {
         told = fails.told;
-        fails = λ facts is shows. fails_wider (IsBlockCall place (cell_path plan.table d cell) (block_start plan.table cell) bytes)
-            (IsMendCall plan old.starts d (record { facts = facts; answers = [] } ∷ [])) (call_of facts is shows) fails.fails;
+        fails = λ mended is shows. fails_wider (IsBlockCall place (cell_path plan.table d cell) (block_start plan.table cell) bytes)
+            (IsMendCall plan old.starts d (mended ∷ [])) (call_of mended is shows) fails.fails;
       }
 
       -- it was written, or its file was gone
@@ -397,11 +405,11 @@ module _ {W R : Type 0} (view : W → SinkView) (standing : R → ReportView) (s
           counts = λ mended shown. subst (λ (events : List Event). AreCounts events repaired.counts) (sym (news mended shown)) writes.counts;
           blocks = λ mended shown. writes.blocks ∙ ap (λ (b : Bool). if b then 1 else 0) (sym (written_is mended shown));
           few = omega (arith, writes.blocks, one_at_most writes.written);
-          makes = λ facts is shows. calls_of facts is shows new.folder writes.makes;
+          makes = λ mended shown. calls_of writes.written mended shown new.folder writes.makes;
           underway = λ mended shown stripes first fixable before.
               let tells : old.folder.tells ≡ first.tells = before.calls.goes_on.tells in
               underway_more plan d stripes mended first old.folder new.folder old.starts new.starts old.states new.states before
-              (makes_some (WellCall (IsBlockCall place (cell_path plan.table d cell) (block_start plan.table cell) bytes)) writes.makes)
+              (record { done = writes.makes.done; goes_on = writes.makes.goes_on })
               (subst (λ (ws : List (List Write)). HoldsTold (records_in plan.table d) (starts_at new.starts.columns d) (get_or new.states d []) ws first new.folder)
               (sym (writes_are mended shown stripes))
               (writes.holds first (column_writes plan stripes d records) (sym tells) (λ told. fixable.free told cell.rec rec is_free) fixable.is_tree before.holds))

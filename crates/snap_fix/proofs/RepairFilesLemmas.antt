@@ -23,13 +23,13 @@ use Rattle.snap_fix.specs.Mending.{StatesFit}
 use Rattle.snap_fix.specs.Plan.{FixPlan}
 use Rattle.snap_fix.specs.Repairing.{FilesOutside, CanMend, MendsFiles, MendsNotFiles}
 use Rattle.snap_fix.specs.RepairSteps.{column_outside, IsMendedAs, CanMendColumn, MendsColumn, MendsNotColumn}
-use Rattle.snap_fix.specs.State.{WellCall, FolderMakes, KeepsStarts}
-use Rattle.snap_fix.specs.Underway.{IsFixable, IsColumnUnderway, IsMendCall, ShowsFacts}
+use Rattle.snap_fix.specs.State.{FolderMakesBy, KeepsStarts}
+use Rattle.snap_fix.specs.Underway.{AreMendCalls, IsFixable, IsColumnUnderway, IsMendCall, ShowsFacts}
 use Rattle.snap_fix.proofs.FolderFailsLemmas.{fails_wider}
 use Rattle.snap_fix.proofs.MendedCounts.{count_to-more}
 use Rattle.snap_fix.proofs.RepairCellLemmas.{none_written}
-use Rattle.snap_fix.proofs.RepairLemmas.{bare, underway_same}
-use Rattle.snap_fix.proofs.StartsKeptLemmas.{keeps_starts_same, keeps_starts_then, makes_well_before, mend_call_before}
+use Rattle.snap_fix.proofs.RepairLemmas.{underway_same}
+use Rattle.snap_fix.proofs.StartsKeptLemmas.{keeps_starts_same, keeps_starts_then, makes_before, mend_call_before}
 use Rattle.snap_fix.proofs.TellingLemmas.{Joins, events_to, events_to-more, told_as}
 
 module _ {W R : Type 0} (view : W → SinkView) (standing : R → ReportView) (stands : R → List Event → Type 0)
@@ -45,8 +45,8 @@ module _ {W R : Type 0} (view : W → SinkView) (standing : R → ReportView) (s
 
   -- a column was looked at
   pub record ColumnDone (k : ℕ) (answers : List Bool) (new : FilesOutside W R) : Type 0 where
-    pub makes : (facts : StripeFacts) → facts.stripe ≡ stripe → Shows facts
-        → FolderMakes (WellCall (IsMendCall plan old.starts k (bare facts ∷ []))) (folder_at old.folders k) (folder_at new.folders k)
+    pub makes : (mended : Mended) → AreMendedAs answers mended
+        → FolderMakesBy (AreMendCalls plan old.starts k mended) (folder_at old.folders k) (folder_at new.folders k)
     pub answered : (mended : Mended) → AreMendedAs answers mended → IsTrue (folder_at old.folders k).tells → is_repaired plan mended.facts k ≡ true → answer_of mended k ≡ true
     pub underway : (mended : Mended) → AreMendedAs answers mended → (stripes : List Mended) (first : FolderView) → IsFixable plan k first
         → IsColumnUnderway plan k stripes first (folder_at old.folders k) old.starts old.states
@@ -116,7 +116,7 @@ module _ {W R : Type 0} (view : W → SinkView) (standing : R → ReportView) (s
   done_stays : (k : ℕ) (answers more : List Bool) (mid new : FilesOutside W R) → ((mended : Mended) → AreMendedAs more mended → AreMendedAs answers mended)
       → ColumnLeft k mid new → ColumnDone k answers mid → ColumnDone k more new
   done_stays k answers more mid new fewer stays before = record {
-    makes = λ facts is shows. subst (FolderMakes (WellCall (IsMendCall plan old.starts k (bare facts ∷ []))) (folder_at old.folders k)) (sym stays.same_folder) (before.makes facts is shows);
+    makes = λ mended shown. subst (FolderMakesBy (AreMendCalls plan old.starts k mended) (folder_at old.folders k)) (sym stays.same_folder) (before.makes mended (fewer mended shown));
     answered = λ mended shown. before.answered mended (fewer mended shown);
     underway = λ mended shown stripes first fixable was.
         underway_same plan k (stripes ++ mended ∷ []) first (folder_at mid.folders k) (folder_at new.folders k) mid.starts new.starts mid.states new.states
@@ -162,10 +162,10 @@ module _ {W R : Type 0} (view : W → SinkView) (standing : R → ReportView) (s
 
       done_here : ColumnDone d (so_far.answers ++ mends.answer ∷ []) new
       done_here = record {
-        makes = λ facts is shows.
-            subst (FolderMakes (WellCall (IsMendCall plan old.starts d (bare facts ∷ []))) (folder_at old.folders d)) (sym here_new)
-            (subst (λ (v : FolderView). FolderMakes (WellCall (IsMendCall plan old.starts d (bare facts ∷ []))) v folder_new) (folder_is ∙ left_here.same_folder)
-            (makes_well_before plan old.starts mid.starts d (bare facts ∷ []) so_far.stood folder folder_new (mends.makes facts is shows)));
+        makes = λ mended shown.
+            subst (FolderMakesBy (AreMendCalls plan old.starts d mended) (folder_at old.folders d)) (sym here_new)
+            (subst (λ (v : FolderView). FolderMakesBy (AreMendCalls plan old.starts d mended) v folder_new) (folder_is ∙ left_here.same_folder)
+            (makes_before plan old.starts mid.starts d mended so_far.stood (mends.makes mended (here mended shown))));
         answered = λ mended shown tells goes.
             (here mended shown).answer_is ∙ mends.answered mended (here mended shown) (subst (λ (v : FolderView). IsTrue v.tells) (sym (folder_is ∙ left_here.same_folder)) tells) goes;
         underway = λ mended shown stripes first fixable was.
@@ -217,28 +217,28 @@ module _ {W R : Type 0} (view : W → SinkView) (standing : R → ReportView) (s
         → MendsNotFiles view standing stands plan stripe i window marks known old new d
     files_not repaired within so_far fails = record {
       folders = many_new ∙ so_far.folders;
-      events = λ facts is shows.
+      broke = λ facts is shows.
           let mended : Mended = record { facts = facts; answers = answers } in
-          let shown : AreMendedAs so_far.answers mended = first_shown facts is shows in (
+          let shown : AreMendedAs so_far.answers mended = first_shown facts is shows in
+          let Call : ℕ → FolderCall → Type 0 = λ k. IsMendCall plan old.starts k (mended ∷ []) in (
             answers,
             λ k below tells goes. fit mended shown refl k below tells goes (cases_lt k d),
             told_as view standing stands plan.table.columns (events_to (cell_news plan mended) d) (events_to (cell_news plan mended) d ++ []) old.lines new.lines old.reports new.reports
                 (sym (append-nil (events_to (cell_news plan mended) d)))
                 (told_then view standing stands plan.table.columns (events_to (cell_news plan mended) d) [] old.lines mid.lines new.lines old.reports mid.reports new.reports
                 (so_far.told mended shown) fails.told),
+            record {
+              within = within;
+              before = λ k near.
+                  subst (FolderMakesBy (AreMendCalls plan old.starts k mended) (folder_at old.folders k)) (sym (other_new k (λ same. omega (arith, same, near))))
+                  ((so_far.done k near).makes mended shown);
+              here =
+                  subst (FolderFails (Call d) (folder_at old.folders d)) (sym here_new)
+                  (subst (λ (v : FolderView). FolderFails (Call d) v folder_new) was
+                  (fails_wider (IsMendCall plan mid.starts d (mended ∷ [])) (Call d) (mend_call_before plan old.starts mid.starts d (mended ∷ []) so_far.stood) (fails.fails mended is shows)));
+              behind = λ k past below. other_new k (λ same. omega (arith, same, past)) ∙ (so_far.left k (omega (arith, past))).same_folder;
+            },
           );
-      fails = λ facts is shows.
-          let Call : ℕ → FolderCall → Type 0 = λ k. IsMendCall plan old.starts k (bare facts ∷ []) in
-          record {
-            within = within;
-            before = λ k near.
-                subst (FolderMakes (WellCall (Call k)) (folder_at old.folders k)) (sym (other_new k (λ same. omega (arith, same, near)))) ((so_far.done k near).makes facts is shows);
-            here =
-                subst (FolderFails (Call d) (folder_at old.folders d)) (sym here_new)
-                (subst (λ (v : FolderView). FolderFails (Call d) v folder_new) was
-                (fails_wider (IsMendCall plan mid.starts d (bare facts ∷ [])) (Call d) (mend_call_before plan old.starts mid.starts d (bare facts ∷ []) so_far.stood) (fails.fails facts is shows)));
-            behind = λ k past below. other_new k (λ same. omega (arith, same, past)) ∙ (so_far.left k (omega (arith, past))).same_folder;
-          };
     }
       where
         was : folder ≡ folder_at old.folders d
@@ -277,7 +277,7 @@ module _ {W R : Type 0} (view : W → SinkView) (standing : R → ReportView) (s
         old.lines new.lines old.reports new.reports (ap (events_to (cell_news plan (record { facts = facts; answers = so_far.answers }))) all) (so_far.told (record { facts = facts; answers = so_far.answers }) (shown facts is shows));
     counts = λ facts is shows. subst (λ (n : ℕ). AreCounts (events_to (cell_news plan (record { facts = facts; answers = so_far.answers })) n) repaired.counts) (sym all) (so_far.counts (record { facts = facts; answers = so_far.answers }) (shown facts is shows));
     blocks = λ facts is shows. so_far.blocks (record { facts = facts; answers = so_far.answers }) (shown facts is shows) ∙ ap (λ (n : ℕ). count_by (is_written plan (record { facts = facts; answers = so_far.answers })) (range_with_len 0 n)) (sym all);
-    makes = λ facts is shows k within. (so_far.done k (omega (arith, within, all))).makes facts is shows;
+    makes = λ facts is shows k within. (so_far.done k (omega (arith, within, all))).makes (record { facts = facts; answers = so_far.answers }) (shown facts is shows);
     underway = λ facts is shows stripes firsts fixable before. record {
       folders = so_far.folders ∙ before.folders;
       each = λ k within. (so_far.done k (omega (arith, within, all))).underway (record { facts = facts; answers = so_far.answers }) (shown facts is shows) stripes (folder_at firsts k) (fixable k within) (before.each k within);

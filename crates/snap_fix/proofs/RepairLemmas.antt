@@ -11,7 +11,6 @@ use Rattle.stripe_reader.specs.Starts.{StartsValue, StartsFit, no_start, starts_
 use Rattle.stripe_reader.specs.declared.starts.Start.{Start}
 use Rattle.stripe_reader.specs.declared.starts.Place.{Place}
 use Rattle.snap_fix.specs.declared.state.FileState.{FileState}
-use Rattle.snap_fix.specs.Facts.{StripeFacts}
 use Rattle.snap_fix.specs.Mended.{Mended, loses, column_writes, writes_in, writes_of}
 use Rattle.snap_fix.specs.Mending.{StatesFit, with_place, with_state}
 use Rattle.snap_fix.specs.Order.{FolderWrites}
@@ -24,10 +23,6 @@ use Rattle.snap_fix.proofs.MendedFactsLemmas.{lost_push}
 use Rattle.snap_fix.proofs.OrderLemmas.{writes_then}
 use Rattle.snap_fix.proofs.StripeOrderLemmas.{writes_after-push}
 use Rattle.snap_fix.proofs.WritesLemmas.{size_after-append, has_some-append, writes_of-push}
-
--- facts of which no answers are known
-abbrev pub bare : StripeFacts → Mended
-bare facts = record { facts = facts; answers = [] }
 
 -- ---- what is held of a column
 

@@ -1,7 +1,7 @@
 -- The block of a cell was written, or its file was gone, so that the cell is lost.
-use Rattle.std.proofs.Common.{◌≡◌, ℕ, ◌<◌, List, [], ◌∷◌, length, get_or, set, if◌then◌else◌, Bool, true, false, Some, Result, Ok, Err, IfOk, IfErr, refl, sym, ap, ◌∙◌, subst, arith}
+use Rattle.std.proofs.Common.{◌≡◌, ℕ, ◌<◌, List, [], ◌∷◌, length, get_or, set, if◌then◌else◌, Bool, true, false, not, Some, Result, Ok, Err, IfOk, IfErr, refl, sym, ap, ◌∙◌, subst, arith}
 use Rattle.std.proofs.lemmas.List.{set-set, length-set}
-use Rattle.disk_model.specs.Folder.{FolderView}
+use Rattle.disk_model.specs.Folder.{FolderView, FolderCall}
 use Rattle.disk_model.specs.Sink.{SinkView}
 use Rattle.file_table.specs.Table.{TableValue}
 use Rattle.file_table.specs.declared.block.Cell.{Cell}
@@ -9,13 +9,13 @@ use Rattle.snap_report.specs.Report.{ReportView}
 use Rattle.snap_report.specs.Told.{Told}
 use Rattle.snap_report.specs.declared.events.Event.{Event}
 use Rattle.snap_report.specs.declared.pages.Lines.{Lines}
-use Rattle.stripe_reader.specs.Starts.{StartsValue, starts_at}
+use Rattle.stripe_reader.specs.Starts.{StartsValue, start_in, starts_at}
 use Rattle.snap_fix.specs.declared.state.FileState.{FileState}
 use Rattle.snap_fix.specs.Mended.{mended_event}
-use Rattle.snap_fix.specs.Mending.{CanWrite, MendsCell, block_start, mended_writes, with_state}
+use Rattle.snap_fix.specs.Mending.{CanWrite, IsBlockCall, MendsCell, block_start, cell_path, mended_writes, with_state}
 use Rattle.snap_fix.specs.Plan.{records_in}
 use Rattle.snap_fix.specs.RepairSteps.{WritesBlockOf, column_outside}
-use Rattle.snap_fix.specs.State.{HoldsColumn, HoldsTold, size_after, state_in}
+use Rattle.snap_fix.specs.State.{HoldsColumn, HoldsTold, StepMakes, size_after, state_in}
 use Rattle.snap_fix.proofs.RepairLemmas.{column_lost, row_same, state_same}
 
 pub if_ok_then : {T E : Type 0} (P Q : T → Type 0) (result : Result T E) → ((x : T) → P x → Q x) → IfOk result P → IfOk result Q
@@ -37,6 +37,9 @@ module _ {W R : Type 0} (view : W → SinkView) (standing : R → ReportView) (s
     (table : TableValue) (stripe d : ℕ) (cell : Cell) (bytes : List ℕ) (starts starts_new : StartsValue) (states states_new : List (List FileState)) (folder folder_new : FolderView)
     (can : CanWrite table d cell bytes starts states folder) (lines lines_new : Lines W) (reports reports_new : List R) (written : Bool)
     (mends : MendsCell table d cell bytes written starts states folder starts_new states_new folder_new) where
+  abbrev Block : FolderCall → Type 0
+  Block = IsBlockCall (start_in (starts_at starts.columns d) cell.rec).place (cell_path table d cell) (block_start table cell) bytes
+
   -- it was written
   pub block_written : written ≡ true → Told view standing stands table.columns (mended_event stripe d (Some cell) true) lines lines_new reports reports_new
       → WritesBlockOf view standing stands table stripe d cell bytes (column_outside starts states folder lines reports) (column_outside starts_new states_new folder_new lines_new reports_new)
@@ -57,7 +60,7 @@ module _ {W R : Type 0} (view : W → SinkView) (standing : R → ReportView) (s
     told = told;
     counts = record { found = refl; left = refl };
     blocks = refl;
-    makes = mends.makes;
+    makes = subst (λ (b : Bool). StepMakes Block (not b) folder folder_new) is mends.makes;
     holds = λ first writes same free tree held.
         subst (λ (b : Bool). HoldsTold (records_in table d) (starts_at starts_new.columns d) (get_or states_new d []) (mended_writes table cell bytes b writes) first folder_new) is
         (mends.holds first writes same free tree held);
@@ -88,7 +91,7 @@ module _ {W R : Type 0} (view : W → SinkView) (standing : R → ReportView) (s
     told = told;
     counts = record { found = refl; left = refl };
     blocks = refl;
-    makes = mends.makes;
+    makes = subst (λ (b : Bool). StepMakes Block (not b) folder folder_new) is mends.makes;
     holds = λ first writes same free tree held tells.
         subst (λ (s : List FileState). HoldsColumn (records_in table d) (starts_at starts_new.columns d) s writes first.tree folder_new.tree)
         (sym (ap (λ (s : List (List FileState)). get_or s d []) then_is ∙ row_same states_new d cell.rec _ long_new))

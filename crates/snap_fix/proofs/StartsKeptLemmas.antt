@@ -1,20 +1,20 @@
 -- Where files are looked for while a fix goes on: a place stays, or a file that was renamed back is looked for under its own name.
-use Rattle.std.proofs.Common.{◌≡◌, ◌≢◌, ◌⊎◌, inl, inr, ℕ, ◌<◌, List, [], length, set, true, false, refl, sym, ap, ◌∙◌, subst}
+use Rattle.std.proofs.Common.{◌≡◌, ◌≢◌, ◌⊎◌, inl, inr, ℕ, ◌<◌, List, [], ◌∷◌, length, set, true, false, refl, sym, ap, ◌∙◌, subst}
 use Rattle.std.specs.List.{Contains}
 use Rattle.std.proofs.lemmas.Bool.{cases_eq}
 use Rattle.std.proofs.lemmas.List.{get_or-set_same, get_or-set_other}
-use Rattle.disk_model.specs.Folder.{FolderCall, FolderView, ListFiles, Look, ReadAt, Make, WriteAt, SetSize, SetStamp, Rename}
+use Rattle.disk_model.specs.Folder.{FolderCall, FolderDone, FolderView, ListFiles, Look, ReadAt, Make, WriteAt, SetSize, SetStamp, Rename}
 use Rattle.stripe_reader.specs.Starts.{StartsValue, no_start, starts_at, start_in}
 use Rattle.stripe_reader.specs.declared.starts.Start.{Start}
 use Rattle.stripe_reader.specs.declared.starts.Place.{Place}
 use Rattle.stripe_reader.specs.declared.starts.Place.TheVariants.{Plain, Lost, Nowhere}
 use Rattle.snap_fix.specs.Facts.{StripeFacts}
-use Rattle.snap_fix.specs.Mended.{Mended}
+use Rattle.snap_fix.specs.Mended.{Mended, is_gone}
 use Rattle.snap_fix.specs.Mending.{with_place}
 use Rattle.snap_fix.specs.Plan.{FixPlan}
-use Rattle.snap_fix.specs.State.{WellCall, FolderMakes, StaysPlace, KeepsStarts}
-use Rattle.snap_fix.specs.Underway.{IsMendCall, SetsUpCell, SetsUpOneOf}
-use Rattle.snap_fix.proofs.FolderCallLemmas.{makes_well_wider}
+use Rattle.snap_fix.specs.State.{FolderMakesBy, StaysPlace, KeepsStarts}
+use Rattle.snap_fix.specs.Underway.{AreMendCalls, IsMendCall, SetsUpCell, SetsUpOneOf}
+use Rattle.snap_fix.proofs.FolderCallLemmas.{makes_by_wider, step_calls_wider}
 
 -- ---- places
 
@@ -109,5 +109,13 @@ module _ (plan : FixPlan) (before after : StartsValue) (d : ℕ) (stripes : List
   pub mend_call_before : (call : FolderCall) → IsMendCall plan after d stripes call → IsMendCall plan before d stripes call
   mend_call_before = mend_call_wider plan before after d stripes stripes stood (λ mended one. one)
 
-  pub makes_well_before : (old new : FolderView) → FolderMakes (WellCall (IsMendCall plan after d stripes)) old new → FolderMakes (WellCall (IsMendCall plan before d stripes)) old new
-  makes_well_before old new makes = makes_well_wider (IsMendCall plan after d stripes) (IsMendCall plan before d stripes) mend_call_before makes
+-- the calls for a cell by later starts are those by earlier ones
+pub mend_calls_before : (plan : FixPlan) (before after : StartsValue) (d : ℕ) (mended : Mended) → KeepsStarts before after → (done : List FolderDone)
+    → AreMendCalls plan after d mended done → AreMendCalls plan before d mended done
+mend_calls_before plan before after d mended stood done are = step_calls_wider (IsMendCall plan after d (mended ∷ [])) (IsMendCall plan before d (mended ∷ []))
+    (is_gone plan mended d) (mend_call_before plan before after d (mended ∷ []) stood) done are
+
+pub makes_before : (plan : FixPlan) (before after : StartsValue) (d : ℕ) (mended : Mended) → KeepsStarts before after → {old new : FolderView}
+    → FolderMakesBy (AreMendCalls plan after d mended) old new → FolderMakesBy (AreMendCalls plan before d mended) old new
+makes_before plan before after d mended stood makes =
+    makes_by_wider (AreMendCalls plan after d mended) (AreMendCalls plan before d mended) (mend_calls_before plan before after d mended stood) makes

@@ -5,7 +5,7 @@ use Rattle.std.proofs.lemmas.List.{append-nil, get_or_append_left, get_or-append
 use Rattle.cauchy.specs.Matrix.{parity_of as level_of}
 use Rattle.disk_model.specs.Bytes.{put}
 use Rattle.disk_model.specs.Files.{Files, parity_of, with_parity, TearsParity}
-use Rattle.disk_model.specs.Vault.{VaultView, ParityWrite, GoesOn}
+use Rattle.disk_model.specs.Vault.{plain_done, VaultView, ParityWrite, GoesOn}
 use Rattle.disk_model.proofs.BytesLemmas.{length-put, put_gap, torn_by_put}
 use Rattle.parity_writer.specs.Keeps.{HasByte, KeepsAt, IsOutside}
 use Rattle.parity_writer.specs.Parity.{Row, HasLevel}
@@ -61,10 +61,10 @@ ran_nothing v = record {
 
 -- the one call for a level, by what is written of it
 pub ran_write : (r at : ℕ) (bytes : List ℕ) (place : ℕ) (level : List ℕ) (failed : Bool) (old new : VaultView) → at ≡ place → bytes ≡ level
-    → GoesOn old new (record { call = ParityWrite r at bytes; failed = failed } ∷ []) → GoesOn old new (record { call = ParityWrite r place level; failed = failed } ∷ [])
+    → GoesOn old new (plain_done (ParityWrite r at bytes) failed ∷ []) → GoesOn old new (plain_done (ParityWrite r place level) failed ∷ [])
 ran_write r at bytes place level failed old new at_is bytes_are ran =
-    subst (λ (n : ℕ). GoesOn old new (record { call = ParityWrite r n level; failed = failed } ∷ [])) at_is
-    (subst (λ (xs : List ℕ). GoesOn old new (record { call = ParityWrite r at xs; failed = failed } ∷ [])) bytes_are ran)
+    subst (λ (n : ℕ). GoesOn old new (plain_done (ParityWrite r n level) failed ∷ [])) at_is
+    (subst (λ (xs : List ℕ). GoesOn old new (plain_done (ParityWrite r at xs) failed ∷ [])) bytes_are ran)
 
 -- ---- a level after a write to it
 

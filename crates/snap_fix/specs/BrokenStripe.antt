@@ -2,8 +2,7 @@
 use Rattle.std.specs.Prelude.{◌≡◌, ℕ, ◌<◌, List, [], ◌∷◌, ◌++◌, length, true, Some}
 use Rattle.std.specs.List.{range_with_len, flat_map}
 use Rattle.disk_model.specs.Files.{Files, parity_of}
-use Rattle.disk_model.specs.Ran.{vault_done}
-use Rattle.disk_model.specs.Vault.{VaultView, VaultCall, VaultDone, GoesOn, Reads}
+use Rattle.disk_model.specs.Vault.{plain_done, VaultView, VaultCall, VaultDone, GoesOn, Reads}
 use Rattle.parity_writer.specs.Parity.{HasLevel, Row}
 use Rattle.snap_report.specs.declared.answer.RunFault.{RunFault}
 use Rattle.snap_report.specs.declared.answer.RunFault.TheVariants.{Folder, Vault, Memory}
@@ -34,7 +33,7 @@ pub record FailsAtLevel (plan : FixPlan) (facts : StripeFacts) (level : ℕ) (be
   pub row : Row
   pub row_is : facts.row ≡ Some row
   pub goes_on : GoesOn old new
-      (before ++ (done_well (writes_below plan facts level) ++ vault_done (level_write plan facts row level) true ∷ []))
+      (before ++ (done_well (writes_below plan facts level) ++ plain_done (level_write plan facts row level) true ∷ []))
   pub holds : Reads (HoldsBelow plan facts level) new
 
 -- A fix broke off in a stripe behind these calls of the vault: where a folder failed, none of its levels was written;

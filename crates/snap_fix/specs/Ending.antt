@@ -3,14 +3,13 @@ use Rattle.std.specs.Prelude.{◌≡◌, ◌≢◌, ◌⊎◌, ℕ, ◌<◌, ◌
 use Rattle.std.specs.List.{range_with_len, flat_map}
 use Rattle.disk_model.specs.Cause.{Rose}
 use Rattle.disk_model.specs.Files.{Stays, parity_of}
-use Rattle.disk_model.specs.Folder.{FolderView, FolderCall}
-use Rattle.disk_model.specs.Ran.{RanAll, vault_done, log_of}
+use Rattle.disk_model.specs.Folder.{FolderView, FolderCall, FolderDone}
 use Rattle.disk_model.specs.Sink.{SinkView}
 use Rattle.disk_model.specs.Tree.{Tree, file_of, path_of}
-use Rattle.disk_model.specs.Vault.{VaultView, VaultCall, ParitySync, SomeCalls, ChangesBy, DraftsStay, Holds, state_of}
+use Rattle.disk_model.specs.Vault.{VaultView, VaultCall, ParitySync, GoesOn, SomeCalls, ChangesBy, DraftsStay, Holds}
 use Rattle.file_table.specs.Table.{record_at}
 use Rattle.snap_report.specs.Answer.{Gained}
-use Rattle.snap_fix.specs.Breaking.{FailsAfter, FailsInColumn, broke_parity}
+use Rattle.snap_fix.specs.Breaking.{FailsAfter, FailsInColumn, FolderFails, broke_parity}
 use Rattle.snap_report.specs.Report.{ReportView}
 use Rattle.snap_report.specs.Told.{Told}
 use Rattle.snap_report.specs.declared.events.Event.{Event}
@@ -23,12 +22,12 @@ use Rattle.snap_fix.specs.declared.finishing.Finish.{Finish}
 use Rattle.snap_fix.specs.declared.finishing.Finish.TheVariants.{Kept, Restored, Unstamped, Renamed, Gone}
 use Rattle.snap_fix.specs.declared.state.FileState.{FileState}
 use Rattle.snap_fix.specs.Counts.{AreCounts}
-use Rattle.snap_fix.specs.Finishing.{FitsTree, HoldsFinished, StandsWhole, IsFinishCall, bytes_now, finish_calls, finish_of}
+use Rattle.snap_fix.specs.Finishing.{FitsTree, HoldsFinished, StandsWhole, IsFinishCall, bytes_now, finish_calls, finish_of, was_gone}
 use Rattle.snap_fix.specs.Mending.{StatesFit, IsFree}
 use Rattle.snap_fix.specs.Order.{FolderWrites}
 use Rattle.snap_fix.specs.Plan.{FixPlan, EntriesFit, entry_at, records_in}
 use Rattle.snap_fix.specs.Repairing.{FilesOutside}
-use Rattle.snap_fix.specs.State.{WellCall, FolderMakes, no_state, record_path}
+use Rattle.snap_fix.specs.State.{AreStepCalls, FolderMakesBy, no_state, record_path}
 use Rattle.snap_fix.specs.Underway.{done_well}
 
 -- ---- levels
@@ -47,7 +46,7 @@ written_syncs written = flat_map (sync_call written) (range_with_len 0 (length w
 pub record Syncs (calls : List VaultCall) (old new : VaultView) : Type 0 where
   pub some : SomeCalls old new
   pub drafts : DraftsStay old new
-  pub ran : RanAll vault_done calls (log_of (state_of old)) (log_of (state_of new))
+  pub ran : GoesOn old new (done_well calls)
   pub changes : ChangesBy Stays old new
 
 -- a stop leaves of a level what a read gives
@@ -142,6 +141,25 @@ pub record FinishesFile (plan : FixPlan) (d : ℕ) (starts : List Start) (states
   pub finished : is_finished plan d i ≡ true
   pub is : IsCallOf plan d starts states i call
 
+-- a call that finishes this record, which is to be finished
+abbrev pub FinishesThis : FixPlan → ℕ → ℕ → List Start → List FileState → FolderCall → Type 0
+FinishesThis plan d i starts states call = (is_finished plan d i ≡ true) × IsCallOf plan d starts states i call
+
+-- The calls that finish the first so many records of a column, a part for each. In each part none failed, and one of
+-- them found no file exactly where the file of the record was gone.
+pub record AreFinishCalls (plan : FixPlan) (d : ℕ) (starts : List Start) (states : List FileState) (done : List Finish)
+    (records : ℕ) (calls : List FolderDone) : Type 0 where
+  pub parts : List (List FolderDone)
+  pub as_many : length parts ≡ records
+  pub calls_are : calls ≡ flat_map (λ (part : List FolderDone). part) parts
+  pub each : (i : ℕ) → i < records
+      → AreStepCalls (FinishesThis plan d i starts states) (was_gone (finish_at done i)) (get_or parts i [])
+
+-- those of all its records
+abbrev pub AreColumnFinishCalls : FixPlan → ℕ → List Start → List FileState → List Finish → List FolderDone → Type 0
+AreColumnFinishCalls plan d starts states done calls =
+    AreFinishCalls plan d starts states done (length (records_in plan.table d)) calls
+
 -- The file of a record can be finished: no file stands in its way, and its start and its state agree with the files.
 pub record CanFinishFile (plan : FixPlan) (d : ℕ) (starts : List Start) (states : List FileState) (i : ℕ) (tree : Tree) : Type 0 where
   pub free : IsFree tree (record_path (records_in plan.table d) i)
@@ -184,7 +202,7 @@ StandsEnd plan d starts keeps i before later =
 -- What was done to the files of a column, since all blocks were written: to each record what its start and state ask for.
 pub record FinishesFiles (plan : FixPlan) (d : ℕ) (starts : List Start) (states : List FileState) (done : List Finish)
     (folder folder_new : FolderView) : Type 0 where
-  pub makes : FolderMakes (WellCall (FinishesFile plan d starts states)) folder folder_new
+  pub makes : FolderMakesBy (AreColumnFinishCalls plan d starts states done) folder folder_new
   pub is : (i : ℕ) → i < length (records_in plan.table d) → is_finished plan d i ≡ true → IsDone plan d starts states folder i (finish_at done i)
   pub holds : IsTrue folder.tells → (i : ℕ) → i < length (records_in plan.table d) → is_finished plan d i ≡ true
       → HoldsEnd plan d starts states folder.keeps_stamps i (finish_at done i) folder.tree folder_new.tree
@@ -208,6 +226,33 @@ AreDone plan starts states folders finishes = (d i : ℕ) → d < length plan.ta
     → is_finished plan d i ≡ true
     → IsDone plan d (starts_at starts.columns d) (states_at states d) (folder_at folders d) i (finish_at (finishes_at finishes d) i)
 
+-- The folder of a column failed while files were finished: of each before it all were finished, and of it those up to
+-- the call that failed.
+abbrev pub FailsInFinish : ℕ → FixPlan → StartsValue → List (List FileState) → List (List Finish) → List FolderView
+    → List FolderView → Type 0
+FailsInFinish disk plan starts states finishes olds news =
+    FailsInColumn disk (length plan.table.columns)
+    (λ (d : ℕ). AreColumnFinishCalls plan d (starts_at starts.columns d) (states_at states d) (finishes_at finishes d))
+    (λ (d : ℕ). FinishesOne plan d starts states) olds news
+
+-- A column whose folder failed while its files were finished: those of the first so many records were finished, and
+-- just that was told, and then calls for the next one were made up to the one that failed.
+pub record FailsAtRecord (plan : FixPlan) (d : ℕ) (starts : List Start) (states : List FileState) (done : List Finish)
+    (told : List Event) (old new : FolderView) : Type 0 where
+  pub n : ℕ
+  pub within : n < length (records_in plan.table d)
+  pub told_is : told ≡ flat_map (record_news plan d done) (range_with_len 0 n)
+  pub mid : FolderView
+  pub first : FolderMakesBy (AreFinishCalls plan d starts states done n) old mid
+  pub fails : FolderFails (FinishesThis plan d n starts states) mid new
+
+-- the same by the starts and the states of all columns
+abbrev pub FailsInRecord : ℕ → FixPlan → StartsValue → List (List FileState) → List (List Finish) → List Event
+    → List FolderView → List FolderView → Type 0
+FailsInRecord disk plan starts states finishes told olds news =
+    FailsAtRecord plan disk (starts_at starts.columns disk) (states_at states disk) (finishes_at finishes disk) told
+    (folder_at olds disk) (folder_at news disk)
+
 -- All selected records that aren't blocked were finished, and just that was told.
 pub record FinishesAll {W R : Type 0} (view : W → SinkView) (standing : R → ReportView) (stands : R → List Event → Type 0)
     (plan : FixPlan) (old new : FilesOutside W R) (counts : Counts) : Type 0 where
@@ -217,15 +262,18 @@ pub record FinishesAll {W R : Type 0} (view : W → SinkView) (standing : R → 
   pub told : Told view standing stands plan.table.columns (all_finish_news plan finishes) old.lines new.lines old.reports new.reports
   pub counts_are : AreCounts (all_finish_news plan finishes) counts
 
--- The folder of a column failed. Only finishing calls were made, none behind the one that failed, and a prefix was told of what is told
--- where none fails.
+-- The folder of a column failed. Only finishing calls were made, none behind the one that failed, and just what was
+-- done to the files of the records before it was told, a prefix of what is told where none fails.
 pub record FinishesNotAll {W R : Type 0} (view : W → SinkView) (standing : R → ReportView) (stands : R → List Event → Type 0)
     (plan : FixPlan) (old new : FilesOutside W R) (disk : ℕ) : Type 0 where
   pub folders : length new.folders ≡ length old.folders
-  pub fails : FailsInColumn disk (length plan.table.columns) (λ (d : ℕ). FinishesOne plan d old.starts old.states) old.folders new.folders
   pub finishes : List (List Finish)
+  pub fails : FailsInFinish disk plan old.starts old.states finishes old.folders new.folders
   pub are : AreDone plan old.starts old.states old.folders finishes
   pub first : List Event
+  pub last : List Event
+  pub part : FailsInRecord disk plan old.starts old.states finishes last old.folders new.folders
+  pub first_is : first ≡ flat_map (column_news_at plan finishes) (range_with_len 0 disk) ++ last
   pub rest : List Event
   pub events : all_finish_news plan finishes ≡ first ++ rest
   pub told : Told view standing stands plan.table.columns first old.lines new.lines old.reports new.reports

@@ -1,6 +1,6 @@
 -- The end of a fix, record by record and column by column.
 use Rattle.std.specs.Prelude.{◌≡◌, ◌≢◌, ◌⊎◌, ℕ, ◌<◌, List, [], ◌∷◌, ◌++◌, length, Bool, true, false, IsTrue}
-use Rattle.disk_model.specs.Folder.{FolderView, FolderCall}
+use Rattle.disk_model.specs.Folder.{FolderView}
 use Rattle.disk_model.specs.Sink.{SinkView}
 use Rattle.disk_model.specs.Tree.{file_of, path_of}
 use Rattle.file_table.specs.Valid.{IsValid}
@@ -10,18 +10,18 @@ use Rattle.snap_report.specs.declared.events.Event.{Event}
 use Rattle.snap_report.specs.declared.events.Event.TheVariants.{Blocked, Restored as RestoredEvent, Renamed as RenamedEvent, NoStamp}
 use Rattle.snap_report.specs.declared.pages.Lines.{Lines}
 use Rattle.stripe_reader.specs.Starts.{StartsValue, StartsFit, starts_at, start_in}
-use Rattle.stripe_reader.specs.declared.starts.Start.{Start}
 use Rattle.snap_fix.specs.declared.counts.Counts.{Counts}
 use Rattle.snap_fix.specs.declared.finishing.Finish.{Finish}
 use Rattle.snap_fix.specs.declared.finishing.Finish.TheVariants.{Kept, Restored, Unstamped, Renamed, Gone}
 use Rattle.snap_fix.specs.declared.state.FileState.{FileState}
 use Rattle.snap_fix.specs.Breaking.{FolderFails}
 use Rattle.snap_fix.specs.Counts.{AreCounts}
-use Rattle.snap_fix.specs.Ending.{CanFinishFile, CanFinishColumn, FinishesFiles, FinishesFile, HoldsEnd, StandsEnd, IsCallOf, IsDone, column_news, finish_at, is_finished, news_of, record_calls, stamp_news, states_at}
+use Rattle.snap_fix.specs.Ending.{FailsAtRecord, CanFinishFile, CanFinishColumn, FinishesFiles, FinishesFile, FinishesThis, HoldsEnd, StandsEnd, IsDone, column_news, finish_at, is_finished, news_of, record_calls, stamp_news, states_at}
+use Rattle.snap_fix.specs.Finishing.{was_gone}
 use Rattle.snap_fix.specs.Mending.{StatesFit}
 use Rattle.snap_fix.specs.Order.{FolderWrites}
 use Rattle.snap_fix.specs.Plan.{FixPlan, EntriesFit, records_in}
-use Rattle.snap_fix.specs.State.{WellCall, FolderMakes, record_path, state_in}
+use Rattle.snap_fix.specs.State.{StepMakes, record_path, state_in}
 
 -- what is written, and told, for one column: as of a run, with the folder of the column alone
 pub record ColumnOutside (W R : Type 0) : Type 0 where
@@ -52,10 +52,6 @@ unstamped_news d i Unstamped = []
 unstamped_news d i Renamed = []
 unstamped_news d i Gone = []
 
--- a call that finishes a record, which is to be finished
-abbrev pub FinishesThis : FixPlan → ℕ → ℕ → List Start → List FileState → FolderCall → Type 0
-FinishesThis plan d i starts states call = (is_finished plan d i ≡ true) × IsCallOf plan d starts states i call
-
 -- a record can be finished, if it is to be
 pub record CanEndRecord (plan : FixPlan) (d i : ℕ) (starts : StartsValue) (states : List (List FileState)) (folder : FolderView) : Type 0 where
   pub column : d < length plan.table.columns
@@ -73,7 +69,8 @@ pub record EndsRecord {W R : Type 0} (view : W → SinkView) (standing : R → R
   pub states_fit : StatesFit plan.table new.states
   pub other_starts : (k j : ℕ) → ((k ≢ d) ⊎ (j ≢ i)) → start_in (starts_at new.starts.columns k) j ≡ start_in (starts_at old.starts.columns k) j
   pub other_states : (k j : ℕ) → ((k ≢ d) ⊎ (j ≢ i)) → state_in new.states k j ≡ state_in old.states k j
-  pub makes : FolderMakes (WellCall (FinishesThis plan d i (starts_at old.starts.columns d) (states_at old.states d))) old.folder new.folder
+  pub makes : StepMakes (FinishesThis plan d i (starts_at old.starts.columns d) (states_at old.states d))
+      (was_gone finish) old.folder new.folder
   pub is : is_finished plan d i ≡ true → IsDone plan d (starts_at old.starts.columns d) (states_at old.states d) old.folder i finish
   pub holds : IsTrue old.folder.tells → is_finished plan d i ≡ true
       → HoldsEnd plan d (starts_at old.starts.columns d) (states_at old.states d) old.folder.keeps_stamps i finish old.folder.tree new.folder.tree
@@ -123,6 +120,8 @@ pub record EndsNotColumn {W R : Type 0} (view : W → SinkView) (standing : R �
   pub is : (i : ℕ) → i < length (records_in plan.table d) → is_finished plan d i ≡ true
       → IsDone plan d (starts_at old.starts.columns d) (states_at old.states d) old.folder i (finish_at done i)
   pub first : List Event
+  pub part : FailsAtRecord plan d (starts_at old.starts.columns d) (states_at old.states d) done first
+      old.folder new.folder
   pub rest : List Event
   pub events : column_news plan d done ≡ first ++ rest
   pub told : Told view standing stands plan.table.columns first old.lines new.lines old.reports new.reports

@@ -17,7 +17,7 @@ use Rattle.snap_fix.specs.Breaking.{FolderFails}
 use Rattle.snap_fix.specs.Finishing.{FitsTree, HoldsFinished, bytes_now, lost_after, size_calls}
 use Rattle.snap_fix.specs.Mending.{IsFree, IsSetUpCall}
 use Rattle.snap_fix.specs.Order.{FolderWrites, put_calls}
-use Rattle.snap_fix.specs.State.{WellCall, FolderMakes, OthersStay, stands}
+use Rattle.snap_fix.specs.State.{OthersStay, StepMakes, stands}
 
 -- ---- what a step begins with
 
@@ -59,10 +59,11 @@ IsLostCall start state path call = (stands start.place state.touched ≡ true) �
 
 -- ---- what it ends with
 
--- there are such calls, only such were made, and a file was gone, which does not happen where the folder tells its files
+-- there are such calls, only such were made, and one of them found its file gone, which does not happen where the
+-- folder tells its files
 pub record FindsNoFile (P : FolderCall → Type 0) (old new : FolderView) : Type 0 where
   pub untold : old.tells ≡ false
-  pub makes : FolderMakes (WellCall P) old new
+  pub makes : StepMakes P true old new
   pub last : (call : FolderCall) × P call
 
 abbrev pub BreaksBy : FileFault → (FolderCall → Type 0) → FolderView → FolderView → Type 0
@@ -79,7 +80,7 @@ pub record Stands (path bytes : List ℕ) (lost : Option File) (before later : T
 
 -- the file stands under its path: it did, or it was renamed back, or made
 pub record SetsUp (path : List ℕ) (place : Place) (touched : Bool) (old new : FolderView) : Type 0 where
-  pub makes : FolderMakes (WellCall (IsPutCall place touched path)) old new
+  pub makes : StepMakes (IsPutCall place touched path) false old new
   pub stays : stands place touched ≡ true → TreeStays old new
   pub stand : IsTrue old.tells
       → Stands path (bytes_now old.tree path) (lost_after place (file_of old.tree (path_of path true))) old.tree new.tree
@@ -91,15 +92,15 @@ SizesBy true path size old new = new ≡ old
 SizesBy false path size old new = ChangesFile path (Resizes size) old new
 
 pub record FitsSize (path : List ℕ) (before size : ℕ) (old new : FolderView) : Type 0 where
-  pub makes : FolderMakes (WellCall (IsSizeCall path before size)) old new
+  pub makes : StepMakes (IsSizeCall path before size) false old new
   pub tree : TreeBy (SizesBy (before == size) path size) old new
   pub wrote : FolderWrites (size_calls before size path) old new
 
--- the file is finished as it was to be, by such calls, of which those that write are just these
+-- the file is finished as it was to be, by such calls, of which each found its file and those that write are just these
 pub record FinishesBy (wanted finish : Finish) (P : FolderCall → Type 0) (calls : List FolderCall) (meta : Meta) (start : Start) (state : FileState)
     (path : List ℕ) (old new : FolderView) : Type 0 where
   pub is : finish ≡ wanted
-  pub makes : FolderMakes (WellCall P) old new
+  pub makes : StepMakes P false old new
   pub holds : IsTrue old.tells
       → HoldsFinished finish old.keeps_stamps meta start state (bytes_now old.tree path) path old.tree new.tree
   pub others : IsTrue old.tells → OthersStay path old.tree new.tree

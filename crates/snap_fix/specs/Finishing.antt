@@ -19,7 +19,7 @@ use Rattle.snap_fix.specs.Mending.{StatesFit, IsFree}
 use Rattle.snap_fix.specs.Order.{FolderWrites, put_calls}
 use Rattle.snap_fix.specs.Plan.{records_in}
 pub use Rattle.snap_fix.specs.State.{OthersStay, stands}
-use Rattle.snap_fix.specs.State.{WellCall, FolderMakes, bytes_placed, record_path, state_in}
+use Rattle.snap_fix.specs.State.{StepMakes, bytes_placed, record_path, state_in}
 
 -- ---- what is done, by what is known of the file
 
@@ -51,6 +51,14 @@ lost_finish start state = if stands start.place state.touched then Renamed else 
 abbrev pub finish_of : Meta → Option Meta → Start → FileState → Bool → Finish
 finish_of meta listed start state keeps =
     if state.lost then lost_finish start state else whole_finish meta listed start state keeps
+
+-- the file was gone
+abbrev pub was_gone : Finish → Bool
+was_gone Kept = false
+was_gone (Restored stamped) = false
+was_gone Unstamped = false
+was_gone Renamed = false
+was_gone Gone = true
 
 -- ---- by which calls
 
@@ -140,7 +148,8 @@ pub record CanFinish (table : TableValue) (d i : ℕ) (listed : Option Meta) (st
   pub free : IsTrue folder.tells → IsFree folder.tree (record_path (records_in table d) i)
   pub fits : IsTrue folder.tells → FitsTree (record_path (records_in table d) i) listed (start_in (starts_at starts.columns d) i) (state_in states d i) folder.tree
 
--- The file of the record was finished, or it was gone, which does not happen where the folder tells its files.
+-- The file of the record was finished, or one of the calls for it found it gone, which does not happen where the folder
+-- tells its files.
 pub record FinishesRecord (table : TableValue) (d i : ℕ) (listed : Option Meta) (finish : Finish) (starts : StartsValue)
     (states : List (List FileState)) (folder : FolderView) (starts_new : StartsValue)
     (states_new : List (List FileState)) (folder_new : FolderView) : Type 0 where
@@ -151,7 +160,9 @@ pub record FinishesRecord (table : TableValue) (d i : ℕ) (listed : Option Meta
   pub states_fit : StatesFit table states_new
   pub other_starts : (k j : ℕ) → ((k ≢ d) ⊎ (j ≢ i)) → start_in (starts_at starts_new.columns k) j ≡ start_in (starts_at starts.columns k) j
   pub other_states : (k j : ℕ) → ((k ≢ d) ⊎ (j ≢ i)) → state_in states_new k j ≡ state_in states k j
-  pub makes : FolderMakes (WellCall (IsFinishCall (state_in states d i).lost listed (start_in (starts_at starts.columns d) i) (state_in states d i) (record_path (records_in table d) i) (record_at table.columns d i).meta)) folder folder_new
+  pub makes : StepMakes (IsFinishCall (state_in states d i).lost listed (start_in (starts_at starts.columns d) i)
+      (state_in states d i) (record_path (records_in table d) i) (record_at table.columns d i).meta)
+      (was_gone finish) folder folder_new
   pub holds : IsTrue folder.tells → HoldsFinished finish folder.keeps_stamps (record_at table.columns d i).meta (start_in (starts_at starts.columns d) i) (state_in states d i)
       (bytes_now folder.tree (record_path (records_in table d) i)) (record_path (records_in table d) i) folder.tree folder_new.tree
   pub whole : IsTrue folder.tells → (state_in states d i).lost ≡ false → StandsWhole folder.keeps_stamps (record_at table.columns d i).meta (start_in (starts_at starts.columns d) i).place

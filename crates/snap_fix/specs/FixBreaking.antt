@@ -1,5 +1,6 @@
 -- How a fix breaks off: while blocks are written, or, once all are, while levels are synced or files finished.
 use Rattle.std.specs.Prelude.{◌≡◌, ◌⊎◌, ℕ, ◌<◌, List, [], ◌∷◌, ◌++◌, length}
+use Rattle.std.specs.List.{range_with_len, flat_map}
 use Rattle.array_scan.specs.Kept.{ListedFile}
 use Rattle.array_scan.specs.Listings.{ListsAll}
 use Rattle.disk_model.specs.Cause.{RoseBy}
@@ -20,10 +21,10 @@ use Rattle.snap_fix.specs.declared.finishing.Finish.{Finish}
 use Rattle.snap_fix.specs.declared.scope.Mode.{Mode}
 use Rattle.snap_fix.specs.Asking.{AsksSpare}
 use Rattle.snap_fix.specs.Beginning.{BeginsNot}
-use Rattle.snap_fix.specs.Breaking.{FailsAfter, FailsInColumn}
+use Rattle.snap_fix.specs.Breaking.{FailsAfter}
 use Rattle.snap_fix.specs.BrokenStripe.{broken_events}
 use Rattle.snap_fix.specs.Course.{IsPlan, Outside}
-use Rattle.snap_fix.specs.Ending.{AreDone, FinishesOne, all_finish_news}
+use Rattle.snap_fix.specs.Ending.{AreDone, FailsInFinish, FailsInRecord, all_finish_news, column_news_at}
 use Rattle.snap_fix.specs.Findings.{opening_events}
 use Rattle.snap_fix.specs.FixCourse.{FixFinds, FixesVault, MakeFixCalls, WritesFiles, Written, mend_syncs}
 use Rattle.snap_fix.specs.FixRun.{BreaksInLast, HasBroken, HoldAllWrong}
@@ -31,8 +32,10 @@ use Rattle.snap_fix.specs.Fixing.{MendsVault, facts_of}
 use Rattle.snap_fix.specs.Looking.{numbers_of, unread_cells, unread_in}
 use Rattle.snap_fix.specs.Mended.{Mended, all_mended_events}
 use Rattle.snap_fix.specs.Plan.{FixPlan, starts_of, stripes_of}
-use Rattle.snap_fix.specs.State.{WellCall, FolderMakes, KeepsStarts}
-use Rattle.snap_fix.specs.Underway.{IsMendCall, done_well, mend_calls}
+use Rattle.snap_fix.specs.Reads.{AreReadAhead, FolderReads}
+use Rattle.snap_fix.specs.Repairing.{FailsInCell}
+use Rattle.snap_fix.specs.State.{FolderMakesBy, KeepsStarts}
+use Rattle.snap_fix.specs.Underway.{AreMendCalls, done_well, mend_calls}
 
 -- what is told before files are finished
 abbrev pub written_events : FixPlan → List Mended → List Event
@@ -43,8 +46,7 @@ written_events plan stripes = opening_events plan ++ all_mended_events plan stri
 pub record WritesLast (plan : FixPlan) (starts : StartsValue) (earlier : List Mended) (last : Mended)
     (firsts : List FolderView) (before : Written) (news : List FolderView) : Type 0 where
   pub makes : (d : ℕ) → d < length plan.table.columns
-      → FolderMakes (WellCall (IsMendCall plan before.starts d (last ∷ [])))
-      (folder_at before.folders d) (folder_at news d)
+      → FolderMakesBy (AreMendCalls plan before.starts d last) (folder_at before.folders d) (folder_at news d)
   pub written : Written
   pub stood : KeepsStarts before.starts written.starts
   pub writes : WritesFiles plan starts (earlier ++ last ∷ []) firsts written
@@ -54,8 +56,7 @@ pub record WritesLast (plan : FixPlan) (starts : StartsValue) (earlier : List Me
 abbrev pub BreaksLast : RunFault → FixPlan → StartsValue → List Mended → Mended → List FolderView → Written
     → List FolderView → Type 0
 BreaksLast (Folder disk) plan starts earlier last firsts before news =
-    FailsInColumn disk (length plan.table.columns) (λ (d : ℕ). IsMendCall plan before.starts d (last ∷ []))
-    before.folders news
+    FailsInCell disk plan before.starts last before.folders news
 BreaksLast Vault plan starts earlier last firsts before news = WritesLast plan starts earlier last firsts before news
 BreaksLast Memory plan starts earlier last firsts before news = ⊥
 
@@ -96,7 +97,8 @@ pub record BreaksSyncing (plan : FixPlan) (stripes : List Mended) (readings : Li
   pub folders : news ≡ written.folders
 
 -- While files were finished: the vault is as a fix leaves it that ends, so each level that was written was synced
--- before. All that was written was told, and then a prefix of what is told of the files. Column after column only
+-- before. All that was written was told, and then what was done to the files of the columns before the one that failed,
+-- and to those before the record where it failed: a prefix of what is told of the files. Column after column only
 -- calls that finish files were made, which went well but for the last one of the folder that failed; those behind it
 -- are as they were once all blocks were written.
 pub record BreaksFinishing (disk : ℕ) (plan : FixPlan) (stripes : List Mended) (readings : List (List LevelReading))
@@ -104,11 +106,13 @@ pub record BreaksFinishing (disk : ℕ) (plan : FixPlan) (stripes : List Mended)
   pub finishes : List (List Finish)
   pub are : AreDone plan written.starts written.states written.folders finishes
   pub finished : List Event
+  pub last : List Event
+  pub part : FailsInRecord disk plan written.starts written.states finishes last written.folders news
+  pub finished_is : finished ≡ flat_map (column_news_at plan finishes) (range_with_len 0 disk) ++ last
   pub rest : List Event
   pub events : first ≡ written_events plan stripes ++ finished
   pub finished_are : all_finish_news plan finishes ≡ finished ++ rest
-  pub makes : FailsInColumn disk (length plan.table.columns)
-      (λ (d : ℕ). FinishesOne plan d written.starts written.states) written.folders news
+  pub makes : FailsInFinish disk plan written.starts written.states finishes written.folders news
   pub vault : FixesVault plan stripes readings old new
 
 -- by what failed
@@ -163,6 +167,9 @@ pub record FixBreaks {W R : Type 0} (view : W → SinkView) (standing : R → Re
   pub told : Told view standing stands table.columns first old.lines new.lines old.reports new.reports
   pub folders : length new.folders ≡ length old.folders
   pub calls : MakeFixCalls plan (starts_of table lists) stripes mids new.folders
+  pub reads : (d : ℕ) → d < length plan.table.columns
+      → FolderReads (AreReadAhead plan (starts_of table lists) d (facts_of stripes) behind)
+      (folder_at mids d) (folder_at new.folders d)
   pub broke : HasBroken plan fault first mids new.folders old.vault new.vault
 
 -- why a fix did not end: it did not begin, and nothing but the folders was touched, or it broke off

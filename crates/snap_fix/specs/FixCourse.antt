@@ -40,9 +40,10 @@ use Rattle.snap_fix.specs.Looking.{AreAllLevelsOf, numbers_of, unread_cells, unr
 use Rattle.snap_fix.specs.Mended.{AnswersFit, Mended, has_lost, all_mended_events, written_in, wrong_in}
 use Rattle.snap_fix.specs.Order.{FolderWrites}
 use Rattle.snap_fix.specs.Plan.{FixPlan, entry_at, records_in, starts_of, stripes_of}
-use Rattle.snap_fix.specs.State.{AnyCall, WellCall, FolderMakes, KeepsStarts, record_path}
+use Rattle.snap_fix.specs.Reads.{AreReadBy, FolderReads}
+use Rattle.snap_fix.specs.State.{AnyCall, FolderMakes, FolderMakesBy, KeepsStarts, record_path}
 use Rattle.snap_fix.specs.StripeOrder.{writes_after}
-use Rattle.snap_fix.specs.Underway.{AddsZeros, AreUnderway, IsMendCall, IsMendedLevel, WritesOneOf, done_well, mend_calls}
+use Rattle.snap_fix.specs.Underway.{AddsZeros, AreStripeCalls, AreUnderway, IsMendedLevel, WritesOneOf, done_well, mend_calls}
 
 -- the folders of all columns that have records are open
 abbrev pub AreOpen : TableValue → List FolderView → Type 0
@@ -127,7 +128,7 @@ pub record WritesFiles (plan : FixPlan) (starts : StartsValue) (stripes : List M
   pub stood : KeepsStarts starts written.starts
   pub underway : AreUnderway plan stripes firsts written.folders written.starts written.states
   pub makes : (d : ℕ) → d < length plan.table.columns
-      → FolderMakes (WellCall (IsMendCall plan starts d stripes)) (folder_at firsts d) (folder_at written.folders d)
+      → FolderMakesBy (AreStripeCalls plan starts d stripes) (folder_at firsts d) (folder_at written.folders d)
 
 -- The calls of a folder that write: stripe after stripe each known block of a damaged cell is written, by where files stood at first; and
 -- when all are, record after record is finished.
@@ -136,12 +137,16 @@ fix_folder_calls plan d first stripes written =
     writes_after plan d first [] stripes ++ column_calls plan d (starts_at written.starts.columns d) (states_at written.states d)
 
 -- What a fix did to the files: all blocks were written, and then the selected records that aren't blocked were finished. Just these calls
--- that write were made of a folder that tells its files, in this order.
+-- that write were made of a folder that tells its files, in this order. Its cells were read stripe after stripe, each
+-- once, and nothing else.
 pub record FixesFiles (plan : FixPlan) (starts : StartsValue) (stripes : List Mended) (finishes : List (List Finish)) (firsts news : List FolderView) : Type 0 where
   pub written : Written
   pub writes : WritesFiles plan starts stripes firsts written
   pub folders : length news ≡ length firsts
   pub calls : MakeFixCalls plan starts stripes firsts news
+  pub reads : (d : ℕ) → d < length plan.table.columns
+      → FolderReads (AreReadBy plan starts written.starts d (facts_of stripes))
+      (folder_at firsts d) (folder_at news d)
   pub finished : (d : ℕ) → d < length plan.table.columns
       → FinishesColumn plan written.starts written.states d finishes (folder_at written.folders d) (folder_at news d)
   pub ordered : (d : ℕ) → d < length plan.table.columns → IsTrue (folder_at firsts d).tells

@@ -29,9 +29,10 @@ use Rattle.snap_fix.specs.Looking.{AreAllLevelsOf, numbers_of, facts_at, unread_
 use Rattle.snap_fix.specs.Marks.{slots_at}
 use Rattle.snap_fix.specs.Mended.{Mended, AnswersFit, all_mended_events}
 use Rattle.snap_fix.specs.Plan.{FixPlan}
+use Rattle.snap_fix.specs.Reads.{AreReadAhead, AreReadBy, FolderReads, IsQuiet}
 use Rattle.snap_fix.specs.Room.{IsRoomFor}
-use Rattle.snap_fix.specs.State.{WellCall, FolderMakes, KeepsStarts}
-use Rattle.snap_fix.specs.Underway.{AddsZeros, AreFixable, AreUnderway, HoldsWrong, IsMendCall, IsMendedLevel, done_well, mend_calls, wrong_writes}
+use Rattle.snap_fix.specs.State.{FolderMakesBy, KeepsStarts}
+use Rattle.snap_fix.specs.Underway.{AddsZeros, AreFixable, AreStripeCalls, AreUnderway, HoldsWrong, IsMendedLevel, done_well, mend_calls, wrong_writes}
 
 -- the stripes are looked at in ascending order, none twice
 abbrev pub AreAscending : List ℕ → Type 0
@@ -64,19 +65,21 @@ pub record FixesAll {W R : Type 0} (view : W → SinkView) (standing : R → Rep
   pub parity_io : RoseBy (count_by is_parity_io (all_mended_events plan stripes)) old.vault.faults new.vault.faults
   pub spare : AsksSpare plan (facts_of stripes) old.spare new.spare
   pub makes : (d : ℕ) → d < length plan.table.columns
-      → FolderMakes (WellCall (IsMendCall plan old.starts d stripes))
+      → FolderMakesBy (AreStripeCalls plan old.starts d stripes)
       (folder_at old.folders d) (folder_at new.folders d)
   pub underway : (before : List Mended) (firsts : List FolderView) → AreFixable plan firsts
       → AreUnderway plan before firsts old.folders old.starts old.states
       → AreUnderway plan (before ++ stripes) firsts new.folders new.starts new.states
 
--- The stripes of a window were, as they were read into it.
+-- The stripes of a window were, as they were read into it, and no folder was read meanwhile.
 pub record FixesInto {W R : Type 0} (view : W → SinkView) (standing : R → ReportView) (stands : R → List Event → Type 0)
     (plan : FixPlan) (numbers : List ℕ) (window : WindowValue) (old new : FixScene W R) (totals : Totals) : Type 0 where
   pub stripes : List Mended
   pub numbers_are : numbers_of (facts_of stripes) ≡ numbers
   pub slots : (k : ℕ) → k < length stripes → (facts_at (facts_of stripes) k).slots ≡ slots_at window k
   pub fixes : FixesAll view standing stands plan stripes old new totals
+  pub quiet : (d : ℕ) → d < length plan.table.columns
+      → FolderReads IsQuiet (folder_at old.folders d) (folder_at new.folders d)
 
 -- the same with other folders
 abbrev pub with_folders : {W R : Type 0} → FixScene W R → List FolderView → FixScene W R
@@ -105,6 +108,9 @@ pub record FixesStripes {W R : Type 0} (view : W → SinkView) (standing : R →
   pub fixes : FixesAll view standing stands plan stripes old new totals
   pub read : (firsts : List FolderView) → AreFixable plan firsts
       → AreUnderway plan [] firsts old.folders old.starts old.states → AreReadThen plan old.starts firsts stripes
+  pub reads : (d : ℕ) → d < length plan.table.columns
+      → FolderReads (AreReadBy plan old.starts new.starts d (facts_of stripes))
+      (folder_at old.folders d) (folder_at new.folders d)
   pub unread : (d : ℕ) → d < length plan.table.columns
       → RoseBy (unread_cells d (facts_of stripes)) (folder_at old.folders d).faults (folder_at new.folders d).faults
   pub io : (d : ℕ) → d < length plan.table.columns
@@ -152,7 +158,7 @@ pub record BreaksFolders (plan : FixPlan) (begun : StartsValue) (begun_states : 
   pub states : List (List FileState)
   pub mids : List FolderView
   pub makes : (d : ℕ) → d < length plan.table.columns
-      → FolderMakes (WellCall (IsMendCall plan begun d earlier)) (folder_at olds d) (folder_at mids d)
+      → FolderMakesBy (AreStripeCalls plan begun d earlier) (folder_at olds d) (folder_at mids d)
   pub underway : (before : List Mended) (firsts : List FolderView) → AreFixable plan firsts
       → AreUnderway plan before firsts olds begun begun_states
       → AreUnderway plan (before ++ earlier) firsts mids starts states
@@ -186,6 +192,9 @@ pub record BreaksStripes {W R : Type 0} (view : W → SinkView) (standing : R �
   pub answered : All (AnswersFit plan old.folders) stripes
   pub cells : (firsts : List FolderView) → AreFixable plan firsts
       → AreUnderway plan [] firsts old.folders old.starts old.states → AreReadThen plan old.starts firsts stripes
+  pub reads : (d : ℕ) → d < length plan.table.columns
+      → FolderReads (AreReadAhead plan old.starts d (facts_of stripes) behind)
+      (folder_at old.folders d) (folder_at new.folders d)
   pub readings : List (List LevelReading)
   pub read : AreAllLevelsOf plan.table.shape.block_size old.vault (facts_of stripes) readings
   pub ran : BreaksInLast plan fault level (facts_of earlier) last.facts readings old.vault new.vault
@@ -227,6 +236,8 @@ pub record BreaksInto {W R : Type 0} (view : W → SinkView) (standing : R → R
   pub unread : RoseBy (unread_in readings) old.vault.faults new.vault.faults
   pub spare : AsksSpare plan (facts_of stripes) old.spare new.spare
   pub makes : BreaksFolders plan old.starts old.states fault earlier last old.folders new.folders
+  pub quiet : (d : ℕ) → d < length plan.table.columns
+      → FolderReads IsQuiet (folder_at old.folders d) (folder_at new.folders d)
   pub broke : HasBrokenInto plan fault first old.folders new.folders old.vault new.vault
 
 -- Some stripes of the work were read into the window, and then it broke off.

@@ -8,7 +8,7 @@ use Rattle.disk_model.specs.Vault.{VaultView, GoesOn, SomeCalls, ChangesBy, Draf
 use Rattle.file_table.specs.declared.shape.Shape.{Shape}
 use Rattle.parity_writer.specs.LevelReading.{LevelReading, has_failed}
 use Rattle.snap_report.specs.Answer.{Gained, broke_folder}
-use Rattle.snap_fix.specs.Breaking.{FailsInColumn, broke_parity}
+use Rattle.snap_fix.specs.Breaking.{broke_parity}
 use Rattle.snap_fix.specs.BrokenStripe.{BreaksLevels, broken_events}
 use Rattle.snap_report.specs.Report.{ReportView}
 use Rattle.snap_report.specs.Told.{Told}
@@ -34,10 +34,11 @@ use Rattle.snap_fix.specs.Marks.{ChangesStripe, slots_at}
 use Rattle.snap_fix.specs.Mended.{Mended, AnswersFit, all_mended_events, mended_events, is_wrong_level, written_in, wrong_in}
 use Rattle.snap_fix.specs.Mending.{StatesFit}
 use Rattle.snap_fix.specs.Plan.{FixPlan}
+use Rattle.snap_fix.specs.Repairing.{FailsInCell}
 use Rattle.snap_fix.specs.Room.{IsRoomFor}
 use Rattle.snap_fix.specs.Spare.{SpareView, IsSpareFor}
-use Rattle.snap_fix.specs.State.{WellCall, FolderMakes, KeepsStarts}
-use Rattle.snap_fix.specs.Underway.{AreFixable, AreUnderway, IsMendCall, AddsZeros, KeepsLevels, IsMendedLevel, HoldsWrong, stripe_calls, stripe_reads}
+use Rattle.snap_fix.specs.State.{FolderMakesBy, KeepsStarts}
+use Rattle.snap_fix.specs.Underway.{AreFixable, AreMendCalls, AreUnderway, AddsZeros, KeepsLevels, IsMendedLevel, HoldsWrong, stripe_calls, stripe_reads}
 
 -- all that a fix works on: where files stand, what was done to them, which levels were written, the folders, the vault, the spare, the
 -- lines, and those who are told
@@ -176,7 +177,8 @@ pub record FixesStripe {W R : Type 0} (view : W → SinkView) (standing : R → 
   pub zeros : IsTrue old.vault.tells → AddsZeros plan.table.shape.block_size (IsMendedLevel plan (mended.facts ∷ [])) old.vault.files new.vault.files
   pub holds : Reads (HoldsWrong plan mended.facts) new.vault
   pub spare : AsksSpare plan (mended.facts ∷ []) old.spare new.spare
-  pub makes : (d : ℕ) → d < length plan.table.columns → FolderMakes (WellCall (IsMendCall plan old.starts d (mended ∷ []))) (folder_at old.folders d) (folder_at new.folders d)
+  pub makes : (d : ℕ) → d < length plan.table.columns
+      → FolderMakesBy (AreMendCalls plan old.starts d mended) (folder_at old.folders d) (folder_at new.folders d)
   pub underway : (stripes : List Mended) (firsts : List FolderView) → AreFixable plan firsts
       → AreUnderway plan stripes firsts old.folders old.starts old.states
       → AreUnderway plan (stripes ++ mended ∷ []) firsts new.folders new.starts new.states
@@ -219,7 +221,7 @@ pub record WritesCells (plan : FixPlan) (mended : Mended) (begun : StartsValue) 
   pub states : List (List FileState)
   pub stood : KeepsStarts begun starts
   pub makes : (d : ℕ) → d < length plan.table.columns
-      → FolderMakes (WellCall (IsMendCall plan begun d (mended ∷ []))) (folder_at olds d) (folder_at news d)
+      → FolderMakesBy (AreMendCalls plan begun d mended) (folder_at olds d) (folder_at news d)
   pub underway : (stripes : List Mended) (firsts : List FolderView) → AreFixable plan firsts
       → AreUnderway plan stripes firsts olds begun begun_states
       → AreUnderway plan (stripes ++ mended ∷ []) firsts news starts states
@@ -229,7 +231,7 @@ pub record WritesCells (plan : FixPlan) (mended : Mended) (begun : StartsValue) 
 abbrev pub BreaksCells : RunFault → FixPlan → Mended → StartsValue → List (List FileState) → List FolderView
     → List FolderView → Type 0
 BreaksCells (Folder disk) plan mended starts states olds news =
-    FailsInColumn disk (length plan.table.columns) (λ (d : ℕ). IsMendCall plan starts d (mended ∷ [])) olds news
+    FailsInCell disk plan starts mended olds news
 BreaksCells Vault plan mended starts states olds news = WritesCells plan mended starts states olds news
 BreaksCells Memory plan mended starts states olds news = ⊥
 

@@ -22,6 +22,7 @@ pub mod Trying
 pub mod Examining
 pub mod State
 pub mod Order
+pub mod Reads
 pub mod Mending
 pub mod Finishing
 pub mod FinishSteps

@@ -48,6 +48,10 @@ is_repaired plan facts d =
 abbrev pub is_written : FixPlan → Mended → ℕ → Bool
 is_written plan mended d = is_repaired plan mended.facts d && answer_of mended d
 
+-- a cell was to be written, and its file was gone
+abbrev pub is_gone : FixPlan → Mended → ℕ → Bool
+is_gone plan mended d = is_repaired plan mended.facts d && not (answer_of mended d)
+
 -- where its folder tells its files, each cell that is to be written is
 abbrev pub AnswersFit : FixPlan → List FolderView → Mended → Type 0
 AnswersFit plan folders mended = (d : ℕ) → d < length plan.table.columns → IsTrue (folder_at folders d).tells
@@ -107,7 +111,7 @@ loses plan d i mended =
     let facts = mended.facts in
     is_of i (cell_at plan facts.stripe d)
     && (is_lost plan facts.stripe (is_missing plan facts d) (is_some facts.row) d
-    || (is_repaired plan facts d && not (answer_of mended d)))
+    || is_gone plan mended d)
 
 abbrev pub has_lost : FixPlan → List Mended → ℕ → ℕ → Bool
 has_lost plan stripes d i = list_any (loses plan d i) stripes

@@ -1,5 +1,5 @@
 -- A block of a file is written anew.
-use Rattle.std.specs.Prelude.{◌≡◌, ◌≢◌, ◌⊎◌, ℕ, ◌*◌, ◌<◌, List, [], ◌∷◌, ◌++◌, length, get_or, slice_set, Bool, true, false, if◌then◌else◌, None, IsTrue}
+use Rattle.std.specs.Prelude.{◌≡◌, ◌≢◌, ◌⊎◌, ℕ, ◌*◌, ◌<◌, List, [], ◌∷◌, ◌++◌, length, get_or, slice_set, Bool, true, false, not, if◌then◌else◌, None, IsTrue}
 use Rattle.disk_model.specs.Folder.{FolderView, FolderCall, Make, WriteAt, Rename, MayHold}
 use Rattle.disk_model.specs.Tree.{Tree, file_of, path_of, is_directory_of, IsApart, IsTree}
 use Rattle.disk_model.specs.declared.fault.FileFault.{FileFault}
@@ -15,7 +15,7 @@ use Rattle.snap_fix.specs.declared.state.FileState.{FileState}
 use Rattle.snap_fix.specs.Breaking.{FolderFails}
 use Rattle.snap_fix.specs.Order.{FolderWrites, block_calls, put_calls}
 use Rattle.snap_fix.specs.Plan.{records_in}
-use Rattle.snap_fix.specs.State.{WellCall, Write, HoldsRecord, HoldsColumn, HoldsTold, FolderMakes, OthersStay, StaysPlace, record_path, size_after, state_in, stands}
+use Rattle.snap_fix.specs.State.{Write, HoldsRecord, HoldsColumn, HoldsTold, OthersStay, StaysPlace, StepMakes, record_path, size_after, state_in, stands}
 
 -- there is a state for each record of each column
 pub record StatesFit (table : TableValue) (states : List (List FileState)) : Type 0 where
@@ -72,10 +72,11 @@ pub record CanSetUp (path : List ℕ) (start : Start) (state : FileState) (folde
   pub may : stands start.place state.touched ≡ false → MayHold folder path
   pub so_far : IsTrue folder.tells → IsWrittenSoFar path start state folder.tree
 
--- These calls were made, and what the folder holds of the record goes on by these writes. All other names hold what they held.
-pub record GoesOnBy (P : FolderCall → Type 0) (added : List Write) (path : List ℕ) (start : Start) (state : FileState)
-    (folder : FolderView) (start_new : Start) (state_new : FileState) (folder_new : FolderView) : Type 0 where
-  pub makes : FolderMakes (WellCall P) folder folder_new
+-- These calls were made, of which one found no file or none did, and what the folder holds of the record goes on by
+-- these writes. All other names hold what they held.
+pub record GoesOnBy (P : FolderCall → Type 0) (missing : Bool) (added : List Write) (path : List ℕ) (start : Start)
+    (state : FileState) (folder : FolderView) (start_new : Start) (state_new : FileState) (folder_new : FolderView) : Type 0 where
+  pub makes : StepMakes P missing folder folder_new
   pub same_size : start_new.size ≡ start.size
   pub stood : StaysPlace start.place start_new.place
   pub size : state_new.size ≡ size_after state.size added
@@ -88,23 +89,23 @@ pub record GoesOnBy (P : FolderCall → Type 0) (added : List Write) (path : Lis
 -- Its file stands under PATH, and nothing was written to it.
 pub record SetsUp (path : List ℕ) (start : Start) (state : FileState) (folder : FolderView)
     (start_new : Start) (state_new : FileState) (folder_new : FolderView) : Type 0 where
-  pub goes_on : GoesOnBy (IsSetUpCall start.place path) [] path start state folder start_new state_new folder_new
+  pub goes_on : GoesOnBy (IsSetUpCall start.place path) false [] path start state folder start_new state_new folder_new
   pub there : IsTrue folder.tells → stands start_new.place state_new.touched ≡ true
   pub wrote : FolderWrites (put_calls start.place state.touched path) folder folder_new
 
 -- Bytes were written to its file.
 pub record WritesBytes (path : List ℕ) (at : ℕ) (bytes : List ℕ) (start : Start) (state : FileState) (folder : FolderView)
     (start_new : Start) (state_new : FileState) (folder_new : FolderView) : Type 0 where
-  pub goes_on : GoesOnBy (IsBlockCall start.place path at bytes) (record { at = at; bytes = bytes } ∷ []) path
+  pub goes_on : GoesOnBy (IsBlockCall start.place path at bytes) false (record { at = at; bytes = bytes } ∷ []) path
       start state folder start_new state_new folder_new
   pub touched : state_new.touched ≡ true
   pub wrote : FolderWrites (block_calls start.place state.touched path at bytes) folder folder_new
 
--- its file was gone, which does not happen where the folder tells its files
+-- one of these calls found its file gone, which does not happen where the folder tells its files
 pub record FindsNone (P : FolderCall → Type 0) (path : List ℕ) (start : Start) (state : FileState) (folder : FolderView)
     (start_new : Start) (state_new : FileState) (folder_new : FolderView) : Type 0 where
   pub untold : folder.tells ≡ false
-  pub goes_on : GoesOnBy P [] path start state folder start_new state_new folder_new
+  pub goes_on : GoesOnBy P true [] path start state folder start_new state_new folder_new
 
 abbrev pub EndsBy : FileFault → (FolderCall → Type 0) → List ℕ → Start → FileState → FolderView → Start → FileState → FolderView → Type 0
 EndsBy Failed P path start state folder start_new state_new folder_new = FolderFails P folder folder_new
@@ -133,7 +134,8 @@ pub record CanWrite (table : TableValue) (d : ℕ) (cell : Cell) (bytes : List �
   pub is_open : folder.closed ≡ false
   pub underway : IsTrue folder.tells → IsUnderway table d cell.rec starts states folder.tree
 
--- The block was written, or its file was gone, which does not happen where the folder tells its files.
+-- The block was written, or one of the calls for it found its file gone, which does not happen where the folder tells
+-- its files.
 pub record MendsCell (table : TableValue) (d : ℕ) (cell : Cell) (bytes : List ℕ) (written : Bool)
     (starts : StartsValue) (states : List (List FileState)) (folder : FolderView)
     (starts_new : StartsValue) (states_new : List (List FileState)) (folder_new : FolderView) : Type 0 where
@@ -148,7 +150,8 @@ pub record MendsCell (table : TableValue) (d : ℕ) (cell : Cell) (bytes : List 
   pub stays_touched : (state_in states d cell.rec).touched ≡ true → state.touched ≡ true
   pub there : IsTrue folder.tells → written ≡ true
   pub wrote : written ≡ true → FolderWrites (block_calls (start_in (starts_at starts.columns d) cell.rec).place (state_in states d cell.rec).touched (cell_path table d cell) (block_start table cell) bytes) folder folder_new
-  pub makes : FolderMakes (WellCall (IsBlockCall (start_in (starts_at starts.columns d) cell.rec).place (cell_path table d cell) (block_start table cell) bytes)) folder folder_new
+  pub makes : StepMakes (IsBlockCall (start_in (starts_at starts.columns d) cell.rec).place (cell_path table d cell)
+      (block_start table cell) bytes) (not written) folder folder_new
   pub holds : (first : FolderView) (writes : List (List Write)) → first.tells ≡ folder.tells → (IsTrue first.tells → IsFree first.tree (cell_path table d cell)) → (IsTrue first.tells → IsTree first.tree)
       → HoldsTold (records_in table d) (starts_at starts.columns d) (get_or states d []) writes first folder
       → HoldsTold (records_in table d) (starts_at starts_new.columns d) (get_or states_new d []) (mended_writes table cell bytes written writes) first folder_new

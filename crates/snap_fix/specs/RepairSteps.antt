@@ -5,10 +5,9 @@ use Rattle.disk_model.specs.Cause.{Rose}
 use Rattle.disk_model.specs.Bytes.{put}
 use Rattle.disk_model.specs.Files.{Files, parity_of, with_parity, TearsParity}
 use Rattle.disk_model.specs.Folder.{FolderView}
-use Rattle.disk_model.specs.Ran.{vault_done}
 use Rattle.disk_model.specs.Sink.{SinkView}
 use Rattle.disk_model.specs.Tree.{IsTree}
-use Rattle.disk_model.specs.Vault.{GoesOn, ParityWrite, SomeCalls, ChangesBy, DraftsStay, Reads}
+use Rattle.disk_model.specs.Vault.{plain_done, GoesOn, ParityWrite, SomeCalls, ChangesBy, DraftsStay, Reads}
 use Rattle.file_table.specs.Table.{Column, TableValue}
 use Rattle.file_table.specs.declared.block.Cell.{Cell}
 use Rattle.parity_writer.specs.Parity.{Row, HasLevel}
@@ -34,8 +33,8 @@ use Rattle.snap_fix.specs.Mending.{StatesFit, IsFree, IsBlockCall, block_start, 
 use Rattle.snap_fix.specs.Order.{FolderWrites, block_calls}
 use Rattle.snap_fix.specs.Plan.{FixPlan, cell_at, records_in, selects_cell}
 use Rattle.snap_fix.specs.Repairing.{LevelsOutside}
-use Rattle.snap_fix.specs.State.{WellCall, Write, HoldsTold, FolderMakes, KeepsStarts, StaysPlace, size_after, state_in}
-use Rattle.snap_fix.specs.Underway.{IsFixable, IsColumnUnderway, IsMendCall, ShowsFacts, done_well, is_damaged_mark, is_given_mark}
+use Rattle.snap_fix.specs.State.{Write, HoldsTold, FolderMakesBy, KeepsStarts, StaysPlace, StepMakes, size_after, state_in}
+use Rattle.snap_fix.specs.Underway.{AreMendCalls, IsFixable, IsColumnUnderway, IsMendCall, ShowsFacts, done_well, is_damaged_mark, is_given_mark}
 
 -- ---- one cell
 
@@ -105,8 +104,8 @@ pub record MendsColumn {W R : Type 0} (view : W → SinkView) (standing : R → 
   pub blocks : (mended : Mended) → IsMendedAs plan stripe i d window marks known answer mended
       → repaired.blocks ≡ (if is_written plan mended d then 1 else 0)
   pub few : repaired.blocks ≤ 1
-  pub makes : (facts : StripeFacts) → facts.stripe ≡ stripe → ShowsFacts plan facts i marks known window
-      → FolderMakes (WellCall (IsMendCall plan old.starts d (record { facts = facts; answers = [] } ∷ []))) old.folder new.folder
+  pub makes : (mended : Mended) → IsMendedAs plan stripe i d window marks known answer mended
+      → FolderMakesBy (AreMendCalls plan old.starts d mended) old.folder new.folder
   pub underway : (mended : Mended) → IsMendedAs plan stripe i d window marks known answer mended
       → (stripes : List Mended) (first : FolderView) → IsFixable plan d first → IsColumnUnderway plan d stripes first old.folder old.starts old.states
       → IsColumnUnderway plan d (stripes ++ mended ∷ []) first new.folder new.starts new.states
@@ -116,8 +115,8 @@ pub record MendsNotColumn {W R : Type 0} (view : W → SinkView) (standing : R �
     (plan : FixPlan) (stripe i d : ℕ) (window : WindowValue) (marks : List CellMark) (known : Bool)
     (old new : ColumnOutside W R) : Type 0 where
   pub told : Told view standing stands plan.table.columns [] old.lines new.lines old.reports new.reports
-  pub fails : (facts : StripeFacts) → facts.stripe ≡ stripe → ShowsFacts plan facts i marks known window
-      → FolderFails (IsMendCall plan old.starts d (record { facts = facts; answers = [] } ∷ [])) old.folder new.folder
+  pub fails : (mended : Mended) → mended.facts.stripe ≡ stripe → ShowsFacts plan mended.facts i marks known window
+      → FolderFails (IsMendCall plan old.starts d (mended ∷ [])) old.folder new.folder
 
 -- The block of a cell was written, and that told; or its file was gone, and that it is lost was.
 pub record WritesBlockOf {W R : Type 0} (view : W → SinkView) (standing : R → ReportView) (stands : R → List Event → Type 0)
@@ -138,8 +137,8 @@ pub record WritesBlockOf {W R : Type 0} (view : W → SinkView) (standing : R �
   pub told : Told view standing stands table.columns (mended_event stripe d (Some cell) written) old.lines new.lines old.reports new.reports
   pub counts : AreCounts (mended_event stripe d (Some cell) written) repaired.counts
   pub blocks : repaired.blocks ≡ (if written then 1 else 0)
-  pub makes : FolderMakes (WellCall (IsBlockCall (start_in (starts_at old.starts.columns d) cell.rec).place (cell_path table d cell) (block_start table cell) bytes))
-      old.folder new.folder
+  pub makes : StepMakes (IsBlockCall (start_in (starts_at old.starts.columns d) cell.rec).place
+      (cell_path table d cell) (block_start table cell) bytes) (not written) old.folder new.folder
   pub holds : (first : FolderView) (writes : List (List Write)) → first.tells ≡ old.folder.tells
       → (IsTrue first.tells → IsFree first.tree (cell_path table d cell)) → (IsTrue first.tells → IsTree first.tree)
       → HoldsTold (records_in table d) (starts_at old.starts.columns d) (get_or old.states d []) writes first old.folder
@@ -171,7 +170,7 @@ pub record WritesNotLevel {W R : Type 0} (view : W → SinkView) (standing : R �
   pub rose : Rose old.vault.faults new.vault.faults
   pub call : IsTrue new.vault.tells_calls → Gained broke_parity old.vault.calls new.vault.calls
   pub calls : SomeCalls old.vault new.vault
-  pub ran : GoesOn old.vault new.vault (vault_done (ParityWrite r (stripe * block_size) (level_of r block_size row)) true ∷ [])
+  pub ran : GoesOn old.vault new.vault (plain_done (ParityWrite r (stripe * block_size) (level_of r block_size row)) true ∷ [])
   pub drafts : DraftsStay old.vault new.vault
   pub changes : ChangesBy (TearsParity r (stripe * block_size) block_size) old.vault new.vault
   pub told : Told view standing stands columns [] old.lines new.lines old.reports new.reports

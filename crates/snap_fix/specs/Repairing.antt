@@ -25,8 +25,8 @@ use Rattle.snap_fix.specs.Marks.{row_if}
 use Rattle.snap_fix.specs.Mended.{Mended, AnswersFit, all_cell_news, all_level_news, cell_news, is_wrong_level, level_news, written_in, wrong_in}
 use Rattle.snap_fix.specs.Mending.{StatesFit}
 use Rattle.snap_fix.specs.Plan.{FixPlan}
-use Rattle.snap_fix.specs.State.{WellCall, FolderMakes, KeepsStarts}
-use Rattle.snap_fix.specs.Underway.{AreFixable, AreUnderway, FixUnderway, IsMendCall, ShowsFacts, KeepsLevels, AddsZeros, IsMendedLevel, HoldsWrong, done_well, wrong_writes}
+use Rattle.snap_fix.specs.State.{FolderMakesBy, KeepsStarts}
+use Rattle.snap_fix.specs.Underway.{AreFixable, AreMendCalls, AreUnderway, FixUnderway, IsMendCall, ShowsFacts, KeepsLevels, AddsZeros, IsMendedLevel, HoldsWrong, done_well, wrong_writes}
 
 -- ---- files
 
@@ -54,6 +54,13 @@ pub record CanMend (plan : FixPlan) (stripe i : ℕ) (window : WindowValue) (mar
   pub shows : ShowsFacts plan facts i marks known window
   pub underway : FixUnderway plan folders starts states
 
+-- The folder of a column failed while the cells of a stripe were written: of each before it the calls for its cell were
+-- made, and of it those up to the one that failed.
+abbrev pub FailsInCell : ℕ → FixPlan → StartsValue → Mended → List FolderView → List FolderView → Type 0
+FailsInCell disk plan starts mended olds news =
+    FailsInColumn disk (length plan.table.columns) (λ (d : ℕ). AreMendCalls plan starts d mended)
+    (λ (d : ℕ). IsMendCall plan starts d (mended ∷ [])) olds news
+
 -- All known blocks of the stripe were written: whichever its facts, and whatever the fix did before, it goes on with this stripe.
 pub record MendsFiles {W R : Type 0} (view : W → SinkView) (standing : R → ReportView) (stands : R → List Event → Type 0)
     (plan : FixPlan) (stripe i : ℕ) (window : WindowValue) (marks : List CellMark) (known : Bool)
@@ -73,7 +80,8 @@ pub record MendsFiles {W R : Type 0} (view : W → SinkView) (standing : R → R
   pub blocks : (facts : StripeFacts) → facts.stripe ≡ stripe → ShowsFacts plan facts i marks known window
       → repaired.blocks ≡ written_in plan (record { facts = facts; answers = answers })
   pub makes : (facts : StripeFacts) → facts.stripe ≡ stripe → ShowsFacts plan facts i marks known window → (d : ℕ) → d < length plan.table.columns
-      → FolderMakes (WellCall (IsMendCall plan old.starts d (record { facts = facts; answers = [] } ∷ []))) (folder_at old.folders d) (folder_at new.folders d)
+      → FolderMakesBy (AreMendCalls plan old.starts d (record { facts = facts; answers = answers }))
+      (folder_at old.folders d) (folder_at new.folders d)
   pub underway : (facts : StripeFacts) → facts.stripe ≡ stripe → ShowsFacts plan facts i marks known window
       → (stripes : List Mended) (firsts : List FolderView) → AreFixable plan firsts → AreUnderway plan stripes firsts old.folders old.starts old.states
       → AreUnderway plan (stripes ++ record { facts = facts; answers = answers } ∷ []) firsts new.folders new.starts new.states
@@ -84,13 +92,12 @@ pub record MendsNotFiles {W R : Type 0} (view : W → SinkView) (standing : R �
     (plan : FixPlan) (stripe i : ℕ) (window : WindowValue) (marks : List CellMark) (known : Bool)
     (old new : FilesOutside W R) (disk : ℕ) : Type 0 where
   pub folders : length new.folders ≡ length old.folders
-  pub events : (facts : StripeFacts) → facts.stripe ≡ stripe → ShowsFacts plan facts i marks known window
+  pub broke : (facts : StripeFacts) → facts.stripe ≡ stripe → ShowsFacts plan facts i marks known window
       → (answers : List Bool) × AnswersFit plan old.folders (record { facts = facts; answers = answers })
       × Told view standing stands plan.table.columns
       (flat_map (cell_news plan (record { facts = facts; answers = answers })) (range_with_len 0 disk))
       old.lines new.lines old.reports new.reports
-  pub fails : (facts : StripeFacts) → facts.stripe ≡ stripe → ShowsFacts plan facts i marks known window
-      → FailsInColumn disk (length plan.table.columns) (λ (d : ℕ). IsMendCall plan old.starts d (record { facts = facts; answers = [] } ∷ [])) old.folders new.folders
+      × FailsInCell disk plan old.starts (record { facts = facts; answers = answers }) old.folders new.folders
 
 -- ---- levels
 

@@ -1,5 +1,7 @@
 -- What a fix did to the files of a column's records, and what its folder holds then.
 use Rattle.std.specs.Prelude.{◌≡◌, ◌≢◌, ◌⊎◌, ℕ, ◌+◌, ◌<◌, max, List, [], ◌∷◌, length, get_or, slice_index_or, Bool, true, false, Option, None, Some, IsTrue, All, map}
+use Rattle.std.specs.List.{list_any}
+use Rattle.disk_model.specs.Answer.{is_missing}
 use Rattle.disk_model.specs.Bytes.{put}
 use Rattle.disk_model.specs.Folder.{FolderView, FolderCall, FolderDone, FolderGoesOn}
 use Rattle.disk_model.specs.Stopped.{MayBeLeft}
@@ -136,6 +138,27 @@ pub record FolderMakes (P : FolderDone → Type 0) (old new : FolderView) : Type
   pub each : All P done
   pub goes_on : FolderGoesOn old new done
   pub left : IsTrue old.tells → IsTree old.tree → MayBeLeft old.keeps_stamps done old.tree new.tree
+
+-- one of these calls found no file
+abbrev pub has_missing : List FolderDone → Bool
+has_missing done = list_any (λ (one : FolderDone). is_missing one.answer) done
+
+-- such calls, of which none failed, and one found no file or none did
+pub record AreStepCalls (P : FolderCall → Type 0) (missing : Bool) (done : List FolderDone) : Type 0 where
+  pub each : All (WellCall P) done
+  pub found : has_missing done ≡ missing
+
+-- Calls of which this holds were made of a folder. Where it tells its files, what it holds then is among what a stop
+-- within these calls may leave.
+pub record FolderMakesBy (P : List FolderDone → Type 0) (old new : FolderView) : Type 0 where
+  pub done : List FolderDone
+  pub are : P done
+  pub goes_on : FolderGoesOn old new done
+  pub left : IsTrue old.tells → IsTree old.tree → MayBeLeft old.keeps_stamps done old.tree new.tree
+
+-- a step on a file was made by such calls, of which one found no file or none did
+abbrev pub StepMakes : (FolderCall → Type 0) → Bool → FolderView → FolderView → Type 0
+StepMakes P missing old new = FolderMakesBy (AreStepCalls P missing) old new
 
 -- each name but the two of this path holds what it held
 abbrev pub OthersStay : List ℕ → Tree → Tree → Type 0

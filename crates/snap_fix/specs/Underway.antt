@@ -1,11 +1,10 @@
 -- How far a fix is with the files of its columns.
-use Rattle.std.specs.Prelude.{◌≡◌, ◌⊎◌, ℕ, ◌*◌, ◌<◌, ◌≤◌, List, [], ◌∷◌, ◌++◌, length, map, get_or, is_some, Bool, true, false, if◌then◌else◌, Option, None, Some, IsTrue, Contains}
+use Rattle.std.specs.Prelude.{◌≡◌, ◌⊎◌, ℕ, ◌*◌, ◌<◌, ◌≤◌, List, [], ◌∷◌, ◌++◌, length, map, filter, get_or, All, is_some, Bool, true, false, if◌then◌else◌, Option, None, Some, IsTrue, Contains}
 use Rattle.std.specs.List.{range_with_len, flat_map}
 use Rattle.disk_model.specs.Files.{Files, parity_of}
-use Rattle.disk_model.specs.Folder.{FolderView, FolderCall, SomeFolderCalls, ListFiles, Look, ReadAt, Make, WriteAt, SetSize, SetStamp, Rename}
+use Rattle.disk_model.specs.Folder.{FolderView, FolderCall, FolderDone, SomeFolderCalls, ListFiles, Look, ReadAt, Make, WriteAt, SetSize, SetStamp, Rename}
 use Rattle.disk_model.specs.Tree.{IsTree}
-use Rattle.disk_model.specs.Ran.{vault_done}
-use Rattle.disk_model.specs.Vault.{VaultCall, VaultDone, ParityWrite}
+use Rattle.disk_model.specs.Vault.{plain_done, VaultCall, VaultDone, ParityWrite}
 use Rattle.cauchy.specs.Matrix.{parity_of as level_of}
 use Rattle.file_table.specs.Table.{record_at}
 use Rattle.file_table.specs.declared.block.Cell.{Cell}
@@ -13,6 +12,7 @@ use Rattle.parity_writer.specs.Keeps.{HasByte, IsOutside}
 use Rattle.parity_writer.specs.LevelReading.{LevelReading, calls_of}
 use Rattle.parity_writer.specs.Parity.{Row, HasLevel}
 use Rattle.parity_writer.specs.WindowRow.{bytes_of}
+use Rattle.snap_report.specs.Answer.{is_reading}
 use Rattle.stripe_reader.specs.Columns.{folder_at}
 use Rattle.stripe_reader.specs.Reading.{block_length}
 use Rattle.stripe_reader.specs.Starts.{StartsValue, starts_at, start_in}
@@ -24,11 +24,11 @@ use Rattle.snap_fix.specs.declared.marking.CellMark.TheVariants.{Right, Given, M
 use Rattle.snap_fix.specs.declared.state.FileState.{FileState}
 use Rattle.snap_fix.specs.Facts.{StripeFacts, gift_of, damaged_at}
 use Rattle.snap_fix.specs.Marks.{mark_in, row_if}
-use Rattle.snap_fix.specs.Mended.{Mended, is_repaired, is_wrong_level, known_block, block_or_none, has_lost, column_writes, writes_of}
+use Rattle.snap_fix.specs.Mended.{Mended, is_gone, is_repaired, is_wrong_level, known_block, block_or_none, has_lost, column_writes, writes_of}
 use Rattle.snap_fix.specs.Mending.{IsFree, block_start}
-use Rattle.snap_fix.specs.Order.{FolderWrites}
+use Rattle.snap_fix.specs.Order.{FolderWrites, is_writing}
 use Rattle.snap_fix.specs.Plan.{FixPlan, cell_at, entry_at, records_in}
-use Rattle.snap_fix.specs.State.{HoldsTold, has_some, record_path, size_after, state_in}
+use Rattle.snap_fix.specs.State.{AreStepCalls, HoldsTold, WellCall, has_some, record_path, size_after, state_in}
 use Rattle.snap_fix.specs.StripeOrder.{writes_after}
 
 -- ---- what a fix stands on
@@ -79,18 +79,42 @@ pub record SetsUpOneOf (plan : FixPlan) (starts : StartsValue) (d : ℕ) (stripe
   pub is_one : Contains stripes mended
   pub sets_up : SetsUpCell plan starts d mended.facts place path
 
--- The calls while blocks of stripes are written, by where files stood before: files are read; of a cell that is to be
--- written its file is made if there was none, or renamed back if it had the other name, and its block is written.
+-- The calls while blocks of stripes are written, by where files stood before: of a cell that is to be written its file
+-- is made if there was none, or renamed back if it had the other name, and its block is written.
 abbrev pub IsMendCall : FixPlan → StartsValue → ℕ → List Mended → FolderCall → Type 0
 IsMendCall plan starts d stripes ListFiles = ⊥
-IsMendCall plan starts d stripes (Look path lost) = Unit {0}
-IsMendCall plan starts d stripes (ReadAt path lost at n) = Unit {0}
+IsMendCall plan starts d stripes (Look path lost) = ⊥
+IsMendCall plan starts d stripes (ReadAt path lost at n) = ⊥
 IsMendCall plan starts d stripes (Make path) = SetsUpOneOf plan starts d stripes Nowhere path
 IsMendCall plan starts d stripes (WriteAt path at bytes) = WritesOneOf plan d stripes path at bytes
 IsMendCall plan starts d stripes (SetSize path size) = ⊥
 IsMendCall plan starts d stripes (SetStamp path stamp) = ⊥
 IsMendCall plan starts d stripes (Rename path true) = ⊥
 IsMendCall plan starts d stripes (Rename path false) = SetsUpOneOf plan starts d stripes Lost path
+
+-- The calls that write the cell of a column in a stripe anew. One of them found no file exactly where the cell was to
+-- be written and its file was gone.
+abbrev pub AreMendCalls : FixPlan → StartsValue → ℕ → Mended → List FolderDone → Type 0
+AreMendCalls plan starts d mended done =
+    AreStepCalls (IsMendCall plan starts d (mended ∷ [])) (is_gone plan mended d) done
+
+-- those of stripes, one after another
+abbrev pub AreAllMendCalls : FixPlan → StartsValue → ℕ → List Mended → List FolderDone → Type 0
+AreAllMendCalls plan starts d [] done = done ≡ []
+AreAllMendCalls plan starts d (mended ∷ stripes) done =
+    (first : List FolderDone) × (rest : List FolderDone) × (done ≡ first ++ rest)
+    × AreMendCalls plan starts d mended first × AreAllMendCalls plan starts d stripes rest
+
+-- a call while stripes are looked at and written anew
+abbrev pub IsStripeCall : FixPlan → StartsValue → ℕ → List Mended → FolderCall → Type 0
+IsStripeCall plan starts d stripes call = (is_reading call ≡ true) ⊎ IsMendCall plan starts d stripes call
+
+-- The calls while stripes are looked at and written anew: none failed but readings, and those that write are those for
+-- the cells of the stripes, one after another.
+pub record AreStripeCalls (plan : FixPlan) (starts : StartsValue) (d : ℕ) (stripes : List Mended)
+    (done : List FolderDone) : Type 0 where
+  pub each : All (WellCall (IsStripeCall plan starts d stripes)) done
+  pub writes : AreAllMendCalls plan starts d stripes (filter is_writing done)
 
 -- ---- how far it is
 
@@ -168,7 +192,7 @@ wrong_writes plan facts = flat_map (wrong_write plan facts facts.row) (range_wit
 
 -- calls of which none failed
 abbrev pub done_well : List VaultCall → List VaultDone
-done_well calls = map (λ (call : VaultCall). vault_done call false) calls
+done_well calls = map (λ (call : VaultCall). plain_done call false) calls
 
 -- all calls for a stripe: its levels are read, and then the wrong ones written
 abbrev pub stripe_reads : FixPlan → StripeFacts → List LevelReading → List VaultDone

@@ -2,6 +2,7 @@
 use Rattle.std.specs.Prelude.{◌≡◌, ℕ, ◌<◌, ◌≤◌, ◌+◌, ◌==◌, ◌⊎◌, List, [], ◌∷◌, ◌++◌, length, slice_index_or, codes, count_by, Bool, true, false, IsTrue, Option, None, Some, if◌then◌else◌}
 use Rattle.std.specs.Fmt.{decimal}
 use Rattle.std.specs.List.{list_any}
+use Rattle.disk_model.specs.Answer.{is_failure}
 use Rattle.disk_model.specs.Cause.{RoseBy, Rose}
 use Rattle.disk_model.specs.Folder.{FolderView, FolderCall, FolderDone, Look, ReadAt, quiet_folder}
 use Rattle.disk_model.specs.Vault.{VaultState, VaultCall, VaultDone, ParityRead}
@@ -70,10 +71,10 @@ is_parity_reading (ParityRead level at n) = true
 is_parity_reading _ = false
 
 abbrev pub broke_folder : FolderDone → Bool
-broke_folder done = if is_reading done.call then false else done.failed
+broke_folder done = if is_reading done.call then false else is_failure done.answer
 
 abbrev pub broke_vault : VaultDone → Bool
-broke_vault done = if is_parity_reading done.call then false else done.failed
+broke_vault done = if is_parity_reading done.call then false else is_failure done.answer
 
 -- among the calls that a list gained, one has this test
 pub record Gained {A : Type 0} (test : A → Bool) (before now : List A) : Type 0 where

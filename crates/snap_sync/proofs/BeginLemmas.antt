@@ -3,6 +3,7 @@ use Rattle.std.proofs.Common.{◌≡◌, ℕ, List, [], length, All, false, refl
 use Rattle.std.proofs.lemmas.List.{get_or_past}
 use Rattle.std.proofs.lemmas.List.Elements.{All-from_get_or}
 use Rattle.std.proofs.lemmas.List.FromFn.{length-map-range_with_len}
+use Rattle.disk_model.specs.declared.answer.Answer.TheVariants.{Done}
 use Rattle.array_scan.specs.Kept.{ListedFile, kept_lists}
 use Rattle.array_scan.specs.Listings.{ListsAll, ListsFirst, FailsListing}
 use Rattle.array_scan.specs.declared.listing.ListingFault.{ListingFault}
@@ -35,7 +36,7 @@ all_listed olds news lists as_many all = (
   length olds,
   record {
     as_many = as_many;
-    calls = λ d lt. (all.each d lt).call;
+    calls = λ d lt. record { answer = Done; call = (all.each d lt).call; unfailed = refl };
     others = λ d behind. get_or_past news d (quiet_folder 0 false) (omega (arith, behind, as_many)) ∙ sym (get_or_past olds d (quiet_folder 0 false) behind);
   },
 )

@@ -5,8 +5,8 @@ use Rattle.std.proofs.Math.Seq.{get_or-append_seam}
 use Rattle.std.proofs.lemmas.List.Elements.{All-append, All-nil, All-cons, All-head, All-tail}
 use Rattle.std.proofs.lemmas.List.Folds.{list_any_at}
 use Rattle.disk_model.specs.Calls.{FailsBy}
-use Rattle.disk_model.specs.Ran.{RanUpTo, Ran, vault_done, log_of}
-use Rattle.disk_model.specs.Vault.{VaultView, VaultCall, VaultDone, ParityLen, ParityRead, ParityWrite, ParitySetLen, ParitySync, ContentSize, ContentRead, DraftBegin, DraftAppend, DraftSeal, Publish, SomeCalls, state_of}
+use Rattle.disk_model.specs.Ran.{RanUpTo, Ran, log_of}
+use Rattle.disk_model.specs.Vault.{plain_done, VaultView, VaultCall, VaultDone, ParityLen, ParityRead, ParityWrite, ParitySetLen, ParitySync, ContentSize, ContentRead, DraftBegin, DraftAppend, DraftSeal, Publish, SomeCalls, state_of}
 use Rattle.disk_model.specs.declared.fault.Failed.{Failed}
 use Rattle.content_file.specs.Save.{piece_count, append_call, append_calls, draft_calls, copy_calls, piecewise_calls}
 use Rattle.parity_writer.specs.Calls.{IsLengthCall, sum_call, sum_calls, sync_calls}
@@ -49,27 +49,27 @@ window_changes levels window choice count = each_changes (choice_calls levels wi
     by i true = one_changes (sum_call window.block_size (stripe_in choice i) (row_at window i)) (λ n. refl) (range_with_len 0 levels)
     by i false = All-nil Changing
 
-broke_by : (call : VaultCall) → Changing call → broke_sync (vault_done call true) ≡ true
+broke_by : (call : VaultCall) → Changing call → broke_sync (plain_done call true) ≡ true
 broke_by call changing = ap (λ (b : Bool). if b then false else true) changing
 
 -- the last call alone failed
-one_broke : (earlier : List VaultDone) (call : VaultCall) → Changing call → IsTrue (list_any broke_sync (earlier ++ vault_done call true ∷ []))
+one_broke : (earlier : List VaultDone) (call : VaultCall) → Changing call → IsTrue (list_any broke_sync (earlier ++ plain_done call true ∷ []))
 one_broke earlier call changing =
-    list_any_at broke_sync (earlier ++ vault_done call true ∷ []) (length earlier) (vault_done call true)
-    (omega (arith, length-append earlier (vault_done call true ∷ [])))
-    (ap broke_sync (get_or-append_seam earlier (vault_done call true) [] (vault_done call true)) ∙ broke_by call changing)
+    list_any_at broke_sync (earlier ++ plain_done call true ∷ []) (length earlier) (plain_done call true)
+    (omega (arith, length-append earlier (plain_done call true ∷ [])))
+    (ap broke_sync (get_or-append_seam earlier (plain_done call true) [] (plain_done call true)) ∙ broke_by call changing)
 
 here : (P : VaultCall → Type 0) (xs : List VaultCall) (y : VaultCall) (ys : List VaultCall) → All P (xs ++ y ∷ ys) → P y
 here P [] y ys all = All-head P y ys all
 here P (x ∷ xs) y ys all = here P xs y ys (All-tail P x (xs ++ y ∷ ys) all)
 
-pub broke_among : (calls : List VaultCall) (old new : VaultView) → All Changing calls → RanUpTo vault_done calls (log_of (state_of old)) (log_of (state_of new)) → VaultBroke old new
+pub broke_among : (calls : List VaultCall) (old new : VaultView) → All Changing calls → RanUpTo calls (log_of (state_of old)) (log_of (state_of new)) → VaultBroke old new
 broke_among calls old new all up = record {
   rose = up.rose;
   call = λ told. record {
-    gained = map (λ (made : VaultCall). vault_done made false) up.earlier ++ vault_done up.call true ∷ [];
+    gained = up.done ++ plain_done up.call true ∷ [];
     now_is = up.grown.more told;
-    one = one_broke (map (λ (made : VaultCall). vault_done made false) up.earlier) up.call (here Changing up.earlier up.call up.later (subst (All Changing) up.whole all));
+    one = one_broke up.done up.call (here Changing up.earlier up.call up.later (subst (All Changing) up.whole all));
   };
 }
 
@@ -93,7 +93,7 @@ length_changes bytes (Publish copy) is = refl
 pub broke_lengths : (bytes : ℕ) (old new : VaultView) → FailsBy (IsLengthCall bytes) old new → VaultBroke old new
 broke_lengths bytes old new fails = record {
   rose = fails.rose;
-  call = λ told. record { gained = fails.earlier ++ vault_done fails.call true ∷ []; now_is = fails.made told; one = one_broke fails.earlier fails.call (length_changes bytes fails.call fails.is) };
+  call = λ told. record { gained = fails.earlier ++ plain_done fails.call true ∷ []; now_is = fails.made told; one = one_broke fails.earlier fails.call (length_changes bytes fails.call fails.is) };
 }
 
 -- after other calls

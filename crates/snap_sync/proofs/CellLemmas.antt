@@ -71,7 +71,7 @@ whole_length size cell seen bytes by = by_case (nat_le (cell.index * size + bloc
   where
     by_case : (b : Bool) → IsReadingBy (if b then Fetch cell.path false (cell.index * size) (block_length size cell.meta.size cell.index) else Known Beyond) (Whole seen bytes)
         → length bytes ≡ block_length size cell.meta.size cell.index
-    by_case true is = is
+    by_case true is = is.size
     by_case false is = cc
 
 -- a cell that is right was read

@@ -4,7 +4,7 @@ use Rattle.std.proofs.lemmas.List.{map-append}
 use Rattle.std.proofs.lemmas.List.Elements.{All-head, All-tail}
 use Rattle.array_scan.specs.Layout.{pending_stripes}
 use Rattle.disk_model.specs.Folder.{FolderView}
-use Rattle.disk_model.specs.Ran.{RanAll, RanUpTo, vault_done, log_of}
+use Rattle.disk_model.specs.Ran.{RanAll, RanUpTo, log_of}
 use Rattle.disk_model.specs.Sink.{SinkView}
 use Rattle.disk_model.specs.Vault.{VaultView, IsWellFormed, SomeCalls, ChangesBy, Reads, state_of}
 use Rattle.file_table.specs.Table.{TableValue}
@@ -275,7 +275,7 @@ module _ {W R : Type 0} {view : W → SinkView} {standing : R → ReportView} {s
 
   module _ {turned : VaultView} (setting : IsSetting plan old) (more : progress.done < all_of work)
       (formed : IsWellFormed turned) (calls : SomeCalls mid.vault turned) (changes : ChangesBy (WritesBlocks judged.room.near.block_size (IsChosen (choice_near judged progress.done))) mid.vault turned) where
-    pub written_judged : RanAll vault_done (window_calls mid.vault.levels judged.room.near (choice_near judged progress.done) judged.room.near.count) (log_of (state_of mid.vault)) (log_of (state_of turned))
+    pub written_judged : RanAll (window_calls mid.vault.levels judged.room.near (choice_near judged progress.done) judged.room.near.count) (log_of (state_of mid.vault)) (log_of (state_of turned))
         → ((rows : Rows) → Reads (HoldsRows mid.vault.levels judged.room.near.block_size rows) mid.vault
         → Reads (HoldsRows mid.vault.levels judged.room.near.block_size (window_rows judged.room.near (choice_near judged progress.done) judged.room.near.count rows)) turned)
         → IsWritten plan judged_so_far window.so_far.saved old.vault turned
@@ -283,7 +283,7 @@ module _ {W R : Type 0} {view : W → SinkView} {standing : R → ReportView} {s
         subst (λ (its : List StripeReading). IsWritten plan (xs ++ its) window.so_far.saved old.vault turned) readings_kept
         (underway_written plan xs (choice_near judged progress.done).stripes judged.room.near (choice_near judged progress.done).chosen window.so_far.saved old.vault mid.vault turned setting.for (comes_next setting more) window.so_far.vault formed calls changes ran holds)
 
-    pub stopped_judged : RanUpTo vault_done (window_calls mid.vault.levels judged.room.near (choice_near judged progress.done) judged.room.near.count) (log_of (state_of mid.vault)) (log_of (state_of turned))
+    pub stopped_judged : RanUpTo (window_calls mid.vault.levels judged.room.near (choice_near judged progress.done) judged.room.near.count) (log_of (state_of mid.vault)) (log_of (state_of turned))
         → IsStopped plan judged_so_far old.vault turned
     stopped_judged up =
         subst (λ (its : List StripeReading). IsStopped plan (xs ++ its) old.vault turned) readings_kept

@@ -6,7 +6,7 @@ use Rattle.std.proofs.lemmas.Nat.{row_fits}
 use Rattle.disk_model.specs.Bytes.{resized}
 use Rattle.disk_model.specs.Calls.{MakesThese, FailsAmong}
 use Rattle.disk_model.specs.Files.{Files, parity_of}
-use Rattle.disk_model.specs.Ran.{RanAll, RanUpTo, Ran, vault_done, log_of}
+use Rattle.disk_model.specs.Ran.{RanAll, RanUpTo, Ran, log_of}
 use Rattle.disk_model.specs.Vault.{VaultView, VaultCall, IsWellFormed, SomeCalls, ChangesBy, Reads, Holds, copies_of, state_of}
 use Rattle.disk_model.specs.declared.fault.Failed.{Failed}
 use Rattle.disk_model.proofs.RanLemmas.{ran_all_then, ran_up_then, ran_front, ran_of_these, ran_of_among}
@@ -69,18 +69,18 @@ module _ (plan : SyncPlan) (old mid : VaultView) (for : IsPlanFor plan old) (sav
   abbrev pieces : List VaultCall
   pieces = piecewise_calls plan.piece plan.copies (spelling plan.start)
 
-  pub opens_in_order : (new : VaultView) → SomeCalls mid new → RanAll vault_done pieces (log_of (state_of old)) (log_of (state_of mid)) → IsTrue old.tells
-      → (IsTrue mid.tells → MakesThese (length_calls mid.levels (level_bytes plan.start) mid.files) mid new) → RanAll vault_done (opening_calls plan old.files) (log_of (state_of old)) (log_of (state_of new))
+  pub opens_in_order : (new : VaultView) → SomeCalls mid new → RanAll pieces (log_of (state_of old)) (log_of (state_of mid)) → IsTrue old.tells
+      → (IsTrue mid.tells → MakesThese (length_calls mid.levels (level_bytes plan.start) mid.files) mid new) → RanAll (opening_calls plan old.files) (log_of (state_of old)) (log_of (state_of new))
   opens_in_order new more saved told these =
-      ran_all_then vault_done pieces (length_calls plan.start.shape.levels (level_bytes plan.start) old.files) (log_of (state_of old)) (log_of (state_of mid)) (log_of (state_of new)) saved
-      (subst (λ calls. RanAll vault_done calls (log_of (state_of mid)) (log_of (state_of new))) (lengths_asked told)
+      ran_all_then pieces (length_calls plan.start.shape.levels (level_bytes plan.start) old.files) (log_of (state_of old)) (log_of (state_of mid)) (log_of (state_of new)) saved
+      (subst (λ calls. RanAll calls (log_of (state_of mid)) (log_of (state_of new))) (lengths_asked told)
       (ran_of_these (length_calls mid.levels (level_bytes plan.start) mid.files) mid new more (these (saving.goes_on.tells ∙ told))))
 
-  pub opens_up_to : (new : VaultView) → SomeCalls mid new → RanAll vault_done pieces (log_of (state_of old)) (log_of (state_of mid)) → IsTrue old.tells
-      → (IsTrue mid.tells → FailsAmong (length_calls mid.levels (level_bytes plan.start) mid.files) mid new) → RanUpTo vault_done (opening_calls plan old.files) (log_of (state_of old)) (log_of (state_of new))
+  pub opens_up_to : (new : VaultView) → SomeCalls mid new → RanAll pieces (log_of (state_of old)) (log_of (state_of mid)) → IsTrue old.tells
+      → (IsTrue mid.tells → FailsAmong (length_calls mid.levels (level_bytes plan.start) mid.files) mid new) → RanUpTo (opening_calls plan old.files) (log_of (state_of old)) (log_of (state_of new))
   opens_up_to new more saved told among =
-      ran_up_then vault_done pieces (length_calls plan.start.shape.levels (level_bytes plan.start) old.files) (log_of (state_of old)) (log_of (state_of mid)) (log_of (state_of new)) saved
-      (subst (λ calls. RanUpTo vault_done calls (log_of (state_of mid)) (log_of (state_of new))) (lengths_asked told)
+      ran_up_then pieces (length_calls plan.start.shape.levels (level_bytes plan.start) old.files) (log_of (state_of old)) (log_of (state_of mid)) (log_of (state_of new)) saved
+      (subst (λ calls. RanUpTo calls (log_of (state_of mid)) (log_of (state_of new))) (lengths_asked told)
       (ran_of_among (length_calls mid.levels (level_bytes plan.start) mid.files) mid new more (among (saving.goes_on.tells ∙ told))))
 
   -- ---- the files
@@ -121,13 +121,13 @@ module _ (plan : SyncPlan) (old mid : VaultView) (for : IsPlanFor plan old) (sav
             set told level (omega (arith, below, saving.goes_on.levels, for.levels))
             ∙ ap (λ (parities : List (List ℕ)). resized (get_or parities level []) (level_bytes plan.start)) (saves.reads was).parities
 
-    pub opened : RanAll vault_done pieces (log_of (state_of old)) (log_of (state_of mid)) → (IsTrue mid.tells → MakesThese (length_calls mid.levels (level_bytes plan.start) mid.files) mid new)
+    pub opened : RanAll pieces (log_of (state_of old)) (log_of (state_of mid)) → (IsTrue mid.tells → MakesThese (length_calls mid.levels (level_bytes plan.start) mid.files) mid new)
         → Reads (HasLengths mid.levels (level_bytes plan.start) mid.files) new → IsUnderway plan [] 0 0 old new
     opened ran these set = record {
       order = omega arith;
       within = omega arith;
       calls = calls_then old mid new saving more;
-      ran = λ told. subst (λ calls. RanAll vault_done calls (log_of (state_of old)) (log_of (state_of new))) (sym (append-nil (opening_calls plan old.files))) (opens_in_order new more ran told these);
+      ran = λ told. subst (λ calls. RanAll calls (log_of (state_of old)) (log_of (state_of new))) (sym (append-nil (opening_calls plan old.files))) (opens_in_order new more ran told these);
       changes = opening_stands;
       copies = holds_on (KeepsAt (λ i. i < level_bytes plan.start)) (HasSaved plan.copies (spelling plan.start)) (HasSaved plan.copies (spelling plan.start)) mid new more
           (λ a b has keeps. saved_kept plan.copies (spelling plan.start) a b has keeps.contents) stretches saved;
@@ -144,7 +144,7 @@ module _ (plan : SyncPlan) (old mid : VaultView) (for : IsPlanFor plan old) (sav
 pub record SavedFirst (table : TableValue) (size copies : ℕ) (old mid : VaultView) : Type 0 where
   pub calls : SomeCalls old mid
   pub changes : ChangesBy (MaySave (spelling table)) old mid
-  pub ran : RanAll vault_done (piecewise_calls size copies (spelling table)) (log_of (state_of old)) (log_of (state_of mid))
+  pub ran : RanAll (piecewise_calls size copies (spelling table)) (log_of (state_of old)) (log_of (state_of mid))
   pub saved : Holds (HasSaved copies (spelling table)) mid
 
 -- the levels got so many bytes, or this failed
@@ -159,10 +159,10 @@ pub saves_stand : (plan : SyncPlan) (table : TableValue) (old mid : VaultView) �
 saves_stand plan table old mid start_is for calls changes = saving_stands plan old mid for calls (subst (λ (t : TableValue). ChangesBy (MaySave (spelling t)) old mid) (sym start_is) changes)
 
 pub saves_up_to : (plan : SyncPlan) (table : TableValue) (size : ℕ) (old new : VaultView) → plan.start ≡ table → plan.piece ≡ size → IsPlanFor plan old
-    → RanUpTo vault_done (piecewise_calls size (copies_of old) (spelling table)) (log_of (state_of old)) (log_of (state_of new)) → RanUpTo vault_done (opening_calls plan old.files) (log_of (state_of old)) (log_of (state_of new))
+    → RanUpTo (piecewise_calls size (copies_of old) (spelling table)) (log_of (state_of old)) (log_of (state_of new)) → RanUpTo (opening_calls plan old.files) (log_of (state_of old)) (log_of (state_of new))
 saves_up_to plan table size old new start_is piece_is for up =
-    let log = λ (t : TableValue) (n c : ℕ). RanUpTo vault_done (piecewise_calls n c (spelling t)) (log_of (state_of old)) (log_of (state_of new)) in
-    ran_front vault_done (piecewise_calls plan.piece plan.copies (spelling plan.start)) (length_calls plan.start.shape.levels (level_bytes plan.start) old.files) (log_of (state_of old)) (log_of (state_of new))
+    let log = λ (t : TableValue) (n c : ℕ). RanUpTo (piecewise_calls n c (spelling t)) (log_of (state_of old)) (log_of (state_of new)) in
+    ran_front (piecewise_calls plan.piece plan.copies (spelling plan.start)) (length_calls plan.start.shape.levels (level_bytes plan.start) old.files) (log_of (state_of old)) (log_of (state_of new))
     (subst (λ (t : TableValue). log t plan.piece plan.copies) (sym start_is) (subst (λ (n : ℕ). log table n plan.copies) (sym piece_is) (subst (λ (c : ℕ). log table size c) for.copies up)))
 
 module _ {T : Type 0} (plan : SyncPlan) (table : TableValue) (size bytes : ℕ) (result : Result T Failed) (old mid new : VaultView) (start_is : plan.start ≡ table) (for : IsPlanFor plan old) (bytes_are : bytes ≡ level_bytes table)

@@ -4,7 +4,7 @@ use Rattle.std.proofs.lemmas.Bool.{eq-eqb}
 use Rattle.std.proofs.lemmas.List.{append-nil}
 use Rattle.std.proofs.Math.Seq.{take-length}
 use Rattle.array_scan.specs.Layout.{pending_stripes}
-use Rattle.disk_model.specs.Ran.{RanAll, RanUpTo, vault_done, log_of}
+use Rattle.disk_model.specs.Ran.{RanAll, RanUpTo, log_of}
 use Rattle.disk_model.specs.Vault.{VaultView, VaultCall, IsWellFormed, SomeCalls, ChangesBy, Reads, Holds, copies_of, state_of}
 use Rattle.disk_model.proofs.RanLemmas.{ran_all_then, ran_up_then, ran_front}
 use Rattle.disk_model.proofs.VaultLemmas.{calls_then}
@@ -46,7 +46,7 @@ choice_of stripes chosen = record { stripes = stripes; chosen = chosen }
 -- a vault that a checkpoint went well on
 pub record IsSaved (piece : ℕ) (table : TableValue) (mid new : VaultView) : Type 0 where
   pub calls : SomeCalls mid new
-  pub ran : RanAll vault_done (sync_calls mid.levels ++ piecewise_calls piece (copies_of mid) (spelling table)) (log_of (state_of mid)) (log_of (state_of new))
+  pub ran : RanAll (sync_calls mid.levels ++ piecewise_calls piece (copies_of mid) (spelling table)) (log_of (state_of mid)) (log_of (state_of new))
   pub changes : ChangesBy (MaySettle mid.levels mid.files (spelling table)) mid new
   pub settled : Holds (SameParities mid.levels mid.files) new
   pub saved : Holds (HasSaved (copies_of mid) (spelling table)) new
@@ -54,17 +54,17 @@ pub record IsSaved (piece : ℕ) (table : TableValue) (mid new : VaultView) : Ty
 -- and one on which a call of it failed
 pub record SavesNot (piece : ℕ) (table : TableValue) (mid new : VaultView) : Type 0 where
   pub calls : SomeCalls mid new
-  pub ran : RanUpTo vault_done (sync_calls mid.levels ++ piecewise_calls piece (copies_of mid) (spelling table)) (log_of (state_of mid)) (log_of (state_of new))
+  pub ran : RanUpTo (sync_calls mid.levels ++ piecewise_calls piece (copies_of mid) (spelling table)) (log_of (state_of mid)) (log_of (state_of new))
   pub changes : ChangesBy (MaySettle mid.levels mid.files (spelling table)) mid new
   pub broke : VaultBroke mid new
 
 -- ---- the opening failed
 
-pub underway_stopped_opening : (plan : SyncPlan) (old new : VaultView) → SomeCalls old new → VaultBroke old new → (IsTrue old.tells → RanUpTo vault_done (opening_calls plan old.files) (log_of (state_of old)) (log_of (state_of new)))
+pub underway_stopped_opening : (plan : SyncPlan) (old new : VaultView) → SomeCalls old new → VaultBroke old new → (IsTrue old.tells → RanUpTo (opening_calls plan old.files) (log_of (state_of old)) (log_of (state_of new)))
     → ChangesBy (MayStand plan []) old new → IsStopped plan [] old new
 underway_stopped_opening plan old new calls broke up changes = record {
   calls = calls;
-  ran = λ told. ran_front vault_done (opening_calls plan old.files) (stripe_calls plan [] 0 ++ ending_calls plan []) (log_of (state_of old)) (log_of (state_of new)) (up told);
+  ran = λ told. ran_front (opening_calls plan old.files) (stripe_calls plan [] 0 ++ ending_calls plan []) (log_of (state_of old)) (log_of (state_of new)) (up told);
   broke = broke;
   changes = changes;
 }
@@ -89,19 +89,19 @@ module _ (plan : SyncPlan) (readings : List StripeReading) (stripes : List ℕ) 
       ≡ stripe_calls plan (readings ++ ws) (length (readings ++ ws))
   whole = window_ends plan readings ws window (choice_of stripes chosen) of (omega (arith, long, next.some)) (λ j more small. next.none_within j more (omega (arith, small, long)))
 
-  pub underway_written : RanAll vault_done (window_calls mid.levels window (choice_of stripes chosen) window.count) (log_of (state_of mid)) (log_of (state_of new))
+  pub underway_written : RanAll (window_calls mid.levels window (choice_of stripes chosen) window.count) (log_of (state_of mid)) (log_of (state_of new))
       → ((rows : Rows) → Reads (HoldsRows mid.levels window.block_size rows) mid → Reads (HoldsRows mid.levels window.block_size (window_rows window (choice_of stripes chosen) window.count rows)) new)
       → IsWritten plan (readings ++ readings_in stripes window) c old new
   underway_written ran holds =
       written plan readings ws window (choice_of stripes chosen) c old mid new for of nexts (stands_of plan readings c old mid under) formed calls changes under.ran whole window.count (sym next.count ∙ sym long) ran holds
 
-  pub underway_stopped_writing : RanUpTo vault_done (window_calls mid.levels window (choice_of stripes chosen) window.count) (log_of (state_of mid)) (log_of (state_of new)) → VaultBroke mid new
+  pub underway_stopped_writing : RanUpTo (window_calls mid.levels window (choice_of stripes chosen) window.count) (log_of (state_of mid)) (log_of (state_of new)) → VaultBroke mid new
       → IsStopped plan (readings ++ readings_in stripes window) old new
   underway_stopped_writing up broke =
       stopped_writing plan readings ws window (choice_of stripes chosen) c old mid new for of nexts (stands_of plan readings c old mid under) formed calls changes under.ran whole window.count (sym next.count ∙ sym long) up broke
 
 -- what a failed window of writes is by its calls
-pub writing_broke : (levels : ℕ) (window : WindowValue) (choice : Choice) (count : ℕ) (mid new : VaultView) → RanUpTo vault_done (window_calls levels window choice count) (log_of (state_of mid)) (log_of (state_of new)) → VaultBroke mid new
+pub writing_broke : (levels : ℕ) (window : WindowValue) (choice : Choice) (count : ℕ) (mid new : VaultView) → RanUpTo (window_calls levels window choice count) (log_of (state_of mid)) (log_of (state_of new)) → VaultBroke mid new
 writing_broke levels window choice count mid new up = broke_among (window_calls levels window choice count) mid new (window_changes levels window choice count) up
 
 -- ---- a checkpoint behind it, or none
@@ -115,7 +115,7 @@ module _ (plan : SyncPlan) (readings : List StripeReading) (c : ℕ) where
     order = done.stands.order;
     within = omega arith;
     calls = done.stands.calls;
-    ran = λ told. subst (λ cs. RanAll vault_done (opening_calls plan old.files ++ cs) (log_of (state_of old)) (log_of (state_of new)))
+    ran = λ told. subst (λ cs. RanAll (opening_calls plan old.files ++ cs) (log_of (state_of old)) (log_of (state_of new)))
         (sym (append-nil done.so_far) ∙ ap (λ cs. done.so_far ++ cs) (sym (due false none)) ∙ done.whole) (done.ran told);
     changes = done.stands.changes;
     copies = done.stands.copies;
@@ -125,19 +125,19 @@ module _ (plan : SyncPlan) (readings : List StripeReading) (c : ℕ) where
 
   module _ (piece : ℕ) (piece_is : plan.piece ≡ piece) (table : TableValue) (table_is : table ≡ closed plan.now plan.start readings) (old mid new : VaultView) (for : IsPlanFor plan old) (formed : IsWellFormed new) where
     -- the calls so far, and then those of the checkpoint
-    all_ran : (so_far : List VaultCall) → Stands plan readings c old mid → IsSaved piece table mid new → RanAll vault_done so_far (log_of (state_of old)) (log_of (state_of mid))
-        → RanAll vault_done (so_far ++ checkpoint_calls plan (closed plan.now plan.start readings)) (log_of (state_of old)) (log_of (state_of new))
+    all_ran : (so_far : List VaultCall) → Stands plan readings c old mid → IsSaved piece table mid new → RanAll so_far (log_of (state_of old)) (log_of (state_of mid))
+        → RanAll (so_far ++ checkpoint_calls plan (closed plan.now plan.start readings)) (log_of (state_of old)) (log_of (state_of new))
     all_ran so_far stands it ran =
-        subst (λ cs. RanAll vault_done (so_far ++ cs) (log_of (state_of old)) (log_of (state_of new)))
+        subst (λ cs. RanAll (so_far ++ cs) (log_of (state_of old)) (log_of (state_of new)))
         (checkpoint_is plan readings c old mid new for stands formed table table_is it.calls it.changes piece piece_is)
-        (ran_all_then vault_done so_far (sync_calls mid.levels ++ piecewise_calls piece (copies_of mid) (spelling table)) (log_of (state_of old)) (log_of (state_of mid)) (log_of (state_of new)) ran it.ran)
+        (ran_all_then so_far (sync_calls mid.levels ++ piecewise_calls piece (copies_of mid) (spelling table)) (log_of (state_of old)) (log_of (state_of mid)) (log_of (state_of new)) ran it.ran)
 
-    up_ran : (so_far : List VaultCall) → Stands plan readings c old mid → SavesNot piece table mid new → RanAll vault_done so_far (log_of (state_of old)) (log_of (state_of mid))
-        → RanUpTo vault_done (so_far ++ checkpoint_calls plan (closed plan.now plan.start readings)) (log_of (state_of old)) (log_of (state_of new))
+    up_ran : (so_far : List VaultCall) → Stands plan readings c old mid → SavesNot piece table mid new → RanAll so_far (log_of (state_of old)) (log_of (state_of mid))
+        → RanUpTo (so_far ++ checkpoint_calls plan (closed plan.now plan.start readings)) (log_of (state_of old)) (log_of (state_of new))
     up_ran so_far stands it ran =
-        subst (λ cs. RanUpTo vault_done (so_far ++ cs) (log_of (state_of old)) (log_of (state_of new)))
+        subst (λ cs. RanUpTo (so_far ++ cs) (log_of (state_of old)) (log_of (state_of new)))
         (checkpoint_is plan readings c old mid new for stands formed table table_is it.calls it.changes piece piece_is)
-        (ran_up_then vault_done so_far (sync_calls mid.levels ++ piecewise_calls piece (copies_of mid) (spelling table)) (log_of (state_of old)) (log_of (state_of mid)) (log_of (state_of new)) ran it.ran)
+        (ran_up_then so_far (sync_calls mid.levels ++ piecewise_calls piece (copies_of mid) (spelling table)) (log_of (state_of old)) (log_of (state_of mid)) (log_of (state_of new)) ran it.ran)
 
     -- within a sync
     module _ (saves : saves_after plan (length readings) ≡ true) (done : IsWritten plan readings c old mid) where
@@ -152,7 +152,7 @@ module _ (plan : SyncPlan) (readings : List StripeReading) (c : ℕ) where
             order = omega arith;
             within = omega arith;
             calls = now.calls;
-            ran = λ told. subst (λ cs. RanAll vault_done cs (log_of (state_of old)) (log_of (state_of new))) split (all_ran (opening_calls plan old.files ++ done.so_far) done.stands it (done.ran told));
+            ran = λ told. subst (λ cs. RanAll cs (log_of (state_of old)) (log_of (state_of new))) split (all_ran (opening_calls plan old.files ++ done.so_far) done.stands it (done.ran told));
             changes = now.changes;
             copies = now.copies;
             rows = now.rows;
@@ -164,7 +164,7 @@ module _ (plan : SyncPlan) (readings : List StripeReading) (c : ℕ) where
         calls = calls_then old mid new done.stands.calls it.calls;
         ran = λ told.
             front_of_all plan readings old.files (stripe_calls plan readings (length readings)) [] old new (append-nil (stripe_calls plan readings (length readings)))
-            (subst (λ cs. RanUpTo vault_done cs (log_of (state_of old)) (log_of (state_of new))) split (up_ran (opening_calls plan old.files ++ done.so_far) done.stands it (done.ran told)));
+            (subst (λ cs. RanUpTo cs (log_of (state_of old)) (log_of (state_of new))) split (up_ran (opening_calls plan old.files ++ done.so_far) done.stands it (done.ran told)));
         broke = broke_after old mid new done.stands.calls it.calls it.broke;
         changes = saving_stands plan readings c old mid new for done.stands formed table table_is it.calls it.changes;
       }
@@ -183,7 +183,7 @@ module _ (plan : SyncPlan) (readings : List StripeReading) (c : ℕ) where
           let stands = stands_of plan readings c old mid under in
           record {
             calls = calls_then old mid new under.calls it.calls;
-            ran = λ told. subst (λ cs. RanAll vault_done cs (log_of (state_of old)) (log_of (state_of new))) joined (all_ran (opening_calls plan old.files ++ stripe_calls plan readings (length readings)) stands it (under.ran told));
+            ran = λ told. subst (λ cs. RanAll cs (log_of (state_of old)) (log_of (state_of new))) joined (all_ran (opening_calls plan old.files ++ stripe_calls plan readings (length readings)) stands it (under.ran told));
             changes = saving_stands plan readings c old mid new for stands formed table table_is it.calls it.changes;
             saved = all_saved plan readings c old mid new for stands formed table table_is it.calls it.changes it.settled it.saved;
             parity = parity_left plan readings c old mid new for stands formed table table_is it.calls it.changes it.settled it.saved;
@@ -194,7 +194,7 @@ module _ (plan : SyncPlan) (readings : List StripeReading) (c : ℕ) where
           let stands = stands_of plan readings c old mid under in
           record {
             calls = calls_then old mid new under.calls it.calls;
-            ran = λ told. subst (λ cs. RanUpTo vault_done cs (log_of (state_of old)) (log_of (state_of new))) joined (up_ran (opening_calls plan old.files ++ stripe_calls plan readings (length readings)) stands it (under.ran told));
+            ran = λ told. subst (λ cs. RanUpTo cs (log_of (state_of old)) (log_of (state_of new))) joined (up_ran (opening_calls plan old.files ++ stripe_calls plan readings (length readings)) stands it (under.ran told));
             broke = broke_after old mid new under.calls it.calls it.broke;
             changes = saving_stands plan readings c old mid new for stands formed table table_is it.calls it.changes;
           }

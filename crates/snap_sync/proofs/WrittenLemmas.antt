@@ -4,7 +4,7 @@ use Rattle.std.proofs.lemmas.List.{take-append-le, get_or-take, length-take}
 use Rattle.std.proofs.lemmas.Nat.{row_fits}
 use Rattle.std.proofs.Math.Seq.{take-length}
 use Rattle.disk_model.specs.Files.{Files}
-use Rattle.disk_model.specs.Ran.{RanAll, RanUpTo, vault_done, log_of}
+use Rattle.disk_model.specs.Ran.{RanAll, RanUpTo, log_of}
 use Rattle.disk_model.specs.Vault.{VaultView, VaultCall, IsWellFormed, SomeCalls, ChangesBy, Reads, Holds, state_of}
 use Rattle.disk_model.proofs.RanLemmas.{ran_all_then, ran_up_then}
 use Rattle.disk_model.proofs.VaultLemmas.{calls_then}
@@ -109,24 +109,24 @@ module _ (plan : SyncPlan) (readings ws : List StripeReading) (window : WindowVa
   in_order = sym (append_assoc (opening_calls plan old.files) (stripe_calls plan readings (length readings)) (window_calls start.shape.levels window choice (length ws)))
 
   -- a call of it failed
-  pub stopped_writing : (IsTrue old.tells → RanAll vault_done (opening_calls plan old.files ++ stripe_calls plan readings (length readings)) (log_of (state_of old)) (log_of (state_of mid)))
+  pub stopped_writing : (IsTrue old.tells → RanAll (opening_calls plan old.files ++ stripe_calls plan readings (length readings)) (log_of (state_of old)) (log_of (state_of mid)))
       → (whole : so_far ++ behind plan (readings ++ ws) (length (readings ++ ws)) ≡ stripe_calls plan (readings ++ ws) (length (readings ++ ws)))
-      → (count : ℕ) → count ≡ length ws → RanUpTo vault_done (window_calls mid.levels window choice count) (log_of (state_of mid)) (log_of (state_of new)) → VaultBroke mid new → IsStopped plan (readings ++ ws) old new
+      → (count : ℕ) → count ≡ length ws → RanUpTo (window_calls mid.levels window choice count) (log_of (state_of mid)) (log_of (state_of new)) → VaultBroke mid new → IsStopped plan (readings ++ ws) old new
   stopped_writing before whole count count_is up broke = record {
     calls = calls_then old mid new under.calls calls;
     ran = λ told.
         front_of_all plan (readings ++ ws) old.files so_far (behind plan (readings ++ ws) (length (readings ++ ws))) old new whole
-        (subst (λ cs. RanUpTo vault_done cs (log_of (state_of old)) (log_of (state_of new))) (sym in_order)
-        (ran_up_then vault_done (opening_calls plan old.files ++ stripe_calls plan readings (length readings)) (window_calls start.shape.levels window choice (length ws)) (log_of (state_of old)) (log_of (state_of mid)) (log_of (state_of new))
-        (before told) (subst (λ cs. RanUpTo vault_done cs (log_of (state_of mid)) (log_of (state_of new))) (as_before mid.levels levels_are count count_is) up)));
+        (subst (λ cs. RanUpTo cs (log_of (state_of old)) (log_of (state_of new))) (sym in_order)
+        (ran_up_then (opening_calls plan old.files ++ stripe_calls plan readings (length readings)) (window_calls start.shape.levels window choice (length ws)) (log_of (state_of old)) (log_of (state_of mid)) (log_of (state_of new))
+        (before told) (subst (λ cs. RanUpTo cs (log_of (state_of mid)) (log_of (state_of new))) (as_before mid.levels levels_are count count_is) up)));
     broke = broke_after old mid new under.calls calls broke;
     changes = writing_stands;
   }
 
   -- all of it went well
-  pub written : (IsTrue old.tells → RanAll vault_done (opening_calls plan old.files ++ stripe_calls plan readings (length readings)) (log_of (state_of old)) (log_of (state_of mid)))
+  pub written : (IsTrue old.tells → RanAll (opening_calls plan old.files ++ stripe_calls plan readings (length readings)) (log_of (state_of old)) (log_of (state_of mid)))
       → (whole : so_far ++ behind plan (readings ++ ws) (length (readings ++ ws)) ≡ stripe_calls plan (readings ++ ws) (length (readings ++ ws)))
-      → (count : ℕ) → count ≡ length ws → RanAll vault_done (window_calls mid.levels window choice count) (log_of (state_of mid)) (log_of (state_of new))
+      → (count : ℕ) → count ≡ length ws → RanAll (window_calls mid.levels window choice count) (log_of (state_of mid)) (log_of (state_of new))
       → ((rows : Rows) → Reads (HoldsRows mid.levels window.block_size rows) mid → Reads (HoldsRows mid.levels window.block_size (window_rows window choice count rows)) new) → IsWritten plan (readings ++ ws) c old new
   written before whole count count_is ran holds = record {
     stands = record {
@@ -146,9 +146,9 @@ module _ (plan : SyncPlan) (readings ws : List StripeReading) (window : WindowVa
     so_far = so_far;
     whole = whole;
     ran = λ told.
-        subst (λ cs. RanAll vault_done cs (log_of (state_of old)) (log_of (state_of new))) (sym in_order)
-        (ran_all_then vault_done (opening_calls plan old.files ++ stripe_calls plan readings (length readings)) (window_calls start.shape.levels window choice (length ws)) (log_of (state_of old)) (log_of (state_of mid)) (log_of (state_of new))
-        (before told) (subst (λ cs. RanAll vault_done cs (log_of (state_of mid)) (log_of (state_of new))) (as_before mid.levels levels_are count count_is) ran));
+        subst (λ cs. RanAll cs (log_of (state_of old)) (log_of (state_of new))) (sym in_order)
+        (ran_all_then (opening_calls plan old.files ++ stripe_calls plan readings (length readings)) (window_calls start.shape.levels window choice (length ws)) (log_of (state_of old)) (log_of (state_of mid)) (log_of (state_of new))
+        (before told) (subst (λ cs. RanAll cs (log_of (state_of mid)) (log_of (state_of new))) (as_before mid.levels levels_are count count_is) ran));
   }
     where
       firsts : take c (readings ++ ws) ≡ take c readings

@@ -4,7 +4,7 @@ use Rattle.array_scan.specs.Layout.{pending_stripes}
 use Rattle.content_file.specs.Save.{HasSaved, HasNoDraft}
 use Rattle.content_file.specs.Spelling.{spelling}
 use Rattle.disk_model.specs.Folder.{FolderView}
-use Rattle.disk_model.specs.Ran.{RanLog, vault_done, log_of}
+use Rattle.disk_model.specs.Ran.{RanLog, log_of}
 use Rattle.disk_model.specs.Sink.{SinkView}
 use Rattle.disk_model.specs.Vault.{VaultView, ChangesBy, Holds, SomeCalls, copies_of, state_of}
 use Rattle.file_table.specs.Table.{TableValue}
@@ -62,7 +62,7 @@ plan_of setup way start now vault = record {
 -- each moment is one of theirs.
 pub record TouchesVault (plan : SyncPlan) (failed : Bool) (readings : List StripeReading) (old new : VaultView) : Type 0 where
   pub calls : SomeCalls old new
-  pub ran : IsTrue old.tells → RanLog vault_done (sync_vault_calls plan old.files readings) failed (log_of (state_of old)) (log_of (state_of new))
+  pub ran : IsTrue old.tells → RanLog (sync_vault_calls plan old.files readings) failed (log_of (state_of old)) (log_of (state_of new))
   pub broke : IsTrue failed → VaultBroke old new
   pub changes : ChangesBy (MayStand plan readings) old new
 

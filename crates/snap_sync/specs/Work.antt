@@ -2,9 +2,10 @@
 use Rattle.std.specs.Prelude.{◌≡◌, ℕ, ◌+◌, ◌<◌, ◌≤◌, ◌⊎◌, ◌++◌, List, length, min, ◌^◌, ◌-◌, Bool, true, false, if◌then◌else◌, IsTrue}
 use Rattle.content_file.specs.Save.{MaySave, HasSaved}
 use Rattle.content_file.specs.Spelling.{spelling}
+use Rattle.disk_model.specs.Answer.{is_failure}
 use Rattle.disk_model.specs.Cause.{Rose}
 use Rattle.disk_model.specs.Files.{Files}
-use Rattle.disk_model.specs.Ran.{RanAll, vault_done, log_of}
+use Rattle.disk_model.specs.Ran.{RanAll, log_of}
 use Rattle.disk_model.specs.Vault.{VaultView, VaultCall, VaultDone, ParityRead, ContentSize, ContentRead, SomeCalls, ChangesBy, Reads, Holds, copies_of, state_of}
 use Rattle.file_table.specs.Table.{TableValue}
 use Rattle.parity_writer.specs.Keeps.{SameParities}
@@ -36,7 +37,7 @@ is_vault_reading (ContentRead copy at n) = true
 is_vault_reading _ = false
 
 abbrev pub broke_sync : VaultDone → Bool
-broke_sync done = if is_vault_reading done.call then false else done.failed
+broke_sync done = if is_vault_reading done.call then false else is_failure done.answer
 
 -- a call of the vault failed that reads neither parity nor a copy, and its count rose
 pub record VaultBroke (old new : VaultView) : Type 0 where
@@ -53,7 +54,7 @@ pub record IsUnderway (plan : SyncPlan) (readings : List StripeReading) (c k : �
   pub order : c ≤ k
   pub within : k ≤ length readings
   pub calls : SomeCalls old new
-  pub ran : IsTrue old.tells → RanAll vault_done (opening_calls plan old.files ++ stripe_calls plan readings k) (log_of (state_of old)) (log_of (state_of new))
+  pub ran : IsTrue old.tells → RanAll (opening_calls plan old.files ++ stripe_calls plan readings k) (log_of (state_of old)) (log_of (state_of new))
   pub changes : ChangesBy (MayStand plan readings) old new
   pub copies : Holds (HasSaved plan.copies (spelling (table_after plan readings c))) new
   pub rows : Holds (HoldsRows plan.start.shape.levels plan.start.shape.block_size (rows_after plan readings c)) new

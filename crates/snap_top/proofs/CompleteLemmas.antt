@@ -1,6 +1,7 @@
 -- When a run surely ends well, from its end.
 use Rattle.std.proofs.Common.{◌≡◌, ◌≢◌, ◌⊎◌, inl, inr, ⊎_elim, ℕ, ◌+◌, ◌≤◌, List, ◌∷◌, ◌++◌, take, count_by, Bool, true, false, IsTrue, Option, Some, None, Result, Ok, Err, refl, sym, ap, ◌∙◌, subst, arith, cond, ◌==◌, ◌||◌, slice_get, append_assoc, ap₂}
 use Rattle.std.specs.List.{list_any}
+use Rattle.disk_model.specs.declared.answer.Answer.{Answer as CallAnswer}
 use Rattle.disk_model.specs.Cause.{Rose, RoseBy}
 use Rattle.disk_model.specs.Folder.{FolderView}
 use Rattle.array_scan.specs.declared.fault.ScanFault.{ScanFault}
@@ -12,7 +13,7 @@ use Rattle.snap_sync.specs.declared.fault.SyncFault.TheVariants.{Scan, Run}
 use Rattle.snap_top.proofs.SyncLemmas.{any_more, broke_more}
 use Rattle.disk_model.specs.Files.{content_of}
 use Rattle.disk_model.specs.Sink.{SinkView}
-use Rattle.disk_model.specs.Vault.{VaultView, VaultState, VaultCall, VaultDone, SomeCalls, state_of, ParityLen, ParityRead, ParityWrite, ParitySetLen, ParitySync, ContentSize, ContentRead, DraftBegin, DraftAppend, DraftSeal, Publish}
+use Rattle.disk_model.specs.Vault.{plain_done, VaultView, VaultState, VaultCall, VaultDone, SomeCalls, state_of, ParityLen, ParityRead, ParityWrite, ParitySetLen, ParitySync, ContentSize, ContentRead, DraftBegin, DraftAppend, DraftSeal, Publish}
 use Rattle.disk_model.specs.declared.fault.OpenFault.{OpenFault}
 use Rattle.disk_model.specs.declared.fault.OpenFault.TheVariants as opens
 use Rattle.content_file.specs.declared.fault.Damage.{Damage}
@@ -110,9 +111,9 @@ smooth_refusal before exit (refusals.NoDisk name) told smooth ran = absurd (smoo
 smooth_refusal before exit (refusals.Unopened fault) told smooth ran = smooth_open fault (λ failed. smooth.unbroken.opener (ran.refuses.rose failed))
 
 -- a reading of a copy that failed is a call that reads no parity
-reading_broke : (copy : ℕ) (call : VaultCall) → IsReadOf copy call → broke_vault (record { call = call; failed = true }) ≡ true
-reading_broke copy call (inl size) = ap (λ c. broke_vault (record { call = c; failed = true })) size
-reading_broke copy call (inr read) = ap (λ c. broke_vault (record { call = c; failed = true })) read.3
+reading_broke : (copy : ℕ) (call : VaultCall) → IsReadOf copy call → broke_vault (plain_done call true) ≡ true
+reading_broke copy call (inl size) = ap (λ c. broke_vault (plain_done c true)) size
+reading_broke copy call (inr read) = ap (λ c. broke_vault (plain_done c true)) read.3
 
 any_here : {A : Type 0} (test : A → Bool) (earlier : List A) (x : A) (later : List A) → test x ≡ true → IsTrue (list_any test (earlier ++ x ∷ later))
 any_here test earlier x later is = any_later test earlier (x ∷ later) (first (test x) (list_any test later) is)
@@ -134,9 +135,9 @@ failed_load_breaks old new fails =
     record {
       rose = one.rose;
       call = λ told. record {
-        gained = one.earlier ++ record { call = one.call; failed = true } ∷ one.later;
-        now_is = one.made told ∙ append_assoc old.calls one.earlier (record { call = one.call; failed = true } ∷ one.later);
-        one = any_here broke_vault one.earlier (record { call = one.call; failed = true }) one.later (reading_broke fails.some.0 one.call one.read);
+        gained = one.earlier ++ plain_done one.call true ∷ one.later;
+        now_is = one.made told ∙ append_assoc old.calls one.earlier (plain_done one.call true ∷ one.later);
+        one = any_here broke_vault one.earlier (plain_done one.call true) one.later (reading_broke fails.some.0 one.call one.read);
       };
       copies = inr (λ told copy bytes below held is. ⊎_elim (λ useless. absurd (useless_is_none old copy bytes held is useless)) (λ failed. failed) (fails.useless told copy below));
     }
@@ -209,23 +210,23 @@ untrue : {P : Type 0} → IsTrue false → P
 untrue told = absurd (let clash : false ≡ true = told in cc)
 
 -- a call that writes or syncs parity reads nothing
-broke_writing : (call : VaultCall) (failed : Bool) → IsTrue (broke_parity (record { call = call; failed = failed })) → IsTrue (broke_sync (record { call = call; failed = failed }))
-broke_writing (ParityLen level) failed is = untrue is
-broke_writing (ParityRead level at n) failed is = untrue is
-broke_writing (ParityWrite level at bytes) failed is = is
-broke_writing (ParitySetLen level len) failed is = untrue is
-broke_writing (ParitySync level) failed is = is
-broke_writing (ContentSize copy) failed is = untrue is
-broke_writing (ContentRead copy at n) failed is = untrue is
-broke_writing (DraftBegin copy) failed is = untrue is
-broke_writing (DraftAppend copy bytes) failed is = untrue is
-broke_writing (DraftSeal copy) failed is = untrue is
-broke_writing (Publish copy) failed is = untrue is
+broke_writing : (call : VaultCall) (answer : CallAnswer) → IsTrue (broke_parity (record { call = call; answer = answer })) → IsTrue (broke_sync (record { call = call; answer = answer }))
+broke_writing (ParityLen level) answer is = untrue is
+broke_writing (ParityRead level at n) answer is = untrue is
+broke_writing (ParityWrite level at bytes) answer is = is
+broke_writing (ParitySetLen level len) answer is = untrue is
+broke_writing (ParitySync level) answer is = is
+broke_writing (ContentSize copy) answer is = untrue is
+broke_writing (ContentRead copy at n) answer is = untrue is
+broke_writing (DraftBegin copy) answer is = untrue is
+broke_writing (DraftAppend copy bytes) answer is = untrue is
+broke_writing (DraftSeal copy) answer is = untrue is
+broke_writing (Publish copy) answer is = untrue is
 
 fix_broke : (told : List Event) (old new : VaultView) → VaultFailedBy told old new → VaultBroke old new
 fix_broke told old new broke = record {
   rose = rose_by_more (count_by is_parity_io told) old.faults new.faults broke.rose;
-  call = λ now. let gained = broke.call now in record { gained = gained.gained; now_is = gained.now_is; one = any_more broke_parity broke_sync (λ (done : VaultDone) is. broke_writing done.call done.failed is) gained.gained gained.one };
+  call = λ now. let gained = broke.call now in record { gained = gained.gained; now_is = gained.now_is; one = any_more broke_parity broke_sync (λ (done : VaultDone) is. broke_writing done.call done.answer is) gained.gained gained.one };
 }
   where
     rose_by_more : (n old' new' : ℕ) → RoseBy (n + 1) old' new' → Rose old' new'

@@ -101,6 +101,9 @@ ending_of (runs.Folder disk) plan stripes readings first written news old new of
   finishes = off.finishes;
   are = off.are;
   finished = off.finished;
+  last = off.last;
+  part = off.part;
+  finished_is = off.finished_is;
   rest = off.rest;
   events = off.events;
   finished_are = off.finished_are;

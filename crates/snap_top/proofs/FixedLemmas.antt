@@ -5,6 +5,8 @@ use Rattle.std.proofs.lemmas.List.{get_or_past}
 use Rattle.std.proofs.lemmas.List.Elements.{All-cons, All-weaker}
 use Rattle.array_scan.specs.Kept.{ListedFile}
 use Rattle.array_scan.specs.Listings.{ListsAll}
+use Rattle.disk_model.specs.declared.answer.Answer.{Answer as CallAnswer}
+use Rattle.disk_model.specs.declared.answer.Answer.TheVariants as given
 use Rattle.disk_model.specs.Cause.{RoseBy}
 use Rattle.disk_model.specs.Folder.{FolderView, FolderDone, IsFolderReading, ListFiles}
 use Rattle.disk_model.specs.Sink.{SinkView}
@@ -107,10 +109,10 @@ leaves_fixed plan stripes readings old new are vault tells = record {
 -- ---- what it does to the folders
 
 abbrev listed_call : FolderDone
-listed_call = record { call = ListFiles; failed = false }
+listed_call = record { call = ListFiles; answer = given.Done }
 
 -- a folder that was listed, and of which only calls of a fix were made since
-listed_then : (run : FixRun) (d : ℕ) (old mid new : FolderView) → IsFolderReading ListFiles false old mid → FolderMakes (AnyCall (IsFixCall run.plan (starts_of run.loaded run.lists) d run.stripes)) mid new
+listed_then : (run : FixRun) (d : ℕ) (old mid new : FolderView) → IsFolderReading ListFiles given.Done old mid → FolderMakes (AnyCall (IsFixCall run.plan (starts_of run.loaded run.lists) d run.stripes)) mid new
     → FolderMakes (AnyCall (IsRunCall run d)) old new
 listed_then run d old mid new listing makes =
     let a = listing.called.goes_on in
@@ -146,24 +148,24 @@ all_fixed run olds mids news count as_many listed calls = record { count = count
 -- ---- why it broke off
 
 -- a call that writes or syncs parity reads none
-one_more : (call : VaultCall) (failed : Bool) → IsTrue (broke_parity (record { call = call; failed = failed })) → IsTrue (broke_vault (record { call = call; failed = failed }))
-one_more (ParityLen level) failed is = never is
-one_more (ParityRead level at n) failed is = never is
-one_more (ParityWrite level at bytes) failed is = is
-one_more (ParitySetLen level len) failed is = never is
-one_more (ParitySync level) failed is = is
-one_more (ContentSize copy) failed is = never is
-one_more (ContentRead copy at n) failed is = never is
-one_more (DraftBegin copy) failed is = never is
-one_more (DraftAppend copy bytes) failed is = never is
-one_more (DraftSeal copy) failed is = never is
-one_more (Publish copy) failed is = never is
+one_more : (call : VaultCall) (answer : CallAnswer) → IsTrue (broke_parity (record { call = call; answer = answer })) → IsTrue (broke_vault (record { call = call; answer = answer }))
+one_more (ParityLen level) answer is = never is
+one_more (ParityRead level at n) answer is = never is
+one_more (ParityWrite level at bytes) answer is = is
+one_more (ParitySetLen level len) answer is = never is
+one_more (ParitySync level) answer is = is
+one_more (ContentSize copy) answer is = never is
+one_more (ContentRead copy at n) answer is = never is
+one_more (DraftBegin copy) answer is = never is
+one_more (DraftAppend copy bytes) answer is = never is
+one_more (DraftSeal copy) answer is = never is
+one_more (Publish copy) answer is = never is
 
 rose_since : (n old mid new : ℕ) → old ≤ mid → RoseBy n mid new → RoseBy n old new
 rose_since n old mid new later rose = omega (arith, later, rose)
 
 -- a folder that failed since it was listed
-failed_since : (run : FixRun) (disk : ℕ) (told : List Event) (old mid new : FolderView) → IsFolderReading ListFiles false old mid → FolderMakes (AnyCall (IsFixCall run.plan (starts_of run.loaded run.lists) disk run.stripes)) mid new
+failed_since : (run : FixRun) (disk : ℕ) (told : List Event) (old mid new : FolderView) → IsFolderReading ListFiles given.Done old mid → FolderMakes (AnyCall (IsFixCall run.plan (starts_of run.loaded run.lists) disk run.stripes)) mid new
     → FolderFailedBy disk told mid new → FolderFailed disk told old new
 failed_since run disk told old mid new listing makes broke =
     let a = listing.called.goes_on in
@@ -189,7 +191,7 @@ broke_caused run runs.Vault told olds mids news old new first last as_many liste
       call = λ now. let gained = broke.call now in record {
         gained = gained.gained;
         now_is = gained.now_is;
-        one = any_more broke_parity broke_vault (λ (done : VaultDone). one_more done.call done.failed) gained.gained gained.one;
+        one = any_more broke_parity broke_vault (λ (done : VaultDone). one_more done.call done.answer) gained.gained gained.one;
       };
     })
 broke_caused run runs.Memory told olds mids news old new first last as_many listed calls broke first_is last_is = tt
@@ -322,6 +324,7 @@ module _ {W R : Type 0} (standing : R → ReportView) (stands : R → List Event
           unread = is.unread;
           off = off_of is.plan (starts_of table is.lists) fault is.stripes is.behind is.readings is.first is.mids folders_new vault vault_new is.off;
           calls = is.calls;
+          reads = is.reads;
           broke = broken_of is.plan fault is.first is.mids folders_new vault vault_new is.broke;
           answer_is = refl;
           named_is = refl;

@@ -2,6 +2,8 @@
 use Rattle.std.proofs.Common.{◌≡◌, ℕ, ◌<◌, ◌≤◌, ◌⊎◌, inl, inr, List, [], ◌∷◌, length, Bool, true, false, sym, subst, arith}
 use Rattle.std.proofs.lemmas.Bool.{cases_lt}
 use Rattle.disk_model.specs.Folder.{FolderView, IsFolderReading, ListFiles}
+use Rattle.disk_model.specs.declared.answer.Answer.{Answer}
+use Rattle.disk_model.specs.declared.answer.Answer.TheVariants.{Done, Failed}
 use Rattle.array_scan.specs.Kept.{ListedFile}
 use Rattle.array_scan.specs.Listings.{ListsAll, FailsAt, ListsFirst}
 use Rattle.file_table.specs.Table.{TableValue}
@@ -15,20 +17,20 @@ use Rattle.snap_top.specs.Task.{Task}
 use Rattle.snap_top.specs.Views.{folder_at, ReadsOnly, AllReadOnly}
 use Rattle.snap_top.proofs.ViewsLemmas.{read_nothing}
 
-listing_reads_only : (failed : Bool) (old new : FolderView) → IsFolderReading ListFiles failed old new → ReadsOnly old new
-listing_reads_only failed old new is = record { calls = record { done = record { call = ListFiles; failed = failed } ∷ []; goes_on = is.called.goes_on }; tree = is.tree }
+listing_reads_only : (answer : Answer) (old new : FolderView) → IsFolderReading ListFiles answer old new → ReadsOnly old new
+listing_reads_only answer old new is = record { calls = record { done = record { call = ListFiles; answer = answer } ∷ []; goes_on = is.called.goes_on }; tree = is.tree }
 
 same_reads_only : (old new : FolderView) → new ≡ old → ReadsOnly old new
 same_reads_only old new same = subst (λ v. ReadsOnly old v) (sym same) (read_nothing old)
 
 pub all_listed : (olds news : List FolderView) (lists : List (List ListedFile)) → length news ≡ length olds → ListsAll olds news lists → AllReadOnly olds news
-all_listed olds news lists many listed = record { count = many; each = λ d below. listing_reads_only false _ _ (listed.each d below).call }
+all_listed olds news lists many listed = record { count = many; each = λ d below. listing_reads_only Done _ _ (listed.each d below).call }
 
 pub first_listed : (count : ℕ) (olds news : List FolderView) → ListsFirst count olds news → AllReadOnly olds news
 first_listed count olds news first = record { count = first.as_many; each = λ d below. by d (cases_lt d count) }
   where
     by : (d : ℕ) → (d < count) ⊎ (count ≤ d) → ReadsOnly (folder_at olds d) (folder_at news d)
-    by d (inl under) = listing_reads_only false _ _ (first.calls d under)
+    by d (inl under) = listing_reads_only (first.calls d under).answer _ _ (first.calls d under).call
     by d (inr over) = same_reads_only _ _ (first.others d over)
 
 pub failed_at : (disk : ℕ) (olds news : List FolderView) → length news ≡ length olds → FailsAt disk olds news → AllReadOnly olds news
@@ -36,10 +38,10 @@ failed_at disk olds news many fails = record { count = many; each = λ d below. 
   where
     behind : (d : ℕ) → (disk < d) ⊎ (d ≤ disk) → disk ≤ d → ReadsOnly (folder_at olds d) (folder_at news d)
     behind d (inl over) least = same_reads_only _ _ (fails.behind d over)
-    behind d (inr under) least = let same : d ≡ disk = omega (arith, under, least) in subst (λ k. ReadsOnly (folder_at olds k) (folder_at news k)) (sym same) (listing_reads_only true _ _ fails.failed)
+    behind d (inr under) least = let same : d ≡ disk = omega (arith, under, least) in subst (λ k. ReadsOnly (folder_at olds k) (folder_at news k)) (sym same) (listing_reads_only Failed _ _ fails.failed)
 
     by : (d : ℕ) → (d < disk) ⊎ (disk ≤ d) → ReadsOnly (folder_at olds d) (folder_at news d)
-    by d (inl before) = listing_reads_only false _ _ (fails.before d before)
+    by d (inl before) = listing_reads_only Done _ _ (fails.before d before)
     by d (inr least) = behind d (cases_lt disk d) least
 
 pub stripes_read : (start : TableValue) (readings : List StripeReading) (olds news : List FolderView) → ReadsFirst start readings olds news → AllReadOnly olds news

@@ -1,12 +1,13 @@
 -- What loading says of views of a vault, said of its states.
-use Rattle.std.proofs.Common.{◌⊎◌, inl, inr, ℕ, ◌+◌, List, Option, None, Some}
+use Rattle.std.proofs.Common.{◌⊎◌, inl, inr, ℕ, ◌+◌, List, Option, None, Some, Result}
+use Rattle.content_file.specs.InOrder.{AreReadFor, ReadsInOrder}
 use Rattle.content_file.specs.Load.{ReadsBelow, LoadsNot as GivesNoTable, Loads, LoadFails, LoadIsDamaged, ReadsInPieces, HasFailed, NoneFailed, IsDamaged, IsUseless}
 use Rattle.content_file.specs.declared.fault.Damage.{Damage}
 use Rattle.content_file.specs.declared.loading.LoadFault.{LoadFault}
 use Rattle.content_file.specs.declared.loading.LoadFault.TheVariants as loads
 use Rattle.disk_model.specs.Vault.{VaultView, copies_of, state_of}
 use Rattle.file_table.specs.Table.{TableValue}
-use Rattle.snap_top.specs.Run.{ReadsCopies, LoadsFrom, LoadsNot}
+use Rattle.snap_top.specs.Run.{ReadsCopies, LoadsFrom, LoadsInOrder, LoadsNot}
 use Rattle.snap_top.specs.Views.{view_of}
 use Rattle.snap_top.proofs.ViewsLemmas.{some_calls_of}
 
@@ -68,3 +69,6 @@ module _ (old new : VaultView) where
     drafts = record { state = is.drafts.state; bytes = is.drafts.bytes };
     files = is.changes.reads;
   }
+
+  pub order_of : (result : Result (Option TableValue) LoadFault) → ReadsInOrder (AreReadFor (copies_of old) result) old new → LoadsInOrder result (state_of old) (state_of new)
+  order_of result is = record { readings = is.readings; done = is.done; grown = is.grown; calls = is.calls; gives = is.gives }

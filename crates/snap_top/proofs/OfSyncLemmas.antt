@@ -10,7 +10,7 @@ use Rattle.disk_model.specs.Cause.{Rose}
 use Rattle.disk_model.specs.Files.{Files, content_of}
 use Rattle.disk_model.specs.Folder.{quiet_folder}
 use Rattle.disk_model.specs.declared.draft.Draft.TheVariants.{Absent}
-use Rattle.disk_model.specs.Vault.{VaultView, VaultState, VaultDone, SomeCalls, copies_of, state_of}
+use Rattle.disk_model.specs.Vault.{plain_done, VaultView, VaultState, VaultDone, SomeCalls, copies_of, state_of}
 use Rattle.file_table.specs.Table.{TableValue}
 use Rattle.file_table.specs.Valid.{IsValid}
 use Rattle.parity_writer.specs.Sound.{IsSynced}
@@ -100,7 +100,7 @@ module _ (files : Files) (given mid : VaultState) (files_are : given.files ≡ f
 failed_since : (held after : VaultView) (given mid : VaultState) → given ≡ state_of held → SomeCalls (view_of mid) (view_of (state_of after)) → (copy : ℕ) → HasFailed (view_of given) (view_of mid) copy → HasFailed held after copy
 failed_since held after given mid same calls copy failed =
     let of_held : HasFailed (view_of (state_of held)) (view_of mid) copy = subst (λ (s : VaultState). HasFailed (view_of s) (view_of mid) copy) same failed in
-    let first : VaultDone = record { call = of_held.call; failed = true } in
+    let first : VaultDone = plain_done of_held.call true in
     record {
       within = of_held.within;
       rose = let rose = of_held.rose in let later = calls.goes_on.later in rose_later held.faults mid.faults after.faults rose later;

@@ -1,5 +1,5 @@
 -- A run, from what it was given and what it loaded.
-use Rattle.std.proofs.Common.{◌≡◌, inl, ℕ, ◌≤◌, List, [], ◌∷◌, ◌++◌, length, map, take, Option, None, Some, Bool, ◌||◌, IsTrue, true, false, refl, ap, ◌∙◌, sym, subst, arith, append_assoc}
+use Rattle.std.proofs.Common.{◌≡◌, inl, ℕ, ◌≤◌, List, [], ◌∷◌, ◌++◌, length, map, take, Option, None, Some, Bool, ◌||◌, IsTrue, true, false, Ok, Err, refl, ap, ◌∙◌, sym, subst, arith, append_assoc}
 use Rattle.std.specs.List.{list_any}
 use Rattle.std.proofs.Math.Seq.{take-append_seam}
 use Rattle.disk_model.specs.Cause.{RoseBy}
@@ -28,7 +28,7 @@ use Rattle.content_file.specs.Spelling.{spelling}
 use Rattle.content_file.proofs.SaveLemmas.{saves_nothing}
 use Rattle.snap_sync.specs.Images.{Opening}
 use Rattle.snap_top.specs.Opening.{IsGiven}
-use Rattle.snap_top.specs.Run.{Works, IsAnswered, OnlyLoads, ReadsCopies, LoadsFrom, LoadsNot, BeginsWith, BeginsNot, IsRun, RanWith, at_entry, at_exit}
+use Rattle.snap_top.specs.Run.{Works, IsAnswered, OnlyLoads, ReadsCopies, LoadsFrom, LoadsInOrder, LoadsNot, BeginsWith, BeginsNot, IsRun, RanWith, at_entry, at_exit}
 use Rattle.snap_top.specs.Views.{WorldView, world_view, world_of, view_of, outside_of}
 use Rattle.snap_top.specs.declared.end.End.TheVariants.{Worked}
 use Rattle.snap_top.specs.declared.end.Ending.{Ending}
@@ -96,12 +96,12 @@ table_fits setup seed (Some loaded) table begins =
 module _ {R : Type 0} (standing : R → ReportView) (stands : R → List Event → Type 0) where
   -- nothing was loaded
   pub not_loaded : (task : Task) (folders : List FolderView) (given mid : VaultView) (out : SinkView) (reports : List R) (fault : LoadFault)
-      → ReadsCopies (state_of given) (state_of mid) → ChangesBy Stays given mid → LoadsNot fault (state_of given) (state_of mid)
+      → ReadsCopies (state_of given) (state_of mid) → ChangesBy Stays given mid → LoadsNot fault (state_of given) (state_of mid) → LoadsInOrder (Err fault) (state_of given) (state_of mid)
       → Works standing stands task (world_view folders given out) (world_view folders mid out) reports reports (NotLoaded fault)
-  not_loaded task folders given mid out reports fault reads changes fails = record {
+  not_loaded task folders given mid out reports fault reads changes fails order = record {
     told = [];
     did = reads_only;
-    goes = ((refl, refl), only_loads folders given mid out reads, fails);
+    goes = ((refl, refl), only_loads folders given mid out reads, fails, order);
     changes = changes;
     ends = λ tells. nothing_more given.files mid;
     keeps = record { folders = all_read_nothing folders; vault = reads.calls; out = sink_stays out };
@@ -110,35 +110,35 @@ module _ {R : Type 0} (standing : R → ReportView) (stands : R → List Event �
 
   -- there is no table to begin with
   pub not_begun : (task : Task) (folders : List FolderView) (given mid : VaultView) (out : SinkView) (reports : List R) (loaded : Option TableValue) (ending : Ending)
-      → ReadsCopies (state_of given) (state_of mid) → ChangesBy Stays given mid → LoadsFrom (state_of given) (state_of mid) loaded → BeginsNot task.setup loaded ending
+      → ReadsCopies (state_of given) (state_of mid) → ChangesBy Stays given mid → LoadsFrom (state_of given) (state_of mid) loaded → LoadsInOrder (Ok loaded) (state_of given) (state_of mid) → BeginsNot task.setup loaded ending
       → Works standing stands task (world_view folders given out) (world_view folders mid out) reports reports ending
-  not_begun task folders given mid out reports loaded (NotLoaded fault) reads changes loads why = absurd why
-  not_begun task folders given mid out reports loaded NoTable reads changes loads why = record {
+  not_begun task folders given mid out reports loaded (NotLoaded fault) reads changes loads order why = absurd why
+  not_begun task folders given mid out reports loaded NoTable reads changes loads order why = record {
     told = [];
     did = reads_only;
-    goes = ((refl, refl), record { reads = only_loads folders given mid out reads; loads = subst (λ l. LoadsFrom (state_of given) (state_of mid) l) why loads });
+    goes = ((refl, refl), record { reads = only_loads folders given mid out reads; loads = subst (λ l. LoadsFrom (state_of given) (state_of mid) l) why loads; order = subst (λ l. LoadsInOrder (Ok l) (state_of given) (state_of mid)) why order });
     changes = changes;
     ends = λ tells. nothing_more given.files mid;
     keeps = record { folders = all_read_nothing folders; vault = reads.calls; out = sink_stays out };
     reports = all_given_nothing standing stands reports;
   }
-  not_begun task folders given mid out reports loaded (OtherArray difference content) reads changes loads why = record {
+  not_begun task folders given mid out reports loaded (OtherArray difference content) reads changes loads order why = record {
     told = [];
     did = reads_only;
-    goes = ((refl, refl), record { reads = only_loads folders given mid out reads; loads = subst (λ l. LoadsFrom (state_of given) (state_of mid) l) why.0 loads; differs = why.1 });
+    goes = ((refl, refl), record { reads = only_loads folders given mid out reads; loads = subst (λ l. LoadsFrom (state_of given) (state_of mid) l) why.0 loads; order = subst (λ l. LoadsInOrder (Ok l) (state_of given) (state_of mid)) why.0 order; differs = why.1 });
     changes = changes;
     ends = λ tells. nothing_more given.files mid;
     keeps = record { folders = all_read_nothing folders; vault = reads.calls; out = sink_stays out };
     reports = all_given_nothing standing stands reports;
   }
-  not_begun task folders given mid out reports loaded (Answered answer named) reads changes loads why = absurd why
+  not_begun task folders given mid out reports loaded (Answered answer named) reads changes loads order why = absurd why
 
   -- a command that was carried out after loading
   pub answered : (task : Task) (table : TableValue) (loaded : Option TableValue) (folders : List FolderView) (given mid : VaultView) (out : SinkView) (after : WorldView) (olds news : List R) (answer : Answer) (named : Option TableValue)
-      → ReadsCopies (state_of given) (state_of mid) → ChangesBy Stays given mid → LoadsFrom (state_of given) (state_of mid) loaded → BeginsWith task.setup task.seed loaded table → IsValid table → length folders ≡ length task.setup.disks
+      → ReadsCopies (state_of given) (state_of mid) → ChangesBy Stays given mid → LoadsFrom (state_of given) (state_of mid) loaded → LoadsInOrder (Ok loaded) (state_of given) (state_of mid) → BeginsWith task.setup task.seed loaded table → IsValid table → length folders ≡ length task.setup.disks
       → IsDone standing stands task table (world_view folders mid out) after olds news answer named
       → Works standing stands task (world_view folders given out) after olds news (Answered answer named)
-  answered task table loaded folders given mid out after olds news answer named reads changes loads begins valid many done =
+  answered task table loaded folders given mid out after olds news answer named reads changes loads order begins valid many done =
       let left = done.left in
       let same : left ≡ record { answer = answer; named = named; counted = left.counted; told = left.told }
       = ap (λ a. record { answer = a; named = left.named; counted = left.counted; told = left.told }) done.answer_is
@@ -154,6 +154,7 @@ module _ {R : Type 0} (standing : R → ReportView) (stands : R → List Event �
             start = world_of (world_view folders mid out);
             reads = only_loads folders given mid out reads;
             loads = loads;
+            order = order;
             table = table;
             begins = begins;
             valid = valid;

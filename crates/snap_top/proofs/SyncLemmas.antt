@@ -3,6 +3,8 @@ use Rattle.std.proofs.Common.{◌≡◌, ℕ, ◌+◌, ◌<◌, ◌==◌, ◌||�
 use Rattle.std.specs.List.{flat_map, list_any, range_with_len}
 use Rattle.std.proofs.lemmas.List.{append-nil}
 use Rattle.std.proofs.lemmas.List.Sums.{sum_by-append}
+use Rattle.disk_model.specs.declared.answer.Answer.{Answer as CallAnswer}
+use Rattle.disk_model.specs.declared.answer.Answer.TheVariants as given
 use Rattle.disk_model.specs.Cause.{Rose, RoseBy}
 use Rattle.disk_model.specs.Files.{Files, Stays}
 use Rattle.disk_model.specs.Folder.{FolderView, IsFolderReading, ListFiles}
@@ -112,18 +114,18 @@ touches_of plan failed readings old new touches = record {
 }
 
 -- a call that is none of a reading reads no parity
-one_more : (call : VaultCall) (failed : Bool) → IsTrue (broke_sync (record { call = call; failed = failed })) → IsTrue (broke_vault (record { call = call; failed = failed }))
-one_more (ParityLen level) failed is = is
-one_more (ParityRead level at n) failed is = never is
-one_more (ParityWrite level at bytes) failed is = is
-one_more (ParitySetLen level len) failed is = is
-one_more (ParitySync level) failed is = is
-one_more (ContentSize copy) failed is = never is
-one_more (ContentRead copy at n) failed is = never is
-one_more (DraftBegin copy) failed is = is
-one_more (DraftAppend copy bytes) failed is = is
-one_more (DraftSeal copy) failed is = is
-one_more (Publish copy) failed is = is
+one_more : (call : VaultCall) (answer : CallAnswer) → IsTrue (broke_sync (record { call = call; answer = answer })) → IsTrue (broke_vault (record { call = call; answer = answer }))
+one_more (ParityLen level) answer is = is
+one_more (ParityRead level at n) answer is = never is
+one_more (ParityWrite level at bytes) answer is = is
+one_more (ParitySetLen level len) answer is = is
+one_more (ParitySync level) answer is = is
+one_more (ContentSize copy) answer is = never is
+one_more (ContentRead copy at n) answer is = never is
+one_more (DraftBegin copy) answer is = is
+one_more (DraftAppend copy bytes) answer is = is
+one_more (DraftSeal copy) answer is = is
+one_more (Publish copy) answer is = is
 
 -- where one test is met, so is a wider one
 pub any_more : {A : Type 0} (p q : A → Bool) → ((x : A) → IsTrue (p x) → IsTrue (q x)) → (xs : List A) → IsTrue (list_any p xs) → IsTrue (list_any q xs)
@@ -137,7 +139,7 @@ any_more p q each (x ∷ xs) is = either (p x) (q x) (list_any p xs) (list_any q
     either false false c d one two is' = two is'
 
 pub broke_more : (calls : List VaultDone) → IsTrue (list_any broke_sync calls) → IsTrue (list_any broke_vault calls)
-broke_more calls is = any_more broke_sync broke_vault (λ (done : VaultDone). one_more done.call done.failed) calls is
+broke_more calls is = any_more broke_sync broke_vault (λ (done : VaultDone). one_more done.call done.answer) calls is
 
 -- ---- what was printed
 
@@ -190,10 +192,10 @@ refuses_by (Run runs.Memory) task way table before after left did why refuses = 
 refuses_by (Run runs.Vault) task way table before after left did why refuses = absurd why
 
 -- a folder that could not be listed failed so that the run ends
-pub listing_failed : (disk : ℕ) (old new : FolderView) → IsFolderReading ListFiles true old new → FolderFailed disk [] old new
+pub listing_failed : (disk : ℕ) (old new : FolderView) → IsFolderReading ListFiles given.Failed old new → FolderFailed disk [] old new
 listing_failed disk old new is = record {
   rose = is.called.cause refl;
-  call = λ told. record { gained = record { call = ListFiles; failed = true } ∷ []; now_is = is.called.goes_on.calls.more told; one = refl };
+  call = λ told. record { gained = record { call = ListFiles; answer = given.Failed } ∷ []; now_is = is.called.goes_on.calls.more told; one = refl };
 }
 
 refusal_caused : (fault : SyncFault) (task : Task) (way : SyncWay) (table : TableValue) (olds news : List FolderView) (old new : Outside) → old.folders ≡ olds → new.folders ≡ news

@@ -16,6 +16,7 @@ use Rattle.snap_fix.specs.FixCourse.{FixFinds, FixesFiles, FixesVault, MakeFixCa
 use Rattle.snap_fix.specs.FixRun.{HasBroken}
 use Rattle.snap_fix.specs.Fixing.{MendsVault, facts_of}
 use Rattle.snap_fix.specs.Looking.{numbers_of, unread_cells, unread_in}
+use Rattle.snap_fix.specs.Reads.{AreReadAhead, FolderReads}
 use Rattle.snap_fix.specs.Mended.{Mended, wrong_in, written_in}
 use Rattle.snap_fix.specs.Plan.{FixPlan, names_of, starts_of, stripes_of}
 use Rattle.snap_fix.specs.declared.scope.Mode.TheVariants as modes
@@ -95,6 +96,9 @@ pub record FixBroke (fault : RunFault) (selection : Selection) (task : Task) (ta
   pub off : BreaksOff course.plan (starts_of table course.lists) fault course.stripes behind course.readings left.told course.listed after.folders
       (view_of before.vault) (view_of after.vault)
   pub calls : MakeFixCalls course.plan (starts_of table course.lists) course.stripes course.listed after.folders
+  pub reads : (d : ℕ) → d < length course.plan.table.columns
+      → FolderReads (AreReadAhead course.plan (starts_of table course.lists) d (facts_of course.stripes) behind)
+      (folder_at course.listed d) (folder_at after.folders d)
   pub broke : HasBroken course.plan fault left.told course.listed after.folders (view_of before.vault) (view_of after.vault)
   pub answer_is : left.answer ≡ answers.Broken fault
   pub named_is : left.named ≡ None

@@ -1,5 +1,6 @@
 -- What a run leaves, and why it ended so.
-use Rattle.std.specs.Prelude.{◌≡◌, ℕ, List, [], length, Bool, true, false, IsTrue, Option, None, Some, is_some, map}
+use Rattle.std.specs.Prelude.{◌≡◌, ℕ, List, [], length, Bool, true, false, IsTrue, Option, None, Some, is_some, map, Result, Ok, Err}
+use Rattle.content_file.specs.InOrder.{AreReadFor, ReadsInOrder}
 use Rattle.content_file.specs.Load.{IsReadBelow, Loads, LoadFails, LoadIsDamaged, ReadsInPieces}
 use Rattle.content_file.specs.declared.loading.LoadFault.{LoadFault}
 use Rattle.content_file.specs.declared.loading.LoadFault.TheVariants as loads
@@ -52,6 +53,10 @@ LoadsNot loads.Failed old new = LoadFails (view_of old) (view_of new)
 LoadsNot (loads.Damaged damages) old new = LoadIsDamaged (view_of old) (view_of new) damages
 LoadsNot loads.Memory old new = Unit {0}
 
+-- The copies were read in order, each to its end or to where it failed, and what was loaded is what came (`ReadsInOrder`).
+abbrev pub LoadsInOrder : Result (Option TableValue) LoadFault → VaultState → VaultState → Type 0
+LoadsInOrder result old new = ReadsInOrder (AreReadFor (copies_of (view_of old)) result) (view_of old) (view_of new)
+
 -- the table that a command begins with: the one that was loaded, which is of the configuration's array, or that of an array without content
 abbrev pub BeginsWith : SetupValue → List ℕ → Option TableValue → TableValue → Type 0
 BeginsWith setup seed None table = table ≡ empty_table setup seed
@@ -67,12 +72,14 @@ BeginsNot setup loaded _ = ⊥
 pub record IsOther (task : Task) (given after : World) (difference : Difference) (content : TableValue) : Type 0 where
   pub reads : OnlyLoads given after
   pub loads : LoadsFrom given.vault after.vault (Some content)
+  pub order : LoadsInOrder (Ok (Some content)) given.vault after.vault
   pub differs : DiffersIn task.setup content difference
 
 -- there is no content, and memory ran out for its table
 pub record HasNoTable (given after : World) : Type 0 where
   pub reads : OnlyLoads given after
   pub loads : LoadsFrom given.vault after.vault None
+  pub order : LoadsInOrder (Ok None) given.vault after.vault
 
 -- the command was carried out, from what was loaded, and its answer has its cause in this run
 pub record IsAnswered (task : Task) (given after : World) (left : Left) (did : Did) : Type 0 where
@@ -80,6 +87,7 @@ pub record IsAnswered (task : Task) (given after : World) (left : Left) (did : D
   pub start : World
   pub reads : OnlyLoads given start
   pub loads : LoadsFrom given.vault start.vault loaded
+  pub order : LoadsInOrder (Ok loaded) given.vault start.vault
   pub table : TableValue
   pub begins : BeginsWith task.setup task.seed loaded table
   pub valid : IsValid table
@@ -93,7 +101,8 @@ IsIdle told did = (told ≡ []) × (did ≡ reads_only)
 
 -- By the end: what the run did with all that it was given, and the events that it told.
 abbrev pub Goes : Task → World → World → Ending → List Event → Did → Type 0
-Goes task given after (NotLoaded fault) told did = IsIdle told did × OnlyLoads given after × LoadsNot fault given.vault after.vault
+Goes task given after (NotLoaded fault) told did =
+    IsIdle told did × OnlyLoads given after × LoadsNot fault given.vault after.vault × LoadsInOrder (Err fault) given.vault after.vault
 Goes task given after NoTable told did = IsIdle told did × HasNoTable given after
 Goes task given after (OtherArray difference content) told did = IsIdle told did × IsOther task given after difference content
 Goes task given after (Answered answer named) told did = (counted : ℕ) × IsAnswered task given after (record { answer = answer; named = named; counted = counted; told = told }) did

@@ -16,20 +16,14 @@ use crate::job::{Done, Job};
 use crate::syncing::sync_array;
 use disk_model::{Folder, Sink, Vault};
 use file_table::Table;
-use snap_config::{Command, CommandName};
+use snap_config::{BUILT_COMMANDS, Command, CommandName};
 use snap_fix::Mode;
 use snap_report::{Answer, Lines, Report, list_text, status_text};
 use std::alloc::Global;
 use std::thread::Threads;
 
 /// The commands that are built.
-pub const COMMANDS: [CommandName; 5] = [
-    CommandName::Sync,
-    CommandName::Check,
-    CommandName::Fix,
-    CommandName::Status,
-    CommandName::List,
-];
+pub const COMMANDS: [CommandName; 5] = BUILT_COMMANDS;
 
 // Prints the files of a table, and answers whether a write failed.
 fn print_list<W: Sink>(table: &Table, out: &mut W) -> bool

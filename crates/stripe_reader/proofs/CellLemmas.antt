@@ -2,10 +2,12 @@
 use Rattle.std.proofs.Common.{◌≡◌, ◌≢◌, ℕ, ◌<◌, ◌≤◌, ◌==◌, List, ◌++◌, length, take, false, true, IsTrue, Bool, Option, Some, None, IfSome, if◌then◌else◌, refl, sym, ap, ap₂, ◌∙◌, subst, arith}
 use Rattle.std.specs.Option.{option_map}
 use Rattle.std.proofs.lemmas.Bool.{eqb-true, eq-eqb}
-use Rattle.std.proofs.lemmas.List.{length-take, take-append-le}
-use Rattle.disk_model.specs.Bytes.{read_from}
+use Rattle.std.proofs.lemmas.List.{length-take-le, take-append-le}
+use Rattle.std.proofs.lemmas.List.Elements.{All-take}
+use Rattle.disk_model.specs.Bytes.{AreBytes, read_from}
 use Rattle.disk_model.specs.Tree.{Tree, File, file_of, meta_of, path_of}
 use Rattle.disk_model.specs.Folder.{FolderView, Look, ReadAt, IsFolderReading}
+use Rattle.disk_model.specs.declared.answer.Answer.TheVariants.{Failed, Saw, Bytes}
 use Rattle.disk_model.specs.declared.meta.Meta.{Meta}
 use Rattle.file_table.specs.declared.shape.Shape.{Shape}
 use Rattle.stripe_reader.specs.Column.{ReadsCell, ReadsSlot}
@@ -25,11 +27,11 @@ cell_known reading v read = record {
 
 -- of n bytes that were asked for, these came
 module _ (path : List ℕ) (lost : Bool) (at n : ℕ) (seen : Meta) (bytes : List ℕ) where
-  either_fetched : (whole : Bool) → (whole ≡ true → length bytes ≡ n) → (whole ≡ false → length bytes < n) → IsFetched n (if whole then Whole seen bytes else Part seen (length bytes))
-  either_fetched true is less = is refl
-  either_fetched false is less = less refl
+  either_fetched : (whole : Bool) → AreBytes bytes → (whole ≡ true → length bytes ≡ n) → (whole ≡ false → length bytes < n) → IsFetched n (if whole then Whole seen bytes else Part seen (length bytes))
+  either_fetched true are is less = record { size = is refl; are_bytes = are }
+  either_fetched false are is less = less refl
 
-  either_calls : (whole : Bool) → AreFetchCalls path lost at n (if whole then Whole seen bytes else Part seen (length bytes)) (look_and_read path lost at n)
+  either_calls : (whole : Bool) → AreFetchCalls path lost at n (if whole then Whole seen bytes else Part seen (length bytes)) (look_and_read path lost at n seen (Bytes (length bytes)))
   either_calls true = refl
   either_calls false = refl
 
@@ -41,8 +43,8 @@ module _ (path : List ℕ) (lost : Bool) (at n : ℕ) (seen : Meta) (bytes : Lis
   either_read true = refl
   either_read false = refl
 
-  came_fetched : length bytes ≤ n → IsFetched n (came seen n bytes)
-  came_fetched few = either_fetched (length bytes == n) (eqb-true (length bytes) n)
+  came_fetched : AreBytes bytes → length bytes ≤ n → IsFetched n (came seen n bytes)
+  came_fetched are few = either_fetched (length bytes == n) are (eqb-true (length bytes) n)
       (λ no. let other : length bytes ≢ n = λ same. let yes : (length bytes == n) ≡ true = eq-eqb (length bytes) n same in cc in omega arith)
 
 -- of a file that was seen, the bytes of the file came
@@ -53,20 +55,22 @@ file_given (Some there) seen at n bytes is read = let same : meta_of there ≡ s
 
 module _ (path : List ℕ) (lost : Bool) (at n : ℕ) (before mid after : FolderView) where
   -- the file was seen, and so many bytes of it came
-  pub cell_given : (seen : Meta) (size count : ℕ) (out rest : List ℕ) → size ≡ n → length out ≡ size → count ≤ length out
-      → IsFolderReading (Look path lost) false before mid → IsFolderReading (ReadAt path lost at size) false mid after
+  pub cell_given : (seen : Meta) (size count : ℕ) (out rest : List ℕ) → size ≡ n → length out ≡ size → count ≤ length out → AreBytes (out ++ rest)
+      → IsFolderReading (Look path lost) (Saw seen) before mid → IsFolderReading (ReadAt path lost at size) (Bytes count) mid after
       → (IsTrue before.tells → option_map meta_of (file_of before.tree (path_of path lost)) ≡ Some seen)
       → (IsTrue mid.tells → IfSome (file_of mid.tree (path_of path lost)) (λ file. take count out ≡ read_from file.bytes at size))
       → ReadsCell (Fetch path lost at n) (came seen n (take count (out ++ rest))) before after
-  cell_given seen size count out rest size_is long few look read saw came_is =
+  cell_given seen size count out rest size_is long few are look read saw came_is =
       let bytes = take count out in
       let front : take count (out ++ rest) ≡ bytes = take-append-le count out rest few in
-      let short : length bytes ≤ size = omega (arith, length-take count out) in
+      let counted : length bytes ≡ count = length-take-le count out few in
+      let short : length bytes ≤ size = omega (arith, counted) in
       let whole = length bytes == size in
       rw (front, sym size_is) (record {
-        folder = reads_twice (AreCellCalls (Fetch path lost at size) (came seen size bytes)) look read (either_calls path lost at size seen bytes whole);
+        folder = reads_twice (AreCellCalls (Fetch path lost at size) (came seen size bytes)) look
+            (subst (λ (n : ℕ). IsFolderReading (ReadAt path lost at size) (Bytes n) mid after) (sym counted) read) (either_calls path lost at size seen bytes whole);
         is_of = record {
-          by = came_fetched path lost at size seen bytes short;
+          by = came_fetched path lost at size seen bytes (subst AreBytes front (All-take (λ byte. byte < 256) count (out ++ rest) are)) short;
           given = λ told not. file_given (file_of before.tree (path_of path lost)) seen at size bytes (saw told)
               (subst (λ (tree : Tree). IfSome (file_of tree (path_of path lost)) (λ file. bytes ≡ read_from file.bytes at size)) (look.tree told) (came_is (look.called.goes_on.tells ∙ told)));
           saw = λ told. either_saw path lost at size seen bytes before.tree whole;
@@ -75,7 +79,7 @@ module _ (path : List ℕ) (lost : Bool) (at n : ℕ) (before mid after : Folder
       })
 
   -- the read failed
-  pub cell_unread : (seen : Meta) (size : ℕ) → size ≡ n → IsFolderReading (Look path lost) false before mid → IsFolderReading (ReadAt path lost at size) true mid after
+  pub cell_unread : (seen : Meta) (size : ℕ) → size ≡ n → IsFolderReading (Look path lost) (Saw seen) before mid → IsFolderReading (ReadAt path lost at size) Failed mid after
       → (IsTrue before.tells → option_map meta_of (file_of before.tree (path_of path lost)) ≡ Some seen)
       → ReadsCell (Fetch path lost at n) (Unread (Some seen)) before after
   cell_unread seen size size_is look read saw = rw (sym size_is) (record {

@@ -1,6 +1,7 @@
 -- Calls that only read a folder, one after another.
-use Rattle.std.proofs.Common.{Bool, List, [], ◌∷◌, ◌++◌, refl, sym, ap, ◌∙◌, append_assoc, arith}
+use Rattle.std.proofs.Common.{List, [], ◌∷◌, ◌++◌, refl, sym, ap, ◌∙◌, append_assoc, arith}
 use Rattle.std.proofs.lemmas.List.{append-nil}
+use Rattle.disk_model.specs.declared.answer.Answer.{Answer}
 use Rattle.disk_model.specs.Folder.{FolderView, FolderCall, FolderDone, FolderGoesOn, IsFolderReading}
 use Rattle.stripe_reader.specs.Column.{ReadsBy}
 
@@ -35,14 +36,14 @@ reads_then P Q R old mid new one two are = record {
 }
 
 -- one call
-pub reads_once : (P : List FolderDone → Type 0) {old new : FolderView} {call : FolderCall} {failed : Bool} → IsFolderReading call failed old new
-    → P (record { call = call; failed = failed } ∷ []) → ReadsBy P old new
+pub reads_once : (P : List FolderDone → Type 0) {old new : FolderView} {call : FolderCall} {answer : Answer} → IsFolderReading call answer old new
+    → P (record { call = call; answer = answer } ∷ []) → ReadsBy P old new
 reads_once P read are = record { done = _; are = are; goes_on = read.called.goes_on; tree = read.tree }
 
 -- one call, and then another
-pub reads_twice : (P : List FolderDone → Type 0) {old mid new : FolderView} {call other : FolderCall} {failed also_failed : Bool}
-    → IsFolderReading call failed old mid → IsFolderReading other also_failed mid new
-    → P (record { call = call; failed = failed } ∷ record { call = other; failed = also_failed } ∷ []) → ReadsBy P old new
+pub reads_twice : (P : List FolderDone → Type 0) {old mid new : FolderView} {call other : FolderCall} {answer other_answer : Answer}
+    → IsFolderReading call answer old mid → IsFolderReading other other_answer mid new
+    → P (record { call = call; answer = answer } ∷ record { call = other; answer = other_answer } ∷ []) → ReadsBy P old new
 reads_twice P {old = old} {mid = mid} {new = new} one two are = record {
   done = _;
   are = are;

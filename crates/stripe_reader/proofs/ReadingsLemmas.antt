@@ -1,7 +1,10 @@
 -- The readings that a window keeps.
-use Rattle.std.proofs.Common.{◌≡◌, ℕ, zero, suc, ◌+◌, ◌*◌, ◌<◌, List, [], ◌∷◌, length, get_or, Bool, true, false, nat_le, if◌then◌else◌, Option, None, Some, refl, sym, ap, ◌∙◌, subst, arith}
+use Rattle.std.proofs.Common.{◌≡◌, ℕ, zero, suc, ◌+◌, ◌*◌, ◌<◌, List, [], ◌∷◌, length, get_or, Bool, true, false, nat_le, if◌then◌else◌, Option, None, Some, inl, inr, refl, sym, ap, ◌∙◌, subst, arith}
 use Rattle.std.specs.Option.{option_map}
-use Rattle.std.proofs.lemmas.List.{get_or-map, length-map}
+use Rattle.std.proofs.lemmas.Bool.{cases_lt}
+use Rattle.std.proofs.lemmas.List.{get_or-map, get_or_past, length-map}
+use Rattle.std.proofs.lemmas.List.Elements.{All-nil}
+use Rattle.disk_model.specs.Bytes.{AreBytes}
 use Rattle.disk_model.specs.Folder.{FolderView}
 use Rattle.file_table.specs.Cells.{CellView, cell_in, cell_seen, cell_view}
 use Rattle.file_table.specs.Table.{TableValue, column_at, record_in}
@@ -9,7 +12,7 @@ use Rattle.file_table.specs.declared.block.Cell.{Cell}
 use Rattle.stripe_reader.specs.Column.{no_task}
 use Rattle.stripe_reader.specs.Columns.{ReadsWindow, folder_at}
 use Rattle.stripe_reader.specs.Reading.{CellReading, NoBlock, Nowhere, Beyond, Unread, Gone, Part, Whole, Known, Fetch, IsFetched, IsReadingBy, block_length, file_task, cell_task, task_at}
-use Rattle.stripe_reader.specs.Readings.{IsReadingAt, HasColumn, HasReadings, readings_at, ReadsStripe}
+use Rattle.stripe_reader.specs.Readings.{bytes_read, IsReadingAt, HasColumn, HasReadings, readings_at, ReadsStripe}
 use Rattle.stripe_reader.specs.Starts.{StartsValue, starts_at, start_in}
 use Rattle.stripe_reader.specs.WindowValue.{WindowValue, lane_at}
 use Rattle.stripe_reader.specs.declared.starts.Place.{Place}
@@ -68,7 +71,7 @@ module _ (block_size : ℕ) (cell : CellView) where
   fetched_at n (Unread seen) is by = tt
   fetched_at n (Gone seen) is by = tt
   fetched_at n (Part seen got) is by = tt
-  fetched_at n (Whole seen bytes) is by = by ∙ is
+  fetched_at n (Whole seen bytes) is by = record { size = by.size ∙ is; are_bytes = by.are_bytes }
 
   fetched_or_beyond : (enough : Bool) (path : List ℕ) (lost : Bool) (at n : ℕ) (reading : CellReading) → n ≡ block_length block_size cell.meta.size cell.index
       → IsReadingBy (if enough then Fetch path lost at n else Known Beyond) reading → IsReadingAt block_size (Some cell) reading
@@ -93,3 +96,22 @@ reading_at table starts d stripe reading by = by_case (cell_in (column_at table.
         let kept = record_in column cell.rec in
         let start = start_in (starts_at starts.columns d) cell.rec in
         file_at table.shape.block_size (cell_seen column cell) start.place start.size kept.path (cell.index * table.shape.block_size) (block_length table.shape.block_size kept.meta.size cell.index) reading refl so
+
+-- what was read of a cell is bytes
+bytes_at : (block_size : ℕ) (cell : Option CellView) (reading : CellReading) → IsReadingAt block_size cell reading → AreBytes (bytes_read reading)
+bytes_at block_size None reading is = subst (λ (it : CellReading). AreBytes (bytes_read it)) (sym is) (All-nil (λ byte. byte < 256))
+bytes_at block_size (Some cell) NoBlock is = absurd is
+bytes_at block_size (Some cell) Nowhere is = All-nil (λ byte. byte < 256)
+bytes_at block_size (Some cell) Beyond is = All-nil (λ byte. byte < 256)
+bytes_at block_size (Some cell) (Unread seen) is = All-nil (λ byte. byte < 256)
+bytes_at block_size (Some cell) (Gone seen) is = All-nil (λ byte. byte < 256)
+bytes_at block_size (Some cell) (Part seen got) is = All-nil (λ byte. byte < 256)
+bytes_at block_size (Some cell) (Whole seen bytes) is = is.are_bytes
+
+-- what was read of a stripe is bytes
+pub stripe_bytes : (table : TableValue) (starts : StartsValue) (stripe : ℕ) (window : WindowValue) (i : ℕ) (readings : List CellReading) (folders : List FolderView)
+    → ReadsStripe table starts stripe window i readings folders → (d : ℕ) → AreBytes (bytes_read (get_or readings d NoBlock))
+stripe_bytes table starts stripe window i readings folders read d = elim (cases_lt d (length readings)) [
+  | inl within ↦ bytes_at table.shape.block_size (cell_view (column_at table.columns d) stripe) _ (reading_at table starts d stripe _ (read.are_of d within).by)
+  | inr past ↦ subst (λ (it : CellReading). AreBytes (bytes_read it)) (sym (get_or_past readings d NoBlock past)) (All-nil (λ byte. byte < 256))
+]

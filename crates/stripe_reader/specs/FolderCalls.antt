@@ -1,30 +1,35 @@
--- Which calls are made of a folder, and in which order.
-use Rattle.std.specs.Prelude.{◌≡◌, ℕ, List, [], ◌∷◌, ◌++◌, Bool, true, false, None, Some}
-use Rattle.disk_model.specs.Folder.{FolderCall, FolderDone, Look, ReadAt}
+-- Which calls are made of a folder, in which order, and what they answer.
+use Rattle.std.specs.Prelude.{◌≡◌, ℕ, List, [], ◌∷◌, ◌++◌, length, Bool, None, Some}
+use Rattle.disk_model.specs.Folder.{FolderDone, Look, ReadAt}
+use Rattle.disk_model.specs.declared.answer.Answer.{Answer}
+use Rattle.disk_model.specs.declared.answer.Answer.TheVariants.{Failed, Missing, Saw, Bytes}
+use Rattle.disk_model.specs.declared.meta.Meta.{Meta}
 use Rattle.stripe_reader.specs.Reading.{CellReading, NoBlock, Nowhere, Beyond, Unread, Gone, Part, Whole, Task, Known, Fetch}
 
--- a call that did not fail, and one that did
-abbrev pub succeeds : FolderCall → FolderDone
-succeeds call = record { call = call; failed = false }
+-- a look at a file, and a reading of n bytes of it, each with its answer
+abbrev pub look_gave : List ℕ → Bool → Answer → FolderDone
+look_gave path lost answer = record { call = Look path lost; answer = answer }
 
-abbrev pub fails : FolderCall → FolderDone
-fails call = record { call = call; failed = true }
+abbrev pub read_gave : List ℕ → Bool → ℕ → ℕ → Answer → FolderDone
+read_gave path lost at n answer = record { call = ReadAt path lost at n; answer = answer }
 
--- a look at a file and then a reading of it, neither of which failed
-abbrev pub look_and_read : List ℕ → Bool → ℕ → ℕ → List FolderDone
-look_and_read path lost at n = succeeds (Look path lost) ∷ succeeds (ReadAt path lost at n) ∷ []
+-- a look at a file, which was seen so, and then a reading of it
+abbrev pub look_and_read : List ℕ → Bool → ℕ → ℕ → Meta → Answer → List FolderDone
+look_and_read path lost at n seen answer = look_gave path lost (Saw seen) ∷ read_gave path lost at n answer ∷ []
 
--- the calls for n bytes of a file, by what was read
+-- The calls for n bytes of a file, by what was read. It is not read where one of them failed, and gone where one of
+-- them answered that there is no such file; else so many bytes came as the reading answered. What was seen of the file
+-- is what the look of this very cell answered.
 abbrev pub AreFetchCalls : List ℕ → Bool → ℕ → ℕ → CellReading → List FolderDone → Type 0
 AreFetchCalls path lost at n NoBlock done = ⊥
 AreFetchCalls path lost at n Nowhere done = ⊥
 AreFetchCalls path lost at n Beyond done = ⊥
-AreFetchCalls path lost at n (Unread None) done = done ≡ fails (Look path lost) ∷ []
-AreFetchCalls path lost at n (Unread (Some seen)) done = done ≡ succeeds (Look path lost) ∷ fails (ReadAt path lost at n) ∷ []
-AreFetchCalls path lost at n (Gone None) done = done ≡ succeeds (Look path lost) ∷ []
-AreFetchCalls path lost at n (Gone (Some seen)) done = done ≡ look_and_read path lost at n
-AreFetchCalls path lost at n (Part seen got) done = done ≡ look_and_read path lost at n
-AreFetchCalls path lost at n (Whole seen bytes) done = done ≡ look_and_read path lost at n
+AreFetchCalls path lost at n (Unread None) done = done ≡ look_gave path lost Failed ∷ []
+AreFetchCalls path lost at n (Unread (Some seen)) done = done ≡ look_and_read path lost at n seen Failed
+AreFetchCalls path lost at n (Gone None) done = done ≡ look_gave path lost Missing ∷ []
+AreFetchCalls path lost at n (Gone (Some seen)) done = done ≡ look_and_read path lost at n seen Missing
+AreFetchCalls path lost at n (Part seen got) done = done ≡ look_and_read path lost at n seen (Bytes got)
+AreFetchCalls path lost at n (Whole seen bytes) done = done ≡ look_and_read path lost at n seen (Bytes (length bytes))
 
 -- The calls for one cell: none where the reading is known, else a look at the file, and where one was seen, one
 -- reading.

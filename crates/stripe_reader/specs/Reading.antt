@@ -1,7 +1,7 @@
 -- What is asked for a cell of a column, and what is read of it.
 use Rattle.std.specs.Prelude.{◌≡◌, ℕ, ◌+◌, ◌-◌, ◌*◌, ◌<◌, nat_le, ◌==◌, min, List, length, map, Bool, true, false, Option, None, Some, if◌then◌else◌}
 use Rattle.std.specs.Option.{option_map}
-use Rattle.disk_model.specs.Bytes.{read_from}
+use Rattle.disk_model.specs.Bytes.{AreBytes, read_from}
 use Rattle.disk_model.specs.Tree.{Tree, File, file_of, meta_of, path_of}
 use Rattle.disk_model.specs.declared.meta.Meta.{Meta}
 use Rattle.file_table.specs.Cells.{cell_in}
@@ -65,6 +65,11 @@ tasks_at table starts d stripes = map (task_at table starts d) stripes
 abbrev pub came : Meta → ℕ → List ℕ → CellReading
 came seen n bytes = if length bytes == n then Whole seen bytes else Part seen (length bytes)
 
+-- a block of n bytes that came whole
+pub record IsWholeBlock (n : ℕ) (bytes : List ℕ) : Type 0 where
+  pub size : length bytes ≡ n
+  pub are_bytes : AreBytes bytes
+
 -- a reading for which a folder was asked for n bytes
 abbrev pub IsFetched : ℕ → CellReading → Type 0
 IsFetched n NoBlock = ⊥
@@ -73,7 +78,7 @@ IsFetched n Beyond = ⊥
 IsFetched n (Unread seen) = Unit {0}
 IsFetched n (Gone seen) = Unit {0}
 IsFetched n (Part seen got) = got < n
-IsFetched n (Whole seen bytes) = length bytes ≡ n
+IsFetched n (Whole seen bytes) = IsWholeBlock n bytes
 
 -- a reading by what was to be done
 abbrev pub IsReadingBy : Task → CellReading → Type 0

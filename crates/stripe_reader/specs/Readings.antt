@@ -8,7 +8,7 @@ use Rattle.file_table.specs.Table.{TableValue}
 use Rattle.file_table.specs.declared.shape.Shape.{Shape}
 use Rattle.stripe_reader.specs.Column.{ReadsColumn, IsReadingOf}
 use Rattle.stripe_reader.specs.Columns.{folder_at}
-use Rattle.stripe_reader.specs.Reading.{CellReading, NoBlock, Nowhere, Beyond, Unread, Gone, Part, Whole, block_length, task_at, tasks_at}
+use Rattle.stripe_reader.specs.Reading.{CellReading, NoBlock, Nowhere, Beyond, Unread, Gone, Part, Whole, IsWholeBlock, block_length, task_at, tasks_at}
 use Rattle.stripe_reader.specs.Slot.{kept}
 use Rattle.stripe_reader.specs.Starts.{StartsValue}
 use Rattle.stripe_reader.specs.WindowValue.{WindowValue, lane_at, slot_at}
@@ -44,7 +44,7 @@ IsThere (Part seen got) = ⊥
 IsThere (Whole seen bytes) = Unit {0}
 
 -- A reading by what the table says of its cell: there is no block just where the column has none, and a block that
--- came whole has its real length.
+-- came whole is bytes, as many as its real length.
 abbrev pub IsReadingAt : ℕ → Option CellView → CellReading → Type 0
 IsReadingAt block_size None reading = reading ≡ NoBlock
 IsReadingAt block_size (Some cell) NoBlock = ⊥
@@ -53,7 +53,8 @@ IsReadingAt block_size (Some cell) Beyond = Unit {0}
 IsReadingAt block_size (Some cell) (Unread seen) = Unit {0}
 IsReadingAt block_size (Some cell) (Gone seen) = Unit {0}
 IsReadingAt block_size (Some cell) (Part seen got) = Unit {0}
-IsReadingAt block_size (Some cell) (Whole seen bytes) = length bytes ≡ block_length block_size cell.meta.size cell.index
+IsReadingAt block_size (Some cell) (Whole seen bytes) =
+    IsWholeBlock (block_length block_size cell.meta.size cell.index) bytes
 
 -- these are the readings of a column that was read
 pub record HasColumn (table : TableValue) (starts : StartsValue) (stripes : List ℕ) (window : WindowValue) (d : ℕ)

@@ -1,13 +1,14 @@
 //! What follows from the definition of a column's reading. The calls do nothing: their contracts are laws.
 ghost use Rattle.std.specs.Prelude.{◌≡◌, ℕ, ◌+◌, ◌<◌, ◌^◌, ◌++◌, List, length, map, get_or, IsTrue};
+ghost use Rattle.disk_model.specs.Bytes.{AreBytes};
 ghost use Rattle.disk_model.specs.Folder.{FolderView};
 ghost use Rattle.file_table.specs.Cells.{cell_view};
 ghost use Rattle.file_table.specs.Table.{TableValue, column_at};
 ghost use Rattle.file_table.specs.declared.shape.Shape.{Shape};
 ghost use Rattle.stripe_reader.specs.Column.{ReadsColumn};
 ghost use Rattle.stripe_reader.specs.Columns.{ReadsWindow};
-ghost use Rattle.stripe_reader.specs.Reading.{CellReading, IsReadingBy, Task, given_by, task_at};
-ghost use Rattle.stripe_reader.specs.Readings.{IsReadingAt, HasReadings, readings_at, ReadsStripe};
+ghost use Rattle.stripe_reader.specs.Reading.{CellReading, NoBlock, IsReadingBy, Task, given_by, task_at};
+ghost use Rattle.stripe_reader.specs.Readings.{bytes_read, IsReadingAt, HasReadings, readings_at, ReadsStripe};
 ghost use Rattle.stripe_reader.specs.Slot.{kept};
 ghost use Rattle.stripe_reader.specs.SlotValue.{SlotValue};
 ghost use Rattle.stripe_reader.specs.Starts.{StartsValue};
@@ -45,10 +46,18 @@ pub fn each_stripe_of_a_window_was_read()
         ReadsStripe table starts (get_or stripes i 0) window i (readings_at columns i) olds }
 {}
 
-/// A reading is of the cell that the table has there: no block just where there is no cell, and a whole block has its
-/// real length.
+/// A reading is of the cell that the table has there: no block just where there is no cell, and a whole block is bytes,
+/// as many as its real length.
 pub fn a_reading_is_of_its_cell()
     ensures { (table : TableValue) (starts : StartsValue) (d stripe : ℕ) (reading : CellReading) →
         IsReadingBy (task_at table starts d stripe) reading →
         IsReadingAt table.shape.block_size (cell_view (column_at table.columns d) stripe) reading }
+{}
+
+/// What was read of a stripe is bytes, whether the folders are visible or not.
+pub fn a_stripe_that_was_read_is_bytes()
+    ensures { (table : TableValue) (starts : StartsValue) (stripe : ℕ) (window : WindowValue) (i : ℕ)
+        (readings : List CellReading) (folders : List FolderView) →
+        ReadsStripe table starts stripe window i readings folders → (d : ℕ) →
+        AreBytes (bytes_read (get_or readings d NoBlock)) }
 {}

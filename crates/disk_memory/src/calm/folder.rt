@@ -4,7 +4,9 @@ use crate::calm::fail;
 use crate::files::Files;
 use crate::folder::found;
 use crate::name::{name_of, path_named};
-use disk_model::{Failed, FileFault, FileInfo, Folder, ListFault, Meta, NoMemory, Path, Stamp};
+use disk_model::{
+    Answer, Failed, FileFault, FileInfo, Folder, ListFault, Meta, NoMemory, Path, Stamp,
+};
 use std::alloc::Global;
 
 /// A tree of files, in memory. It fails where memory refuses a growth, and nowhere else.
@@ -62,17 +64,18 @@ impl CalmFolder {
     }
 }
 
-// Each call meets the trait's clauses. A reading call never fails (`calm`), nor does a writing call that nothing grows by.
+// Each call meets the trait's clauses. A reading call never fails (`calm`), nor does a writing call by which nothing grows.
 impl Folder for CalmFolder {
-    ghost use Rattle.std.specs.Prelude.{◌≡◌, ◌≤◌, ◌<◌, ◌+◌, ◌^◌, length, take, not, true, IfOk, IfSome, IsTrue, Some, None, is_err};
+    ghost use Rattle.std.specs.Prelude.{◌≡◌, ◌≢◌, ◌≤◌, ◌<◌, ◌+◌, ◌^◌, length, take, not, IfOk, IfSome, IsTrue, Some, None, is_err};
     ghost use Rattle.std.specs.Option.{option_map};
     ghost use Rattle.disk_model.specs.Bytes.{read_from};
     ghost use Rattle.disk_model.specs.Stamp.{IsStamp};
     ghost use Rattle.disk_model.specs.Tree.{file_of, meta_of, path_of, IsListing, listed, listing_of};
     ghost use Rattle.disk_model.specs.Folder.{ListFiles, Look, ReadAt, Make, WriteAt, SetSize, SetStamp, Rename};
-    ghost use Rattle.disk_model.specs.Folder.{IsFolderReading, MissingExactly, MayHold, listing_failed, file_failed};
+    ghost use Rattle.disk_model.specs.Folder.{IsFolderReading, MissingExactly, MayHold};
+    ghost use Rattle.disk_model.specs.Answer.{plain, is_failure, listing_answer, file_answer, done_answer};
     ghost use Rattle.disk_model.specs.Writing.{IsFolderWrite};
-    ghost use Rattle.disk_memory.specs.Calm.{calm_folder_view, calm_folder_well_formed, IsCalm};
+    ghost use Rattle.disk_memory.specs.Calm.{calm_folder_view, calm_folder_well_formed, IsCalm, IsCalmUnless};
     ghost use Rattle.disk_memory.specs.Files.{IsShorter};
 
     ghost view = { calm_folder_view };
@@ -84,11 +87,11 @@ impl Folder for CalmFolder {
     }
 
     fn list(&mut self, alloc: Global) -> Result<Vec<FileInfo>, ListFault>
-        ensures call { IsFolderReading ListFiles (listing_failed result) (calm_folder_view self.old) (calm_folder_view self.new) }
+        ensures call { IsFolderReading ListFiles (listing_answer result) (calm_folder_view self.old) (calm_folder_view self.new) }
         ensures listing { IfOk result (λ files. IsListing (listed files.items)) }
         ensures found { IsTrue (calm_folder_view self.old).tells →
             IfOk result (λ files. listed files.items ≡ listing_of (calm_folder_view self.old).tree) }
-        ensures calm { IsCalm (listing_failed result) self.old.faults self.new.faults }
+        ensures calm { IsCalm (is_failure (listing_answer result)) self.old.faults self.new.faults }
     {
         match self.files.infos(alloc) {
             Ok(infos) => Ok(infos),
@@ -97,13 +100,13 @@ impl Folder for CalmFolder {
     }
 
     fn look(&mut self, path: &Path, lost: bool) -> Result<Meta, FileFault>
-        ensures call { IsFolderReading (Look path.now lost) (file_failed result)
+        ensures call { IsFolderReading (Look path.now lost) (file_answer Answer.Saw result)
             (calm_folder_view self.old) (calm_folder_view self.new) }
         ensures missing { MissingExactly result (calm_folder_view self.old) (path_of path.now lost) }
         ensures stamp { IfOk result (λ meta. IsStamp meta.stamp) }
         ensures found { IsTrue (calm_folder_view self.old).tells → IfOk result (λ meta.
             option_map meta_of (file_of (calm_folder_view self.old).tree (path_of path.now lost)) ≡ Some meta) }
-        ensures calm { IsCalm (file_failed result) self.old.faults self.new.faults }
+        ensures calm { IsCalm (is_failure (file_answer Answer.Saw result)) self.old.faults self.new.faults }
     {
         match self.files.get(name_of(path, lost).as_slice()) {
             Some(file) => Ok(Meta {
@@ -121,14 +124,14 @@ impl Folder for CalmFolder {
         at: u64,
         out: &mut [u8],
     ) -> Result<usize, FileFault>
-        ensures call { IsFolderReading (ReadAt path.now lost at (length out.old)) (file_failed result)
+        ensures call { IsFolderReading (ReadAt path.now lost at (length out.old)) (file_answer Answer.Bytes result)
             (calm_folder_view self.old) (calm_folder_view self.new) }
         ensures missing { MissingExactly result (calm_folder_view self.old) (path_of path.now lost) }
         ensures bound { IfOk result (λ n. n ≤ length out.new) }
         ensures found { IsTrue (calm_folder_view self.old).tells → IfOk result (λ n.
             IfSome (file_of (calm_folder_view self.old).tree (path_of path.now lost)) (λ file.
             take n out.new ≡ read_from file.bytes at (length out.old))) }
-        ensures calm { IsCalm (file_failed result) self.old.faults self.new.faults }
+        ensures calm { IsCalm (is_failure (file_answer Answer.Bytes result)) self.old.faults self.new.faults }
     {
         match self.files.get(name_of(path, lost).as_slice()) {
             Some(file) => Ok(file.bytes.read(at, out)),
@@ -138,9 +141,9 @@ impl Folder for CalmFolder {
 
     fn make(&mut self, path: &Path) -> Result<(), Failed>
         requires { MayHold (calm_folder_view self.old) path.now }
-        ensures call { IsFolderWrite (Make path.now) (is_err result)
+        ensures call { IsFolderWrite (Make path.now) (plain (is_err result))
             (calm_folder_view self.old) (calm_folder_view self.new) }
-        ensures calm { is_err result ≡ true → file_of (calm_folder_view self.old).tree path.now ≡ None }
+        ensures calm { IsCalmUnless (file_of (calm_folder_view self.old).tree path.now ≡ None) (is_err result) self.old.faults self.new.faults }
     {
         match self.files.make(self.alloc, path) {
             Ok(()) => Ok(()),
@@ -150,10 +153,11 @@ impl Folder for CalmFolder {
 
     fn write_at(&mut self, path: &Path, at: u64, bytes: &[u8]) -> Result<(), FileFault>
         requires { at + length bytes.now < 2 ^ 64 }
-        ensures call { IsFolderWrite (WriteAt path.now at bytes.now) (file_failed result)
+        ensures call { IsFolderWrite (WriteAt path.now at bytes.now) (done_answer result)
             (calm_folder_view self.old) (calm_folder_view self.new) }
         ensures missing { MissingExactly result (calm_folder_view self.old) path.now }
-        ensures calm { file_failed result ≡ true → IsShorter (calm_folder_view self.old).tree path.now (at + length bytes.now) }
+        ensures calm { IsCalmUnless (IsShorter (calm_folder_view self.old).tree path.now (at + length bytes.now))
+            (is_failure (done_answer result)) self.old.faults self.new.faults }
     {
         let Ok(there) = self.files.write(path.as_str().as_bytes(), at, bytes) else {
             fail(&mut self.faults);
@@ -163,10 +167,11 @@ impl Folder for CalmFolder {
     }
 
     fn set_size(&mut self, path: &Path, size: u64) -> Result<(), FileFault>
-        ensures call { IsFolderWrite (SetSize path.now size) (file_failed result)
+        ensures call { IsFolderWrite (SetSize path.now size) (done_answer result)
             (calm_folder_view self.old) (calm_folder_view self.new) }
         ensures missing { MissingExactly result (calm_folder_view self.old) path.now }
-        ensures calm { file_failed result ≡ true → IsShorter (calm_folder_view self.old).tree path.now size }
+        ensures calm { IsCalmUnless (IsShorter (calm_folder_view self.old).tree path.now size)
+            (is_failure (done_answer result)) self.old.faults self.new.faults }
     {
         let Ok(there) = self.files.resize(path.as_str().as_bytes(), size) else {
             fail(&mut self.faults);
@@ -177,11 +182,11 @@ impl Folder for CalmFolder {
 
     fn set_stamp(&mut self, path: &Path, stamp: Stamp) -> Result<bool, FileFault>
         requires { IsStamp stamp }
-        ensures call { IsFolderWrite (SetStamp path.now stamp) (file_failed result)
+        ensures call { IsFolderWrite (SetStamp path.now stamp) (file_answer Answer.Kept result)
             (calm_folder_view self.old) (calm_folder_view self.new) }
         ensures missing { MissingExactly result (calm_folder_view self.old) path.now }
         ensures kept { IfOk result (λ kept. kept ≡ (calm_folder_view self.old).keeps_stamps) }
-        ensures calm { IsCalm (file_failed result) self.old.faults self.new.faults }
+        ensures calm { IsCalm (is_failure (file_answer Answer.Kept result)) self.old.faults self.new.faults }
     {
         let name = path.as_str().as_bytes();
         if !self.files.stamp(name, stamp, self.keeps_stamps) {
@@ -190,17 +195,23 @@ impl Folder for CalmFolder {
         Ok(self.keeps_stamps)
     }
 
-    // The other name is a text of its own, for which memory may be refused.
+    // The other name of a file is a text of its own, for which memory may be refused.
     fn rename(&mut self, path: &Path, lost: bool) -> Result<(), FileFault>
         requires { MayHold (calm_folder_view self.old) (path_of path.now lost) }
-        ensures call { IsFolderWrite (Rename path.now lost) (file_failed result)
+        ensures call { IsFolderWrite (Rename path.now lost) (done_answer result)
             (calm_folder_view self.old) (calm_folder_view self.new) }
         ensures missing { MissingExactly result (calm_folder_view self.old) (path_of path.now (not lost)) }
+        ensures calm { IsCalmUnless (file_of (calm_folder_view self.old).tree (path_of path.now (not lost)) ≢ None)
+            (is_failure (done_answer result)) self.old.faults self.new.faults }
     {
+        let from = name_of(path, !lost);
+        if self.files.get(from.as_slice()).is_none() {
+            return Err(FileFault::Missing);
+        }
         let Ok(to) = path_named(self.alloc, path, lost) else {
             fail(&mut self.faults);
             return Err(FileFault::Failed);
         };
-        found(self.files.rename(name_of(path, !lost).as_slice(), to))
+        found(self.files.rename(from.as_slice(), to))
     }
 }

@@ -1,7 +1,7 @@
 // A calm vault.
 use crate::calm::fail;
 use crate::store::Store;
-use disk_model::{Draft, Failed, NoMemory, Vault};
+use disk_model::{Answer, Draft, Failed, NoMemory, Vault};
 use std::alloc::Global;
 
 /// All parity files and content copies, in memory. It fails where memory refuses a growth, and nowhere else.
@@ -28,13 +28,14 @@ impl CalmVault {
 
 // Each call meets the trait's clauses. One by which nothing grows never fails (`calm`).
 impl Vault for CalmVault {
-    ghost use Rattle.std.specs.Prelude.{◌≡◌, ◌≢◌, ◌+◌, ◌^◌, ◌<◌, ◌≤◌, ◌++◌, [], length, take, true, IfOk, OnOk, OnErr, IsTrue, unwrap_or, is_err, Some};
+    ghost use Rattle.std.specs.Prelude.{◌≡◌, ◌≢◌, ◌+◌, ◌^◌, ◌<◌, ◌≤◌, ◌++◌, [], length, take, IfOk, OnOk, OnErr, IsTrue, unwrap_or, is_err, Some};
     ghost use Rattle.std.specs.Option.{option_map};
+    ghost use Rattle.disk_model.specs.Answer.{size_answer};
     ghost use Rattle.disk_model.specs.Bytes.{put, resized, read_from};
     ghost use Rattle.disk_model.specs.Files.{parity_of, content_of, TearsParity, StretchesParity, MayPublish, Stays};
     ghost use Rattle.disk_model.specs.Vault.{ParityLen, ParityRead, ParityWrite, ParitySetLen, ParitySync, ContentSize, ContentRead, DraftBegin, DraftAppend, DraftSeal, Publish};
     ghost use Rattle.disk_model.specs.Vault.{copies_of, draft_of, staged_of, is_sealed, IsCall, IsReading, ChangesBy, Reads, Holds, DraftIs, DraftsStay};
-    ghost use Rattle.disk_memory.specs.Calm.{calm_vault_view, IsCalm};
+    ghost use Rattle.disk_memory.specs.Calm.{calm_vault_view, IsCalm, IsCalmUnless};
     ghost use Rattle.disk_memory.specs.CalmLaws.{calm_vault_well_formed};
 
     ghost view = { calm_vault_view };
@@ -55,7 +56,7 @@ impl Vault for CalmVault {
 
     fn parity_len(&mut self, level: u32) -> Result<u64, Failed>
         requires { level < (calm_vault_view self.old).levels }
-        ensures call { IsReading (ParityLen level) result (calm_vault_view self.old) (calm_vault_view self.new) }
+        ensures call { IsReading (ParityLen level) Answer.Bytes result (calm_vault_view self.old) (calm_vault_view self.new) }
         ensures found { IsTrue (calm_vault_view self.old).tells → IfOk result (λ n. n ≡ length (parity_of (calm_vault_view self.old).files level)) }
         ensures calm { IsCalm (is_err result) self.old.faults self.new.faults }
     {
@@ -64,7 +65,7 @@ impl Vault for CalmVault {
 
     fn parity_read(&mut self, level: u32, at: u64, out: &mut [u8]) -> Result<usize, Failed>
         requires { level < (calm_vault_view self.old).levels }
-        ensures call { IsReading (ParityRead level at (length out.old)) result (calm_vault_view self.old) (calm_vault_view self.new) }
+        ensures call { IsReading (ParityRead level at (length out.old)) Answer.Bytes result (calm_vault_view self.old) (calm_vault_view self.new) }
         ensures bound { IfOk result (λ n. n ≤ length out.new) }
         ensures found { IsTrue (calm_vault_view self.old).tells → IfOk result (λ n. take n out.new ≡ read_from (parity_of (calm_vault_view self.old).files level) at (length out.old)) }
         ensures calm { IsCalm (is_err result) self.old.faults self.new.faults }
@@ -79,7 +80,8 @@ impl Vault for CalmVault {
         ensures written { OnOk result (Reads (λ files. parity_of files level ≡ put (parity_of (calm_vault_view self.old).files level) at bytes.now) (calm_vault_view self.new)) }
         ensures changes { ChangesBy (TearsParity level at (length bytes.now)) (calm_vault_view self.old) (calm_vault_view self.new) }
         ensures drafts { DraftsStay (calm_vault_view self.old) (calm_vault_view self.new) }
-        ensures calm { is_err result ≡ true → length (parity_of (calm_vault_view self.old).files level) < at + length bytes.now }
+        ensures calm { IsCalmUnless (length (parity_of (calm_vault_view self.old).files level) < at + length bytes.now)
+            (is_err result) self.old.faults self.new.faults }
     {
         match self.store.parity_write(level, at, bytes) {
             Ok(()) => Ok(()),
@@ -93,7 +95,8 @@ impl Vault for CalmVault {
         ensures written { OnOk result (Reads (λ files. parity_of files level ≡ resized (parity_of (calm_vault_view self.old).files level) len) (calm_vault_view self.new)) }
         ensures changes { ChangesBy (StretchesParity level len) (calm_vault_view self.old) (calm_vault_view self.new) }
         ensures drafts { DraftsStay (calm_vault_view self.old) (calm_vault_view self.new) }
-        ensures calm { is_err result ≡ true → length (parity_of (calm_vault_view self.old).files level) < len }
+        ensures calm { IsCalmUnless (length (parity_of (calm_vault_view self.old).files level) < len)
+            (is_err result) self.old.faults self.new.faults }
     {
         match self.store.parity_set_len(level, len) {
             Ok(()) => Ok(()),
@@ -115,7 +118,7 @@ impl Vault for CalmVault {
 
     fn content_size(&mut self, copy: u32) -> Result<Option<u64>, Failed>
         requires { copy < copies_of (calm_vault_view self.old) }
-        ensures call { IsReading (ContentSize copy) result (calm_vault_view self.old) (calm_vault_view self.new) }
+        ensures call { IsReading (ContentSize copy) size_answer result (calm_vault_view self.old) (calm_vault_view self.new) }
         ensures found { IsTrue (calm_vault_view self.old).tells → IfOk result (λ n. n ≡ option_map length (content_of (calm_vault_view self.old).files copy)) }
         ensures calm { IsCalm (is_err result) self.old.faults self.new.faults }
     {
@@ -124,7 +127,7 @@ impl Vault for CalmVault {
 
     fn content_read(&mut self, copy: u32, at: u64, out: &mut [u8]) -> Result<usize, Failed>
         requires { copy < copies_of (calm_vault_view self.old) }
-        ensures call { IsReading (ContentRead copy at (length out.old)) result (calm_vault_view self.old) (calm_vault_view self.new) }
+        ensures call { IsReading (ContentRead copy at (length out.old)) Answer.Bytes result (calm_vault_view self.old) (calm_vault_view self.new) }
         ensures bound { IfOk result (λ n. n ≤ length out.new) }
         ensures found { IsTrue (calm_vault_view self.old).tells → IfOk result (λ n. take n out.new ≡ read_from (unwrap_or (content_of (calm_vault_view self.old).files copy) []) at (length out.old)) }
         ensures calm { IsCalm (is_err result) self.old.faults self.new.faults }
@@ -151,6 +154,7 @@ impl Vault for CalmVault {
         ensures appended { OnOk result (DraftIs copy Draft.Open (staged_of (calm_vault_view self.old) copy ++ bytes.now) (calm_vault_view self.old) (calm_vault_view self.new)) }
         ensures gone { OnErr result (DraftIs copy Draft.Absent [] (calm_vault_view self.old) (calm_vault_view self.new)) }
         ensures changes { ChangesBy Stays (calm_vault_view self.old) (calm_vault_view self.new) }
+        ensures calm { IsCalmUnless (0 < length bytes.now) (is_err result) self.old.faults self.new.faults }
     {
         match self.store.draft_append(copy, bytes) {
             Ok(()) => Ok(()),

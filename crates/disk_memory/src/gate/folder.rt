@@ -32,6 +32,16 @@ impl<'a> GateFolder<'a> {
         }
     }
 
+    /// A gate that looks at the other flag so often at most, and not 200,000,000 times.
+    pub fn with_turns(self, turns: u64) -> GateFolder<'a>
+        ensures base { folder_view result.base ≡ folder_view self.entry.base }
+        ensures saw { result.gate.saw ≡ self.entry.gate.saw }
+    {
+        let mut gated = self;
+        gated.gate.turns = turns;
+        gated
+    }
+
     /// Whether the gated call saw the other gate's flag.
     pub fn saw(&self) -> bool
         ensures { result ≡ self.now.gate.saw }

@@ -1,6 +1,7 @@
-use Rattle.std.proofs.Common.{◌+◌, [], ◌∷◌, map, ap, sym, ◌∙◌, subst, arith, Result, Ok, Err, IfErr}
+use Rattle.std.proofs.Common.{◌+◌, [], ◌∷◌, map, ap, refl, sym, ◌∙◌, subst, arith, Result, Ok, Err, IfErr}
 use Rattle.std.specs.Result.{IsErrAnd}
 use Rattle.std.proofs.lemmas.List.{length-map, map-append}
+use Rattle.disk_model.specs.declared.answer.Answer.TheVariants as answers
 use Rattle.array_scan.specs.Kept.{files_of, lists_of}
 use Rattle.array_scan.specs.Listings.{FailsListing}
 use Rattle.array_scan.proofs.ListingLemmas.{ListsSome, lists_none, lists_all, lists_lent, first_listed, fails_at}
@@ -29,7 +30,7 @@ returns-in_err-push-clause-failed g c =
     let olds = map g.F.Folder.view c.args.folders.now in
     handed_on c.from_residual-in_err-push.result _ _
     (λ fault same. subst (FailsListing olds (map g.F.Folder.view _)) (sym same)
-    (c.loop-d.d + 1, first_listed g.F.Folder.view c.loop-d.d olds c.loop-d.folders _ _ (lists_of c.loop-d.listings.items) (omega arith) c.loop-d.invariant c.in_ok-listing.ensures.listed.call))
+    (c.loop-d.d + 1, first_listed g.F.Folder.view c.loop-d.d olds c.loop-d.folders _ _ (lists_of c.loop-d.listings.items) (omega arith) c.loop-d.invariant (record { answer = answers.Done; call = c.in_ok-listing.ensures.listed.call; unfailed = refl })))
     c.from_residual-in_err-push.ensures.1
 
 pub loop-d-preserved : goal.loop-d-preserved

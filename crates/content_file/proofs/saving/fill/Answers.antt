@@ -1,8 +1,9 @@
-use Rattle.std.proofs.Common.{◌≡◌, ◌<◌, List, ℕ, length, take, true, refl, sym, subst, arith}
+use Rattle.std.proofs.Common.{◌≡◌, ◌<◌, List, ℕ, length, take, refl, sym, subst, arith}
 use Rattle.std.proofs.lemmas.Grind.{common_steps}
 use Rattle.disk_model.proofs.VaultLemmas.{more_calls, on_any}
 use Rattle.disk_model.specs.Calls.{MakesThese}
 use Rattle.disk_model.specs.Vault.{DraftAppend}
+use Rattle.disk_model.specs.declared.answer.Answer.TheVariants.{Failed}
 use Rattle.disk_model.proofs.InOrder.{each_of, each_fails}
 use Rattle.content_file.specs.Save.{piece_count, append_call}
 use Rattle.content_file.specs.Spelling.{spelling}
@@ -34,7 +35,7 @@ returns-in_err-draft_append-clause-cause g c =
     let mid = g.V.Vault.view c.loop-encoder.vault in
     let so_far = c.loop-encoder.invariant.filling in
     on_any c.from_residual.result
-    (each_fails (append_call size c.args.copy bytes) (DraftAppend c.args.copy piece) so_far.pieces (piece_count size bytes) true old mid (g.V.Vault.view c.draft_append.new.self)
+    (each_fails (append_call size c.args.copy bytes) (DraftAppend c.args.copy piece) so_far.pieces (piece_count size bytes) Failed old mid (g.V.Vault.view c.draft_append.new.self)
     (more_pieces size c.args.copy bytes rest old mid c.requires.buffer so_far more) (next_call size c.args.copy bytes rest piece old mid so_far next.front) refl so_far.calls.goes_on.later c.in_err-draft_append.ensures.call.cause so_far.made c.in_err-draft_append.ensures.call.goes_on)
 
 pub returns-in_err-draft_append-clause-gone : goal.returns-in_err-draft_append-clause-gone

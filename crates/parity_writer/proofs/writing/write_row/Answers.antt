@@ -2,7 +2,7 @@ use Rattle.std.proofs.Common.{◌<◌, ℕ, List, ◌*◌, ◌∙◌, ap, ap₂,
 use Rattle.cauchy.specs.Matrix.{parity_of as level_of}
 use Rattle.disk_model.specs.Bytes.{put}
 use Rattle.disk_model.specs.Files.{parity_of, TearsParity}
-use Rattle.disk_model.specs.Ran.{vault_done, log_of}
+use Rattle.disk_model.specs.Ran.{log_of}
 use Rattle.disk_model.specs.Vault.{ParityWrite, state_of}
 use Rattle.disk_model.proofs.RanLemmas.{ran_each_none, ran_each_more, ran_each_fails, ran_exit}
 use Rattle.disk_model.proofs.VaultLemmas.{one_call}
@@ -16,7 +16,7 @@ use Rattle.parity_writer.proofs.WriteLemmas.{one_went_well, one_failed}
 use Rattle.parity_writer.proofs.writing.write_row.Goals as goal
 
 pub loop-level-init : goal.loop-level-init
-loop-level-init g c = record { keeping = keeping_start _ _ (writes_nothing _ _); ran = ran_each_none vault_done (sum_call c.args.window.now.block_size c.args.stripe (row_at c.args.window.now c.args.i)) (log_of (state_of (g.V.Vault.view c.args.vault.now))); end = c.levels-level-end.ensures; long = c.requires.block; written = λ told. mapped_start _ _ }
+loop-level-init g c = record { keeping = keeping_start _ _ (writes_nothing _ _); ran = ran_each_none (sum_call c.args.window.now.block_size c.args.stripe (row_at c.args.window.now c.args.i)) (log_of (state_of (g.V.Vault.view c.args.vault.now))); end = c.levels-level-end.ensures; long = c.requires.block; written = λ told. mapped_start _ _ }
 
 pub loop-level-preserved : goal.loop-level-preserved
 loop-level-preserved g c =
@@ -27,7 +27,7 @@ loop-level-preserved g c =
     let sums = c.sum_row.ensures ∙ ap (λ n. level_of c.loop-level.level n row) c.loop-level.invariant.long in
     record {
       keeping = keeping_more (WritesBlock size c.args.stripe) _ _ _ _ (writes_then size c.args.stripe c.loop-level.level _ _ at long) c.loop-level.invariant.keeping (one_call _ _ _ c.parity_write.ensures.call.goes_on) c.parity_write.ensures.changes c.parity_write.ensures.drafts;
-      ran = ran_each_more vault_done (sum_call size c.args.stripe row) c.loop-level.level (log_of (state_of (g.V.Vault.view c.args.vault.now))) (log_of (state_of (g.V.Vault.view c.loop-level.vault))) (log_of (state_of (g.V.Vault.view c.parity_write.new.self))) c.loop-level.invariant.ran
+      ran = ran_each_more (sum_call size c.args.stripe row) c.loop-level.level (log_of (state_of (g.V.Vault.view c.args.vault.now))) (log_of (state_of (g.V.Vault.view c.loop-level.vault))) (log_of (state_of (g.V.Vault.view c.parity_write.new.self))) c.loop-level.invariant.ran
           (one_went_well _ (sum_call size c.args.stripe row c.loop-level.level) (g.V.Vault.view c.loop-level.vault) (g.V.Vault.view c.parity_write.new.self) (ap₂ (λ (n : ℕ) (xs : List ℕ). ParityWrite c.loop-level.level n xs) at sums) c.in_ok-parity_write.ensures.call.goes_on);
       end = c.loop-level.invariant.end;
       long = long;
@@ -53,5 +53,5 @@ returns-in_err-parity_write-clause-ran g c =
     let sums = c.sum_row.ensures ∙ ap (λ n. level_of c.loop-level.level n row) c.loop-level.invariant.long in
     let within : c.loop-level.level < old.levels = omega (arith, c.loop-level-test.true, c.loop-level.invariant.end) in
     ran_exit _ (sum_calls old.levels size c.args.stripe row) c.from_residual.result (state_of old) (state_of new) c.from_residual.ensures.1
-    (ran_each_fails vault_done (sum_call size c.args.stripe row) c.loop-level.level old.levels (log_of (state_of old)) (log_of (state_of mid)) (log_of (state_of new)) within c.loop-level.invariant.ran
+    (ran_each_fails (sum_call size c.args.stripe row) c.loop-level.level old.levels (log_of (state_of old)) (log_of (state_of mid)) (log_of (state_of new)) within c.loop-level.invariant.ran
     (one_failed _ (sum_call size c.args.stripe row c.loop-level.level) mid new (ap₂ (λ (n : ℕ) (xs : List ℕ). ParityWrite c.loop-level.level n xs) at sums) c.in_err-parity_write.ensures.call.cause c.in_err-parity_write.ensures.call.goes_on))

@@ -1,5 +1,5 @@
 use Rattle.std.proofs.Common.{◌≡◌, ℕ, ◌<◌, List, get_or, true, false, IsTrue, refl, sym, ◌∙◌, subst, arith}
-use Rattle.disk_model.specs.Ran.{RanAll, RanUpTo, vault_done, log_of}
+use Rattle.disk_model.specs.Ran.{RanAll, RanUpTo, log_of}
 use Rattle.disk_model.specs.Vault.{VaultCall, Reads, state_of}
 use Rattle.disk_model.proofs.RanLemmas.{ran_none, ran_all_more, ran_all_fails, ran_exit}
 use Rattle.disk_model.proofs.VaultLemmas.{calls_then}
@@ -25,8 +25,8 @@ loop-i-preserved-then-not-chosen-i g c =
     let off : is_chosen choice c.loop-i.i ≡ false = c.if-not-chosen-i.true in
     record {
       keeping = so_far.keeping;
-      ran = ran_all_more vault_done (choice_calls old.levels window choice) c.loop-i.i (log_of (state_of old)) (log_of (state_of mid)) (log_of (state_of mid)) so_far.ran
-          (subst (λ (calls : List VaultCall). RanAll vault_done calls (log_of (state_of mid)) (log_of (state_of mid))) (sym (calls_none window choice c.loop-i.i old.levels off)) (ran_none vault_done (log_of (state_of mid))));
+      ran = ran_all_more (choice_calls old.levels window choice) c.loop-i.i (log_of (state_of old)) (log_of (state_of mid)) (log_of (state_of mid)) so_far.ran
+          (subst (λ (calls : List VaultCall). RanAll calls (log_of (state_of mid)) (log_of (state_of mid))) (sym (calls_none window choice c.loop-i.i old.levels off)) (ran_none (log_of (state_of mid))));
       end = so_far.end;
       long = so_far.long;
       written = λ rows before. subst (λ (its : Rows). Reads (HoldsRows old.levels window.block_size its) mid) (sym (rows_none window choice c.loop-i.i rows off)) (so_far.written rows before);
@@ -48,9 +48,9 @@ loop-i-preserved g c =
     let one : IsChosen choice stripe = record { i = c.loop-i.i; within = omega (arith, c.loop-i-test.true, so_far.end, c.requires.stripes); stripe_is = refl; chosen = on } in
     record {
       keeping = keeping_more (WritesBlocks window.block_size (IsChosen choice)) (WritesBlock window.block_size stripe) old mid new (blocks_more window.block_size (IsChosen choice) stripe one) so_far.keeping c.write_row.ensures.calls c.write_row.ensures.changes c.write_row.ensures.drafts;
-      ran = ran_all_more vault_done (choice_calls old.levels window choice) c.loop-i.i (log_of (state_of old)) (log_of (state_of mid)) (log_of (state_of new)) so_far.ran
-          (subst (λ (calls : List VaultCall). RanAll vault_done calls (log_of (state_of mid)) (log_of (state_of new))) (sym (calls_chosen window choice c.loop-i.i old.levels on))
-          (subst (λ (n : ℕ). RanAll vault_done (sum_calls n window.block_size stripe row) (log_of (state_of mid)) (log_of (state_of new))) levels c.in_ok-write_row.ensures.ran));
+      ran = ran_all_more (choice_calls old.levels window choice) c.loop-i.i (log_of (state_of old)) (log_of (state_of mid)) (log_of (state_of new)) so_far.ran
+          (subst (λ (calls : List VaultCall). RanAll calls (log_of (state_of mid)) (log_of (state_of new))) (sym (calls_chosen window choice c.loop-i.i old.levels on))
+          (subst (λ (n : ℕ). RanAll (sum_calls n window.block_size stripe row) (log_of (state_of mid)) (log_of (state_of new))) levels c.in_ok-write_row.ensures.ran));
       end = so_far.end;
       long = c.write_row.auto.block ∙ so_far.long;
       written = λ rows before told.
@@ -90,6 +90,6 @@ returns-in_err-write_row-clause-ran g c =
     let row = row_at window c.loop-i.i in
     let within : c.loop-i.i < window.count = omega (arith, c.loop-i-test.true, so_far.end) in
     ran_exit _ (window_calls old.levels window choice window.count) c.from_residual.result (state_of old) (state_of new) c.from_residual.ensures.1
-    (ran_all_fails vault_done (choice_calls old.levels window choice) c.loop-i.i window.count (log_of (state_of old)) (log_of (state_of mid)) (log_of (state_of new)) within so_far.ran
-    (subst (λ (calls : List VaultCall). RanUpTo vault_done calls (log_of (state_of mid)) (log_of (state_of new))) (sym (calls_chosen window choice c.loop-i.i old.levels c.if-not-chosen-i.false))
-    (subst (λ (n : ℕ). RanUpTo vault_done (sum_calls n window.block_size stripe row) (log_of (state_of mid)) (log_of (state_of new))) so_far.keeping.calls.goes_on.levels c.in_err-write_row.ensures.ran)))
+    (ran_all_fails (choice_calls old.levels window choice) c.loop-i.i window.count (log_of (state_of old)) (log_of (state_of mid)) (log_of (state_of new)) within so_far.ran
+    (subst (λ (calls : List VaultCall). RanUpTo calls (log_of (state_of mid)) (log_of (state_of new))) (sym (calls_chosen window choice c.loop-i.i old.levels c.if-not-chosen-i.false))
+    (subst (λ (n : ℕ). RanUpTo (sum_calls n window.block_size stripe row) (log_of (state_of mid)) (log_of (state_of new))) so_far.keeping.calls.goes_on.levels c.in_err-write_row.ensures.ran)))

@@ -1,5 +1,5 @@
 use Rattle.std.proofs.Common.{◌≡◌, length}
-use Rattle.disk_model.specs.Ran.{RanAll, vault_done, log_of}
+use Rattle.disk_model.specs.Ran.{RanAll, log_of}
 use Rattle.disk_model.specs.Vault.{Reads, state_of}
 use Rattle.parity_writer.specs.Chosen.{Choice, IsChosen, rows_with, window_calls}
 use Rattle.parity_writer.specs.Parity.{Rows, HoldsRows, SameElsewhere, WritesBlocks}
@@ -14,7 +14,7 @@ invariant-loop-i g l =
     let choice : Choice = record { stripes = l.stripes; chosen = l.chosen } in
     record {
       keeping : Keeping (WritesBlocks size (IsChosen choice)) old new;
-      ran : RanAll vault_done (window_calls old.levels l.window choice l.i) (log_of (state_of old)) (log_of (state_of new));
+      ran : RanAll (window_calls old.levels l.window choice l.i) (log_of (state_of old)) (log_of (state_of new));
       end : l.i-end ≡ l.window.count;
       long : length l.block ≡ size;
       written : (rows : Rows) → Reads (HoldsRows old.levels size rows) old → Reads (HoldsRows old.levels size (rows_with l.window choice l.i rows)) new;

@@ -5,6 +5,7 @@ use Rattle.snap_fix.specs.Plan.{plan_of}
 use Rattle.snap_fix.proofs.FixAllLemmas.{fixes_one}
 use Rattle.snap_fix.proofs.FixIntoLemmas.{into_none, into_more, into_breaks, still_underway}
 use Rattle.snap_fix.proofs.GoesOnLemmas.{handed_on}
+use Rattle.snap_fix.proofs.KeptStartsLemmas.{cell_quiet}
 use Rattle.snap_fix.proofs.fixes.fix_into.Goals as goal
 
 pub loop-i-init : goal.loop-i-init
@@ -36,7 +37,8 @@ loop-i-preserved g c =
     let new = fix_scene it.starts it.states it.written (map g.F.Folder.view it.folders) (g.V.Vault.view it.vault) (g.P.Spare.holding it.spare) it.lines it.reports.items in
     record {
       fixed = into_more _ _ _ plan c.args.stripes.now c.requires.ascending i within c.args.room.now.window c.loop-i.totals old mid so_far.fixed fixed.mended
-          c.loop-i.room.window c.in_ok-more.more c.and-totals.result new fixed.number fixed.slots so_far.lanes (λ d. so_far.later i d (omega arith)) (c.and-totals.ensures plan) (fixes_one _ _ _ plan {old = mid} {new = new} fixed);
+          c.loop-i.room.window c.in_ok-more.more c.and-totals.result new fixed.number fixed.slots so_far.lanes (λ d. so_far.later i d (omega arith)) (c.and-totals.ensures plan) (fixes_one _ _ _ plan {old = mid} {new = new} fixed)
+          (λ d below. cell_quiet plan mid.starts d fixed.mended (fixed.makes d below));
       room = fixed.room;
       as_large = fixed.changes.room ∙ so_far.as_large;
       count = fixed.changes.count ∙ so_far.count;

@@ -1,4 +1,5 @@
 use Rattle.std.proofs.Common.{Bool, sym, subst}
+use Rattle.disk_model.specs.Answer.{plain}
 use Rattle.disk_model.specs.Folder.{Make}
 use Rattle.disk_model.specs.Writing.{IsFolderWrite}
 use Rattle.snap_fix.proofs.GoesOnLemmas.{handed_on, sets_up_renamed, sets_up_made, rename_ends, make_fails}
@@ -16,9 +17,9 @@ returns-in_ok-rename-in-Lost-clause-set_up g c =
 pub returns-else-is_err-clause-set_up : goal.returns-else-is_err-clause-set_up
 returns-else-is_err-clause-set_up g c =
     sets_up_made _ _ _ _ _ (g.F.Folder.well_formed _) c.in-Nowhere.is c.if-not-state.true
-    (subst (λ (failed : Bool). IsFolderWrite (Make c.args.path.now) failed (g.F.Folder.view c.args.folder.now) (g.F.Folder.view c.make.new.self)) (sym c.if-is_err.ensures.value) c.make.ensures.call)
+    (subst (λ (failed : Bool). IsFolderWrite (Make c.args.path.now) (plain failed) (g.F.Folder.view c.args.folder.now) (g.F.Folder.view c.make.new.self)) (sym c.if-is_err.ensures.value) c.make.ensures.call)
 
 pub returns-then-is_err-clause-fault : goal.returns-then-is_err-clause-fault
 returns-then-is_err-clause-fault g c =
     make_fails _ _ _ _ c.requires _ (g.F.Folder.well_formed _) c.in-Nowhere.is
-    (subst (λ (failed : Bool). IsFolderWrite (Make c.args.path.now) failed (g.F.Folder.view c.args.folder.now) (g.F.Folder.view c.make.new.self)) (sym c.if-is_err.ensures.value) c.make.ensures.call)
+    (subst (λ (failed : Bool). IsFolderWrite (Make c.args.path.now) (plain failed) (g.F.Folder.view c.args.folder.now) (g.F.Folder.view c.make.new.self)) (sym c.if-is_err.ensures.value) c.make.ensures.call)

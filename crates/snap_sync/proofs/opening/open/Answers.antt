@@ -1,7 +1,7 @@
 use Rattle.std.proofs.Common.{◌≡◌, ℕ, ◌*◌, [], length, ap, ap₂, ◌∙◌}
 use Rattle.disk_model.specs.Vault.{copies_of, state_of}
 use Rattle.disk_model.proofs.RanLemmas.{ran_exit}
-use Rattle.disk_model.proofs.VaultLemmas.{on_any, on_err}
+use Rattle.disk_model.proofs.VaultLemmas.{calls_then, on_any, on_err}
 use Rattle.file_table.specs.declared.shape.Shape.{Shape}
 use Rattle.content_file.specs.Save.{piecewise_calls}
 use Rattle.content_file.specs.Spelling.{spelling}
@@ -81,3 +81,6 @@ returns-clause-opened g c =
     ok_for_each (λ plan. IsPlanFor plan old) (λ plan. IsUnderway plan [] 0 0 old new) c.set_lengths.result table (length c.args.piece.now)
     (λ plan start_is piece_is for.
     open_opened plan table (length c.args.piece.now) (c.from.result * c.from-2.result) c.set_lengths.result old mid new start_is for bytes_are first sets (g.V.Vault.well_formed c.set_lengths.new.vault) piece_is)
+
+pub returns-clause-calls : goal.returns-clause-calls
+returns-clause-calls g c = calls_then (g.V.Vault.view c.args.vault.now) (g.V.Vault.view c.save.new.vault) (g.V.Vault.view c.set_lengths.new.vault) c.save.ensures.calls c.set_lengths.ensures.calls

@@ -1,16 +1,14 @@
-use Rattle.std.proofs.Common.{Bool, length, refl, arith, rules}
-use Rattle.disk_model.specs.Folder.{FolderCall, FolderDone, ReadAt}
+use Rattle.std.proofs.Common.{length, refl, arith, rules}
+use Rattle.disk_model.specs.Folder.{ReadAt}
 use Rattle.disk_memory.specs.Calls.{folder_call}
+use Rattle.disk_memory.proofs.FolderLemmas.{done}
 use Rattle.disk_memory.proofs.PastLemmas.{grows_done}
 use Rattle.disk_memory.proofs.folder.MemFolderFolder.read_at.Goals as goal
-
-abbrev done : FolderCall → Bool → FolderDone
-done call failed = record { call = call; failed = failed }
 
 pub returns-in-Some-clause-call : goal.returns-in-Some-clause-call
 returns-in-Some-clause-call c =
     let call = ReadAt c.args.path.now c.args.lost c.args.at (length c.args.out.now) in
-    let grows = grows_done folder_call done c.read_entry-entry.result call c.args.self.now.past c.begin.new.past c.succeed.new.self c.begin.ensures.noted c.begin.ensures.refused c.succeed.ensures c.read_entry-entry.ensures in
+    let grows = grows_done folder_call done c.read_entry-entry.result call c.args.self.now.past c.begin.new.past c.end.new.self c.begin.ensures.noted c.begin.ensures.refused c.end.ensures c.read_entry-entry.ensures in
     record {
       called = record { goes_on = record { later = omega arith; keeps_stamps = refl; closed = refl; tells = refl; calls = grows }; cause = search rules };
       tree = λ told. refl;

@@ -9,8 +9,8 @@ use Rattle.disk_memory.proofs.PastLemmas.{grows_done}
 use Rattle.disk_memory.proofs.TreeLemmas.{apart_without}
 use Rattle.disk_memory.proofs.folder.MemFolderFolder.rename.Goals as goal
 
-pub rename-requires-clause-apart : goal.rename-requires-clause-apart
-rename-requires-clause-apart c =
+pub rename-there-requires-clause-apart : goal.rename-there-requires-clause-apart
+rename-there-requires-clause-apart c =
     let tree = tree_of c.args.self.now.files.list.items in
     apart_without tree c.as_slice.result.now c.in-Ok.to (subst (IsApart tree) (sym c.in-Ok.ensures) (c.requires refl).apart)
 
@@ -20,6 +20,6 @@ returns-clause-call c =
     let call = Rename c.args.path.now c.args.lost in
     let old = tree_of f.files.list.items in
     let from = c.as_slice.ensures.value ∙ c.name_of.ensures in
-    wrote_found c.rename.result c.found.result c.found.ensures f c.begin.new.schedule.faults c.succeed.new.self (tree_of c.rename.new.self.list.items) call c.begin.ensures.faults
-    (grows_done folder_call done c.rename_entry-entry.result call f.past c.begin.new.past c.succeed.new.self c.begin.ensures.noted c.begin.ensures.refused c.succeed.ensures c.rename_entry-entry.ensures)
-    (c.rename.ensures.renamed ∙ ap (λ (p : List ℕ). renamed p c.in-Ok.to old) from ∙ ap (λ (p : List ℕ). renamed (path_of c.args.path.now (not c.args.lost)) p old) c.in-Ok.ensures)
+    wrote_found c.rename-there.result c.found.result c.answer_where.result c.found.ensures c.answer_where.ensures f c.begin.new.schedule.faults c.end.new.self (tree_of c.rename-there.new.self.list.items) call c.begin.ensures.faults
+    (grows_done folder_call done c.rename_entry-entry.result call f.past c.begin.new.past c.end.new.self c.begin.ensures.noted c.begin.ensures.refused c.end.ensures c.rename_entry-entry.ensures)
+    (c.rename-there.ensures.renamed ∙ ap (λ (p : List ℕ). renamed p c.in-Ok.to old) from ∙ ap (λ (p : List ℕ). renamed (path_of c.args.path.now (not c.args.lost)) p old) c.in-Ok.ensures)

@@ -33,6 +33,6 @@ returns-clause-call c =
     let old = tree_of f.files.list.items in
     let tree = tree_of c.write.new.self.list.items in
     let path = c.as_bytes.ensures.value ∙ c.as_str.ensures.value in
-    wrote_found c.in-Ok.there c.found.result c.found.ensures f c.begin.new.schedule.faults c.succeed.new.self tree call c.begin.ensures.faults
-    (grows_done folder_call done c.write_at_entry-entry.result call f.past c.begin.new.past c.succeed.new.self c.begin.ensures.noted c.begin.ensures.refused c.succeed.ensures c.write_at_entry-entry.ensures)
+    wrote_found c.in-Ok.there c.found.result c.answer_where.result c.found.ensures c.answer_where.ensures f c.begin.new.schedule.faults c.end.new.self tree call c.begin.ensures.faults
+    (grows_done folder_call done c.write_at_entry-entry.result call f.past c.begin.new.past c.end.new.self c.begin.ensures.noted c.begin.ensures.refused c.end.ensures c.write_at_entry-entry.ensures)
     (writes c.args.path.now c.args.at c.args.bytes.now old tree (c.in-Ok.ensures.written ∙ ap (λ (p : List ℕ). changed (with_bytes (λ (before : List ℕ). put before c.args.at c.args.bytes.now)) p old) path))

@@ -1,5 +1,7 @@
-use Rattle.std.proofs.Common.{◌≡◌, ◌<◌, length, Some, IfSome, Bool, refl, sym, ◌∙◌, subst, arith, rules, true, inl, inr}
+use Rattle.std.proofs.Common.{◌≡◌, ◌<◌, length, Some, IfSome, refl, sym, ◌∙◌, subst, arith, rules, true, inl, inr}
 use Rattle.std.specs.Vec.{vec_len}
+use Rattle.disk_model.specs.Answer.{is_failure}
+use Rattle.disk_model.specs.declared.answer.Answer.{Answer}
 use Rattle.disk_model.specs.Opener.{OpenerCall, OpenerDone, Open}
 use Rattle.disk_model.specs.Vault.{copies_of}
 use Rattle.disk_model.specs.declared.opener.Opened.{Opened}
@@ -21,8 +23,8 @@ returns-in-Some-take-clause-folders g c = λ column below.
     let within : column < length opened.folders.items = omega (arith, below, opened.folders.ok.0) in
     given_as_held g.F.Folder.view (λ (o : Opened g.row.F.Denot g.row.V.Denot). o.folders.items) c.args.self.now.held opened is can.are_open column within
 
-abbrev done : OpenerCall → Bool → OpenerDone
-done call failed = record { call = call; failed = failed }
+abbrev done : OpenerCall → Answer → OpenerDone
+done call answer = record { call = call; failed = is_failure answer }
 
 pub returns-then-not-may-clause-call : goal.returns-then-not-may-clause-call
 returns-then-not-may-clause-call g c =
@@ -35,7 +37,7 @@ pub returns-in-Some-take-clause-call : goal.returns-in-Some-take-clause-call
 returns-in-Some-take-clause-call g c =
     let places = c.args.places.now in
     let call = Open places.dirs.items places.parities.items places.contents.items in
-    let grows = grows_done opener_call done c.open_entry-entry.result call c.args.self.now.past c.begin-may.new.past c.succeed.new.self c.begin-may.ensures.noted c.begin-may.ensures.refused c.succeed.ensures c.open_entry-entry.ensures in
+    let grows = grows_done opener_call done c.open_entry-entry.result call c.args.self.now.past c.begin-may.new.past c.end.new.self c.begin-may.ensures.noted c.begin-may.ensures.refused c.end.ensures c.open_entry-entry.ensures in
     record { goes_on = record { later = search rules; tells = refl; calls = grows }; cause = search rules }
 
 pub returns-then-not-may-clause-scheduled : goal.returns-then-not-may-clause-scheduled

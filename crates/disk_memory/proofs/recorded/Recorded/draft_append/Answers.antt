@@ -1,5 +1,6 @@
 use Rattle.std.proofs.Common.{Some, None, ℕ, not, refl, sym, ◌∙◌, ap, subst, arith, rules}
 use Rattle.disk_model.specs.Vault as vault
+use Rattle.disk_model.specs.declared.answer.Answer.TheVariants.{Done}
 use Rattle.disk_memory.specs.Calls.{vault_call}
 use Rattle.disk_memory.specs.Store.{held}
 use Rattle.disk_memory.specs.declared.calls.VaultEntry.TheVariants as entries
@@ -12,12 +13,12 @@ invariant_of-self c =
     let r = c.args.self.now in
     let entry = c.append_entry-entry.result in
     let call = vault.DraftAppend c.args.copy c.args.bytes.now in
-    let written : IsWritten entry c.append_draft-done.result r.past c.admit-may.new.self c.end.new.self = record { noted = c.admit-may.ensures.noted; refused = c.admit-may.ensures.refused; ok = c.end.ensures.done; failed = c.end.ensures.failed } in
-    let grows = written_grows entry call c.append_draft-done.result r.past c.admit-may.new.self c.end.new.self written c.append_entry-entry.ensures in
+    let written : IsWritten entry Done c.append_draft-done.result r.past c.admit-may.new.self c.end_if.new.self = record { noted = c.admit-may.ensures.noted; refused = c.admit-may.ensures.refused; ok = c.end_if.ensures.done; failed = c.end_if.ensures.failed } in
+    let grows = written_grows entry call Done c.append_draft-done.result r.past c.admit-may.new.self c.end_if.new.self written c.append_entry-entry.ensures in
     record {
       same_levels = (c.append_draft-done.ensures.same.levels ∙ r.same_levels);
       same_copies = (c.append_draft-done.ensures.same.copies ∙ r.same_copies);
-      recorded = recorded_on call (not c.append_draft-done.result) r.base (held r.opened) (held r.store) (held c.append_draft-done.new.store) r.past c.end.new.self grows (written_kept entry c.append_draft-done.result r.past c.admit-may.new.self c.end.new.self written) (slice_bytes c.args.bytes.now (λ i. omega (arith, c.type_inv.bytes i))) r.recorded c.append_draft-done.ensures.now;
+      recorded = recorded_on call Done refl (not c.append_draft-done.result) r.base (held r.opened) (held r.store) (held c.append_draft-done.new.store) r.past c.end_if.new.self grows (written_kept entry Done c.append_draft-done.result r.past c.admit-may.new.self c.end_if.new.self written) (slice_bytes c.args.bytes.now (λ i. omega (arith, c.type_inv.bytes i))) r.recorded c.append_draft-done.ensures.now;
     }
 
 pub returns-clause-goes : goal.returns-clause-goes
@@ -25,9 +26,9 @@ returns-clause-goes c =
     let r = c.args.self.now in
     let entry = c.append_entry-entry.result in
     let call = vault.DraftAppend c.args.copy c.args.bytes.now in
-    let written : IsWritten entry c.append_draft-done.result r.past c.admit-may.new.self c.end.new.self = record { noted = c.admit-may.ensures.noted; refused = c.admit-may.ensures.refused; ok = c.end.ensures.done; failed = c.end.ensures.failed } in
+    let written : IsWritten entry Done c.append_draft-done.result r.past c.admit-may.new.self c.end_if.new.self = record { noted = c.admit-may.ensures.noted; refused = c.admit-may.ensures.refused; ok = c.end_if.ensures.done; failed = c.end_if.ensures.failed } in
     record {
-      calls = written_grows entry call c.append_draft-done.result r.past c.admit-may.new.self c.end.new.self written c.append_entry-entry.ensures;
+      calls = written_grows entry call Done c.append_draft-done.result r.past c.admit-may.new.self c.end_if.new.self written c.append_entry-entry.ensures;
       now = c.append_draft-done.ensures.now;
       base = refl;
       opened = refl;

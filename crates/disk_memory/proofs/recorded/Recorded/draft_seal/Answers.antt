@@ -1,5 +1,6 @@
 use Rattle.std.proofs.Common.{Some, None, ℕ, not, refl, sym, ◌∙◌, ap, subst, arith, rules}
 use Rattle.disk_model.specs.Vault as vault
+use Rattle.disk_model.specs.declared.answer.Answer.TheVariants.{Done}
 use Rattle.disk_memory.specs.Calls.{vault_call}
 use Rattle.disk_memory.specs.Store.{held}
 use Rattle.disk_memory.specs.declared.calls.VaultEntry.TheVariants as entries
@@ -11,12 +12,12 @@ invariant_of-self c =
     let r = c.args.self.now in
     let entry = Some (entries.DraftSeal c.args.copy) in
     let call = vault.DraftSeal c.args.copy in
-    let written : IsWritten entry c.admit-done.result r.past c.admit-done.new.self c.end.new.self = record { noted = c.admit-done.ensures.noted; refused = c.admit-done.ensures.refused; ok = c.end.ensures.done; failed = c.end.ensures.failed } in
-    let grows = written_grows entry call c.admit-done.result r.past c.admit-done.new.self c.end.new.self written refl in
+    let written : IsWritten entry Done c.admit-done.result r.past c.admit-done.new.self c.end_if.new.self = record { noted = c.admit-done.ensures.noted; refused = c.admit-done.ensures.refused; ok = c.end_if.ensures.done; failed = c.end_if.ensures.failed } in
+    let grows = written_grows entry call Done c.admit-done.result r.past c.admit-done.new.self c.end_if.new.self written refl in
     record {
       same_levels = (c.seal_draft.ensures.same.levels ∙ r.same_levels);
       same_copies = (c.seal_draft.ensures.same.copies ∙ r.same_copies);
-      recorded = recorded_on call (not c.admit-done.result) r.base (held r.opened) (held r.store) (held c.seal_draft.new.store) r.past c.end.new.self grows (written_kept entry c.admit-done.result r.past c.admit-done.new.self c.end.new.self written) tt r.recorded c.seal_draft.ensures.now;
+      recorded = recorded_on call Done refl (not c.admit-done.result) r.base (held r.opened) (held r.store) (held c.seal_draft.new.store) r.past c.end_if.new.self grows (written_kept entry Done c.admit-done.result r.past c.admit-done.new.self c.end_if.new.self written) tt r.recorded c.seal_draft.ensures.now;
     }
 
 pub returns-clause-goes : goal.returns-clause-goes
@@ -24,9 +25,9 @@ returns-clause-goes c =
     let r = c.args.self.now in
     let entry = Some (entries.DraftSeal c.args.copy) in
     let call = vault.DraftSeal c.args.copy in
-    let written : IsWritten entry c.admit-done.result r.past c.admit-done.new.self c.end.new.self = record { noted = c.admit-done.ensures.noted; refused = c.admit-done.ensures.refused; ok = c.end.ensures.done; failed = c.end.ensures.failed } in
+    let written : IsWritten entry Done c.admit-done.result r.past c.admit-done.new.self c.end_if.new.self = record { noted = c.admit-done.ensures.noted; refused = c.admit-done.ensures.refused; ok = c.end_if.ensures.done; failed = c.end_if.ensures.failed } in
     record {
-      calls = written_grows entry call c.admit-done.result r.past c.admit-done.new.self c.end.new.self written refl;
+      calls = written_grows entry call Done c.admit-done.result r.past c.admit-done.new.self c.end_if.new.self written refl;
       now = c.seal_draft.ensures.now;
       base = refl;
       opened = refl;

@@ -1,5 +1,6 @@
 use Rattle.std.proofs.Common.{Some, None, ℕ, not, refl, sym, ◌∙◌, ap, subst, arith, rules}
 use Rattle.disk_model.specs.Vault as vault
+use Rattle.disk_model.specs.declared.answer.Answer.TheVariants.{Done}
 use Rattle.disk_memory.specs.Calls.{vault_call}
 use Rattle.disk_memory.specs.Store.{held}
 use Rattle.disk_memory.specs.declared.calls.VaultEntry.TheVariants as entries
@@ -11,12 +12,12 @@ invariant_of-self c =
     let r = c.args.self.now in
     let entry = Some (entries.ParitySetLen c.args.level c.args.len) in
     let call = vault.ParitySetLen c.args.level c.args.len in
-    let written : IsWritten entry c.set_parity_len-done.result r.past c.admit-may.new.self c.end.new.self = record { noted = c.admit-may.ensures.noted; refused = c.admit-may.ensures.refused; ok = c.end.ensures.done; failed = c.end.ensures.failed } in
-    let grows = written_grows entry call c.set_parity_len-done.result r.past c.admit-may.new.self c.end.new.self written refl in
+    let written : IsWritten entry Done c.set_parity_len-done.result r.past c.admit-may.new.self c.end_if.new.self = record { noted = c.admit-may.ensures.noted; refused = c.admit-may.ensures.refused; ok = c.end_if.ensures.done; failed = c.end_if.ensures.failed } in
+    let grows = written_grows entry call Done c.set_parity_len-done.result r.past c.admit-may.new.self c.end_if.new.self written refl in
     record {
       same_levels = (c.set_parity_len-done.ensures.same.levels ∙ r.same_levels);
       same_copies = (c.set_parity_len-done.ensures.same.copies ∙ r.same_copies);
-      recorded = recorded_on call (not c.set_parity_len-done.result) r.base (held r.opened) (held r.store) (held c.set_parity_len-done.new.store) r.past c.end.new.self grows (written_kept entry c.set_parity_len-done.result r.past c.admit-may.new.self c.end.new.self written) tt r.recorded c.set_parity_len-done.ensures.now;
+      recorded = recorded_on call Done refl (not c.set_parity_len-done.result) r.base (held r.opened) (held r.store) (held c.set_parity_len-done.new.store) r.past c.end_if.new.self grows (written_kept entry Done c.set_parity_len-done.result r.past c.admit-may.new.self c.end_if.new.self written) tt r.recorded c.set_parity_len-done.ensures.now;
     }
 
 pub returns-clause-goes : goal.returns-clause-goes
@@ -24,9 +25,9 @@ returns-clause-goes c =
     let r = c.args.self.now in
     let entry = Some (entries.ParitySetLen c.args.level c.args.len) in
     let call = vault.ParitySetLen c.args.level c.args.len in
-    let written : IsWritten entry c.set_parity_len-done.result r.past c.admit-may.new.self c.end.new.self = record { noted = c.admit-may.ensures.noted; refused = c.admit-may.ensures.refused; ok = c.end.ensures.done; failed = c.end.ensures.failed } in
+    let written : IsWritten entry Done c.set_parity_len-done.result r.past c.admit-may.new.self c.end_if.new.self = record { noted = c.admit-may.ensures.noted; refused = c.admit-may.ensures.refused; ok = c.end_if.ensures.done; failed = c.end_if.ensures.failed } in
     record {
-      calls = written_grows entry call c.set_parity_len-done.result r.past c.admit-may.new.self c.end.new.self written refl;
+      calls = written_grows entry call Done c.set_parity_len-done.result r.past c.admit-may.new.self c.end_if.new.self written refl;
       now = c.set_parity_len-done.ensures.now;
       base = refl;
       opened = refl;

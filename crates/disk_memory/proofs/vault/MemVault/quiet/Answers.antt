@@ -1,13 +1,13 @@
 use Rattle.std.proofs.Common.{Bool, not, is_err, sym, subst}
 use Rattle.disk_memory.specs.Calls.{vault_call}
-use Rattle.disk_memory.specs.Goes.{Goes, CountsFaults}
+use Rattle.disk_memory.specs.Goes.{GoesBy, CountsFaults}
 use Rattle.disk_memory.specs.Schedule.{plan_of}
 use Rattle.disk_memory.proofs.ScheduleLemmas.{obeys_exactly}
 use Rattle.disk_memory.proofs.VaultLemmas.{err_of, counts_from}
 use Rattle.disk_memory.proofs.vault.MemVault.quiet.Goals as goal
 
 pub returns-clause-goes : goal.returns-clause-goes
-returns-clause-goes c = subst (λ b. Goes (vault_call c.args.entry) b c.args.self.now.recorded c.quiet-done.new.self) (sym (err_of c.quiet-done.result c.answer.result c.answer.ensures.result)) c.quiet-done.ensures.goes
+returns-clause-goes c = subst (λ b. GoesBy (vault_call c.args.entry) c.args.given b c.args.self.now.recorded c.quiet-done.new.self) (sym (err_of c.quiet-done.result c.answer.result c.answer.ensures.result)) c.quiet-done.ensures.goes
 
 pub returns-clause-counts : goal.returns-clause-counts
 returns-clause-counts c = subst (λ b. CountsFaults b c.args.self.now.schedule.faults c.answer.new.self.faults) (sym (err_of c.quiet-done.result c.answer.result c.answer.ensures.result))

@@ -1,5 +1,6 @@
 use Rattle.std.proofs.Common.{Bool, true, false, ℕ, List, [], length, take, Ok, Err, unwrap_or, refl, sym, ◌∙◌, ap, subst, arith, rules}
 use Rattle.disk_model.specs.Vault as vault
+use Rattle.disk_model.specs.Answer.{size_answer}
 use Rattle.disk_model.specs.Bytes.{read_from}
 use Rattle.disk_model.specs.Files.{parity_of, content_of}
 use Rattle.std.specs.Option.{option_map}
@@ -9,13 +10,10 @@ use Rattle.disk_memory.proofs.VaultLemmas.{reading, same_held, copy_within, copy
 use Rattle.disk_memory.proofs.vault.MemVaultVault.content_size.Goals as goal
 
 pub returns-in-Err-clause-call : goal.returns-in-Err-clause-call
-returns-in-Err-clause-call c = reading c.args.self.now.schedule.faults c.quiet.new.self.schedule.faults c.args.self.now.recorded c.quiet.new.self.recorded (vault.ContentSize c.args.copy) true c.in-Err.ensures.goes refl (Err _) (copy_within c.args.self.now.recorded c.args.copy (copy_below c.args.self.now.recorded.store c.args.copy c.requires)) refl c.in-Err.ensures.counts
-
-pub content_size-requires : goal.content_size-requires
-content_size-requires c = let same = c.in-Ok.ensures.goes.same in omega (arith, same.copies, copy_below c.args.self.now.recorded.store c.args.copy c.requires)
+returns-in-Err-clause-call c = reading c.args.self.now.schedule.faults c.quiet.new.self.schedule.faults c.args.self.now.recorded c.quiet.new.self.recorded (vault.ContentSize c.args.copy) true c.in-Err.ensures.goes refl size_answer (Err _) (copy_within c.args.self.now.recorded c.args.copy (copy_below c.args.self.now.recorded.store c.args.copy c.requires)) refl refl c.in-Err.ensures.counts
 
 pub returns-in-Ok-clause-call : goal.returns-in-Ok-clause-call
-returns-in-Ok-clause-call c = reading c.args.self.now.schedule.faults c.quiet.new.self.schedule.faults c.args.self.now.recorded c.quiet.new.self.recorded (vault.ContentSize c.args.copy) false c.in-Ok.ensures.goes refl (Ok _) (copy_within c.args.self.now.recorded c.args.copy (copy_below c.args.self.now.recorded.store c.args.copy c.requires)) refl c.in-Ok.ensures.counts
+returns-in-Ok-clause-call c = reading c.args.self.now.schedule.faults c.quiet.new.self.schedule.faults c.args.self.now.recorded c.quiet.new.self.recorded (vault.ContentSize c.args.copy) false c.in-Ok.ensures.goes refl size_answer (Ok _) (copy_within c.args.self.now.recorded c.args.copy (copy_below c.args.self.now.recorded.store c.args.copy c.requires)) c.answer_of_size.ensures.kept refl c.in-Ok.ensures.counts
 
-pub returns-in-Ok-clause-found : goal.returns-in-Ok-clause-found
-returns-in-Ok-clause-found c = λ told. c.content_size.ensures ∙ ap (λ (h : Held). option_map length (content_of h.files c.args.copy)) (same_held c.args.self.now.schedule.faults c.quiet.new.self.schedule.faults c.args.self.now.recorded c.quiet.new.self.recorded (vault.ContentSize c.args.copy) false c.in-Ok.ensures.goes refl)
+pub content_size-size-requires : goal.content_size-size-requires
+content_size-size-requires c = copy_below c.args.self.now.recorded.store c.args.copy c.requires

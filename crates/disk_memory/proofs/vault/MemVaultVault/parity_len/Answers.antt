@@ -3,19 +3,14 @@ use Rattle.disk_model.specs.Vault as vault
 use Rattle.disk_model.specs.Bytes.{read_from}
 use Rattle.disk_model.specs.Files.{parity_of, content_of}
 use Rattle.std.specs.Option.{option_map}
+use Rattle.disk_model.specs.declared.answer.Answer.TheVariants.{Bytes}
 use Rattle.disk_memory.specs.Held.{Held}
 use Rattle.disk_memory.specs.Store.{held}
 use Rattle.disk_memory.proofs.VaultLemmas.{reading, same_held, level_within}
 use Rattle.disk_memory.proofs.vault.MemVaultVault.parity_len.Goals as goal
 
 pub returns-in-Err-clause-call : goal.returns-in-Err-clause-call
-returns-in-Err-clause-call c = reading c.args.self.now.schedule.faults c.quiet.new.self.schedule.faults c.args.self.now.recorded c.quiet.new.self.recorded (vault.ParityLen c.args.level) true c.in-Err.ensures.goes refl (Err _) (level_within c.args.self.now.recorded c.args.level c.requires) refl c.in-Err.ensures.counts
-
-pub parity_len-requires : goal.parity_len-requires
-parity_len-requires c = let same = c.in-Ok.ensures.goes.same in omega (arith, same.levels, c.requires)
+returns-in-Err-clause-call c = reading c.args.self.now.schedule.faults c.quiet.new.self.schedule.faults c.args.self.now.recorded c.quiet.new.self.recorded (vault.ParityLen c.args.level) true c.in-Err.ensures.goes refl Bytes (Err _) (level_within c.args.self.now.recorded c.args.level c.requires) refl refl c.in-Err.ensures.counts
 
 pub returns-in-Ok-clause-call : goal.returns-in-Ok-clause-call
-returns-in-Ok-clause-call c = reading c.args.self.now.schedule.faults c.quiet.new.self.schedule.faults c.args.self.now.recorded c.quiet.new.self.recorded (vault.ParityLen c.args.level) false c.in-Ok.ensures.goes refl (Ok _) (level_within c.args.self.now.recorded c.args.level c.requires) refl c.in-Ok.ensures.counts
-
-pub returns-in-Ok-clause-found : goal.returns-in-Ok-clause-found
-returns-in-Ok-clause-found c = λ told. c.parity_len.ensures ∙ ap (λ (h : Held). length (parity_of h.files c.args.level)) (same_held c.args.self.now.schedule.faults c.quiet.new.self.schedule.faults c.args.self.now.recorded c.quiet.new.self.recorded (vault.ParityLen c.args.level) false c.in-Ok.ensures.goes refl)
+returns-in-Ok-clause-call c = reading c.args.self.now.schedule.faults c.quiet.new.self.schedule.faults c.args.self.now.recorded c.quiet.new.self.recorded (vault.ParityLen c.args.level) false c.in-Ok.ensures.goes refl Bytes (Ok _) (level_within c.args.self.now.recorded c.args.level c.requires) refl refl c.in-Ok.ensures.counts

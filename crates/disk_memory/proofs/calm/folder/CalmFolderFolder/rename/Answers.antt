@@ -7,4 +7,4 @@ use Rattle.disk_memory.proofs.calm.folder.CalmFolderFolder.rename.Goals as goal
 pub rename-requires-clause-apart : goal.rename-requires-clause-apart
 rename-requires-clause-apart c =
     let tree = tree_of c.args.self.now.files.list.items in
-    apart_without tree c.as_slice.result.now c.in-Ok.to (subst (IsApart tree) (sym c.in-Ok.ensures) (c.requires refl).apart)
+    apart_without tree c.as_slice-2.result.now c.in-Ok.to (subst (IsApart tree) (sym c.in-Ok.ensures) (c.requires refl).apart)
