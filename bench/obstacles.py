@@ -1,10 +1,12 @@
 #!/usr/bin/env python3
-"""Fixes arrays in whose way something stands that only a real file system has: links, pipes, folders that can't be written, full disks.
+"""Runs over arrays in whose way something stands that only a real file system has: links, pipes, folders that can't be written, full disks,
+files that are gone.
 
 usage: bench/obstacles.py [PROGRAM]     the built program of this repository where nothing is given
 Each case damages an array that was synced, runs a fix, and compares its status, what it printed on standard error, and all files with
 what is wanted: nothing that was whole may change, and nothing outside the array. Then the obstacle goes, and another fix has to bring
-all files back. It runs in a name space of its own, where it may mount small file systems.
+all files back. Of another command status and standard error are compared, and once the obstacle is gone a sync and a check have to end
+with 0. It runs in a name space of its own, where it may mount small file systems.
 """
 import os
 import shutil
@@ -13,16 +15,21 @@ import sys
 import tempfile
 
 TOP = os.path.dirname(os.path.dirname(os.path.abspath(__file__)))
-CONFIG = """parity {room}/p
+CONFIG = """parity {room}/par/p
 2-parity {room}/q
-content {room}/content
+content {room}/c/content
 data d1 {room}/d1/
 data d2 {room}/d2/
 blocksize 1
 """
 LONG = "n" * 250
-FIRST = "snapraid: disk 'd1' failed\n"
-VAULT = "snapraid: parity or content failed\n"
+FIRST = "snapraid: disk 'd1' failed\nsnapraid: "
+VAULT = "snapraid: parity or content failed\nsnapraid: "
+NO_FILE = "': not a regular file\n"
+NO_ROOM = "': No space left on device\n"
+GONE = VAULT + "parity file '{room}/par/p' is not there: mount its disk, or rebuild it by 'fix -d parity'\n"
+# Seconds of the earliest file: none before 1970 can be set.
+EARLY = {"d1/first": 0}
 
 
 class Array:
@@ -31,13 +38,16 @@ class Array:
     def __init__(self, room, program):
         self.room = room
         self.program = program
-        for folder in ("d1/s", "d2", "outside"):
+        for folder in ("d1/s", "d2", "par", "c", "outside"):
             os.makedirs(self.at(folder))
         self.put("d1/a", b"a" * 200_000)
         self.put("d1/s/b", b"0123456789")
         self.put("d1/" + LONG, b"long name")
         self.put("d2/c", b"c" * 2_000)
         self.put("outside/b", b"outside")
+        for name, seconds in EARLY.items():
+            self.put(name, name.encode())
+            os.utime(self.at(name), ns=(5, round(seconds * 10**9)))
         with open(self.at("conf"), "w", encoding="ascii") as out:
             out.write(CONFIG.format(room=room))
         if self.run("sync")[0] != 0:
@@ -68,7 +78,7 @@ class Array:
                     seen[short] = "-> " + os.readlink(path)
                 elif os.path.isfile(path):
                     with open(path, "rb") as held:
-                        seen[short] = (held.read(), os.stat(path).st_mtime_ns if os.sep in short else None)
+                        seen[short] = (held.read(), os.stat(path).st_mtime_ns if short.startswith("d") else None)
                 elif not os.path.isdir(path):
                     seen[short] = "no file"
         return seen
@@ -121,7 +131,7 @@ def lost(name, link):
     """A file that no level restores, since both are gone, and a link under the name that it would get."""
     def damage(array):
         array.put(name, b"other bytes")
-        remove(array, "p")
+        remove(array, "par/p")
         remove(array, "q")
         if link:
             os.symlink(array.at("outside/b"), array.at(name + ".unrecoverable"))
@@ -146,8 +156,41 @@ def small_disk(array):
     subprocess.run(["mount", "-t", "tmpfs", "-o", "size=64k", "tmpfs", array.at("d1")], check=True)
 
 
+def full(folder):
+    """What stood in a folder lies on a disk of its own, with room for 4 KiB more."""
+    def damage(array):
+        shutil.copytree(array.at(folder), array.at("kept"))
+        size = 4096 + sum(-(-os.path.getsize(held.path) // 4096) * 4096 for held in os.scandir(array.at("kept")))
+        subprocess.run(["mount", "-t", "tmpfs", "-o", f"size={size}", "tmpfs", array.at(folder)], check=True)
+        shutil.copytree(array.at("kept"), array.at(folder), dirs_exist_ok=True)
+        shutil.rmtree(array.at("kept"))
+        array.put("d1/new", b"n" * 40_000)
+    return damage
+
+
+def empty_mount(array):
+    """The parity disk is not mounted: below lies an empty folder."""
+    subprocess.run(["mount", "-t", "tmpfs", "tmpfs", array.at("par")], check=True)
+    array.put("d1/new", b"new")
+
+
+def no_utf8(array):
+    with open(os.path.join(os.fsencode(array.at("d1/s")), b"bad\xff"), "wb"):
+        pass
+
+
+def utf8(array):
+    os.remove(os.path.join(os.fsencode(array.at("d1/s")), b"bad\xff"))
+
+
 def unmounted(array):
     subprocess.run(["umount", array.at("d1")], check=True)
+
+
+def without_mount(folder):
+    def clear(array):
+        subprocess.run(["umount", array.at(folder)], check=True)
+    return clear
 
 
 def larger(array):
@@ -166,27 +209,46 @@ def nothing(_array):
     pass
 
 
-# What it is, the damage, the status, the line on standard error, the end of what is printed, which files the fix may make or change
+# What it is, the damage, the status, what stands on standard error, the end of what is printed, which files the fix may make or change
 # (all else stays), and how the obstacle goes. None for the last means that the array can't be brought back.
+MADE = FIRST + "make '{room}/"
 CASES = [
-    ("a link to a file in the place of a file", replaced_by_link("d1/a", "outside/b"), 3, FIRST, "", (), without("d1/a")),
-    ("a link to nothing in the place of a file", replaced_by_link("d1/a", "outside/new"), 3, FIRST, "", (), without("d1/a")),
-    ("a link in the place of a folder", replaced_by_link("d1/s", "outside"), 3, FIRST, "", (), without("d1/s")),
-    ("an empty folder in the place of a file", folder_in_place("d1/a"), 3, FIRST, "", (), without("d1/a")),
-    ("a pipe in the place of a file", pipe_in_place("d1/a"), 3, FIRST, "", (), without("d1/a")),
-    ("a link under the name of a lost file", lost("d1/s/b", True), 3, FIRST, "", ("p", "q"), None),
-    ("no room for the name of a lost file", lost("d1/" + LONG, False), 3, FIRST, "", ("p", "q"), None),
-    ("a folder that can't be written", read_only("d1/a", "d2/c"), 3, FIRST, "", (), unmounted),
+    ("a link to a file in the place of a file", replaced_by_link("d1/a", "outside/b"), 3, MADE + "d1/a" + NO_FILE, "", (), without("d1/a")),
+    ("a link to nothing in the place of a file", replaced_by_link("d1/a", "outside/new"), 3, MADE + "d1/a" + NO_FILE, "", (), without("d1/a")),
+    ("a link in the place of a folder", replaced_by_link("d1/s", "outside"), 3, MADE + "d1/s/b': not a directory\n", "", (), without("d1/s")),
+    ("an empty folder in the place of a file", folder_in_place("d1/a"), 3, MADE + "d1/a" + NO_FILE, "", (), without("d1/a")),
+    ("a pipe in the place of a file", pipe_in_place("d1/a"), 3, MADE + "d1/a" + NO_FILE, "", (), without("d1/a")),
+    ("a link under the name of a lost file", lost("d1/s/b", True), 3, FIRST + "rename '{room}/d1/s/b" + NO_FILE, "", ("par/p", "q"), None),
+    ("no room for the name of a lost file", lost("d1/" + LONG, False), 3, FIRST + "rename '{room}/d1/" + LONG + "': File name too long\n", "",
+     ("par/p", "q"), None),
+    ("a folder that can't be written", read_only("d1/a", "d2/c"), 3, MADE + "d1/a': Read-only file system\n", "", (), unmounted),
     ("a folder that can't be written and need not be", read_only("d2/c"), 0, "",
      "restored d2:c\nfix: 2 blocks and 0 parities fixed, 0 findings left\n", ("d2/c",), unmounted),
-    ("a full disk in the middle of a file", small_disk, 3, FIRST, "", ("d1/a",), larger),
-    ("a missing parity file", removed("p"), 0, "", "fix: 0 blocks and 198 parities fixed, 0 findings left\n", ("p",), nothing),
-    ("a parity file cut in a block", cut("p", 1_500), 0, "", "fix: 0 blocks and 197 parities fixed, 0 findings left\n", ("p",), nothing),
-    ("a parity file cut, and a lost file", lambda array: (cut("p", 1_500)(array), remove(array, "d2/c")), 0, "",
-     "restored d2:c\nfix: 2 blocks and 197 parities fixed, 0 findings left\n", ("p", "d2/c"), nothing),
-    ("a folder in the place of a parity file", lambda array: (folder_in_place("p")(array), remove(array, "d2/c")), 0, "",
-     "restored d2:c\nfix: 2 blocks and 0 parities fixed, 0 findings left\n", ("d2/c",), lambda array: os.rmdir(array.at("p"))),
-    ("a folder in the place of the content file", folder_in_place("content"), 3, VAULT, "", (), None),
+    ("a full disk in the middle of a file", small_disk, 3, FIRST + "write '{room}/d1/a" + NO_ROOM, "", ("d1/a",), larger),
+    ("a missing parity file", removed("par/p"), 0, "", "fix: 0 blocks and 199 parities fixed, 0 findings left\n", ("par/p",), nothing),
+    ("a parity file cut in a block", cut("par/p", 1_500), 0, "", "fix: 0 blocks and 198 parities fixed, 0 findings left\n", ("par/p",), nothing),
+    ("a parity file cut, and a lost file", lambda array: (cut("par/p", 1_500)(array), remove(array, "d2/c")), 0, "",
+     "restored d2:c\nfix: 2 blocks and 198 parities fixed, 0 findings left\n", ("par/p", "d2/c"), nothing),
+    ("a folder in the place of a parity file", lambda array: (folder_in_place("par/p")(array), remove(array, "d2/c")), 0,
+     "snapraid: read '{room}/par/p" + NO_FILE, "restored d2:c\nfix: 2 blocks and 0 parities fixed, 0 findings left\n", ("d2/c",),
+     lambda array: os.rmdir(array.at("par/p"))),
+    ("a folder in the place of the content file", folder_in_place("c/content"), 3, VAULT + "look at '{room}/c/content" + NO_FILE, "", (), None),
+    ("a file of the first moment of 1970 that is gone", removed(*EARLY), 0, "", "fix: 1 blocks and 0 parities fixed, 0 findings left\n", tuple(EARLY),
+     nothing),
+]
+
+# What it is, the damage, the command, its status, what stands on standard error, and how the obstacle goes.
+OTHERS = [
+    ("a parity disk that is not mounted", empty_mount, "sync", 3, GONE, without_mount("par")),
+    ("a parity file that is gone at a check", removed("par/p"), "check", 1, "", lambda array: array.run("fix")),
+    ("a parity file that is gone at a sync with nothing to do", removed("par/p"), "sync", 3, GONE, lambda array: array.run("fix")),
+    ("a full disk under parity", full("par"), "sync", 3, VAULT + "write '{room}/par/p" + NO_ROOM, without_mount("par")),
+    ("a full disk under content", full("c"), "sync", 3, VAULT + "write '{room}/c/content.tmp" + NO_ROOM, without_mount("c")),
+    ("a folder in the place of a level", folder_in_place("q"), "sync", 3, VAULT + "look at '{room}/q" + NO_FILE,
+     lambda array: (os.rmdir(array.at("q")), array.run("fix"))),
+    ("a name that is not UTF-8", no_utf8, "sync", 3, FIRST + "list '{room}/d1/s': a name in it is not UTF-8\n", utf8),
+    ("a disk that is gone", lambda array: os.rename(array.at("d1"), array.at("away")), "check", 3,
+     FIRST + "list '{room}/d1': No such file or directory\n", lambda array: os.rename(array.at("away"), array.at("d1"))),
 ]
 
 
@@ -204,7 +266,7 @@ def try_case(array, case):
     damage(array)
     before = array.files()
     got, out, err = array.run("fix")
-    if (got, err) != (status, line):
+    if (got, err) != (status, line.format(room=array.room)):
         return f"status {got}, {err!r}"
     if not out.endswith(end):
         return f"printed {out!r}"
@@ -223,20 +285,36 @@ def try_case(array, case):
     return None
 
 
+def try_other(array, case):
+    """The same for another command."""
+    _, damage, command, status, line, clear = case
+    damage(array)
+    got, out, err = array.run(command)
+    if (got, err) != (status, line.format(room=array.room)):
+        return f"status {got}, {out!r}, {err!r}"
+    clear(array)
+    for again in ("sync", "check"):
+        got, out, err = array.run(again)
+        if got != 0:
+            return f"then {again} status {got}, {out!r}, {err!r}"
+    return None
+
+
 def main():
     if "HADLIXU_OBSTACLES" not in os.environ:
         os.environ["HADLIXU_OBSTACLES"] = "1"
         os.execvp("unshare", ["unshare", "--map-root-user", "--mount", sys.executable, os.path.abspath(__file__), *sys.argv[1:]])
     program = os.path.abspath(sys.argv[1]) if len(sys.argv) > 1 else os.path.join(TOP, "crates", "snapraid", "out", "snapraid")
     wrong = 0
-    for case in CASES:
+    for case in CASES + OTHERS:
         with tempfile.TemporaryDirectory() as room:
             array = Array(room, program)
-            said = try_case(array, case)
-            subprocess.run(["umount", array.at("d1")], stderr=subprocess.DEVNULL, check=False)
+            said = (try_case if case in CASES else try_other)(array, case)
+            for folder in ("d1", "par", "c"):
+                subprocess.run(["umount", array.at(folder)], stderr=subprocess.DEVNULL, check=False)
         wrong += said is not None
         print(f"{case[0]}: {'as wanted' if said is None else said}", flush=True)
-    print(f"{len(CASES)} cases, {wrong} of them otherwise than is wanted")
+    print(f"{len(CASES) + len(OTHERS)} cases, {wrong} of them otherwise than is wanted")
     sys.exit(1 if wrong else 0)
 
 

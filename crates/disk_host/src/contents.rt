@@ -35,6 +35,10 @@ where
         })
     }
 
+    pub fn name(&self) -> &str {
+        self.name.as_str()
+    }
+
     /// Opens it anew. `None` where there is no file.
     pub fn size(&mut self, rt: &R) -> io::Result<Option<u64>>
         ensures { self.new.draft ≡ self.old.draft }
@@ -61,11 +65,11 @@ where
         }
     }
 
-    /// Puts the draft in its place.
-    pub fn publish(&mut self, rt: &R) -> io::Result<()>
+    /// Puts the draft in its place, if that may be.
+    pub fn publish(&mut self, rt: &R, may: io::Result<()>) -> io::Result<()>
         ensures { state_of self.new.draft.stage ≡ Draft.Absent }
     {
         self.file = None;
-        self.draft.publish(rt, self.name.as_str())
+        self.draft.publish(rt, self.name.as_str(), may)
     }
 }

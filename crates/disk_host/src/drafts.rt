@@ -35,6 +35,10 @@ impl<R: Files> DraftFile<R> {
         }
     }
 
+    pub fn name(&self) -> &str {
+        self.name.as_str()
+    }
+
     /// Makes an empty file in place of an older one.
     pub fn begin(&mut self, rt: &R) -> io::Result<()>
         ensures ok { OnOk result (state_of self.new.stage ≡ Draft.Open) }
@@ -63,11 +67,11 @@ impl<R: Files> DraftFile<R> {
         self.keep(rt, synced)
     }
 
-    /// Renames it over a file, or where there is none.
-    pub fn publish(&mut self, rt: &R, over: &str) -> io::Result<()>
+    /// Renames it over a file, or where there is none, if that may be.
+    pub fn publish(&mut self, rt: &R, over: &str, may: io::Result<()>) -> io::Result<()>
         ensures { state_of self.new.stage ≡ Draft.Absent }
     {
-        let placed = placed(rt, self.name.as_str(), over);
+        let placed = placed(rt, self.name.as_str(), over, may);
         self.keep(rt, placed)?;
         sync_folder_of(rt, over)
     }
@@ -131,9 +135,15 @@ fn synced<F: OpenFile + Drop>(stage: Stage<F>) -> io::Result<Stage<F>>
 }
 
 // A folder, fifo or device is not renamed over.
-fn placed<R: Files>(rt: &R, name: &str, over: &str) -> io::Result<Stage<R::File>>
+fn placed<R: Files>(
+    rt: &R,
+    name: &str,
+    over: &str,
+    may: io::Result<()>,
+) -> io::Result<Stage<R::File>>
     ensures { IfOk result (λ stage. state_of stage ≡ Draft.Absent) }
 {
+    may?;
     is_regular(fs::metadata(rt, over))?;
     fs::rename(rt, name, over)?;
     Ok(Stage::Absent)

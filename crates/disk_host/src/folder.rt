@@ -4,6 +4,7 @@ ghost use Rattle.disk_model.specs.Stamp.{IsStamp};
 ghost use Rattle.disk_model.specs.Folder.{quiet_folder, quiet_folder-is_folder};
 
 use crate::changing::{make_file, rename_file};
+use crate::failures::{Failure, Failures, Request};
 use crate::faults::{counted, counted_file, counted_listing};
 use crate::files::{read_front, write_whole};
 use crate::kept::{Access, KeptFile, close_unless_seen, kept_open};
@@ -26,12 +27,13 @@ pub struct DiskFolder<R: Files> {
     read: Option<KeptFile<R::File>>,
     written: Option<KeptFile<R::File>>,
     faults: u64,
+    failures: Failures,
 }
 
 impl<R: Files> DiskFolder<R> {
     /// Looks at the folder alone, for whether stamps are kept there to the nanosecond. Where its own times leave that open,
     /// a time is tried on it and set back.
-    pub fn new(rt: R, dir: Text) -> DiskFolder<R>
+    pub fn new(alloc: Global, rt: R, dir: Text) -> DiskFolder<R>
         ensures { result.faults ≡ 0 }
     {
         let keeps_stamps = keeps_stamps(&rt, dir.as_str());
@@ -42,7 +44,15 @@ impl<R: Files> DiskFolder<R> {
             read: None,
             written: None,
             faults: 0,
+            failures: Failures::none(alloc),
         }
+    }
+}
+
+impl<R: Files> DiskFolder<R> {
+    /// What failed so far.
+    pub fn failures(&self) -> &[Failure] {
+        self.failures.as_slice()
     }
 }
 
@@ -149,12 +159,16 @@ where
     }
 
     fn list(&mut self, alloc: Global) -> Result<Vec<FileInfo>, ListFault> {
-        let answer = listing(&self.rt, alloc, self.dir.as_str());
+        let mut folder = String::new(alloc);
+        let answer = listing(&self.rt, alloc, self.dir.as_str(), &mut folder);
+        self.failures.note(Request::List, folder.as_str(), &answer);
         counted_listing(&mut self.faults, answer)
     }
 
     fn look(&mut self, path: &Path, lost: bool) -> Result<Meta, FileFault> {
         let answer = self.look_anew(path, lost);
+        self.failures
+            .note_file(Request::Look, self.dir.as_str(), path, lost, &answer);
         counted_file(&mut self.faults, answer)
     }
 
@@ -166,31 +180,43 @@ where
         out: &mut [u8],
     ) -> Result<usize, FileFault> {
         let answer = self.read_kept(path, lost, at, out);
+        self.failures
+            .note_file(Request::Read, self.dir.as_str(), path, lost, &answer);
         counted_file(&mut self.faults, answer)
     }
 
     fn make(&mut self, path: &Path) -> Result<(), Failed> {
         let answer = make_file(&self.rt, self.dir.as_str(), path);
+        self.failures
+            .note_file(Request::Make, self.dir.as_str(), path, false, &answer);
         counted(&mut self.faults, answer)
     }
 
     fn write_at(&mut self, path: &Path, at: u64, bytes: &[u8]) -> Result<(), FileFault> {
         let answer = self.write_kept(path, at, bytes);
+        self.failures
+            .note_file(Request::Write, self.dir.as_str(), path, false, &answer);
         counted_file(&mut self.faults, answer)
     }
 
     fn set_size(&mut self, path: &Path, size: u64) -> Result<(), FileFault> {
         let answer = self.resize_kept(path, size);
+        self.failures
+            .note_file(Request::Resize, self.dir.as_str(), path, false, &answer);
         counted_file(&mut self.faults, answer)
     }
 
     fn set_stamp(&mut self, path: &Path, stamp: Stamp) -> Result<bool, FileFault> {
         let answer = self.stamp_kept(path, stamp);
+        self.failures
+            .note_file(Request::SetTime, self.dir.as_str(), path, false, &answer);
         counted_file(&mut self.faults, answer)
     }
 
     fn rename(&mut self, path: &Path, lost: bool) -> Result<(), FileFault> {
         let answer = self.rename_closed(path, lost);
+        self.failures
+            .note_file(Request::Rename, self.dir.as_str(), path, !lost, &answer);
         counted_file(&mut self.faults, answer)
     }
 }

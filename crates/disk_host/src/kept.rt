@@ -87,7 +87,7 @@ fn open_file<R: Files + AllocGlobal>(
         .write(access == Access::Write)
         .open(rt, name.as_str())?;
     if !is_same_file(&file.metadata()?, &seen) {
-        return Err(io::Error::from(ErrorKind::ResourceBusy));
+        return Err(io::Error::new(ErrorKind::ResourceBusy, "another file took its place"));
     }
     Ok(Some(KeptFile {
         path,

@@ -11,6 +11,7 @@
 mod changing;
 mod contents;
 mod drafts;
+mod failures;
 mod faults;
 mod files;
 mod folder;
@@ -25,6 +26,7 @@ mod sink;
 mod stamps;
 mod vault;
 
+pub use failures::{Failure, Failures, Request};
 pub use folder::DiskFolder;
 pub use log::LogSink;
 pub use opener::DiskOpener;

@@ -24,11 +24,12 @@ struct Walk {
 }
 
 // All regular files, in the order of their paths. It is a failure where what the system gave in the course of it
-// is not the listing of one tree.
+// is not the listing of one tree. `at` is the folder that it came to.
 pub(crate) fn listing<R: Files + AllocGlobal + Clone + Drop>(
     rt: &R,
     alloc: Global,
     dir: &str,
+    at: &mut String,
 ) -> io::Result<Vec<FileInfo>>
     ensures { IfOk result (λ files. IsListing (listed files.items)) }
 {
@@ -37,12 +38,12 @@ pub(crate) fn listing<R: Files + AllocGlobal + Clone + Drop>(
         folders: Vec::new(alloc),
     };
     walk.folders.push(String::new(alloc))?;
-    walk.go(rt, alloc, dir)?;
+    walk.go(rt, alloc, dir, at)?;
     walk.sort()?;
     if is_listing(&walk.files) {
         Ok(walk.files)
     } else {
-        Err(io::Error::from(ErrorKind::InvalidData))
+        Err(io::Error::new(ErrorKind::InvalidData, "it changed while it was listed"))
     }
 }
 
@@ -53,26 +54,27 @@ impl Walk {
         rt: &R,
         alloc: Global,
         dir: &str,
+        at: &mut String,
     ) -> io::Result<()> {
         for _ in 0..u64::MAX {
             let Some(folder) = self.folders.pop() else {
                 return Ok(());
             };
-            self.go_through(rt, alloc, dir, folder.as_str())?;
+            *at = below(alloc, dir, folder.as_str())?;
+            self.go_through(rt, alloc, at.as_str(), folder.as_str())?;
         }
         Err(io::Error::from(ErrorKind::TimedOut))
     }
 
-    // The entries of one folder.
+    // The entries of one folder, which has this name for the system.
     fn go_through<R: Files + AllocGlobal + Clone + Drop>(
         &mut self,
         rt: &R,
         alloc: Global,
-        dir: &str,
+        name: &str,
         folder: &str,
     ) -> io::Result<()> {
-        let name = format!(in alloc; "{dir}/{folder}")?;
-        for entry in fs::read_dir(rt, name.as_str())? {
+        for entry in fs::read_dir(rt, name)? {
             self.take(alloc, folder, &entry?)?;
         }
         Ok(())
@@ -107,6 +109,14 @@ impl Walk {
             .sort_by(|a, b| a.path.as_str().cmp(b.path.as_str()))?;
         Ok(())
     }
+}
+
+// The name of a folder for the system.
+fn below(alloc: Global, dir: &str, folder: &str) -> io::Result<String> {
+    if folder.is_empty() {
+        return Ok(String::from_str(alloc, dir)?);
+    }
+    Ok(format!(in alloc; "{dir}/{folder}")?)
 }
 
 // The name of what stands in a folder, of the data folder's own files without it.

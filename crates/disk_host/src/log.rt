@@ -2,6 +2,7 @@
 ghost use Rattle.std.specs.Prelude.{◌≡◌};
 ghost use Rattle.disk_model.specs.Sink.{quiet_sink};
 
+use crate::failures::{Failures, Request};
 use crate::faults::counted;
 use disk_model::{Failed, Sink};
 use std::io::{ErrorKind, Write};
@@ -16,12 +17,14 @@ pub struct LogSink<R: Files> {
 }
 
 impl<R: Files> LogSink<R> {
-    /// Empties the file, or makes it.
-    pub fn open(rt: &R, name: &str) -> LogSink<R>
+    /// Empties the file, or makes it. Where that fails, `failures` says why.
+    pub fn open(rt: &R, name: &str, failures: &mut Failures) -> LogSink<R>
         ensures { result.faults ≡ 0 }
     {
+        let file = fs::create(rt, name);
+        failures.note(Request::Open, name, &file);
         LogSink {
-            file: fs::create(rt, name).ok(),
+            file: file.ok(),
             faults: 0,
         }
     }

@@ -4,6 +4,7 @@ ghost use Rattle.disk_host.specs.Drafts.{state_of};
 ghost use Rattle.disk_model.specs.declared.draft.Draft.{Draft};
 
 use crate::contents::ContentFile;
+use crate::failures::{Failure, Failures, Request};
 use crate::faults::{is_memory, raise};
 use crate::folder::DiskFolder;
 use crate::parity::ParityFile;
@@ -26,13 +27,23 @@ const MANY: usize = 1 << 32;
 pub struct DiskOpener<R> {
     rt: R,
     faults: u64,
+    failures: Failures,
 }
 
 impl<R: Files> DiskOpener<R> {
-    pub fn new(rt: R) -> DiskOpener<R>
+    pub fn new(alloc: Global, rt: R) -> DiskOpener<R>
         ensures { result.faults ≡ 0 }
     {
-        DiskOpener { rt, faults: 0 }
+        DiskOpener {
+            rt,
+            faults: 0,
+            failures: Failures::none(alloc),
+        }
+    }
+
+    /// What failed so far.
+    pub fn failures(&self) -> &[Failure] {
+        self.failures.as_slice()
     }
 }
 
@@ -51,7 +62,7 @@ fn folders_of<R: Files + Clone>(
 {
     let mut folders = Vec::new(alloc);
     for dir in dirs {
-        folders.push(DiskFolder::new(rt.clone()?, dir.copy()?))?;
+        folders.push(DiskFolder::new(alloc, rt.clone()?, dir.copy()?))?;
     }
     Ok(folders)
 }
@@ -97,7 +108,7 @@ where
 {
     let parities = parities_of(alloc, places.parities.as_slice())?;
     let contents = contents_of(alloc, places.contents.as_slice())?;
-    Ok(DiskVault::new(rt.clone()?, parities, contents))
+    Ok(DiskVault::new(alloc, rt.clone()?, parities, contents))
 }
 
 impl<R: Files + AllocGlobal + Clone + Drop + Send> Opener for DiskOpener<R>
@@ -118,7 +129,9 @@ where
 
     fn config(&mut self, alloc: Global, name: &str) -> Result<Vec<u8>, OpenFault> {
         let mut bytes = Vec::new(alloc);
-        match read_start(&self.rt, name, &mut bytes) {
+        let answer = read_start(&self.rt, name, &mut bytes);
+        self.failures.note(Request::Read, name, &answer);
+        match answer {
             Ok(_) => Ok(bytes),
             Err(error) if is_memory(&error) => Err(OpenFault::Memory),
             Err(_) => {

@@ -33,6 +33,16 @@ where
         }
     }
 
+    pub fn name(&self) -> &str {
+        self.name.as_str()
+    }
+
+    /// Makes an empty file where there is none, so that its name stays.
+    pub fn make(&self, rt: &R) -> io::Result<()> {
+        let _made = open_or_make(rt, self.name.as_str())?;
+        sync_folder_of(rt, self.name.as_str())
+    }
+
     /// The number of its bytes, 0 where there is no file.
     pub fn len(&mut self, rt: &R) -> io::Result<u64> {
         self.open_to_read(rt)?;
@@ -61,6 +71,15 @@ where
     /// Cuts the file, or extends it with zeros.
     pub fn set_len(&mut self, rt: &R, len: u64) -> io::Result<()> {
         self.open_to_write(rt)?.set_len(len)
+    }
+
+    /// The same of a file that is there. Where there is none it is not made, and the failure is none of the system.
+    pub fn set_len_of_old(&mut self, rt: &R, len: u64) -> io::Result<()> {
+        self.open_to_read(rt)?;
+        if self.file.is_none() {
+            return Err(io::Error::from(ErrorKind::NotFound));
+        }
+        self.set_len(rt, len)
     }
 
     /// Hands to the disk what was written, by an earlier run too, and the file's name.

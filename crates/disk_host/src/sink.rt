@@ -2,8 +2,10 @@
 ghost use Rattle.std.specs.Prelude.{◌≡◌};
 ghost use Rattle.disk_model.specs.Sink.{quiet_sink};
 
+use crate::failures::{Failures, Request};
 use crate::faults::counted;
 use disk_model::{Failed, Sink};
+use std::io;
 use std::io::Write;
 
 /// A stream of the system, as standard output. Each write goes to it at once.
@@ -11,13 +13,25 @@ use std::io::Write;
 pub struct StreamSink<W> {
     stream: W,
     faults: u64,
+    failure: Option<io::Error>,
 }
 
 impl<W: Write> StreamSink<W> {
     pub fn new(stream: W) -> StreamSink<W>
         ensures { result.faults ≡ 0 }
     {
-        StreamSink { stream, faults: 0 }
+        StreamSink {
+            stream,
+            faults: 0,
+            failure: None,
+        }
+    }
+
+    /// Adds what failed last to these, under this name.
+    pub fn note(&self, failures: &mut Failures, name: &str) {
+        if let Some(error) = self.failure {
+            failures.note::<()>(Request::Write, name, &Err(error));
+        }
     }
 }
 
@@ -29,6 +43,10 @@ impl<W: Write> Sink for StreamSink<W> {
     }
 
     fn write(&mut self, bytes: &[u8]) -> Result<(), Failed> {
-        counted(&mut self.faults, self.stream.write_all(bytes))
+        let answer = self.stream.write_all(bytes);
+        if let Err(error) = &answer {
+            self.failure = Some(*error);
+        }
+        counted(&mut self.faults, answer)
     }
 }

@@ -5,25 +5,28 @@ use std::fs::{File, FileTimes, Metadata, OpenFile};
 use std::io::ErrorKind;
 use std::os::unix::fs::MetadataExt;
 use std::rt::Files;
-use std::time::{Duration, UNIX_EPOCH};
+use std::time::{Duration, SystemTime, UNIX_EPOCH};
 use std::{fs, io};
 
 // File systems that keep no nanoseconds keep multiples of so many at best.
 const COARSE: i64 = 100;
 
-// Sets the time of last change. It is a failure where the system then tells another.
+// Sets the time of last change. It is a failure where the system then tells another. The standard library takes no time
+// before 1970.
 pub(crate) fn set_stamp_of<F: OpenFile>(file: &F, stamp: Stamp) -> io::Result<()> {
-    let Ok(seconds) = u64::try_from(stamp.seconds) else {
-        return Err(io::Error::from(ErrorKind::Unsupported));
-    };
-    let Some(time) = UNIX_EPOCH.checked_add(Duration::new(seconds, stamp.nanos)) else {
-        return Err(io::Error::from(ErrorKind::Unsupported));
+    let Some(time) = time_of(stamp) else {
+        return Err(io::Error::new(ErrorKind::Unsupported, "a time before 1970 can't be set"));
     };
     file.set_times(FileTimes::new().set_modified(time))?;
     if meta_of(&file.metadata()?)?.stamp != stamp {
-        return Err(io::Error::from(ErrorKind::InvalidData));
+        return Err(io::Error::new(ErrorKind::InvalidData, "the system then tells another time"));
     }
     Ok(())
+}
+
+fn time_of(stamp: Stamp) -> Option<SystemTime> {
+    let seconds = u64::try_from(stamp.seconds).ok()?;
+    UNIX_EPOCH.checked_add(Duration::new(seconds, stamp.nanos))
 }
 
 // Whether the files of a folder keep stamps to the nanosecond. The folder's own times mostly tell it; where they do not, it is

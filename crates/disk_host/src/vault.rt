@@ -4,9 +4,13 @@ ghost use Rattle.disk_host.specs.Drafts.{state_of};
 ghost use Rattle.disk_model.specs.Vault.{quiet_vault, quiet_vault-well_formed};
 
 use crate::contents::ContentFile;
+use crate::failures::{Failure, Failures, Request};
 use crate::faults::counted;
 use crate::parity::ParityFile;
 use disk_model::{Failed, Vault};
+use std::alloc::Global;
+use std::io;
+use std::io::ErrorKind;
 use std::os::unix::fs::FileExt;
 use std::rt::Files;
 
@@ -17,12 +21,16 @@ pub struct DiskVault<R: Files> {
     parities: Vec<ParityFile<R>>,
     contents: Vec<ContentFile<R>>,
     faults: u64,
+    failures: Failures,
+    // whether content is there, or was once the parity files were made for it
+    has_content: bool,
     ghost levels_fit: { vec_len parities < 2 ^ 32 },
     ghost copies_fit: { vec_len contents < 2 ^ 32 },
 }
 
 impl<R: Files> DiskVault<R> {
     pub(crate) fn new(
+        alloc: Global,
         rt: R,
         parities: Vec<ParityFile<R>>,
         contents: Vec<ContentFile<R>>,
@@ -38,8 +46,56 @@ impl<R: Files> DiskVault<R> {
             parities,
             contents,
             faults: 0,
+            failures: Failures::none(alloc),
+            has_content: false,
         }
     }
+
+    /// What failed so far.
+    pub fn failures(&self) -> &[Failure] {
+        self.failures.as_slice()
+    }
+}
+
+// Makes the parity files that are not there, unless there is content.
+fn made_all<R: Files>(
+    rt: &R,
+    has_content: bool,
+    parities: &[ParityFile<R>],
+    failures: &mut Failures,
+) -> io::Result<()>
+where
+    R::File: FileExt,
+{
+    if has_content {
+        return Ok(());
+    }
+    for parity in parities {
+        let made = parity.make(rt);
+        failures.note(Request::Make, parity.name(), &made);
+        made?;
+    }
+    Ok(())
+}
+
+// Keeps why a draft was not renamed, where it was asked for that.
+fn note_rename(failures: &mut Failures, was_asked: bool, name: &str, answer: &io::Result<()>) {
+    if was_asked {
+        failures.note(Request::Rename, name, answer);
+    }
+}
+
+// What was asked where a length was to be set: of a file that is not there, the file.
+fn length_request(level: u32, answer: &io::Result<()>) -> Request {
+    match answer {
+        Err(error) if is_gone(error) => Request::FindParity(level),
+        _ => Request::Resize,
+    }
+}
+
+// Whether that is no failure of the system.
+fn is_gone(error: &io::Error) -> bool {
+    error.kind() == ErrorKind::NotFound && error.raw_os_error().is_none()
 }
 
 impl<R: Files + Send> Vault for DiskVault<R>
@@ -64,56 +120,102 @@ where
 
     fn parity_len(&mut self, level: u32) -> Result<u64, Failed> {
         let answer = self.parities[level as usize].len(&self.rt);
+        self.failures.note(Request::Look, self.parities[level as usize].name(), &answer);
         counted(&mut self.faults, answer)
     }
 
     fn parity_read(&mut self, level: u32, at: u64, out: &mut [u8]) -> Result<usize, Failed> {
         let answer = self.parities[level as usize].read(&self.rt, at, out);
+        self.failures.note(Request::Read, self.parities[level as usize].name(), &answer);
         counted(&mut self.faults, answer)
     }
 
     fn parity_write(&mut self, level: u32, at: u64, bytes: &[u8]) -> Result<(), Failed> {
         let answer = self.parities[level as usize].write(&self.rt, at, bytes);
+        self.failures.note(
+            Request::Write,
+            self.parities[level as usize].name(),
+            &answer,
+        );
         counted(&mut self.faults, answer)
     }
 
     fn parity_set_len(&mut self, level: u32, len: u64) -> Result<(), Failed> {
-        let answer = self.parities[level as usize].set_len(&self.rt, len);
+        let parity = &mut self.parities[level as usize];
+        let answer = if self.has_content {
+            parity.set_len_of_old(&self.rt, len)
+        } else {
+            parity.set_len(&self.rt, len)
+        };
+        let request = length_request(level, &answer);
+        self.failures
+            .note(request, self.parities[level as usize].name(), &answer);
         counted(&mut self.faults, answer)
     }
 
     fn parity_sync(&mut self, level: u32) -> Result<(), Failed> {
         let answer = self.parities[level as usize].sync(&self.rt);
+        self.failures.note(Request::Sync, self.parities[level as usize].name(), &answer);
         counted(&mut self.faults, answer)
     }
 
     fn content_size(&mut self, copy: u32) -> Result<Option<u64>, Failed> {
         let answer = self.contents[copy as usize].size(&self.rt);
+        if let Ok(Some(_)) = &answer {
+            self.has_content = true;
+        }
+        self.failures.note(Request::Look, self.contents[copy as usize].name(), &answer);
         counted(&mut self.faults, answer)
     }
 
     fn content_read(&mut self, copy: u32, at: u64, out: &mut [u8]) -> Result<usize, Failed> {
         let answer = self.contents[copy as usize].read(&self.rt, at, out);
+        self.failures.note(Request::Read, self.contents[copy as usize].name(), &answer);
         counted(&mut self.faults, answer)
     }
 
     fn draft_begin(&mut self, copy: u32) -> Result<(), Failed> {
         let answer = self.contents[copy as usize].draft.begin(&self.rt);
+        self.failures.note(
+            Request::Make,
+            self.contents[copy as usize].draft.name(),
+            &answer,
+        );
         counted(&mut self.faults, answer)
     }
 
     fn draft_append(&mut self, copy: u32, bytes: &[u8]) -> Result<(), Failed> {
         let answer = self.contents[copy as usize].draft.append(&self.rt, bytes);
+        self.failures.note(
+            Request::Write,
+            self.contents[copy as usize].draft.name(),
+            &answer,
+        );
         counted(&mut self.faults, answer)
     }
 
     fn draft_seal(&mut self, copy: u32) -> Result<(), Failed> {
         let answer = self.contents[copy as usize].draft.seal(&self.rt);
+        self.failures.note(
+            Request::Sync,
+            self.contents[copy as usize].draft.name(),
+            &answer,
+        );
         counted(&mut self.faults, answer)
     }
 
     fn publish(&mut self, copy: u32) -> Result<(), Failed> {
-        let answer = self.contents[copy as usize].publish(&self.rt);
+        let ready = made_all(
+            &self.rt,
+            self.has_content,
+            self.parities.as_slice(),
+            &mut self.failures,
+        );
+        let is_ready = ready.is_ok();
+        let answer = self.contents[copy as usize].publish(&self.rt, ready);
+        let name = self.contents[copy as usize].draft.name();
+        note_rename(&mut self.failures, is_ready, name, &answer);
+        self.has_content = is_ready;
         counted(&mut self.faults, answer)
     }
 }

@@ -1,5 +1,6 @@
 // What is opened in a scene, and the steps of its parts.
 use crate::answer::{Answer, is_done};
+use crate::causes::are_causes;
 use crate::folder::folder_step;
 use crate::outside::{config_step, opener_faults};
 use crate::system::{Host, Plan};
@@ -26,6 +27,8 @@ pub enum Part {
     Config,
     OpenerFaults,
     VaultFaults,
+    OpenerCauses,
+    VaultCauses,
     /// How many calls the system took that change something.
     Calls,
     /// Whether the last of these calls is the one that was to fail.
@@ -41,6 +44,8 @@ pub fn part_of(verb: &str) -> Option<Part> {
         "config" => Some(Part::Config),
         "opener-faults" => Some(Part::OpenerFaults),
         "vault-faults" => Some(Part::VaultFaults),
+        "opener-causes" => Some(Part::OpenerCauses),
+        "vault-causes" => Some(Part::VaultCauses),
         "calls" => Some(Part::Calls),
         "stopped" => Some(Part::Stopped),
         _ => None,
@@ -50,7 +55,7 @@ pub fn part_of(verb: &str) -> Option<Part> {
 impl Array {
     pub fn open(rt: HostRuntime, plan: Plan, places: &Places) -> Option<Array> {
         let system = Host::new(rt, plan).ok()?;
-        let mut opener = DiskOpener::new(system.clone().ok()?);
+        let mut opener = DiskOpener::new(rt.alloc(), system.clone().ok()?);
         let Opened { folders, vault } = opener.open(rt.alloc(), places).ok()?;
         Some(Array {
             system,
@@ -68,6 +73,8 @@ impl Array {
             Part::Config => Some(config_step(alloc, &mut self.opener, step)),
             Part::OpenerFaults => Some(opener_faults(&self.opener)),
             Part::VaultFaults => Some(vault_faults(&self.vault)),
+            Part::OpenerCauses => are_causes(alloc, self.opener.failures(), step),
+            Part::VaultCauses => are_causes(alloc, self.vault.failures(), step),
             Part::Calls => Some(Answer::Number(self.system.made() as u64)),
             Part::Stopped => Some(is_done(self.system.is_stopped())),
         }

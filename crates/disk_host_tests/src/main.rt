@@ -8,6 +8,7 @@
 
 mod answer;
 mod array;
+mod causes;
 mod folder;
 mod outside;
 mod player;

@@ -2,7 +2,7 @@
 use crate::answer::Answer;
 use crate::system::Host;
 use crate::words::first_of;
-use disk_host::{DiskOpener, LogSink, StreamSink};
+use disk_host::{DiskOpener, Failures, LogSink, StreamSink};
 use disk_model::{OpenFault, Opener, Sink};
 use std::alloc::Global;
 use std::fs;
@@ -28,7 +28,10 @@ pub fn sink_step(rt: HostRuntime, step: &str) -> Option<Answer> {
     match kind {
         "stream" => Some(faults_of(&mut StreamSink::new(fs::create(&rt, name).ok()?))),
         "closed" => Some(faults_of(&mut StreamSink::new(fs::open(&rt, name).ok()?))),
-        "log" => Some(faults_of(&mut LogSink::open(&rt, name))),
+        "log" => {
+            let mut failures = Failures::none(rt.alloc());
+            Some(faults_of(&mut LogSink::open(&rt, name, &mut failures)))
+        }
         _ => None,
     }
 }

@@ -1,18 +1,22 @@
 //! The program: the words, files and streams of the system, handed to `snap_top::run`.
 //!
 //! Start at `main`. It makes the reports, a tally and the log that the words name, and hands `run` the objects of
-//! `disk_host`. Proved: it is safe and ends. What a command does is the contract of `run`.
+//! `disk_host`. Behind the lines of the run it prints why something failed (`causes.rt`), and how a command is called
+//! where the words were refused (`synopsis.rt`).
+//! Proved: it is safe and ends. What a command does is the contract of `run`.
 #![tactic(auto)]
 
+mod causes;
+mod synopsis;
 #[cfg(test)]
 mod tests;
 
-use disk_host::{DiskOpener, LogSink, StreamSink};
+use causes::print_causes;
+use disk_host::{DiskOpener, Failures, LogSink, StreamSink};
 use disk_model::{NoMemory, Sink, Text};
-use snap_config::{WordsFault, read_words_among};
+use snap_config::log_name;
 use snap_report::{LogReport, Report, TallyReport};
-use snap_top::{COMMANDS, run};
-use std::alloc::Global;
+use snap_top::run;
 use std::fs::OpenOptions;
 use std::io::ErrorKind;
 use std::process::ExitCode;
@@ -20,6 +24,7 @@ use std::random::RandomSource;
 use std::rt::{Env, Files};
 use std::time::{Clock, SystemTime, UNIX_EPOCH};
 use std::{env, io};
+use synopsis::print_synopsis;
 
 // Why the program ends before its run.
 #[derive(Clone, Copy, Debug, PartialEq, Eq)]
@@ -71,6 +76,7 @@ fn main(rt: HostRuntime) -> ExitCode {
         Ok(ready) => ready,
         Err(why) => return ends(&mut err, why),
     };
+    let mut failures = Failures::none(alloc);
     let mut reports: Vec<Box<dyn Report>> = Vec::new(alloc);
     let Ok(tally) = Box::new(alloc, TallyReport::new()) else {
         return ends(&mut err, Unready::Memory);
@@ -79,7 +85,7 @@ fn main(rt: HostRuntime) -> ExitCode {
         return ends(&mut err, Unready::Memory);
     }
     if let Some(name) = &ready.log {
-        let sink = LogSink::open(&rt, name.as_str());
+        let sink = LogSink::open(&rt, name.as_str(), &mut failures);
         let Ok(log) = Box::new(alloc, LogReport::new(sink)) else {
             return ends(&mut err, Unready::Memory);
         };
@@ -87,17 +93,24 @@ fn main(rt: HostRuntime) -> ExitCode {
             return ends(&mut err, Unready::Memory);
         }
     }
+    let words = ready.words.as_slice();
+    let mut opener = DiskOpener::new(alloc, rt);
+    let mut out = StreamSink::new(rt.stdout());
+    let now = seconds_since_1970(&rt);
     let ended = run(
         &rt,
         alloc,
-        ready.words.as_slice(),
-        &mut DiskOpener::new(rt),
+        words,
+        &mut opener,
         &mut reports,
-        &mut StreamSink::new(rt.stdout()),
+        &mut out,
         &mut err,
-        seconds_since_1970(&rt),
+        now,
         ready.seed,
     );
+    out.note(&mut failures, "standard output");
+    print_causes(&mut err, &opener, &ended, &failures);
+    print_synopsis(alloc, words, &mut err);
     ExitCode::from(ended.status)
 }
 
@@ -119,15 +132,6 @@ fn get_ready<R: Files + Env + RandomSource + AllocGlobal>(rt: &R) -> Result<Read
         words,
         log,
     })
-}
-
-// The log that the words name. There is none where `run` refuses them.
-fn log_name(alloc: Global, words: &[String]) -> Result<Option<Text>, Unready> {
-    match read_words_among(alloc, &COMMANDS, words) {
-        Ok(asked) => Ok(asked.log),
-        Err(WordsFault::Memory) => Err(Unready::Memory),
-        Err(_) => Ok(None),
-    }
 }
 
 // Ends before the run, with one line where that can be written.

@@ -80,7 +80,7 @@ fn lists_a_synced_file(rt: HostRuntime) -> Result<(), Fail> {
             &rt,
             rt.alloc(),
             words.as_slice(),
-            &mut DiskOpener::new(rt),
+            &mut DiskOpener::new(rt.alloc(), rt),
             &mut reports,
             &mut StreamSink::new(fs::create(&rt, "out")?),
             &mut StreamSink::new(fs::create(&rt, "err")?),
