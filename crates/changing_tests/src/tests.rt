@@ -1,0 +1,6 @@
+// Runs over files that change.
+mod cases;
+mod checking;
+mod disks;
+mod fixing;
+mod syncing;
