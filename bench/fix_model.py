@@ -1,5 +1,6 @@
 """A plain model of checks and fixes, which was written from docs/ and not from the code: the table and its content file, parity, what is
-found and told, and what a fix leaves. A tree is a map from a path to its bytes and its stamp. It serves random_fixes.py.
+found and told, and what a fix leaves. A tree is a map from a path to its bytes and its stamp. It serves random_fixes.py;
+its matrix serves crashes.py, too.
 """
 import functools
 import hashlib
