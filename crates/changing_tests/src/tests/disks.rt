@@ -101,7 +101,11 @@ fn failing_folder(alloc: Global, scene: Scene, d: usize, files: Disk) -> Result<
 
 fn scripted(alloc: Global, scene: Scene, d: usize, files: Disk) -> Result<ScriptedFolder, Fail> {
     let folder = failing_folder(alloc, scene, d, files)?;
-    let script = events(alloc, if d == 0 { scene.script } else { &[] })?;
+    let script = if d == 0 {
+        events(alloc, scene.script)?
+    } else {
+        Vec::new(alloc)
+    };
     Ok(ScriptedFolder::new(folder, script))
 }
 
