@@ -34,6 +34,8 @@ from crash_array import BLOCK, LOST, Array, put, read, read_content  # noqa: E40
 from tracing import Tamper, traced  # noqa: E402
 
 ERRORS = {errno.EIO: "EIO", errno.ENOSPC: "ENOSPC"}
+# What was asked of the system, of which file, and what the system said. It stands behind the lines of a run.
+CAUSE = re.compile(r"snapraid: (?:[a-z ]+ '[^\n]*': [^\n]*|parity file '[^\n]*' is not there: [^\n]*)\n")
 OPENING = "configuration or opening failed"
 VAULT = "parity or content failed"
 ALWAYS = ("output failed", "/dev/null cannot be opened", "the system gave no random bytes")
@@ -68,13 +70,14 @@ class Case:
     def said(self, outcome, tamper):
         if tamper.kind == "kill":
             return None if outcome.status == -9 else f"it was not killed: status {outcome.status}"
+        err = CAUSE.sub("", outcome.err)
         if outcome.status in (0, 1):
-            if outcome.err:
+            if err:
                 return f"status {outcome.status}, and {outcome.err!r}"
             return self.told(outcome)
         if outcome.status != 3:
             return f"status {outcome.status}, {outcome.err!r}"
-        line = re.fullmatch(r"snapraid: (.*)\n", outcome.err)
+        line = re.fullmatch(r"snapraid: (.*)\n", err)
         if line is None or line[1] not in self.causes(outcome.hit):
             # What is said on standard error itself can't be said where that is what failed.
             return None if outcome.hit.path.endswith("/err") else f"it says {outcome.err!r}"
