@@ -1,5 +1,6 @@
 -- Which block of a column stands at a position, and what is seen of a stripe.
-use Rattle.std.specs.Prelude.{◌≡◌, ℕ, ◌+◌, ◌<◌, ◌==◌, List, [], ◌∷◌, length, map, slice_index_or, slice_set, if◌then◌else◌, Option, None, Some}
+use Rattle.std.specs.Prelude.{◌≡◌, ℕ, ◌+◌, ◌<◌, ◌==◌, List, [], ◌∷◌, length, map, slice_index_or, slice_set, if◌then◌else◌, Bool, Option, None, Some, is_some}
+use Rattle.std.specs.List.{list_any}
 use Rattle.std.specs.Option.{option_map}
 use Rattle.disk_model.specs.declared.meta.Meta.{Meta}
 use Rattle.block_hash.specs.declared.Digest16.{Digest16}
@@ -29,6 +30,10 @@ cell_among (kept ∷ records) position = cell_or (block_at kept.blocks position)
 -- the cell of a column at a position: the record, and the block of it, that stands there
 abbrev pub cell_in : Column → ℕ → Option Cell
 cell_in column position = cell_among column.records position
+
+-- some column has a block at a stripe
+abbrev pub holds_block : List Column → ℕ → Bool
+holds_block columns stripe = list_any (λ column. is_some (cell_in column stripe)) columns
 
 -- the block of a column at a place in the list of all its blocks is this cell's
 pub record IsCellOf (column : Column) (place : ℕ) (cell : Cell) : Type 0 where

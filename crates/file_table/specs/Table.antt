@@ -1,13 +1,14 @@
 -- What is kept of an array between runs: the files of each column, the positions of their blocks, and what is known of each stripe.
 -- Sizes are in bytes, times in seconds since 1970.
-use Rattle.std.specs.Prelude.{◌≡◌, ℕ, ◌+◌, ◌/◌, ◌%◌, ◌<◌, ◌==◌, List, [], ◌∷◌, length, map, max, sum_by, slice_index_or, slice_set, if◌then◌else◌, pos, false, None, Some}
+use Rattle.std.specs.Prelude.{◌≡◌, ℕ, ◌+◌, ◌/◌, ◌%◌, ◌<◌, ◌==◌, List, [], ◌∷◌, length, map, max, sum_by, slice_index_or, slice_set, if◌then◌else◌, pos, Bool, true, false, None, Some}
 use Rattle.std.specs.List.{flat_map}
 use Rattle.disk_model.specs.declared.meta.Meta.{Meta}
 use Rattle.block_hash.specs.declared.Digest16.{Digest16}
 use Rattle.file_table.specs.declared.shape.Shape.{Shape}
 use Rattle.file_table.specs.declared.block.Block.{Block}
 use Rattle.file_table.specs.declared.info.Info.{Info}
-use Rattle.file_table.specs.declared.info.Mark.TheVariants.{Pending}
+use Rattle.file_table.specs.declared.info.Mark.{Mark}
+use Rattle.file_table.specs.declared.info.Mark.TheVariants.{Pending, Synced}
 
 -- a file as of the last sync, with its blocks in order
 pub record Record : Type 0 where
@@ -84,6 +85,15 @@ block_in kept index = slice_index_or kept.blocks index no_block
 
 abbrev pub info_at : List Info → ℕ → Info
 info_at infos stripe = slice_index_or infos stripe no_info
+
+-- the records of the column of a number
+abbrev pub records_in : TableValue → ℕ → List Record
+records_in table d = (column_at table.columns d).records
+
+-- a stripe is synced, by its mark
+abbrev pub is_synced_mark : Mark → Bool
+is_synced_mark Synced = true
+is_synced_mark Pending = false
 
 -- the record of this number has this path
 pub record HasPath (column : Column) (i : ℕ) (path : List ℕ) : Type 0 where

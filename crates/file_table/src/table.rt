@@ -1,7 +1,7 @@
 // A table, and what it answers.
 ghost use Rattle.std.specs.Prelude.{◌≡◌, ℕ, ◌<◌, length, slice_set, IfOk, IfSome, Some};
 ghost use Rattle.file_table.specs.Table.{column_at, record_at, info_at, blocks_of, HasPath, IsAt, with_hash};
-ghost use Rattle.file_table.specs.Cells.{cell_in};
+ghost use Rattle.file_table.specs.Cells.{cell_in, holds_block};
 ghost use Rattle.file_table.specs.Index.{AreIndexes};
 ghost use Rattle.file_table.specs.Valid.{IsValid, IsState, IsHashedAt};
 ghost use Rattle.file_table.specs.declared.info.Mark.TheVariants.{Synced};
@@ -158,6 +158,19 @@ impl Table {
             Some(place) => Some(self.disks[d as usize].cell_at(place)),
             None => None,
         }
+    }
+
+    /// Whether some column has a block at a stripe.
+    pub fn has_block(&self, s: u32) -> bool
+        requires { s < length self.now.infos }
+        ensures { result ≡ holds_block self.now.columns s }
+    {
+        for d in 0..self.disks() {
+            if self.cell(s, d).is_some() {
+                return true;
+            }
+        }
+        false
     }
 
     /// What is known of a stripe.

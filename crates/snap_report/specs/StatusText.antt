@@ -1,18 +1,14 @@
 -- What `status` prints.
-use Rattle.std.specs.Prelude.{ℕ, ◌==◌, ◌&&◌, not, min, List, [], ◌∷◌, length, map, codes, count_by, Bool, true, false, Option, None, Some, is_some, if◌then◌else◌}
+use Rattle.std.specs.Prelude.{ℕ, ◌==◌, ◌&&◌, not, min, List, [], ◌∷◌, length, map, codes, count_by, Bool, true, false, Option, None, Some, if◌then◌else◌}
 use Rattle.std.specs.Fmt.{decimal}
 use Rattle.std.specs.List.{flat_map, list_any, range_with_len}
-use Rattle.file_table.specs.Table.{Column, TableValue, records_of, column_blocks, positions_of, info_at}
-use Rattle.file_table.specs.Cells.{cell_in}
+use Rattle.file_table.specs.Table.{Column, TableValue, records_of, column_blocks, positions_of, info_at, is_synced_mark}
+use Rattle.file_table.specs.Cells.{holds_block}
 use Rattle.file_table.specs.declared.info.Info.{Info}
 use Rattle.file_table.specs.declared.info.Mark.{Mark}
 use Rattle.file_table.specs.declared.info.Mark.TheVariants.{Pending, Synced}
 use Rattle.snap_report.specs.EventLines.{joined}
 use Rattle.snap_report.specs.ListText.{bytes_in}
-
-abbrev pub is_synced_mark : Mark → Bool
-is_synced_mark Synced = true
-is_synced_mark Pending = false
 
 abbrev pub is_pending_mark : Mark → Bool
 is_pending_mark Synced = false
@@ -30,10 +26,6 @@ fresh_in infos = count_by (λ (info : Info). info.fresh) infos
 
 abbrev pub bad_in : List Info → ℕ
 bad_in infos = count_by (λ (info : Info). info.bad) infos
-
--- some column has a block at a stripe
-abbrev pub holds_block : List Column → ℕ → Bool
-holds_block columns stripe = list_any (λ column. is_some (cell_in column stripe)) columns
 
 -- the last check of a stripe, if it is synced and holds a block
 abbrev pub check_at : TableValue → ℕ → Option ℕ

@@ -1,7 +1,8 @@
 // What is known of the stripes of a table together.
 ghost use Rattle.std.specs.Prelude.{◌≡◌, ◌+◌, ◌<◌, ◌≤◌, ◌^◌, length, cond, Option};
 ghost use Rattle.file_table.specs.declared.info.Info.{Info};
-ghost use Rattle.snap_report.specs.StatusText.{is_synced_mark, is_pending_mark, synced_in, pending_in, fresh_in, bad_in, holds_block, check_at, lesser, oldest as oldest_of};
+ghost use Rattle.file_table.specs.Table.{is_synced_mark};
+ghost use Rattle.snap_report.specs.StatusText.{is_pending_mark, synced_in, pending_in, fresh_in, bad_in, check_at, lesser, oldest as oldest_of};
 
 use file_table::{Info, Mark, Table};
 
@@ -57,19 +58,6 @@ pub(crate) fn marks_of(table: &Table) -> Marks
     marks
 }
 
-// Whether some column has a block at a stripe.
-fn has_block(table: &Table, stripe: u32) -> bool
-    requires { stripe < length table.now.infos }
-    ensures { result ≡ holds_block table.now.columns stripe }
-{
-    for disk in 0..table.disks() {
-        if table.cell(stripe, disk).is_some() {
-            return true;
-        }
-    }
-    false
-}
-
 // The last check of a stripe, if it is synced and holds a block.
 fn last_check(table: &Table, stripe: u32) -> Option<u64>
     requires { stripe < length table.now.infos }
@@ -77,7 +65,7 @@ fn last_check(table: &Table, stripe: u32) -> Option<u64>
 {
     let info = table.info(stripe);
     match info.mark {
-        Mark::Synced => has_block(table, stripe).then_some(info.last),
+        Mark::Synced => table.has_block(stripe).then_some(info.last),
         Mark::Pending => None,
     }
 }
