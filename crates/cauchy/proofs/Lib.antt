@@ -2,6 +2,7 @@ mod CauchyForm
 mod EliminationLemmas
 mod Factors
 mod LaneLemmas
+mod LevelsLemmas
 mod MatrixLemmas
 mod ParityLemmas
 mod ProductLemmas

@@ -61,11 +61,11 @@ RecoversWithin-then start middle end block count m old half new low high most fi
 
 -- ---- a part of one block more
 
-block_within : (block j k : ℕ) → j < k → j * block + block ≤ k * block
+pub block_within : (block j k : ℕ) → j < k → j * block + block ≤ k * block
 block_within block j k h = omega (arith, mul-le-mul_right {m = j + 1} {n = k} block (omega arith))
 
 -- a place in another block lies before or after this part of block j
-apart_places : (block j k p q width : ℕ) → p + width ≤ block → q < block → k ≢ j
+pub apart_places : (block j k p q width : ℕ) → p + width ≤ block → q < block → k ≢ j
     → (k * block + q < j * block + p) ⊎ (j * block + p + width ≤ k * block + q)
 apart_places block j k p q width fits hq apart =
     elim (cases_lt k j) [

@@ -1,6 +1,7 @@
 pub use Rattle.gf256.specs.Field
 pub mod Elimination
 pub mod Lanes
+pub mod Levels
 pub mod Matrix
 pub mod Products
 pub mod Recovery

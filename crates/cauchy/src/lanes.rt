@@ -32,6 +32,59 @@ pub fn store(lanes: u8x32, start: usize, out: &mut [u8])
     lanes.copy_to_slice(&mut out[start..]);
 }
 
+// The bytes from `start` on, where fewer than 32 are left, with zeros behind them.
+#[cold]
+fn load_end(bytes: &[u8], start: usize) -> u8x32
+    requires some { start ≤ length bytes.now }
+    requires few { length bytes.now < start + 32 }
+    ensures { HasLanes result (λ k. slice_index bytes.now (start + k)) }
+{
+    let mut end = [0; LANES];
+    for k in 0..bytes.len() - start {
+        end[k] = bytes[start + k];
+    }
+    u8x32::from_array(end)
+}
+
+/// The bytes from `start` on, with zeros behind their end.
+#[inline(always)]
+pub fn load_padded(bytes: &[u8], start: usize) -> u8x32
+    requires { start ≤ length bytes.now }
+    ensures { HasLanes result (λ k. slice_index bytes.now (start + k)) }
+{
+    if bytes.len() - start < LANES {
+        return load_end(bytes, start);
+    }
+    load(bytes, start)
+}
+
+// Puts the first lanes in place of as many bytes from `start` on, one by one.
+#[cold]
+fn store_few(lanes: u8x32, width: usize, start: usize, out: &mut [u8])
+    requires width { width ≤ 32 }
+    requires place { start + width ≤ length out.old }
+    ensures { StoresFrom start width (λ k. slice_index lanes k) out.old out.new }
+{
+    let bytes = lanes.to_array();
+    for k in 0..width {
+        out[start + k] = bytes[k];
+    }
+}
+
+/// Puts the first lanes in place of as many bytes from `start` on.
+#[inline(always)]
+pub fn store_some(lanes: u8x32, width: usize, start: usize, out: &mut [u8])
+    requires width { width ≤ 32 }
+    requires place { start + width ≤ length out.old }
+    ensures { StoresFrom start width (λ k. slice_index lanes k) out.old out.new }
+{
+    if width < LANES {
+        store_few(lanes, width, start, out);
+        return;
+    }
+    store(lanes, start, out);
+}
+
 /// The sums of the lanes of two vectors.
 #[inline(always)]
 pub fn sums(a: u8x32, b: u8x32) -> u8x32

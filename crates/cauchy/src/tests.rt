@@ -1,10 +1,10 @@
 //! Values of the published code, every choice of levels at a handful of columns, and the lanes beside the plain sum.
 
-ghost use Rattle.std.specs.Prelude.{◌≤◌};
+ghost use Rattle.std.specs.Prelude.{◌<◌, ◌≤◌};
 ghost use Rattle.cauchy.specs.System.{IsChoice};
 
 use crate::products::{add_bytes, add_products};
-use crate::{add_column, entry, is_choice, solve};
+use crate::{add_column, entry, fill_levels, is_choice, solve};
 use std::test::Fail;
 
 /// Columns at both ends of the matrix.
@@ -160,6 +160,39 @@ fn lanes_add_what_the_plain_sum_adds(rt: HostRuntime) -> Result<(), Fail> {
             add_bytes(0, coefficient, &block[..length], &mut slow[..length]);
             assert_eq!(rt; fast, slow);
         }
+    }
+    Ok(())
+}
+
+/// The bytes of three columns whose lengths differ, and of one without any.
+fn short_blocks(bytes: &[u8; 97]) -> [&[u8]; 4] {
+    [&bytes[..64], &bytes[1..34], &bytes[..0], &bytes[..]]
+}
+
+/// A level of them, column by column.
+fn level_of(level: u32, bytes: &[u8; 97]) -> [u8; 97]
+    requires { level < 6 }
+{
+    let blocks = short_blocks(bytes);
+    let mut sum = [0; 97];
+    for c in 0..4usize {
+        let length = blocks[c].len().min(97);
+        add_column(level, c as u32, &blocks[c][..length], &mut sum[..length]);
+    }
+    sum
+}
+
+#[test]
+fn all_levels_at_once_are_each_level(rt: HostRuntime) -> Result<(), Fail> {
+    let bytes = scattered(107);
+    for levels in 0..7u32 {
+        let mut out = [9; 6 * 97];
+        fill_levels(levels, &short_blocks(&bytes), 97, &mut out);
+        for level in 0..levels {
+            let start = 97 * level as usize;
+            assert!(rt; out[start..].starts_with(&level_of(level, &bytes)));
+        }
+        assert!(rt; out[97 * levels as usize..].iter().all(|x| *x == 9));
     }
     Ok(())
 }

@@ -1,9 +1,10 @@
 //! Writes parity: the lengths of the levels, the sums of a row of blocks, and the sync that settles them on the disks.
 //!
 //! 1. `set_lengths` keeps all bytes below the new length (clause `changes`).
-//! 2. `sum_row` is a level of a stripe that was read into a window; `write_window` writes the levels of the chosen
-//!    stripes of one, by just these calls, and keeps all other bytes. Then parity holds their rows, with zeros in what
-//!    was added besides (`ran`, `changes`, `written`, `elsewhere`).
+//! 2. `sum_row` is a level of a stripe that was read into a window, and `sum_levels` all of its levels at once, where
+//!    each byte is read once; `write_window` writes the levels of the chosen stripes of one, by just these calls, and
+//!    keeps all other bytes. Then parity holds their rows, with zeros in what was added besides (`ran`, `changes`,
+//!    `written`, `elsewhere`).
 //! 3. After `settle` a stop leaves parity as it reads (`settled`).
 //! 4. `read_levels` reads each level's block of a stripe by one call, and keeps what came (`read`).
 //!
@@ -24,5 +25,5 @@ mod writing;
 pub use lengths::set_lengths;
 pub use levels::{LevelRead, Levels, read_levels};
 pub use settling::settle;
-pub use sums::sum_row;
+pub use sums::{sum_levels, sum_row};
 pub use writing::write_window;

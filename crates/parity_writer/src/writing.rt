@@ -1,5 +1,5 @@
 // The parity of the chosen stripes of a window.
-ghost use Rattle.std.specs.Prelude.{◌≡◌, ◌<◌, ◌≤◌, length, OnOk};
+ghost use Rattle.std.specs.Prelude.{◌≡◌, ◌*◌, ◌<◌, ◌≤◌, length, OnOk};
 ghost use Rattle.disk_model.specs.Ran.{Ran};
 ghost use Rattle.disk_model.specs.Vault.{SomeCalls, ChangesBy, DraftsStay, Reads, state_of};
 ghost use Rattle.parity_writer.specs.Calls.{sum_calls};
@@ -9,7 +9,7 @@ ghost use Rattle.parity_writer.specs.Parity.{Rows, HoldsRows, SameElsewhere, Wri
 ghost use Rattle.parity_writer.specs.Rows.{HasSums};
 ghost use Rattle.parity_writer.specs.WindowRow.{row_at};
 
-use crate::sums::sum_row;
+use crate::sums::sum_levels;
 use disk_model::{Failed, Vault};
 use stripe_reader::Window;
 
@@ -19,13 +19,13 @@ fn write_row<V: Vault>(
     window: &Window,
     i: u32,
     stripe: u32,
-    block: &mut [u8],
+    sums: &mut [u8],
 ) -> Result<(), Failed>
     requires levels { (V.view vault.old).levels ≤ 6 }
     requires stripe { i < window.now.count }
     requires columns { length window.now.lanes ≤ 251 }
-    requires block { length block.old ≡ window.now.block_size }
-    requires size { length block.old ≤ 4194304 }
+    requires sums { length sums.old ≡ 6 * window.now.block_size }
+    requires size { window.now.block_size ≤ 4194304 }
     ensures calls { SomeCalls (V.view vault.old) (V.view vault.new) }
     ensures ran { Ran (sum_calls (V.view vault.old).levels window.now.block_size stripe (row_at window.now i))
         result (state_of (V.view vault.old)) (state_of (V.view vault.new)) }
@@ -35,29 +35,32 @@ fn write_row<V: Vault>(
         (HasSums (V.view vault.old).levels window.now.block_size stripe (row_at window.now i) (V.view vault.old).files)
         (V.view vault.new)) }
 {
-    let at = u64::from(stripe) * block.len() as u64;
-    for level in 0..vault.levels() {
-        sum_row(window, i, level, block);
-        vault.parity_write(level, at, block)?;
+    let size = sums.len() / 6;
+    let at = u64::from(stripe) * size as u64;
+    let levels = vault.levels();
+    sum_levels(window, i, levels, sums);
+    for level in 0..levels {
+        let start = level as usize * size;
+        vault.parity_write(level, at, &sums[start..start + size])?;
     }
     Ok(())
 }
 
-/// Writes each level of each chosen stripe of a window, in their order. The sums go through `block`. No memory is
-/// taken.
+/// Writes each level of each chosen stripe of a window, in their order. The sums go through `sums`, which has room for a
+/// block of each of six levels. No memory is taken.
 pub fn write_window<V: Vault>(
     vault: &mut V,
     window: &Window,
     stripes: &[u32],
     chosen: &[bool],
-    block: &mut [u8],
+    sums: &mut [u8],
 ) -> Result<(), Failed>
     requires levels { (V.view vault.old).levels ≤ 6 }
     requires columns { length window.now.lanes ≤ 251 }
     requires stripes { length stripes.now ≡ window.now.count }
     requires chosen { length chosen.now ≡ window.now.count }
-    requires block { length block.old ≡ window.now.block_size }
-    requires size { length block.old ≤ 4194304 }
+    requires sums { length sums.old ≡ 6 * window.now.block_size }
+    requires size { window.now.block_size ≤ 4194304 }
     ensures calls { SomeCalls (V.view vault.old) (V.view vault.new) }
     ensures ran { Ran (window_calls (V.view vault.old).levels window.now (record { stripes = stripes.now; chosen = chosen.now }) window.now.count)
         result (state_of (V.view vault.old)) (state_of (V.view vault.new)) }
@@ -76,7 +79,7 @@ pub fn write_window<V: Vault>(
         if !chosen[i as usize] {
             continue;
         }
-        write_row(vault, window, i, stripes[i as usize], block)?;
+        write_row(vault, window, i, stripes[i as usize], sums)?;
     }
     Ok(())
 }

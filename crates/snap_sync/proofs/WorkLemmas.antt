@@ -1,5 +1,5 @@
 -- What a sync works with, from window to window.
-use Rattle.std.proofs.Common.{◌≡◌, Vec, Global, Bool, not, ℕ, ◌+◌, ◌<◌, ◌≤◌, List, length, take, drop, All, Option, None, Some, IfSome, refl, sym, ap, ap₂, ◌∙◌, subst, arith}
+use Rattle.std.proofs.Common.{◌≡◌, Vec, Global, Bool, not, ℕ, ◌+◌, ◌*◌, ◌<◌, ◌≤◌, List, length, take, drop, All, Option, None, Some, IfSome, refl, sym, ap, ap₂, ◌∙◌, subst, arith}
 use Rattle.std.specs.List.{range_with_len}
 use Rattle.std.proofs.lemmas.List.Elements.{All-from_get_or, All-filter}
 use Rattle.std.proofs.lemmas.List.Filters.{length-filter_both}
@@ -43,7 +43,7 @@ room_closed now table readings room is =
       far = record { lanes = is.far.lanes ∙ sym width; block_size = is.far.block_size ∙ sym (ap (λ it. it.block_size) shape) };
       as_much = is.as_much;
       chosen = is.chosen;
-      block = is.block ∙ sym (ap (λ it. it.block_size) shape);
+      sums = is.sums ∙ sym (ap (λ it. 6 * it.block_size) shape);
       piece = is.piece;
     }
 
@@ -56,7 +56,7 @@ work_closed now work readings is = record {
 
 work_chosen : (work : Work) (chosen : Vec Bool Global) → length chosen.items ≡ length work.room.chosen.items → IsWork work → IsWork (record work { room = record work.room { chosen = chosen } })
 work_chosen work chosen as_many is = record {
-  room = record { starts = is.room.starts; some = is.room.some; near = is.room.near; far = is.room.far; as_much = is.room.as_much; chosen = as_many ∙ is.room.chosen; block = is.room.block; piece = is.room.piece };
+  room = record { starts = is.room.starts; some = is.room.some; near = is.room.near; far = is.room.far; as_much = is.room.as_much; chosen = as_many ∙ is.room.chosen; sums = is.room.sums; piece = is.room.piece };
   pending = is.pending;
   few = is.few;
 }
@@ -78,7 +78,7 @@ judged_ready every now work judged done ready judges =
 pub turned_work : (work turned : Work) → IsWork work → ReadsFar work turned → Fits work.table turned.room.far → turned.room.far.room ≡ work.room.far.room → IsWork turned
 turned_work work turned is far fits as_much =
     subst IsWork (sym far.rest) (record {
-      room = record { starts = is.room.starts; some = is.room.some; near = is.room.near; far = fits; as_much = as_much ∙ is.room.as_much; chosen = is.room.chosen; block = far.block ∙ is.room.block; piece = is.room.piece };
+      room = record { starts = is.room.starts; some = is.room.some; near = is.room.near; far = fits; as_much = as_much ∙ is.room.as_much; chosen = is.room.chosen; sums = far.sums ∙ is.room.sums; piece = is.room.piece };
       pending = is.pending;
       few = is.few;
     })
@@ -86,7 +86,7 @@ turned_work work turned is far fits as_much =
 pub kept_work : (work saved : Work) → IsWork work → KeepsWork work saved → IsWork saved
 kept_work work saved is keeps =
     subst IsWork (sym keeps.rest) (record {
-      room = record { starts = is.room.starts; some = is.room.some; near = is.room.near; far = is.room.far; as_much = is.room.as_much; chosen = is.room.chosen; block = is.room.block; piece = keeps.piece ∙ is.room.piece };
+      room = record { starts = is.room.starts; some = is.room.some; near = is.room.near; far = is.room.far; as_much = is.room.as_much; chosen = is.room.chosen; sums = is.room.sums; piece = keeps.piece ∙ is.room.piece };
       pending = is.pending;
       few = is.few;
     })
@@ -97,7 +97,7 @@ swapped_of work = record work { room = record work.room { near = work.room.far; 
 
 swapped_work : (work : Work) → IsWork work → IsWork (swapped_of work)
 swapped_work work is = record {
-  room = record { starts = is.room.starts; some = omega (arith, is.room.some, is.room.as_much); near = is.room.far; far = is.room.near; as_much = sym is.room.as_much; chosen = is.room.chosen ∙ sym is.room.as_much; block = is.room.block; piece = is.room.piece };
+  room = record { starts = is.room.starts; some = omega (arith, is.room.some, is.room.as_much); near = is.room.far; far = is.room.near; as_much = sym is.room.as_much; chosen = is.room.chosen ∙ sym is.room.as_much; sums = is.room.sums; piece = is.room.piece };
   pending = is.pending;
   few = is.few;
 }

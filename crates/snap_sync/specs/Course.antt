@@ -1,5 +1,5 @@
 -- What a sync leaves, and why it did not end.
-use Rattle.std.specs.Prelude.{◌≡◌, ℕ, ◌+◌, ◌<◌, ◌*◌, List, [], ◌++◌, length, take, Bool, true, false, IsTrue, IfSome}
+use Rattle.std.specs.Prelude.{◌≡◌, ℕ, ◌+◌, ◌<◌, ◌*◌, List, [], ◌++◌, length, Bool, true, false, IsTrue, IfSome}
 use Rattle.array_scan.specs.Layout.{pending_stripes}
 use Rattle.content_file.specs.Save.{HasSaved, HasNoDraft}
 use Rattle.content_file.specs.Spelling.{spelling}
@@ -26,7 +26,7 @@ use Rattle.snap_sync.specs.Calls.{SyncPlan, sync_vault_calls, piece_size}
 use Rattle.snap_sync.specs.Closing.{closed, verified_in}
 use Rattle.snap_sync.specs.Findings.{events_of}
 use Rattle.snap_sync.specs.Images.{MayStand, HasParityAfter}
-use Rattle.snap_sync.specs.Reading.{StripeReading, AreRead, stripes_of, ReadsFirst}
+use Rattle.snap_sync.specs.Reading.{StripeReading, ReadsFirst}
 use Rattle.snap_sync.specs.Schedule.{save_after}
 use Rattle.snap_sync.specs.Work.{VaultBroke, more_findings}
 

@@ -1,14 +1,12 @@
 -- What a sync that ended says of the stripes that it read, and what was found in them.
-use Rattle.std.specs.Prelude.{◌≡◌, ℕ, ◌+◌, List, length, take, Contains}
-use Rattle.array_scan.specs.Layout.{pending_stripes}
-use Rattle.disk_model.specs.Folder.{FolderView}
+use Rattle.std.specs.Prelude.{◌≡◌, ℕ, ◌+◌, List, length, Contains}
 use Rattle.file_table.specs.Table.{TableValue}
 use Rattle.snap_report.specs.declared.events.Event.{Event}
 use Rattle.snap_report.specs.declared.events.Event.TheVariants.{ChangedBlock, Silent, Io}
 use Rattle.snap_sync.specs.declared.syncing.SyncEnd.{SyncEnd}
 use Rattle.snap_sync.specs.Closing.{closed, verified_in}
 use Rattle.snap_sync.specs.Findings.{events_of}
-use Rattle.snap_sync.specs.Reading.{StripeReading, AreRead, stripes_of}
+use Rattle.snap_sync.specs.Reading.{StripeReading}
 use Rattle.snap_sync.specs.Work.{more_findings}
 
 -- the end of a sync that read these: its table, how many stripes are verified and how many are not, and how many findings

@@ -79,8 +79,8 @@ pub record Judges (now : ℕ) (old new : Work) (done : ℕ) : Type 0 where
 
 -- the next window was read into the far room
 pub record ReadsFar (old new : Work) : Type 0 where
-  pub block : length new.room.block.items ≡ length old.room.block.items
-  pub rest : new ≡ record old { room = record old.room { block = new.room.block; far = new.room.far } }
+  pub sums : length new.room.sums.items ≡ length old.room.sums.items
+  pub rest : new ≡ record old { room = record old.room { sums = new.room.sums; far = new.room.far } }
 
 -- a piece was written to drafts, and all else stays
 pub record KeepsWork (old new : Work) : Type 0 where

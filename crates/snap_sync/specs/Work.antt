@@ -1,5 +1,5 @@
 -- What a sync works with, and how far the vault is.
-use Rattle.std.specs.Prelude.{◌≡◌, ℕ, ◌+◌, ◌<◌, ◌≤◌, ◌⊎◌, ◌++◌, List, length, min, ◌^◌, ◌-◌, Bool, true, false, if◌then◌else◌, IsTrue}
+use Rattle.std.specs.Prelude.{◌≡◌, ℕ, ◌+◌, ◌*◌, ◌<◌, ◌≤◌, ◌⊎◌, ◌++◌, List, length, min, ◌^◌, ◌-◌, Bool, true, false, if◌then◌else◌, IsTrue}
 use Rattle.content_file.specs.Save.{MaySave, HasSaved}
 use Rattle.content_file.specs.Spelling.{spelling}
 use Rattle.disk_model.specs.Answer.{is_failure}
@@ -26,7 +26,7 @@ pub record IsRoomFor (table : TableValue) (room : Room) : Type 0 where
   pub far : Fits table room.far
   pub as_much : room.far.room ≡ room.near.room
   pub chosen : length room.chosen.items ≡ room.near.room
-  pub block : length room.block.items ≡ table.shape.block_size
+  pub sums : length room.sums.items ≡ 6 * table.shape.block_size
   pub piece : length room.piece.items ≡ piece_size
 
 -- a call that reads parity or a copy, and a failed one that does not

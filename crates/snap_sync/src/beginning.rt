@@ -42,7 +42,7 @@ pub(crate) fn begin<F: Folder>(
         Ok(plan) => plan,
         Err(fault) => return Err(SyncFault::Scan(fault, old)),
     };
-    let Ok(room) = Room::make(alloc, &table) else {
+    let Ok(room) = Room::make(alloc, &table, pending.len()) else {
         return Err(SyncFault::Run(RunFault::Memory));
     };
     Ok(Work {

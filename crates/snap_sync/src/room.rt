@@ -20,31 +20,33 @@ pub(crate) struct Room {
     pub far: Window,
     /// Of each stripe of the near window, whether it is verified.
     pub chosen: Vec<bool>,
-    /// A block for the sums.
-    pub block: Vec<u8>,
+    /// The sums of a stripe: a block for each of six levels.
+    pub sums: Vec<u8>,
     /// A piece of the table's spelling.
     pub piece: Vec<u8>,
 }
 
 impl Room {
-    /// Room for a sync of a table.
-    pub fn make(alloc: Global, table: &Table) -> Result<Room, NoMemory>
+    /// Room for a sync of so many stripes of a table. The windows have room for no more stripes than these, and for one
+    /// at least.
+    pub fn make(alloc: Global, table: &Table, pending: usize) -> Result<Room, NoMemory>
         ensures { IfOk result (IsRoomFor table.now) }
     {
         let block_size = table.shape().block_size;
-        let stripes = stripe_count(table.disks(), block_size);
+        let most = stripe_count(table.disks(), block_size);
+        let stripes = (most as usize).min(pending).max(1) as u32;
         let starts = Starts::recorded(alloc, table)?;
         let near = Window::make(alloc, table.disks(), stripes, block_size)?;
         let far = Window::make(alloc, table.disks(), stripes, block_size)?;
         let chosen = vec![in alloc; false; stripes as usize]?;
-        let block = vec![in alloc; 0u8; block_size as usize]?;
+        let sums = vec![in alloc; 0u8; 6 * block_size as usize]?;
         let piece = vec![in alloc; 0u8; PIECE]?;
         Ok(Room {
             starts,
             near,
             far,
             chosen,
-            block,
+            sums,
             piece,
         })
     }

@@ -172,7 +172,7 @@ fn turn_window<R: Threads + Sync, F: Folder, V: Vault>(
         &room.chosen[..count as usize],
         ahead,
         pace.readers,
-        room.block.as_mut_slice(),
+        room.sums.as_mut_slice(),
         vault,
         folders,
         &mut room.far,

@@ -1,5 +1,5 @@
 // One window is written while the next one is read.
-ghost use Rattle.std.specs.Prelude.{◌≡◌, ◌<◌, ◌≤◌, All, OnOk, length, map};
+ghost use Rattle.std.specs.Prelude.{◌≡◌, ◌*◌, ◌<◌, ◌≤◌, All, OnOk, length, map};
 ghost use Rattle.std.specs.Thread.{IsSend, IsSync};
 ghost use Rattle.disk_model.specs.Ran.{Ran};
 ghost use Rattle.disk_model.specs.Vault.{SomeCalls, ChangesBy, Reads, state_of};
@@ -25,7 +25,7 @@ pub(crate) fn turn<R: Threads + Sync, F: Folder, V: Vault>(
     chosen: &[bool],
     ahead: &[u32],
     readers: u32,
-    block: &mut [u8],
+    sums: &mut [u8],
     vault: &mut V,
     folders: &mut [F],
     far: &mut Window,
@@ -34,13 +34,13 @@ pub(crate) fn turn<R: Threads + Sync, F: Folder, V: Vault>(
     requires near { Fits table.now near.now }
     requires stripes { length stripes.now ≡ near.now.count }
     requires chosen { length chosen.now ≡ near.now.count }
-    requires block { length block.old ≡ table.now.shape.block_size }
+    requires sums { length sums.old ≡ 6 * table.now.shape.block_size }
     requires folders { length folders.old ≡ length table.now.columns }
     requires starts { StartsFit table.now starts.now }
     requires ahead { All (λ stripe. stripe < length table.now.infos) ahead.now }
     requires far { Fits table.now far.old }
     requires room { length ahead.now ≤ far.old.room }
-    ensures block { length block.new ≡ length block.old }
+    ensures sums { length sums.new ≡ length sums.old }
     ensures calls { SomeCalls (V.view vault.old) (V.view vault.new) }
     ensures ran { Ran (window_calls (V.view vault.old).levels near.now
         (record { stripes = stripes.now; chosen = chosen.now }) near.now.count) result
@@ -62,8 +62,8 @@ pub(crate) fn turn<R: Threads + Sync, F: Folder, V: Vault>(
     let mut writing = || -> Result<(), Failed>
         requires { ((V.view vault.now).levels ≤ 6) × (length near.now.lanes ≤ 251) ×
             (length stripes.now ≡ near.now.count) × (length chosen.now ≡ near.now.count) ×
-            (length block.now ≡ near.now.block_size) × (length block.now ≤ 4194304) }
-    { write_window(vault, near, stripes, chosen, block) };
+            (length sums.now ≡ 6 * near.now.block_size) × (near.now.block_size ≤ 4194304) }
+    { write_window(vault, near, stripes, chosen, sums) };
     let mut reading = ||
         requires { IsSync R.row × IsSend F.row × (length folders.now ≡ length table.now.columns) ×
             StartsFit table.now starts.now × All (λ stripe. stripe < length table.now.infos) ahead.now ×

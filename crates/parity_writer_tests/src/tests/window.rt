@@ -6,7 +6,7 @@ use block_hash::Kind;
 use disk_memory::{MemFolder, MemVault};
 use disk_model::{Failed, Meta, Path, Stamp, Text, Vault};
 use file_table::{Builder, Info, Mark, Shape, Table};
-use parity_writer::{sum_row, write_window};
+use parity_writer::{sum_levels, sum_row, write_window};
 use std::alloc::Global;
 use std::test::Fail;
 use std::thread::Threads;
@@ -100,8 +100,8 @@ fn write(
     {
         return Err(Fail::new(format_args!("another window")));
     }
-    let mut block = [0; 1024];
-    write_window(vault, window, &[0, 1], &chosen, &mut block)?;
+    let mut sums = [0; 6144];
+    write_window(vault, window, &[0, 1], &chosen, &mut sums)?;
     Ok(())
 }
 
@@ -131,7 +131,7 @@ fn chosen_stripes_have_their_sums(rt: HostRuntime) -> Result<(), Fail> {
 }
 
 // Puts four bytes into the second column of the second stripe, where there is no block.
-fn put(table: &Table, window: &mut Window) -> Result<[u8; 1024], Fail> {
+fn put(table: &Table, window: &mut Window) -> Result<([u8; 1024], [u8; 6144]), Fail> {
     if !window.fits(table)
         || table.shape().block_size != 1024
         || table.disks() != 2
@@ -142,7 +142,9 @@ fn put(table: &Table, window: &mut Window) -> Result<[u8; 1024], Fail> {
     window.put(1, 1, &[6, 7, 8, 9]);
     let mut sum = [0; 1024];
     sum_row(window, 1, 1, &mut sum);
-    Ok(sum)
+    let mut sums = [5; 6144];
+    sum_levels(window, 1, 2, &mut sums);
+    Ok((sum, sums))
 }
 
 // The weights of the columns in the second level are 1 and 2; the first column has 976 bytes there.
@@ -151,7 +153,12 @@ fn a_block_that_is_put_counts_in_the_sums(rt: HostRuntime) -> Result<(), Fail> {
     let alloc = rt.alloc();
     let table = table(alloc)?;
     let mut window = read(&rt, alloc, &table)?;
-    let sum = put(&table, &mut window)?;
+    let (sum, sums) = put(&table, &mut window)?;
+    assert!(rt; sums[1024..].starts_with(&sum));
+    assert_eq!(rt;
+        [sums[0], sums[3], sums[4], sums[1023], sums[2048]],
+        [7, 8, 1, 0, 5]
+    );
     assert_eq!(rt; [sum[0], sum[1], sum[2], sum[3]], [13, 15, 17, 19]);
     assert_eq!(rt; [sum[4], sum[975], sum[976], sum[1023]], [1, 1, 0, 0]);
     if window.count() < 2 || window.columns() < 2 {

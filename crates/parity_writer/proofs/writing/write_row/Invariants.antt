@@ -1,4 +1,4 @@
-use Rattle.std.proofs.Common.{◌≡◌, ◌*◌, length}
+use Rattle.std.proofs.Common.{◌*◌}
 use Rattle.cauchy.specs.Matrix.{parity_of as level_of}
 use Rattle.disk_model.specs.Bytes.{put}
 use Rattle.disk_model.specs.Ran.{RanAll, log_of}
@@ -16,7 +16,5 @@ invariant-loop-level g l =
     record {
       keeping : Keeping (WritesBlock size l.stripe) (g.V.Vault.view l.fn.vault) (g.V.Vault.view l.vault);
       ran : RanAll (sum_calls l.level size l.stripe (row_at l.window l.i)) (log_of (state_of (g.V.Vault.view l.fn.vault))) (log_of (state_of (g.V.Vault.view l.vault)));
-      end : l.level-end ≡ (g.V.Vault.view l.fn.vault).levels;
-      long : length l.block ≡ size;
       written : Reads (Mapped (λ level xs. put xs (l.stripe * size) (level_of level size (row_at l.window l.i))) l.level (g.V.Vault.view l.fn.vault).files) (g.V.Vault.view l.vault);
     }

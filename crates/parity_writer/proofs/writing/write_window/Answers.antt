@@ -52,7 +52,7 @@ loop-i-preserved g c =
           (subst (λ (calls : List VaultCall). RanAll calls (log_of (state_of mid)) (log_of (state_of new))) (sym (calls_chosen window choice c.loop-i.i old.levels on))
           (subst (λ (n : ℕ). RanAll (sum_calls n window.block_size stripe row) (log_of (state_of mid)) (log_of (state_of new))) levels c.in_ok-write_row.ensures.ran));
       end = so_far.end;
-      long = c.write_row.auto.block ∙ so_far.long;
+      long = c.write_row.auto.sums ∙ so_far.long;
       written = λ rows before told.
           let was : IsTrue mid.tells = sym c.write_row.ensures.calls.goes_on.tells ∙ told in
           subst (λ (its : Rows). HoldsRows old.levels window.block_size its new.files) (sym (rows_chosen window choice c.loop-i.i rows on))

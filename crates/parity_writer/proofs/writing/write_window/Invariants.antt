@@ -1,4 +1,4 @@
-use Rattle.std.proofs.Common.{◌≡◌, length}
+use Rattle.std.proofs.Common.{◌≡◌, ◌*◌, length}
 use Rattle.disk_model.specs.Ran.{RanAll, log_of}
 use Rattle.disk_model.specs.Vault.{Reads, state_of}
 use Rattle.parity_writer.specs.Chosen.{Choice, IsChosen, rows_with, window_calls}
@@ -16,7 +16,7 @@ invariant-loop-i g l =
       keeping : Keeping (WritesBlocks size (IsChosen choice)) old new;
       ran : RanAll (window_calls old.levels l.window choice l.i) (log_of (state_of old)) (log_of (state_of new));
       end : l.i-end ≡ l.window.count;
-      long : length l.block ≡ size;
+      long : length l.sums ≡ 6 * size;
       written : (rows : Rows) → Reads (HoldsRows old.levels size rows) old → Reads (HoldsRows old.levels size (rows_with l.window choice l.i rows)) new;
       elsewhere : Reads (SameElsewhere old.levels size (IsChosen choice) old.files) new;
     }
