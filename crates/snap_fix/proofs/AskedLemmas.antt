@@ -3,10 +3,10 @@ use Rattle.std.proofs.Common.{◌≡◌, ℕ, ◌+◌, List, [], ◌++◌, All, 
 use Rattle.std.specs.List.{sum_by}
 use Rattle.std.proofs.lemmas.List.Elements.{All-nil, All-append}
 use Rattle.std.proofs.lemmas.List.Sums.{sum_by-append}
-use Rattle.snap_fix.specs.Asking.{AsksSpare, is_held, withheld_in}
-use Rattle.snap_fix.specs.Facts.{StripeFacts, gift_of}
-use Rattle.snap_fix.specs.Plan.{FixPlan}
-use Rattle.snap_fix.specs.Spare.{SpareView}
+use Rattle.stripe_examiner.specs.Asking.{AsksSpare, is_held, withheld_in}
+use Rattle.stripe_examiner.specs.Facts.{StripeFacts, gift_of}
+use Rattle.stripe_examiner.specs.Plan.{FixPlan}
+use Rattle.stripe_examiner.specs.Spare.{SpareView}
 
 -- what it gave is what it holds
 abbrev pub Gave : FixPlan → SpareView → StripeFacts → Type 0

@@ -10,10 +10,10 @@ use Rattle.array_scan.specs.declared.listing.ListingFault.TheVariants as listing
 use Rattle.disk_model.specs.Folder.{FolderView, quiet_folder}
 use Rattle.disk_model.specs.Tree.{IsListing}
 use Rattle.disk_model.specs.declared.answer.Answer.TheVariants.{Done}
-use Rattle.file_table.specs.Table.{TableValue}
+use Rattle.file_table.specs.Table.{TableValue, records_in}
 use Rattle.snap_config.specs.declared.options.Selection.{Selection}
 use Rattle.snap_fix.specs.Beginning.{BeginsNot, of_listing}
-use Rattle.snap_fix.specs.Plan.{EntriesFit, column_entries, entries_of, entry_of, records_in}
+use Rattle.stripe_examiner.specs.Plan.{EntriesFit, column_entries, entries_of, entry_of}
 
 -- each list of files is a listing
 pub lists_are_listings : (olds news : List FolderView) (lists : List (List ListedFile)) → ListsAll olds news lists → All IsListing lists

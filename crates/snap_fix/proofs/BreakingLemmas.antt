@@ -6,12 +6,12 @@ use Rattle.array_scan.proofs.PlacingLemmas.{flat_range_more}
 use Rattle.disk_model.specs.Vault.{plain_done, VaultView, VaultDone, GoesOn}
 use Rattle.snap_report.specs.declared.answer.RunFault.{RunFault}
 use Rattle.snap_report.specs.declared.answer.RunFault.TheVariants.{Folder, Vault, Memory}
-use Rattle.snap_fix.specs.Breaking.{FailsAfter, FailsIn}
+use Rattle.file_restorer.specs.Breaking.{FailsAfter, FailsIn}
 use Rattle.snap_fix.specs.BrokenStripe.{BreaksLevels, FailsAtLevel, writes_below}
-use Rattle.snap_fix.specs.Facts.{StripeFacts}
-use Rattle.snap_fix.specs.Plan.{FixPlan}
+use Rattle.stripe_examiner.specs.Facts.{StripeFacts}
+use Rattle.stripe_examiner.specs.Plan.{FixPlan}
 use Rattle.snap_fix.specs.Underway.{done_well, level_write}
-use Rattle.snap_fix.proofs.LookingLemmas.{vault_goes_on}
+use Rattle.stripe_examiner.proofs.LookingLemmas.{vault_goes_on}
 
 -- others were to come after them
 in_more : (whole more done : List VaultDone) → FailsIn whole done → FailsIn (whole ++ more) done

@@ -1,7 +1,8 @@
 -- All stripes of a check, window after window.
-use Rattle.std.proofs.Common.{◌≡◌, ℕ, ◌+◌, List, ◌++◌, length, take, drop, sym, ap, ap₂, ◌∙◌, subst}
+use Rattle.std.proofs.Common.{◌≡◌, ℕ, ◌+◌, ◌<◌, List, [], ◌∷◌, ◌++◌, length, take, drop, get_or, sym, ap, ap₂, ◌∙◌, subst}
 use Rattle.std.proofs.Math.Seq.{take-add}
-use Rattle.std.proofs.lemmas.List.{map-append}
+use Rattle.std.proofs.lemmas.Grind.{flat_map-append}
+use Rattle.std.proofs.lemmas.List.{append-nil, get_or-map, length-map, map-append, take_more}
 use Rattle.disk_model.specs.Folder.{FolderView}
 use Rattle.disk_model.specs.Sink.{SinkView}
 use Rattle.file_table.specs.Table.{TableValue}
@@ -10,13 +11,15 @@ use Rattle.snap_report.specs.declared.events.Event.{Event}
 use Rattle.stripe_reader.specs.Columns.{ReadsWindow}
 use Rattle.stripe_reader.specs.WindowValue.{WindowValue}
 use Rattle.snap_fix.specs.declared.beginning.Work.{Work}
-use Rattle.snap_fix.specs.declared.counts.Counts.{Counts}
-use Rattle.snap_fix.specs.Checking.{KeepsWork, plan_for}
-use Rattle.snap_fix.specs.Counts.{AreCounts}
-use Rattle.snap_fix.specs.Facts.{StripeFacts}
-use Rattle.snap_fix.specs.Looking.{AreRead, LooksAt, LooksInto, Scene, numbers_of}
-use Rattle.snap_fix.specs.Plan.{FixPlan}
-use Rattle.snap_fix.proofs.LookingLemmas.{looks_then}
+use Rattle.stripe_examiner.specs.declared.counts.Counts.{Counts}
+use Rattle.stripe_examiner.specs.declared.room.StripeRoom.{StripeRoom}
+use Rattle.snap_fix.specs.Checking.{AreShown, KeepsWork, plan_for}
+use Rattle.stripe_examiner.specs.Counts.{AreCounts}
+use Rattle.stripe_examiner.specs.Facts.{StripeFacts}
+use Rattle.stripe_examiner.specs.Findings.{events_of, stripe_events}
+use Rattle.stripe_examiner.specs.Looking.{AreRead, LooksAt, LooksInto, Scene, facts_at, no_facts, numbers_of}
+use Rattle.stripe_examiner.specs.Plan.{FixPlan}
+use Rattle.stripe_examiner.proofs.LookingLemmas.{looks_then}
 use Rattle.snap_fix.proofs.ReadLemmas.{read_then, read_window}
 
 pub keeps_then : (table : TableValue) (one two three : Work) → KeepsWork table one two → KeepsWork table two three → KeepsWork table one three
@@ -70,3 +73,20 @@ module _ (table : TableValue) (first work : Work) (kept : KeepsWork table first 
           (read_window (plan_for table first) first.starts into.stripes (take count (drop done work.stripes.items)) before window mids news into.numbers_are into.slots lanes (read_for done count before window mids news reads));
       looks = looks_then view standing stands (plan_for table first) xs into.stripes one two both old mid new and looks (looks_for into.stripes two mid new into.looks);
     }
+
+-- ---- a window that was examined
+
+module _ (plan : FixPlan) (all : List StripeFacts) (numbers : List ℕ) (window : WindowValue) (rooms : List StripeRoom) (shown : AreShown plan all numbers window rooms) where
+  pub as_many_shown : length all ≡ length numbers
+  as_many_shown = sym (length-map all (λ (it : StripeFacts). it.stripe)) ∙ ap (λ (ns : List ℕ). length ns) shown.numbers_are
+
+  pub number_shown : (k : ℕ) → k < length all → (facts_at all k).stripe ≡ get_or numbers k 0
+  number_shown k below = sym (get_or-map (λ (it : StripeFacts). it.stripe) all k no_facts 0 below) ∙ ap (λ (ns : List ℕ). get_or ns k 0) shown.numbers_are
+
+-- the events of one stripe more
+pub events_more : (plan : FixPlan) (all : List StripeFacts) (k : ℕ) → k < length all
+    → events_of plan (take (k + 1) all) ≡ events_of plan (take k all) ++ stripe_events plan (facts_at all k)
+events_more plan all k below =
+    ap (events_of plan) (take_more all k no_facts below)
+    ∙ flat_map-append (stripe_events plan) (take k all) (facts_at all k ∷ [])
+    ∙ ap (λ (events : List Event). events_of plan (take k all) ++ events) (append-nil (stripe_events plan (facts_at all k)))

@@ -6,18 +6,18 @@ use Rattle.std.proofs.lemmas.List.Elements.{All-filter, All-from_get_or}
 use Rattle.std.proofs.lemmas.List.FromFn.{length-range_with_len, get_or-range_with_len, length-map-range_with_len, get_or-map-range_with_len}
 use Rattle.array_scan.specs.Kept.{ListedFile}
 use Rattle.disk_model.specs.Folder.{FolderView}
-use Rattle.file_table.specs.Table.{Record, TableValue}
+use Rattle.file_table.specs.Table.{Record, TableValue, records_in}
 use Rattle.snap_config.specs.declared.options.Selection.{Selection}
 use Rattle.stripe_reader.specs.Starts.{StartsFit, StartsValue}
 use Rattle.snap_fix.specs.declared.beginning.Work.{Work}
-use Rattle.snap_fix.specs.declared.entry.Entry.{Entry}
-use Rattle.snap_fix.specs.declared.scope.Mode.{Mode}
+use Rattle.stripe_examiner.specs.declared.entry.Entry.{Entry}
+use Rattle.stripe_examiner.specs.declared.scope.Mode.{Mode}
 use Rattle.snap_fix.specs.Beginning.{Begins}
 use Rattle.snap_fix.specs.Checking.{IsWorkFor, plan_for}
-use Rattle.snap_fix.specs.Facts.{StripeFacts}
-use Rattle.snap_fix.specs.Looking.{AreRead}
-use Rattle.snap_fix.specs.Place.{start_of}
-use Rattle.snap_fix.specs.Plan.{FixPlan, EntriesFit, column_starts, records_in, starts_of, stripes_of, is_looked_at}
+use Rattle.stripe_examiner.specs.Facts.{StripeFacts}
+use Rattle.stripe_examiner.specs.Looking.{AreRead}
+use Rattle.stripe_examiner.specs.Place.{start_of}
+use Rattle.stripe_examiner.specs.Plan.{FixPlan, EntriesFit, column_starts, starts_of, stripes_of, is_looked_at}
 use Rattle.snap_fix.proofs.BeginningLemmas.{entries_fit}
 
 pub starts_fit : (table : TableValue) (lists : List (List ListedFile)) → StartsFit table (starts_of table lists)

@@ -13,20 +13,21 @@ use Rattle.snap_report.proofs.ToldLemmas.{told_then}
 use Rattle.stripe_reader.specs.Columns.{folder_at}
 use Rattle.stripe_reader.specs.Starts.{StartsValue, StartsFit, starts_at}
 use Rattle.stripe_reader.specs.declared.starts.Start.{Start}
-use Rattle.snap_fix.specs.declared.counts.Counts.{Counts}
-use Rattle.snap_fix.specs.declared.finishing.Finish.{Finish}
-use Rattle.snap_fix.specs.declared.state.FileState.{FileState}
-use Rattle.snap_fix.specs.Breaking.{FolderFails}
-use Rattle.snap_fix.specs.Counts.{AreCounts}
+use Rattle.stripe_examiner.specs.declared.counts.Counts.{Counts}
+use Rattle.file_restorer.specs.declared.finishing.Finish.{Finish}
+use Rattle.file_restorer.specs.declared.state.FileState.{FileState}
+use Rattle.file_restorer.specs.Breaking.{FolderFails}
+use Rattle.stripe_examiner.specs.Counts.{AreCounts}
 use Rattle.snap_fix.specs.Ending.{AreColumnFinishCalls, AreDone, FailsAtRecord, CanFinishAll, CanFinishColumn, FinishesAll, FinishesFiles, FinishesNotAll, FinishesFile, IsDone, all_finish_news, column_news, column_news_at, finish_at, finishes_at, is_finished, states_at}
 use Rattle.snap_fix.specs.EndingSteps.{CanEndColumn, EndsColumn, EndsNotColumn, column_outside}
-use Rattle.snap_fix.specs.Mending.{StatesFit}
-use Rattle.snap_fix.specs.Plan.{FixPlan, records_in}
+use Rattle.file_restorer.specs.Mending.{StatesFit}
+use Rattle.stripe_examiner.specs.Plan.{FixPlan}
+use Rattle.file_table.specs.Table.{records_in}
 use Rattle.snap_fix.specs.Repairing.{outside}
-use Rattle.snap_fix.specs.State.{FolderMakesBy}
+use Rattle.file_restorer.specs.State.{FolderMakesBy}
 use Rattle.snap_fix.proofs.EndingTellLemmas.{columns_before, events_same, events_split, finishes_before, finishes_last}
 use Rattle.snap_fix.proofs.EndingWantedLemmas.{column_wanted, columns_wanted, first_columns, wanted_columns}
-use Rattle.snap_fix.proofs.TellingLemmas.{Joins, Tells, events_to, tells_as, tells_more, tells_nothing, told_as}
+use Rattle.stripe_examiner.proofs.TellingLemmas.{Joins, Tells, events_to, tells_as, tells_more, tells_nothing, told_as}
 
 module _ (plan : FixPlan) (first : StartsValue) (firsts : List (List FileState)) (olds : List FolderView) where
   -- The files of the first columns were finished that were to be, and the other columns are as they were.

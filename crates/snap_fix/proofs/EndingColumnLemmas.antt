@@ -7,34 +7,34 @@ use Rattle.array_scan.proofs.PlacingLemmas.{flat_range_more}
 use Rattle.disk_model.specs.Folder.{FolderView, FolderCall}
 use Rattle.disk_model.specs.Sink.{SinkView}
 use Rattle.disk_model.specs.Tree.{Tree, file_of, path_of}
-use Rattle.file_table.specs.Table.{record_at}
+use Rattle.file_table.specs.Table.{record_at, records_in}
 use Rattle.snap_report.specs.Report.{ReportView}
 use Rattle.snap_report.specs.declared.events.Event.{Event}
 use Rattle.snap_report.specs.declared.pages.Lines.{Lines}
 use Rattle.snap_report.proofs.ToldLemmas.{told_then}
 use Rattle.stripe_reader.specs.Starts.{StartsValue, StartsFit, no_start, start_in, starts_at}
 use Rattle.stripe_reader.specs.declared.starts.Start.{Start}
-use Rattle.snap_fix.specs.declared.counts.Counts.{Counts}
-use Rattle.snap_fix.specs.declared.finishing.Finish.{Finish}
-use Rattle.snap_fix.specs.declared.finishing.Finish.TheVariants.{Kept}
-use Rattle.snap_fix.specs.declared.state.FileState.{FileState}
-use Rattle.snap_fix.specs.Counts.{AreCounts}
+use Rattle.stripe_examiner.specs.declared.counts.Counts.{Counts}
+use Rattle.file_restorer.specs.declared.finishing.Finish.{Finish}
+use Rattle.file_restorer.specs.declared.finishing.Finish.TheVariants.{Kept}
+use Rattle.file_restorer.specs.declared.state.FileState.{FileState}
+use Rattle.stripe_examiner.specs.Counts.{AreCounts}
 use Rattle.snap_fix.specs.Ending.{AreFinishCalls, CanFinishFile, FinishesFile, FinishesThis, HoldsEnd, IsDone, StandsEnd, column_news, finish_at, is_finished, news_of, record_calls, record_news, state_at, states_at}
 use Rattle.snap_fix.specs.EndingSteps.{CanEndColumn, CanEndRecord, EndsColumn, EndsNotColumn, EndsNotRecord, EndsRecord, column_outside}
-use Rattle.snap_fix.specs.Finishing.{FitsTree, HoldsFinished, IsFinishCall, SameNames, StandsWhole, bytes_now, finish_calls, finish_of, was_gone}
-use Rattle.snap_fix.specs.Mending.{StatesFit}
-use Rattle.snap_fix.specs.Order.{FolderWrites}
-use Rattle.snap_fix.specs.Plan.{FixPlan, entry_at, records_in}
-use Rattle.snap_fix.specs.State.{AreStepCalls, FolderMakesBy, OthersStay, WellCall, no_state, record_path, state_in}
+use Rattle.file_restorer.specs.Finishing.{FitsTree, HoldsFinished, IsFinishCall, SameNames, StandsWhole, bytes_now, finish_calls, finish_of, was_gone}
+use Rattle.file_restorer.specs.Mending.{StatesFit}
+use Rattle.file_restorer.specs.Order.{FolderWrites}
+use Rattle.stripe_examiner.specs.Plan.{FixPlan, entry_at}
+use Rattle.file_restorer.specs.State.{AreStepCalls, FolderMakesBy, OthersStay, WellCall, no_state, record_path, state_in}
 use Rattle.snap_fix.proofs.EndingFilesLemmas.{fits_stays, free_stays, holds_on, holds_since, names_stay, whole_on, whole_since}
 use Rattle.snap_fix.proofs.EndingTellLemmas.{events_after, events_split, finish_before, finish_last, records_before}
 use Rattle.snap_fix.proofs.EndingWantedLemmas.{all_wanted, first_done, first_news, wanted_from}
 use Rattle.snap_fix.proofs.FinishPartsLemmas.{finish_calls_as, finish_calls_more, first_calls_each, no_finish_calls}
-use Rattle.snap_fix.proofs.FolderCallLemmas.{makes_by_none, makes_by_then, makes_by_wider, makes_each, step_calls_wider}
-use Rattle.snap_fix.proofs.FolderFailsLemmas.{fails_then, fails_wider}
-use Rattle.snap_fix.proofs.OrderLemmas.{writes_none, writes_then}
-use Rattle.snap_fix.proofs.RecordPathsLemmas.{ArePaths, names_distinct}
-use Rattle.snap_fix.proofs.TellingLemmas.{Joins, Tells, events_to, tells_as, tells_more, tells_nothing, told_as}
+use Rattle.file_restorer.proofs.FolderCallLemmas.{makes_by_none, makes_by_then, makes_by_wider, makes_each, step_calls_wider}
+use Rattle.file_restorer.proofs.FolderFailsLemmas.{fails_then, fails_wider}
+use Rattle.file_restorer.proofs.OrderLemmas.{writes_none, writes_then}
+use Rattle.file_restorer.proofs.RecordPathsLemmas.{ArePaths, names_distinct}
+use Rattle.stripe_examiner.proofs.TellingLemmas.{Joins, Tells, events_to, tells_as, tells_more, tells_nothing, told_as}
 
 module _ (plan : FixPlan) (d : ℕ) (first : StartsValue) (firsts : List (List FileState)) (folder : FolderView) where
   abbrev starts_of : List Start

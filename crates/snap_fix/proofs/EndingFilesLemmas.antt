@@ -12,14 +12,14 @@ use Rattle.disk_model.proofs.TreeLemmas.{own_name}
 use Rattle.file_table.specs.Table.{Record}
 use Rattle.stripe_reader.specs.declared.starts.Place.{Place}
 use Rattle.stripe_reader.specs.declared.starts.Start.{Start}
-use Rattle.snap_fix.specs.declared.finishing.Finish.{Finish}
-use Rattle.snap_fix.specs.declared.finishing.Finish.TheVariants.{Kept, Restored, Unstamped, Renamed, Gone}
-use Rattle.snap_fix.specs.declared.state.FileState.{FileState}
-use Rattle.snap_fix.specs.Finishing.{FitsTree, HoldsFinished, SameNames, StandsWhole, bytes_now, lost_after}
-use Rattle.snap_fix.specs.Mending.{IsFree}
-use Rattle.snap_fix.specs.State.{OthersStay, bytes_or, record_path}
-use Rattle.snap_fix.proofs.FinishNameLemmas.{lost_directory}
-use Rattle.snap_fix.proofs.RecordPathsLemmas.{ArePaths, names_distinct, nested_is}
+use Rattle.file_restorer.specs.declared.finishing.Finish.{Finish}
+use Rattle.file_restorer.specs.declared.finishing.Finish.TheVariants.{Kept, Restored, Unstamped, Renamed, Gone}
+use Rattle.file_restorer.specs.declared.state.FileState.{FileState}
+use Rattle.file_restorer.specs.Finishing.{FitsTree, HoldsFinished, SameNames, StandsWhole, bytes_now, lost_after}
+use Rattle.file_restorer.specs.Mending.{IsFree}
+use Rattle.file_restorer.specs.State.{OthersStay, bytes_or, record_path}
+use Rattle.file_restorer.proofs.FinishNameLemmas.{lost_directory}
+use Rattle.file_restorer.proofs.RecordPathsLemmas.{ArePaths, names_distinct, nested_is}
 
 -- ---- names
 

@@ -4,28 +4,28 @@ use Rattle.disk_model.specs.Folder.{FolderView, FolderCall}
 use Rattle.disk_model.specs.Sink.{SinkView}
 use Rattle.disk_model.specs.Tree.{IsTree}
 use Rattle.disk_model.specs.declared.meta.Meta.{Meta}
-use Rattle.file_table.specs.Table.{record_at}
+use Rattle.file_table.specs.Table.{record_at, records_in}
 use Rattle.snap_report.specs.Report.{ReportView}
 use Rattle.snap_report.specs.Told.{Told}
 use Rattle.snap_report.specs.declared.events.Event.{Event}
 use Rattle.snap_report.specs.declared.pages.Lines.{Lines}
 use Rattle.snap_report.proofs.ToldLemmas.{told_nothing}
 use Rattle.stripe_reader.specs.Starts.{StartsValue, start_in, starts_at}
-use Rattle.snap_fix.specs.declared.counts.Counts.{Counts}
-use Rattle.snap_fix.specs.declared.finishing.Finish.{Finish}
-use Rattle.snap_fix.specs.declared.finishing.Finish.TheVariants.{Kept, Gone}
-use Rattle.snap_fix.specs.declared.state.FileState.{FileState}
-use Rattle.snap_fix.specs.Counts.{AreCounts}
+use Rattle.stripe_examiner.specs.declared.counts.Counts.{Counts}
+use Rattle.file_restorer.specs.declared.finishing.Finish.{Finish}
+use Rattle.file_restorer.specs.declared.finishing.Finish.TheVariants.{Kept, Gone}
+use Rattle.file_restorer.specs.declared.state.FileState.{FileState}
+use Rattle.stripe_examiner.specs.Counts.{AreCounts}
 use Rattle.snap_fix.specs.Ending.{FinishesThis, finish_news, is_finished, news_of, states_at}
 use Rattle.snap_fix.specs.EndingSteps.{CanEndRecord, EndsNotRecord, EndsRecord, column_outside}
-use Rattle.snap_fix.specs.Finishing.{CanFinish, FinishesNot, FinishesRecord, FitsTree, IsFinishCall, finish_calls, finish_of, was_gone}
-use Rattle.snap_fix.specs.Order.{FolderWrites}
-use Rattle.snap_fix.specs.Plan.{FixPlan, entry_at, records_in}
-use Rattle.snap_fix.specs.State.{record_path, state_in}
-use Rattle.snap_fix.proofs.FolderCallLemmas.{step_none, step_wider}
-use Rattle.snap_fix.proofs.FolderFailsLemmas.{fails_wider}
-use Rattle.snap_fix.proofs.OrderLemmas.{writes_none}
-use Rattle.snap_fix.proofs.TellingLemmas.{told_as}
+use Rattle.file_restorer.specs.Finishing.{CanFinish, FinishesNot, FinishesRecord, FitsTree, IsFinishCall, finish_calls, finish_of, was_gone}
+use Rattle.file_restorer.specs.Order.{FolderWrites}
+use Rattle.stripe_examiner.specs.Plan.{FixPlan, entry_at}
+use Rattle.file_restorer.specs.State.{record_path, state_in}
+use Rattle.file_restorer.proofs.FolderCallLemmas.{step_none, step_wider}
+use Rattle.file_restorer.proofs.FolderFailsLemmas.{fails_wider}
+use Rattle.file_restorer.proofs.OrderLemmas.{writes_none}
+use Rattle.stripe_examiner.proofs.TellingLemmas.{told_as}
 
 module _ (plan : FixPlan) (d i : ℕ) (starts : StartsValue) (states : List (List FileState)) (folder : FolderView) where
   abbrev pub CallBy : Option Meta → FolderCall → Type 0

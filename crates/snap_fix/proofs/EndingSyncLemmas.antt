@@ -7,11 +7,11 @@ use Rattle.array_scan.proofs.PlacingLemmas.{flat_range_more}
 use Rattle.disk_model.specs.Files.{Files, Stays, parity_of}
 use Rattle.disk_model.specs.Vault.{plain_done, VaultView, VaultCall, VaultDone, GoesOn, ChangesBy, DraftsStay, IsWellFormed}
 use Rattle.disk_model.proofs.VaultLemmas.{no_calls, calls_then, changes_start, stays_then}
-use Rattle.snap_fix.specs.Breaking.{FailsAfter, broke_parity}
+use Rattle.file_restorer.specs.Breaking.{FailsAfter, broke_parity}
 use Rattle.snap_fix.specs.Ending.{IsLevelSettled, Syncs, SyncsNot, sync_call, sync_if, written_syncs}
 use Rattle.snap_fix.specs.Underway.{done_well}
 use Rattle.snap_fix.proofs.BreakingLemmas.{fails_behind, fails_more, flat_split}
-use Rattle.snap_fix.proofs.LookingLemmas.{vault_goes_on}
+use Rattle.stripe_examiner.proofs.LookingLemmas.{vault_goes_on}
 use Rattle.snap_fix.proofs.MendedVaultLemmas.{goes_on_none}
 
 -- what holds whichever fault it was

@@ -5,12 +5,12 @@ use Rattle.std.proofs.lemmas.Grind.{flat_map-append}
 use Rattle.std.proofs.lemmas.List.{get_or_append_left, get_or_push}
 use Rattle.disk_model.proofs.InOrder.{range_split}
 use Rattle.snap_report.specs.declared.events.Event.{Event}
-use Rattle.snap_fix.specs.declared.finishing.Finish.{Finish}
-use Rattle.snap_fix.specs.declared.finishing.Finish.TheVariants.{Kept, Restored, Unstamped, Renamed, Gone}
+use Rattle.file_restorer.specs.declared.finishing.Finish.{Finish}
+use Rattle.file_restorer.specs.declared.finishing.Finish.TheVariants.{Kept, Restored, Unstamped, Renamed, Gone}
 use Rattle.snap_fix.specs.Ending.{column_news, column_news_at, finish_at, finish_news, finishes_at, news_of, record_news}
 use Rattle.snap_fix.specs.EndingSteps.{done_news, unstamped_news}
-use Rattle.snap_fix.specs.Plan.{FixPlan}
-use Rattle.snap_fix.proofs.TellingLemmas.{events_to, events_to-more}
+use Rattle.stripe_examiner.specs.Plan.{FixPlan}
+use Rattle.stripe_examiner.proofs.TellingLemmas.{events_to, events_to-more}
 
 -- ---- of one record
 

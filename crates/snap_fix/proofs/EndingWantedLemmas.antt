@@ -5,18 +5,18 @@ use Rattle.std.proofs.lemmas.Bool.{cases_lt}
 use Rattle.std.proofs.lemmas.List.{get_or_append_left, get_or-append_right}
 use Rattle.std.proofs.lemmas.List.FromFn.{get_or-map-range_with_len}
 use Rattle.disk_model.specs.Folder.{FolderView}
-use Rattle.file_table.specs.Table.{record_at}
+use Rattle.file_table.specs.Table.{record_at, records_in}
 use Rattle.stripe_reader.specs.Columns.{folder_at}
 use Rattle.stripe_reader.specs.Starts.{StartsValue, start_in, starts_at}
 use Rattle.stripe_reader.specs.declared.starts.Start.{Start}
-use Rattle.snap_fix.specs.declared.finishing.Finish.{Finish}
-use Rattle.snap_fix.specs.declared.finishing.Finish.TheVariants.{Kept}
-use Rattle.snap_fix.specs.declared.state.FileState.{FileState}
+use Rattle.file_restorer.specs.declared.finishing.Finish.{Finish}
+use Rattle.file_restorer.specs.declared.finishing.Finish.TheVariants.{Kept}
+use Rattle.file_restorer.specs.declared.state.FileState.{FileState}
 use Rattle.snap_fix.specs.Ending.{IsDone, finish_at, finishes_at, is_finished, news_of, record_news, state_at, states_at}
-use Rattle.snap_fix.specs.Finishing.{finish_of}
-use Rattle.snap_fix.specs.Plan.{FixPlan, entry_at, records_in}
+use Rattle.file_restorer.specs.Finishing.{finish_of}
+use Rattle.stripe_examiner.specs.Plan.{FixPlan, entry_at}
 use Rattle.snap_fix.proofs.EndingTellLemmas.{events_same}
-use Rattle.snap_fix.proofs.TellingLemmas.{events_to}
+use Rattle.stripe_examiner.proofs.TellingLemmas.{events_to}
 
 -- ---- of a column
 

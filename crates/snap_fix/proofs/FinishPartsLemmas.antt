@@ -7,18 +7,18 @@ use Rattle.std.proofs.lemmas.List.{append-nil, get_or_append_left, get_or_push, 
 use Rattle.std.proofs.lemmas.List.Elements.{All-append, All-nil}
 use Rattle.disk_model.specs.Folder.{FolderView, FolderCall, FolderDone}
 use Rattle.disk_model.specs.declared.meta.Meta.{Meta}
-use Rattle.file_table.specs.Table.{record_at}
+use Rattle.file_table.specs.Table.{record_at, records_in}
 use Rattle.snap_report.specs.Answer.{is_reading}
 use Rattle.stripe_reader.specs.Starts.{StartsValue, start_in, starts_at}
 use Rattle.stripe_reader.specs.declared.starts.Start.{Start}
-use Rattle.snap_fix.specs.declared.finishing.Finish.{Finish}
-use Rattle.snap_fix.specs.declared.state.FileState.{FileState}
+use Rattle.file_restorer.specs.declared.finishing.Finish.{Finish}
+use Rattle.file_restorer.specs.declared.state.FileState.{FileState}
 use Rattle.snap_fix.specs.Ending.{AreColumnFinishCalls, AreFinishCalls, FinishesFile, FinishesOne, FinishesThis, finish_at, finishes_at, state_at, states_at}
-use Rattle.snap_fix.specs.Finishing.{IsFinishCall, was_gone}
-use Rattle.snap_fix.specs.Plan.{FixPlan, entry_at, records_in}
+use Rattle.file_restorer.specs.Finishing.{IsFinishCall, was_gone}
+use Rattle.stripe_examiner.specs.Plan.{FixPlan, entry_at}
 use Rattle.snap_fix.specs.Reads.{FolderReads, IsQuiet}
-use Rattle.snap_fix.specs.State.{AnyCall, AreStepCalls, FolderMakes, FolderMakesBy, WellCall, record_path}
-use Rattle.snap_fix.proofs.FolderCallLemmas.{makes_each, well_wider}
+use Rattle.file_restorer.specs.State.{AnyCall, AreStepCalls, FolderMakes, FolderMakesBy, WellCall, record_path}
+use Rattle.file_restorer.proofs.FolderCallLemmas.{makes_each, well_wider}
 use Rattle.snap_fix.proofs.ReadsLemmas.{quiet_makes}
 
 -- all parts, one after another

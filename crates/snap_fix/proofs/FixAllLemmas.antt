@@ -1,5 +1,5 @@
 -- Stripes that were looked at and written anew, and then others.
-use Rattle.std.proofs.Common.{◌≡◌, ◌⊎◌, inl, inr, ℕ, ◌+◌, ◌<◌, ◌||◌, List, [], ◌∷◌, ◌++◌, length, get_or, All, Bool, true, false, refl, sym, ap, ◌∙◌, subst, arith, append_assoc}
+use Rattle.std.proofs.Common.{◌≡◌, ◌⊎◌, inl, inr, ℕ, ◌+◌, ◌<◌, ◌||◌, List, [], ◌∷◌, ◌++◌, length, get_or, All, Bool, true, false, refl, sym, ap, ap₂, ◌∙◌, subst, arith, append_assoc}
 use Rattle.std.specs.List.{count_by, Contains}
 use Rattle.std.proofs.Math.ListN.{get_or-map}
 use Rattle.std.proofs.lemmas.Grind.{flat_map-append}
@@ -21,31 +21,39 @@ use Rattle.snap_report.specs.declared.events.Event.{Event}
 use Rattle.snap_report.proofs.ToldLemmas.{told_then, told_nothing}
 use Rattle.stripe_reader.specs.Columns.{folder_at}
 use Rattle.snap_fix.specs.declared.fixing.Totals.{Totals}
-use Rattle.snap_fix.specs.declared.room.Room.{Room}
-use Rattle.snap_fix.specs.Asking.{AsksSpare}
-use Rattle.snap_fix.specs.BrokenStripe.{broken_events}
-use Rattle.snap_fix.specs.Facts.{StripeFacts}
-use Rattle.snap_fix.specs.FixRun.{AreAscending, BreaksInLast, FixesAll, HoldAllWrong, TellsInLast}
-use Rattle.snap_fix.specs.Fixing.{AreTotals, FixScene, FixesStripe, MendsVault, SceneFits, Writes, facts_of, levels_begun, was_written}
-use Rattle.snap_fix.specs.Known.{AreFacts}
-use Rattle.snap_fix.specs.Looking.{AreAllLevelsOf, numbers_of, unread_in}
+use Rattle.stripe_examiner.specs.Asking.{AsksSpare}
+use Rattle.snap_fix.specs.BrokenStripe.{BreaksLevels, broken_events}
+use Rattle.stripe_examiner.specs.Facts.{StripeFacts}
+use Rattle.snap_fix.specs.FixRun.{AreAscending, BreaksInLast, FixesAll, HoldAllWrong, MendsAll, TellsInLast}
+use Rattle.snap_fix.specs.Fixing.{AreTotals, FixScene, FixesStripe, MendsVault, SceneFits, Writes, facts_of, levels_begun, unwritten, was_written, with_answers}
+use Rattle.stripe_examiner.specs.Known.{AreFacts}
+use Rattle.stripe_examiner.specs.Looking.{AreAllLevelsOf, numbers_of, unread_in}
 use Rattle.snap_fix.specs.Mended.{AnswersFit, Mended, all_mended_events, is_wrong_level, mended_events}
-use Rattle.snap_fix.specs.Plan.{FixPlan}
-use Rattle.snap_fix.specs.Spare.{SpareView}
-use Rattle.snap_fix.specs.Underway.{AddsZeros, AreStripeCalls, AreUnderway, HoldsWrong, IsMendedLevel, done_well, mend_calls, stripe_calls, wrong_writes}
+use Rattle.stripe_examiner.specs.Plan.{FixPlan}
+use Rattle.stripe_examiner.specs.Spare.{SpareView}
+use Rattle.snap_fix.specs.Underway.{AddsZeros, AreStripeCalls, AreUnderway, HoldsWrong, IsMendedLevel, done_well}
+use Rattle.snap_fix.specs.Windows.{AreWindows, FixWindow, IsFixWindow, all_wrong_writes, mend_calls, stripes_in, window_reads}
 use Rattle.snap_fix.proofs.AskedLemmas.{asks_none, asks_then}
 use Rattle.snap_fix.proofs.BreakingLemmas.{breaks_then}
-use Rattle.snap_fix.proofs.FixCountLemmas.{count_append, parity_io_in_stripe}
-use Rattle.snap_fix.proofs.FolderCallLemmas.{makes_by_none}
+use Rattle.file_restorer.proofs.FolderCallLemmas.{makes_by_none}
 use Rattle.snap_fix.proofs.KeptStartsLemmas.{no_stripe_calls, stripe_makes, well_then}
-use Rattle.snap_fix.proofs.LookingLemmas.{vault_goes_on}
-use Rattle.snap_fix.proofs.MendedVaultLemmas.{Precede, all_levels_append, goes_on_none, holds_append, holds_still, levels_before, mend_calls_append, mends_append, mends_nothing, zeros_append}
+use Rattle.stripe_examiner.proofs.LookingLemmas.{vault_goes_on}
+use Rattle.snap_fix.proofs.MendedVaultLemmas.{Precede, all_levels_append, goes_on_none, holds_append, holds_still, levels_before, mends_append, mends_nothing, zeros_append}
 use Rattle.snap_fix.proofs.StartsKeptLemmas.{keeps_starts_same, keeps_starts_then}
+use Rattle.snap_fix.proofs.WindowsLemmas.{calls_append, parity_io_few, stripes_append, windows_append}
 
 -- ---- the facts and events of stripes, and then of others
 
 pub facts_append : (xs ys : List Mended) → facts_of (xs ++ ys) ≡ facts_of xs ++ facts_of ys
 facts_append xs ys = map-append (λ (mended : Mended). mended.facts) xs ys
+
+-- and of others that were not written
+facts_unwritten : (stripes : List StripeFacts) → facts_of (unwritten stripes) ≡ stripes
+facts_unwritten [] = refl
+facts_unwritten (facts ∷ stripes) = ap (λ (its : List StripeFacts). facts ∷ its) (facts_unwritten stripes)
+
+pub facts_beside : (xs : List Mended) (ahead : List StripeFacts) → facts_of (xs ++ unwritten ahead) ≡ facts_of xs ++ ahead
+facts_beside xs ahead = facts_append xs (unwritten ahead) ∙ ap (λ (its : List StripeFacts). facts_of xs ++ its) (facts_unwritten ahead)
 
 pub events_append : (plan : FixPlan) (xs ys : List Mended) → all_mended_events plan (xs ++ ys) ≡ all_mended_events plan xs ++ all_mended_events plan ys
 events_append plan xs ys = flat_map-append (mended_events plan) xs ys
@@ -63,10 +71,10 @@ number_in stripes facts (k, below, is) =
     (k, omega (arith, below, length-map stripes number), get_or-map number stripes k facts ∙ ap number is)
 
 -- of ascending stripes the first ones come before the others
-pub precede : (xs ys : List Mended) → AreAscending (numbers_of (facts_of xs) ++ numbers_of (facts_of ys)) → Precede (facts_of xs) (facts_of ys)
+pub precede : (xs ys : List StripeFacts) → AreAscending (numbers_of xs ++ numbers_of ys) → Precede xs ys
 precede xs ys ascending one other first second =
-    AllPairs-across (λ (a b : ℕ). a < b) (numbers_of (facts_of xs)) (numbers_of (facts_of ys)) ascending one.stripe other.stripe
-    (number_in (facts_of xs) one first) (number_in (facts_of ys) other second)
+    AllPairs-across (λ (a b : ℕ). a < b) (numbers_of xs) (numbers_of ys) ascending one.stripe other.stripe
+    (number_in xs one first) (number_in ys other second)
 
 -- ---- the vault, the spare and the answers of stripes, and then of others
 
@@ -155,43 +163,54 @@ begun_append (Folder disk) xs earlier last = refl
 begun_append Vault xs earlier last = append_assoc xs earlier (last ∷ [])
 begun_append Memory xs earlier last = refl
 
+-- those before the last one, and what was begun of it
+pub begun_one : (fault : RunFault) (xs : List StripeFacts) (last : StripeFacts) → levels_begun fault xs last ≡ xs ++ levels_begun fault [] last
+begun_one (Folder disk) xs last = sym (append-nil xs)
+begun_one Vault xs last = refl
+begun_one Memory xs last = sym (append-nil xs)
+
 -- where the last stripe's levels were not begun, they stayed
-begun_all : (fault : RunFault) (plan : FixPlan) (earlier : List StripeFacts) (last : StripeFacts) (old new : VaultView) → MendsVault plan (levels_begun fault earlier last) old new
+pub begun_all : (fault : RunFault) (plan : FixPlan) (earlier : List StripeFacts) (last : StripeFacts) (old new : VaultView) → MendsVault plan (levels_begun fault earlier last) old new
     → MendsVault plan (earlier ++ last ∷ []) old new
 begun_all (Folder disk) plan earlier last old new mends = mends_append plan earlier (last ∷ []) old new new mends (mends_nothing plan (last ∷ []) new)
 begun_all Vault plan earlier last old new mends = mends
 begun_all Memory plan earlier last old new mends = mends_append plan earlier (last ∷ []) old new new mends (mends_nothing plan (last ∷ []) new)
 
-pub mends_in_last : (fault : RunFault) (plan : FixPlan) (level : ℕ) (earlier : List StripeFacts) (last : StripeFacts) (readings : List (List LevelReading)) (old new : VaultView)
-    → BreaksInLast plan fault level earlier last readings old new → MendsVault plan (earlier ++ last ∷ []) old new
-mends_in_last fault plan level earlier last readings old new broke = begun_all fault plan earlier last old new broke.vault
-
--- the calls of some stripes up to the writes of the last one, after those of others
-pub breaks_in_last : (fault : RunFault) (plan : FixPlan) (level : ℕ) (xs ys : List Mended) (last : Mended) (firsts more : List (List LevelReading)) (old mid new : VaultView)
-    → Precede (facts_of xs) (facts_of (ys ++ last ∷ [])) → AreAllLevelsOf plan.table.shape.block_size old (facts_of xs) firsts
-    → GoesOn old mid (mend_calls plan (facts_of xs) firsts) → MendsVault plan (facts_of xs) old mid → HoldAllWrong plan (facts_of xs) mid
-    → BreaksInLast plan fault level (facts_of ys) last.facts more mid new → BreaksInLast plan fault level (facts_of (xs ++ ys)) last.facts (firsts ++ more) old new
-breaks_in_last fault plan level xs ys last firsts more old mid new before read ran mends holds broke =
+-- the calls for some windows, and then those up to the writes of the stripe that broke off
+pub breaks_in_last : (fault : RunFault) (plan : FixPlan) (level : ℕ) (xs ys : List Mended) (last : Mended) (behind : List StripeFacts) (windows : List FixWindow)
+    (firsts more : List (List LevelReading)) (old mid new : VaultView) → Precede (facts_of xs) (facts_of (ys ++ last ∷ [])) → AreWindows windows (facts_of xs) firsts
+    → GoesOn old mid (mend_calls plan windows) → MendsVault plan (facts_of xs) old mid → HoldAllWrong plan (facts_of xs) mid
+    → BreaksInLast plan fault level (facts_of ys) last.facts behind more mid new → BreaksInLast plan fault level (facts_of (xs ++ ys)) last.facts behind (firsts ++ more) old new
+breaks_in_last fault plan level xs ys last behind windows firsts more old mid new before windows_are ran mends holds broke =
     let one = facts_of xs in
     let two = facts_of ys in
     let facts = facts_append xs ys in
-    let behind = two ++ last.facts ∷ [] in
-    let calls = mend_calls plan one firsts in
-    let writes = done_well (wrong_writes plan last.facts) in
-    let then : Precede one behind = subst (Precede one) (facts_append ys (last ∷ [])) before in
-    let mended = mends_in_last fault plan level two last.facts more mid new broke in
+    let calls = mend_calls plan windows in
+    let here = window_reads plan broke.window ++ done_well (all_wrong_writes plan broke.front) in
+    let apart : (one ++ two) ++ last.facts ∷ behind ≡ one ++ (two ++ last.facts ∷ behind) = append_assoc one two (last.facts ∷ behind) in
+    let then : Precede one (two ++ last.facts ∷ []) = subst (Precede one) (facts_append ys (last ∷ [])) before in
+    let mended = begun_all fault plan two last.facts mid new broke.vault in
     record {
-      before = calls ++ broke.before;
-      calls_are = ap (λ (stripes : List StripeFacts). mend_calls plan stripes (firsts ++ more))
-          (ap (λ (stripes : List StripeFacts). stripes ++ last.facts ∷ []) facts ∙ append_assoc one two (last.facts ∷ []))
-          ∙ mend_calls_append plan plan.table.shape.block_size old one behind firsts more read
-          ∙ ap (λ (others : List VaultDone). calls ++ others) broke.calls_are ∙ sym (append_assoc calls broke.before writes);
-      ran = breaks_then fault plan last.facts level calls broke.before old mid new ran broke.ran;
+      windows = windows ++ broke.windows;
+      window = broke.window;
+      windows_are = subst (λ (stripes : List StripeFacts). AreWindows ((windows ++ broke.windows) ++ broke.window ∷ []) stripes (firsts ++ more))
+          (sym (ap (λ (stripes : List StripeFacts). stripes ++ last.facts ∷ behind) facts ∙ apart))
+          (subst (λ (its : List FixWindow). AreWindows its (one ++ (two ++ last.facts ∷ behind)) (firsts ++ more))
+          (sym (append_assoc windows broke.windows (broke.window ∷ [])))
+          (windows_append windows (broke.windows ++ broke.window ∷ []) one (two ++ last.facts ∷ behind) firsts more windows_are broke.windows_are));
+      front = broke.front;
+      earlier_are = facts ∙ ap₂ (λ (a b : List StripeFacts). a ++ b) windows_are.stripes_are broke.earlier_are
+          ∙ sym (append_assoc (stripes_in windows) (stripes_in broke.windows) broke.front)
+          ∙ ap (λ (stripes : List StripeFacts). stripes ++ broke.front) (sym (stripes_append windows broke.windows));
+      window_is = broke.window_is;
+      ran = subst (λ (calls_before : List VaultDone). BreaksLevels fault plan last.facts level calls_before old new)
+          (sym (append_assoc calls (mend_calls plan broke.windows) here) ∙ ap (λ (before_it : List VaultDone). before_it ++ here) (sym (calls_append plan windows broke.windows)))
+          (breaks_then fault plan last.facts level calls (mend_calls plan broke.windows ++ here) old mid new ran broke.ran);
       vault = subst (λ (stripes : List StripeFacts). MendsVault plan stripes old new)
           (sym (ap (λ (stripes : List StripeFacts). levels_begun fault stripes last.facts) facts ∙ begun_append fault one two last.facts))
           (mends_append plan one (levels_begun fault two last.facts) old mid new mends broke.vault);
       holds = subst (λ (stripes : List StripeFacts). HoldAllWrong plan stripes new) (sym facts)
-          (λ told. All-append (λ (its : StripeFacts). HoldsWrong plan its new.files) one two (holds_still plan one behind mid new then mended holds told) (broke.holds told));
+          (λ told. All-append (λ (its : StripeFacts). HoldsWrong plan its new.files) one two (holds_still plan one (two ++ last.facts ∷ []) mid new then mended holds told) (broke.holds told));
     }
 
 -- ---- what was told where the last stripe broke off
@@ -228,87 +247,105 @@ tells_then plan fault level xs earlier last first tells =
     }
 
 module _ {W R : Type 0} (view : W → SinkView) (standing : R → ReportView) (stands : R → List Event → Type 0) (plan : FixPlan) where
-  pub fixes_none : (totals : Totals) (s : FixScene W R) → SceneFits plan s → AreTotals plan [] totals → FixesAll view standing stands plan [] s s totals
-  fixes_none totals s fits none = record {
-    are = All-nil (AreFacts plan);
+  -- no stripe was written anew
+  pub mend_none : (totals : Totals) (s : FixScene W R) → SceneFits plan s → AreTotals plan [] totals → MendsAll view standing stands plan [] s s totals
+  mend_none totals s fits none = record {
     fits = fits;
     told = told_nothing view standing stands plan.table.columns s.lines s.reports;
     totals_are = none;
     written = writes_none plan s.written;
     answered = All-nil (AnswersFit plan s.folders);
     stood = keeps_starts_same s.starts;
-    readings = [];
-    read = tt;
-    unread = omega arith;
-    ran = goes_on_none s.vault;
     vault = mends_nothing plan [] s.vault;
     zeros = λ told level at x outside short has. absurd (omega (arith, short, has.within));
     holds = λ told. All-nil (λ (facts : StripeFacts). HoldsWrong plan facts s.vault.files);
-    parity_io = omega arith;
-    spare = asks_none plan s.spare;
     makes = λ d below. makes_by_none (AreStripeCalls plan s.starts d []) (folder_at s.folders d) (no_stripe_calls plan s.starts d);
     underway = λ before firsts fixable is. subst (λ (stripes : List Mended). AreUnderway plan stripes firsts s.folders s.starts s.states) (sym (append-nil before)) is;
   }
 
-  pub fixes_one : {stripe i : ℕ} {before after : Room} {old new : FixScene W R} {totals : Totals} (it : FixesStripe view standing stands plan stripe i before after old new totals)
-      → FixesAll view standing stands plan (it.mended ∷ []) old new totals
-  fixes_one {old = old} {new = new} it =
-      let only : mended_events plan it.mended ++ [] ≡ mended_events plan it.mended = append-nil (mended_events plan it.mended) in
-      let few = parity_io_in_stripe plan it.mended plan.table.shape.block_size it.read.readings it.read.are.as_many it.read.are.are_kept in
-      let rose : RoseBy (count_by is_parity_io (mended_events plan it.mended)) old.vault.faults new.vault.faults = omega (arith, few, it.read.unread) in
+  -- one was
+  pub mend_one : (facts : StripeFacts) (old new : FixScene W R) (totals : Totals) (it : FixesStripe view standing stands plan facts old new totals)
+      → MendsAll view standing stands plan (with_answers facts it.answers ∷ []) old new totals
+  mend_one facts old new totals it =
+      let mended = with_answers facts it.answers in
+      let only : mended_events plan mended ++ [] ≡ mended_events plan mended = append-nil (mended_events plan mended) in
       record {
-        are = All-cons (AreFacts plan) it.mended.facts [] it.are (All-nil (AreFacts plan));
         fits = it.fits;
         told = rw (only) it.told;
         totals_are = it.totals_are;
         written = it.written;
-        answered = All-cons (AnswersFit plan old.folders) it.mended [] it.answered (All-nil (AnswersFit plan old.folders));
+        answered = All-cons (AnswersFit plan old.folders) mended [] it.answers_fit (All-nil (AnswersFit plan old.folders));
         stood = it.stood;
-        readings = it.read.readings ∷ [];
-        read = (it.read.are, tt);
-        unread = omega (arith, it.read.unread);
-        ran = subst (GoesOn old.vault new.vault) (sym (append-nil (stripe_calls plan it.mended.facts it.read.readings))) it.ran;
         vault = it.vault;
         zeros = it.zeros;
-        holds = λ told. All-cons (λ (facts : StripeFacts). HoldsWrong plan facts new.vault.files) it.mended.facts [] (it.holds told) (All-nil (λ (facts : StripeFacts). HoldsWrong plan facts new.vault.files));
-        parity_io = rw (only) rose;
-        spare = it.spare;
-        makes = λ d below. stripe_makes plan old.starts d it.mended (it.makes d below);
+        holds = λ told. All-cons (λ (its : StripeFacts). HoldsWrong plan its new.vault.files) facts [] (it.holds told) (All-nil (λ (its : StripeFacts). HoldsWrong plan its new.vault.files));
+        makes = λ d below. stripe_makes plan old.starts d mended (it.makes d below);
         underway = it.underway;
       }
 
-  pub fixes_then : (xs ys : List Mended) (one two both : Totals) (old mid new : FixScene W R) → Precede (facts_of xs) (facts_of ys)
+  -- some were, and then others
+  pub mend_then : (xs ys : List Mended) (one two both : Totals) (old mid new : FixScene W R) → Precede (facts_of xs) (facts_of ys)
       → ((stripes others : List Mended) → AreTotals plan stripes one → AreTotals plan others two → AreTotals plan (stripes ++ others) both)
-      → FixesAll view standing stands plan xs old mid one → FixesAll view standing stands plan ys mid new two → FixesAll view standing stands plan (xs ++ ys) old new both
-  fixes_then xs ys one two both old mid new before and first back =
+      → MendsAll view standing stands plan xs old mid one → MendsAll view standing stands plan ys mid new two → MendsAll view standing stands plan (xs ++ ys) old new both
+  mend_then xs ys one two both old mid new before and first back =
       let size = plan.table.shape.block_size in
       let events = events_append plan xs ys in
       let facts = facts_append xs ys in
-      let tells : mid.vault.tells ≡ old.vault.tells = first.ran.tells in
-      let counted : count_by is_parity_io (all_mended_events plan (xs ++ ys)) ≡ count_by is_parity_io (all_mended_events plan xs) + count_by is_parity_io (all_mended_events plan ys) =
-      ap (λ (es : List Event). count_by is_parity_io es) events ∙ count_append is_parity_io (all_mended_events plan xs) (all_mended_events plan ys) in
-      let calls = vault_goes_on old.vault mid.vault new.vault (mend_calls plan (facts_of xs) first.readings) (mend_calls plan (facts_of ys) back.readings) first.ran back.ran in
+      let tells : mid.vault.tells ≡ old.vault.tells = first.vault.calls.goes_on.tells in
       record {
-        are = facts_then plan xs ys first.are back.are;
         fits = back.fits;
         told = rw (events) (told_then view standing stands plan.table.columns (all_mended_events plan xs) (all_mended_events plan ys) old.lines mid.lines new.lines old.reports mid.reports new.reports first.told back.told);
         totals_are = and xs ys first.totals_are back.totals_are;
         written = writes_then plan xs ys old.written mid.written new.written first.written back.written;
         answered = answered_then plan xs ys old.folders mid.folders (λ d below. (first.makes d below).goes_on.tells) first.answered back.answered;
         stood = keeps_starts_then old.starts mid.starts new.starts first.stood back.stood;
-        readings = first.readings ++ back.readings;
-        read = levels_then plan xs ys old.vault mid.vault first.readings back.readings first.vault before first.read back.read;
-        unread = unread_then first.readings back.readings old.vault.faults mid.vault.faults new.vault.faults first.unread back.unread;
-        ran = subst (λ (stripes : List StripeFacts). GoesOn old.vault new.vault (mend_calls plan stripes (first.readings ++ back.readings))) (sym facts)
-            (subst (GoesOn old.vault new.vault) (sym (mend_calls_append plan size old.vault (facts_of xs) (facts_of ys) first.readings back.readings first.read)) calls);
         vault = mends_then plan xs ys old.vault mid.vault new.vault first.vault back.vault;
         zeros = λ told. subst (λ (stripes : List StripeFacts). AddsZeros size (IsMendedLevel plan stripes) old.vault.files new.vault.files) (sym facts)
             (zeros_append plan (facts_of xs) (facts_of ys) old.vault.files mid.vault.files new.vault.files (back.vault.changes.reads (tells ∙ told)) (first.zeros told) (back.zeros (tells ∙ told)));
         holds = subst (λ (stripes : List StripeFacts). HoldAllWrong plan stripes new.vault) (sym facts)
             (holds_append plan (facts_of xs) (facts_of ys) mid.vault new.vault before back.vault first.holds back.holds);
-        parity_io = omega (arith, counted, first.parity_io, back.parity_io);
-        spare = asked_then plan xs ys old.spare mid.spare new.spare first.spare back.spare;
         makes = λ d below. well_then plan old.starts mid.starts first.stood d xs ys (first.makes d below) (back.makes d below);
         underway = λ earlier firsts fixable is. subst (λ (stripes : List Mended). AreUnderway plan stripes firsts new.folders new.starts new.states) (append_assoc earlier xs ys)
             (back.underway (earlier ++ xs) firsts fixable (first.underway earlier firsts fixable is));
       }
+
+  -- no window was looked at
+  pub fixes_none : (totals : Totals) (s : FixScene W R) → SceneFits plan s → AreTotals plan [] totals → FixesAll view standing stands plan [] s s totals
+  fixes_none totals s fits none = record {
+    are = All-nil (AreFacts plan);
+    mends = mend_none totals s fits none;
+    windows = [];
+    readings = [];
+    windows_are = record { stripes_are = refl; readings_are = refl; each = All-nil IsFixWindow };
+    read = tt;
+    unread = omega arith;
+    ran = goes_on_none s.vault;
+    spare = asks_none plan s.spare;
+  }
+
+  -- some were, and then others
+  pub fixes_then : (xs ys : List Mended) (one two both : Totals) (old mid new : FixScene W R) → Precede (facts_of xs) (facts_of ys)
+      → ((stripes others : List Mended) → AreTotals plan stripes one → AreTotals plan others two → AreTotals plan (stripes ++ others) both)
+      → FixesAll view standing stands plan xs old mid one → FixesAll view standing stands plan ys mid new two → FixesAll view standing stands plan (xs ++ ys) old new both
+  fixes_then xs ys one two both old mid new before and first back =
+      let readings = first.readings ++ back.readings in
+      record {
+        are = facts_then plan xs ys first.are back.are;
+        mends = mend_then xs ys one two both old mid new before and first.mends back.mends;
+        windows = first.windows ++ back.windows;
+        readings = readings;
+        windows_are = subst (λ (stripes : List StripeFacts). AreWindows (first.windows ++ back.windows) stripes readings) (sym (facts_append xs ys))
+            (windows_append first.windows back.windows (facts_of xs) (facts_of ys) first.readings back.readings first.windows_are back.windows_are);
+        read = levels_then plan xs ys old.vault mid.vault first.readings back.readings first.mends.vault before first.read back.read;
+        unread = unread_then first.readings back.readings old.vault.faults mid.vault.faults new.vault.faults first.unread back.unread;
+        ran = subst (GoesOn old.vault new.vault) (sym (calls_append plan first.windows back.windows))
+            (vault_goes_on old.vault mid.vault new.vault (mend_calls plan first.windows) (mend_calls plan back.windows) first.ran back.ran);
+        spare = asked_then plan xs ys old.spare mid.spare new.spare first.spare back.spare;
+      }
+
+  -- the vault's count of faults rose by no less than the failed readings of levels that were told
+  pub parity_io_rose : (stripes : List Mended) (totals : Totals) (old new : FixScene W R) → FixesAll view standing stands plan stripes old new totals
+      → RoseBy (count_by is_parity_io (all_mended_events plan stripes)) old.vault.faults new.vault.faults
+  parity_io_rose stripes totals old new fixes =
+      let few = parity_io_few plan old.vault stripes fixes.readings fixes.read in
+      omega (arith, few, fixes.unread)

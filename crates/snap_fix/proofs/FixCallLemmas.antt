@@ -1,7 +1,7 @@
 -- All calls of a fix on a folder, while blocks are written and when files are finished, are those of a fix.
 use Rattle.std.proofs.Common.{◌≡◌, inl, inr, ⊎_elim, ℕ, ◌<◌, ◌&&◌, not, is_some, List, length, Bool, true, false, Option, Some, refl, sym, ap, ◌∙◌, subst}
 use Rattle.disk_model.specs.Folder.{FolderView, FolderCall, ListFiles, Look, ReadAt, Make, WriteAt, SetSize, SetStamp, Rename}
-use Rattle.file_table.specs.Table.{column_at, record_at}
+use Rattle.file_table.specs.Table.{column_at, record_at, records_in}
 use Rattle.file_table.specs.declared.block.Cell.{Cell}
 use Rattle.file_table.proofs.CellInLemmas.{cell_in-Some}
 use Rattle.snap_report.specs.Answer.{is_reading}
@@ -10,18 +10,19 @@ use Rattle.stripe_reader.specs.Starts.{StartsValue, start_in, starts_at}
 use Rattle.stripe_reader.specs.declared.starts.Place.{Place}
 use Rattle.stripe_reader.specs.declared.starts.Place.TheVariants.{Plain, Lost, Nowhere}
 use Rattle.stripe_reader.specs.declared.starts.Start.{Start}
-use Rattle.snap_fix.specs.declared.finishing.Finish.{Finish}
-use Rattle.snap_fix.specs.declared.state.FileState.{FileState}
+use Rattle.file_restorer.specs.declared.finishing.Finish.{Finish}
+use Rattle.file_restorer.specs.declared.state.FileState.{FileState}
 use Rattle.snap_fix.specs.Ending.{FinishesColumn, FinishesOne}
-use Rattle.snap_fix.specs.Facts.{StripeFacts, damaged_at}
-use Rattle.snap_fix.specs.Finishing.{IsFinishCall, IsWholeCall}
+use Rattle.stripe_examiner.specs.Facts.{StripeFacts, damaged_at}
+use Rattle.file_restorer.specs.Finishing.{IsFinishCall, IsWholeCall}
 use Rattle.snap_fix.specs.FixCourse.{IsFixCall, IsForPlace, IsForRecord, MakeFixCalls, WritesFiles, Written}
-use Rattle.snap_fix.specs.Mended.{Mended, has_lost, is_blocked_cell, is_repaired, known_block}
-use Rattle.snap_fix.specs.Plan.{FixPlan, cell_at, entry_at, has_selected, is_in_scope, records_in, selects_cell}
-use Rattle.snap_fix.specs.State.{AnyCall, FolderMakes, KeepsStarts, StaysPlace, record_path, state_in}
+use Rattle.snap_fix.specs.Mended.{Mended, has_lost, is_blocked_cell, is_repaired}
+use Rattle.stripe_examiner.specs.Showing.{known_block}
+use Rattle.stripe_examiner.specs.Plan.{FixPlan, cell_at, entry_at, has_selected, is_in_scope, selects_cell}
+use Rattle.file_restorer.specs.State.{AnyCall, FolderMakes, KeepsStarts, StaysPlace, record_path, state_in}
 use Rattle.snap_fix.specs.Underway.{IsMendCall, IsStripeCall, SetsUpOneOf}
 use Rattle.snap_fix.proofs.FinishPartsLemmas.{finish_calls_any}
-use Rattle.snap_fix.proofs.FolderCallLemmas.{makes_any_wider, makes_then}
+use Rattle.file_restorer.proofs.FolderCallLemmas.{makes_any_wider, makes_then}
 use Rattle.snap_fix.proofs.KeptStartsLemmas.{stripes_any}
 use Rattle.snap_fix.proofs.MendedFactsLemmas.{and_parts}
 use Rattle.snap_fix.proofs.RepairMarkLemmas.{both, not_blocked}

@@ -1,14 +1,15 @@
 -- A fix as a whole, by what its stripes, the sync of its levels and the finish of its files left.
 use Rattle.std.proofs.Common.{◌≡◌, inl, inr, ℕ, ◌<◌, ◌≤◌, List, [], ◌∷◌, ◌++◌, length, All, get_or, Bool, false, refl, sym, ap, ◌∙◌, subst, arith, append_assoc}
 use Rattle.std.specs.List.{count_by}
-use Rattle.std.proofs.lemmas.List.{append-nil}
+use Rattle.std.proofs.lemmas.List.{append-nil, map-append}
+use Rattle.std.proofs.lemmas.List.Elements.{All-append, All-nil}
 use Rattle.disk_model.specs.Cause.{RoseBy}
 use Rattle.disk_model.specs.Folder.{FolderView}
 use Rattle.disk_model.specs.Sink.{SinkView}
 use Rattle.disk_model.specs.Vault.{VaultView, VaultCall, IsWellFormed}
 use Rattle.file_table.specs.Table.{TableValue}
 use Rattle.file_table.specs.Valid.{IsValid}
-use Rattle.file_table.proofs.PrefixLemmas.{AllPairs-left}
+use Rattle.file_table.proofs.PrefixLemmas.{All-left, All-right, AllPairs-left}
 use Rattle.parity_writer.specs.LevelReading.{LevelReading}
 use Rattle.snap_config.specs.declared.options.Selection.{Selection}
 use Rattle.snap_report.specs.Answer.{is_io_of, is_parity_io}
@@ -25,36 +26,40 @@ use Rattle.snap_report.specs.declared.pages.Lines.{Lines}
 use Rattle.snap_report.proofs.PutsLemmas.{puts_then}
 use Rattle.snap_report.proofs.ToldLemmas.{told_then}
 use Rattle.stripe_reader.specs.Columns.{folder_at}
+use Rattle.stripe_reader.specs.Reading.{task_at}
 use Rattle.stripe_reader.specs.Starts.{StartsValue, starts_at}
 use Rattle.snap_fix.specs.declared.beginning.Work.{Work}
-use Rattle.snap_fix.specs.declared.counts.Counts.{Counts}
+use Rattle.stripe_examiner.specs.declared.counts.Counts.{Counts}
 use Rattle.snap_fix.specs.declared.fixing.Totals.{Totals}
-use Rattle.snap_fix.specs.declared.scope.Mode.{Mode}
-use Rattle.snap_fix.specs.declared.state.FileState.{FileState}
+use Rattle.stripe_examiner.specs.declared.scope.Mode.{Mode}
+use Rattle.file_restorer.specs.declared.state.FileState.{FileState}
 use Rattle.snap_fix.specs.Beginning.{Begins}
 use Rattle.snap_fix.specs.Checking.{plan_for}
-use Rattle.snap_fix.specs.Counts.{AreCounts}
+use Rattle.stripe_examiner.specs.Counts.{AreCounts}
 use Rattle.snap_fix.specs.Course.{IsPlan, Outside, outside}
-use Rattle.snap_fix.specs.Breaking.{FailsAfter}
+use Rattle.file_restorer.specs.Breaking.{FailsAfter}
 use Rattle.snap_fix.specs.BrokenStripe.{broken_events}
 use Rattle.snap_fix.specs.Ending.{AreColumnFinishCalls, FinishesAll, FinishesNotAll, FinishesOne, SyncsNot, SyncsWritten, all_finish_news, finishes_at, states_at, written_syncs}
-use Rattle.snap_fix.specs.Facts.{StripeFacts}
-use Rattle.snap_fix.specs.Findings.{opening_events}
+use Rattle.stripe_examiner.specs.Facts.{StripeFacts, slot_of}
+use Rattle.stripe_examiner.specs.Findings.{opening_events}
 use Rattle.snap_fix.specs.FixBreaking.{BreaksFiles, BreaksLast, FixBreaks}
 use Rattle.snap_fix.specs.FixCourse.{FixFinds, Fixes, FixesVault, WritesFiles, Written, fix_events, mend_syncs}
-use Rattle.snap_fix.specs.FixRun.{AreAscending, BreaksFolders, BreaksStripes, FixesStripes, HasBroken}
-use Rattle.snap_fix.specs.Fixing.{AreReadThen, FixScene, MendsVault, facts_of, fix_scene, was_written}
-use Rattle.snap_fix.specs.Known.{AreFacts}
-use Rattle.snap_fix.specs.Looking.{AreAllLevelsOf, numbers_of, unread_in}
-use Rattle.snap_fix.specs.Mended.{AnswersFit, Mended, all_mended_events}
-use Rattle.snap_fix.specs.Plan.{FixPlan, starts_of, stripes_of}
+use Rattle.snap_fix.specs.FixRun.{AreAscending, BreaksFolders, BreaksStripes, FixesStripes, HasBroken, LooksAhead}
+use Rattle.stripe_examiner.specs.Asking.{AsksSpare}
+use Rattle.snap_fix.specs.Fixing.{AreReadThen, FixScene, MendsVault, facts_of, fix_scene, unwritten, was_written}
+use Rattle.stripe_examiner.specs.Known.{AreFacts}
+use Rattle.stripe_examiner.specs.Looking.{numbers_of, unread_cells, unread_in}
+use Rattle.snap_fix.specs.Mended.{Mended, all_mended_events}
+use Rattle.stripe_examiner.specs.Plan.{FixPlan, starts_of, stripes_of}
 use Rattle.snap_fix.specs.Repairing.{outside as files_outside}
-use Rattle.snap_fix.specs.Reads.{AreReadAhead, AreReadBy, FolderReads}
-use Rattle.snap_fix.specs.Spare.{SpareView}
-use Rattle.snap_fix.specs.State.{AnyCall, FolderMakes, first_states}
-use Rattle.snap_fix.specs.Underway.{AreFixable, AreUnderway, IsStripeCall, done_well, mend_calls}
+use Rattle.snap_fix.specs.Reads.{AreAllRead, AreReadBy, FolderReads}
+use Rattle.stripe_examiner.specs.Present.{ArePresent, IsPresent}
+use Rattle.stripe_examiner.specs.Spare.{SpareView}
+use Rattle.file_restorer.specs.State.{AnyCall, FolderMakes, first_states}
+use Rattle.snap_fix.specs.Underway.{AreFixable, AreUnderway, IsStripeCall, done_well}
+use Rattle.snap_fix.specs.Windows.{FixWindow, mend_calls}
 use Rattle.snap_fix.proofs.BreakingLemmas.{fails_after}
-use Rattle.snap_fix.proofs.FixAllLemmas.{facts_last, mends_in_last, tells_exact}
+use Rattle.snap_fix.proofs.FixAllLemmas.{begun_all, facts_beside, facts_last, parity_io_rose, tells_exact}
 use Rattle.snap_fix.proofs.FixCallLemmas.{fix_calls_of, fix_calls_of_writing}
 use Rattle.snap_fix.proofs.FixCountLemmas.{count_append}
 use Rattle.snap_fix.proofs.FixEventLemmas.{io_no_file, none_finishing, none_finishing_first, none_opening, parity_io_no_file}
@@ -63,10 +68,10 @@ use Rattle.snap_fix.proofs.FixIntoLemmas.{folder_gained, vault_gained}
 use Rattle.snap_fix.proofs.FixStartLemmas.{begun_underway, stripes_ascending, underway_begun}
 use Rattle.snap_fix.proofs.FixVaultLemmas.{fixes_vault, flag_is, holds_synced, mends_synced, rose_on, syncs_are}
 use Rattle.snap_fix.proofs.FinishPartsLemmas.{finish_calls_each, finish_writes}
-use Rattle.snap_fix.proofs.FolderFailsLemmas.{fails_gained, in_column_any}
+use Rattle.file_restorer.proofs.FolderFailsLemmas.{fails_gained, in_column_any}
 use Rattle.snap_fix.proofs.KeptStartsLemmas.{files_any, stripe_makes, stripes_any, well_then}
 use Rattle.snap_fix.proofs.PresentLemmas.{StartsFitFolders, present_at_first, starts_fit_first}
-use Rattle.snap_fix.proofs.ReadsLemmas.{ahead_none, quiet_in_column, reads_on, reads_wider}
+use Rattle.snap_fix.proofs.ReadsLemmas.{quiet_in_column, reads_on, reads_wider}
 use Rattle.snap_fix.proofs.StartsKeptLemmas.{keeps_starts_then}
 
 -- ---- which events were told
@@ -85,6 +90,11 @@ broke_opened plan Vault first olds news old new broke =
     let rose = broke.rose in
     record { rose = omega (arith, sum, none, rose); call = broke.call }
 broke_opened plan Memory first olds news old new broke = broke
+
+-- what was read of a stripe stood there at first
+abbrev IsPresentAt : FixPlan → StartsValue → List FolderView → StripeFacts → Type 0
+IsPresentAt plan starts firsts facts = (d : ℕ) → d < length plan.table.columns
+    → IsPresent plan.table.shape (folder_at firsts d) (task_at plan.table starts d facts.stripe) (slot_of facts d)
 
 -- ---- the run
 
@@ -116,13 +126,12 @@ module _ {W R : Type 0} (view : W → SinkView) (standing : R → ReportView) (s
       let later = (begun.listed.each d (omega (arith, within, folders_are))).call.called.goes_on.later in
       omega (arith, later, rose)
 
-  -- what is known of the first stripes
-  finds_first : (stripes : List Mended) (behind : List ℕ) (readings : List (List LevelReading)) → stripes_of plan ≡ numbers_of (facts_of stripes) ++ behind
-      → All (AreFacts plan) (facts_of stripes) → AreReadThen plan starts mids stripes → AreAllLevelsOf table.shape.block_size old.vault (facts_of stripes) readings
-      → All (AnswersFit plan mids) stripes → FixFinds plan starts mids old.vault stripes readings
-  finds_first stripes behind readings numbers are read levels answered =
+  -- what was read of the first stripes stood there at first
+  present_first : (stripes : List Mended) (behind : List ℕ) → stripes_of plan ≡ numbers_of (facts_of stripes) ++ behind
+      → All (AreFacts plan) (facts_of stripes) → AreReadThen plan starts mids stripes → ArePresent plan starts mids (facts_of stripes)
+  present_first stripes behind numbers are read =
       let ascending = AllPairs-left (λ (a b : ℕ). a < b) (numbers_of (facts_of stripes)) behind (subst AreAscending numbers (stripes_ascending plan)) in
-      record { are = are; cells = present_at_first plan starts mids stripes valid ascending are start_fit read; levels = levels; answered = answered }
+      present_at_first plan starts mids stripes valid ascending are start_fit read
 
   -- where the vault failed, all blocks of the last stripe were written, too
   last_of : (earlier : List Mended) (last : Mended) (news : List FolderView) (by : RunFault)
@@ -170,6 +179,15 @@ module _ {W R : Type 0} (view : W → SinkView) (standing : R → ReportView) (s
     stripes_broke fault broke_then =
         let broke = subst (λ (from : StartsValue). BreaksStripes view standing stands plan work.stripes.items (scene_from from) scene_mid fault) begun.starts broke_then in
         let numbers : stripes_of plan ≡ numbers_of (facts_of broke.stripes) ++ broke.behind = sym begun.stripes ∙ broke.numbers_are in
+        let looked = facts_of broke.stripes in
+        let ahead = broke.ahead.stripes in
+        let beside = facts_beside broke.stripes ahead in
+        let numbers_all : stripes_of plan ≡ numbers_of (facts_of (broke.stripes ++ unwritten ahead)) ++ broke.looked.more
+        = numbers ∙ ap (λ (its : List ℕ). numbers_of looked ++ its) broke.looked.behind_is ∙ sym (append_assoc (numbers_of looked) (numbers_of ahead) broke.looked.more)
+        ∙ ap (λ (its : List ℕ). its ++ broke.looked.more) (sym (map-append (λ (it : StripeFacts). it.stripe) looked ahead) ∙ ap numbers_of (sym beside)) in
+        let present = subst (ArePresent plan starts mids) beside
+        (present_first (broke.stripes ++ unwritten ahead) broke.looked.more numbers_all
+        (subst (All (AreFacts plan)) (sym beside) (All-append (AreFacts plan) looked ahead broke.are broke.looked.are)) (broke.cells mids fixable underway_start)) in
         record {
           lists = begun.lists;
           mids = mids;
@@ -181,12 +199,15 @@ module _ {W R : Type 0} (view : W → SinkView) (standing : R → ReportView) (s
           behind = broke.behind;
           numbers = numbers;
           readings = broke.readings;
-          finds = finds_first broke.stripes broke.behind broke.readings numbers broke.are (broke.cells mids fixable underway_start) broke.read broke.answered;
+          finds = record { are = broke.are; cells = All-left (IsPresentAt plan starts mids) looked ahead present; levels = broke.read; answered = broke.answered };
           unread = broke.unread;
           unread_cells_of = λ d within. rose_listed d _ _ within (broke.unread_cells_of d within);
+          ahead = broke.ahead;
+          looked = broke.looked;
+          cells_ahead = All-right (IsPresentAt plan starts mids) looked ahead present;
           spare = broke.spare;
           vault = subst (λ (its : List StripeFacts). MendsVault plan its old.vault vault_mid) (sym (facts_last broke.stripes broke.earlier broke.last broke.stripes_are))
-              (mends_in_last fault plan broke.level (facts_of broke.earlier) broke.last.facts broke.readings old.vault vault_mid broke.ran);
+              (begun_all fault plan (facts_of broke.earlier) broke.last.facts old.vault vault_mid broke.ran.vault);
           first = opening ++ broke.first;
           off = inl (record {
             earlier = broke.earlier;
@@ -222,15 +243,35 @@ module _ {W R : Type 0} (view : W → SinkView) (standing : R → ReportView) (s
       abbrev readings : List (List LevelReading)
       readings = fixed.fixes.readings
 
+      abbrev windows : List FixWindow
+      windows = fixed.fixes.windows
+
+      -- none was looked at behind them
+      abbrev nothing_ahead : FixWindow
+      nothing_ahead = record { stripes = []; readings = [] }
+
+      looked : LooksAhead plan nothing_ahead [] old.vault
+      looked = record { are = All-nil (AreFacts plan); levels = tt; more = []; behind_is = refl }
+
+      all_read : (n : ℕ) → RoseBy (unread_in readings) old.vault.faults n → RoseBy (unread_in (readings ++ [])) old.vault.faults n
+      all_read n rose = subst (λ (its : List (List LevelReading)). RoseBy (unread_in its) old.vault.faults n) (sym (append-nil readings)) rose
+
+      all_asked : AsksSpare plan (facts_of stripes ++ []) old.spare spare_mid
+      all_asked = subst (λ (its : List StripeFacts). AsksSpare plan its old.spare spare_mid) (sym (append-nil (facts_of stripes))) fixed.fixes.spare
+
       abbrev all_written : Written
       all_written = record { starts = starts_mid; states = states_mid; folders = folders_mid }
 
       writes : WritesFiles plan starts stripes mids all_written
-      writes = record { stood = fixed.fixes.stood; underway = fixed.fixes.underway [] mids fixable underway_start; makes = fixed.fixes.makes }
+      writes = record { stood = fixed.fixes.mends.stood; underway = fixed.fixes.mends.underway [] mids fixable underway_start; makes = fixed.fixes.mends.makes }
 
-      reads_all : (d : ℕ) → d < length table.columns → FolderReads (AreReadAhead plan starts d (facts_of stripes) []) (folder_at mids d) (folder_at folders_mid d)
-      reads_all d within = reads_wider (AreReadBy plan starts starts_mid d (facts_of stripes)) (AreReadAhead plan starts d (facts_of stripes) [])
-          (ahead_none plan starts starts_mid d (facts_of stripes)) (fixed.reads d within)
+      reads_all : (d : ℕ) → d < length table.columns → FolderReads (AreAllRead plan starts d (facts_of stripes ++ [])) (folder_at mids d) (folder_at folders_mid d)
+      reads_all d within = reads_wider (AreReadBy plan starts starts_mid d (facts_of stripes)) (AreAllRead plan starts d (facts_of stripes ++ []))
+          (λ done is. (starts_mid, subst (λ (its : List StripeFacts). AreReadBy plan starts starts_mid d its done) (sym (append-nil (facts_of stripes))) is)) (fixed.reads d within)
+
+      -- a count of faults rose by the cells of all of them
+      unread_all : (d n before : ℕ) → RoseBy (unread_cells d (facts_of stripes)) before n → RoseBy (unread_cells d (facts_of stripes ++ [])) before n
+      unread_all d n before rose = subst (λ (its : List StripeFacts). RoseBy (unread_cells d its) before n) (sym (append-nil (facts_of stripes))) rose
 
       numbers_are : numbers_of (facts_of stripes) ≡ stripes_of plan
       numbers_are = fixed.numbers_are ∙ begun.stripes
@@ -239,10 +280,15 @@ module _ {W R : Type 0} (view : W → SinkView) (standing : R → ReportView) (s
       numbers_all = sym (append-nil (numbers_of (facts_of stripes)) ∙ numbers_are)
 
       finds : FixFinds plan starts mids old.vault stripes readings
-      finds = finds_first stripes [] readings numbers_all fixed.fixes.are (fixed.read mids fixable underway_start) fixed.fixes.read fixed.fixes.answered
+      finds = record {
+        are = fixed.fixes.are;
+        cells = present_first stripes [] numbers_all fixed.fixes.are (fixed.read mids fixable underway_start);
+        levels = fixed.fixes.read;
+        answered = fixed.fixes.mends.answered;
+      }
 
       told_stripes : Told view standing stands table.columns (opening ++ mended) old.lines lines_mid old.reports reports_mid
-      told_stripes = told_then view standing stands table.columns opening mended old.lines opened_lines lines_mid old.reports opened_reports reports_mid opened fixed.fixes.told
+      told_stripes = told_then view standing stands table.columns opening mended old.lines opened_lines lines_mid old.reports opened_reports reports_mid opened fixed.fixes.mends.told
 
       -- a count of faults of a folder, after its files were finished
       rose_through : (d n now : ℕ) → d < length table.columns → RoseBy n (folder_at mids d).faults (folder_at folders_mid d).faults → (folder_at folders_mid d).faults ≤ now
@@ -253,26 +299,26 @@ module _ {W R : Type 0} (view : W → SinkView) (standing : R → ReportView) (s
       module _ (levels : List Bool) (levels_are : levels ≡ written_mid) (written_are : length written ≡ table.shape.levels)
           (none_written : (r : ℕ) → r < length written → get_or written r false ≡ false) where
         as_many_levels : length levels ≡ table.shape.levels
-        as_many_levels = ap length levels_are ∙ fixed.fixes.written.0 ∙ written_are
+        as_many_levels = ap length levels_are ∙ fixed.fixes.mends.written.0 ∙ written_are
 
         flags_are : (r : ℕ) → r < table.shape.levels → get_or levels r false ≡ was_written plan stripes r
         flags_are r below =
             let within : r < length written = omega (arith, below, written_are) in
-            ap (λ (all : List Bool). get_or all r false) levels_are ∙ flag_is plan stripes written written_mid fixed.fixes.written r within (none_written r within)
+            ap (λ (all : List Bool). get_or all r false) levels_are ∙ flag_is plan stripes written written_mid fixed.fixes.mends.written r within (none_written r within)
 
         -- all calls for the stripes were made, and then a sync failed
         sync_failed : FailsAfter [] (done_well (written_syncs levels)) vault_mid vault_new
-            → FailsAfter (mend_calls plan (facts_of stripes) readings) (done_well (mend_syncs plan stripes)) old.vault vault_new
+            → FailsAfter (mend_calls plan windows) (done_well (mend_syncs plan stripes)) old.vault vault_new
         sync_failed fails =
-            subst (λ (calls : List VaultCall). FailsAfter (mend_calls plan (facts_of stripes) readings) (done_well calls) old.vault vault_new)
+            subst (λ (calls : List VaultCall). FailsAfter (mend_calls plan windows) (done_well calls) old.vault vault_new)
             (syncs_are plan stripes levels as_many_levels flags_are)
-            (fails_after (mend_calls plan (facts_of stripes) readings) (done_well (written_syncs levels)) old.vault vault_mid vault_new fixed.fixes.ran fails)
+            (fails_after (mend_calls plan windows) (done_well (written_syncs levels)) old.vault vault_mid vault_new fixed.fixes.ran fails)
 
         -- or each level that was written was synced
         all_synced : IsWellFormed vault_new → SyncsWritten levels vault_mid vault_new → FixesVault plan stripes readings old.vault vault_new
         all_synced formed synced =
-            fixes_vault plan stripes readings old.vault vault_mid vault_new levels as_many_levels flags_are synced formed
-            fixed.fixes.ran fixed.fixes.unread fixed.fixes.vault fixed.fixes.zeros fixed.fixes.holds
+            fixes_vault plan stripes readings windows fixed.fixes.windows_are old.vault vault_mid vault_new levels as_many_levels flags_are synced formed
+            fixed.fixes.ran fixed.fixes.unread fixed.fixes.mends.vault fixed.fixes.mends.zeros fixed.fixes.mends.holds
 
       -- a sync of a level failed
       pub sync_broke : (levels : List Bool) → levels ≡ written_mid → length written ≡ table.shape.levels → ((r : ℕ) → r < length written → get_or written r false ≡ false)
@@ -280,7 +326,7 @@ module _ {W R : Type 0} (view : W → SinkView) (standing : R → ReportView) (s
       sync_broke levels levels_are written_are none_written not_synced =
           let sum = count_append is_parity_io opening mended in
           let none = none_opening is_parity_io parity_io_no_file plan in
-          let before = fixed.fixes.parity_io in
+          let before = parity_io_rose view standing stands plan stripes totals (scene_from starts) scene_mid fixed.fixes in
           let rose = not_synced.rose in
           record {
             lists = begun.lists;
@@ -294,10 +340,13 @@ module _ {W R : Type 0} (view : W → SinkView) (standing : R → ReportView) (s
             numbers = numbers_all;
             readings = readings;
             finds = finds;
-            unread = rose_on (unread_in readings) old.vault.faults vault_mid.faults vault_new.faults fixed.fixes.unread not_synced.calls.goes_on.later;
-            unread_cells_of = λ d within. rose_listed d _ _ within (fixed.unread d within);
-            spare = fixed.fixes.spare;
-            vault = mends_synced plan (facts_of stripes) old.vault vault_mid vault_new fixed.fixes.vault not_synced.calls not_synced.drafts not_synced.changes;
+            ahead = nothing_ahead;
+            looked = looked;
+            unread = all_read vault_new.faults (rose_on (unread_in readings) old.vault.faults vault_mid.faults vault_new.faults fixed.fixes.unread not_synced.calls.goes_on.later);
+            cells_ahead = All-nil (IsPresentAt plan starts mids);
+            unread_cells_of = λ d within. unread_all d _ _ (rose_listed d _ _ within (fixed.unread d within));
+            spare = all_asked;
+            vault = mends_synced plan (facts_of stripes) old.vault vault_mid vault_new fixed.fixes.mends.vault not_synced.calls not_synced.drafts not_synced.changes;
             first = opening ++ mended;
             off = inr (
               refl,
@@ -306,8 +355,10 @@ module _ {W R : Type 0} (view : W → SinkView) (standing : R → ReportView) (s
                 writes = writes;
                 ending = record {
                   events = refl;
+                  windows = windows;
+                  windows_are = fixed.fixes.windows_are;
                   ran = sync_failed levels levels_are written_are none_written not_synced.ran;
-                  holds = holds_synced plan (facts_of stripes) vault_mid vault_new not_synced.calls not_synced.changes fixed.fixes.holds;
+                  holds = holds_synced plan (facts_of stripes) vault_mid vault_new not_synced.calls not_synced.changes fixed.fixes.mends.holds;
                   folders = refl;
                 };
               },
@@ -318,7 +369,7 @@ module _ {W R : Type 0} (view : W → SinkView) (standing : R → ReportView) (s
             calls = fix_calls_of_writing plan starts stripes mids folders_mid (λ d within. stripes_any plan starts d stripes (writes.makes d within));
             broke = record {
               rose = omega (arith, sum, none, before, rose);
-              call = vault_gained old.vault vault_mid vault_new fixed.fixes.vault.calls not_synced.calls not_synced.call;
+              call = vault_gained old.vault vault_mid vault_new fixed.fixes.mends.vault.calls not_synced.calls not_synced.call;
             };
           }
 
@@ -328,7 +379,7 @@ module _ {W R : Type 0} (view : W → SinkView) (standing : R → ReportView) (s
             → Told view standing stands table.columns (opening ++ (mended ++ news)) old.lines lines_end old.reports reports_new
         told_with news told =
             told_then view standing stands table.columns opening (mended ++ news) old.lines opened_lines lines_end old.reports opened_reports reports_new opened
-            (told_then view standing stands table.columns mended news opened_lines lines_mid lines_end opened_reports reports_mid reports_new fixed.fixes.told told)
+            (told_then view standing stands table.columns mended news opened_lines lines_mid lines_end opened_reports reports_mid reports_new fixed.fixes.mends.told told)
 
         -- a folder failed while files were finished
         pub finish_broke : IsWellFormed vault_new → levels ≡ written_mid → length written ≡ table.shape.levels → ((r : ℕ) → r < length written → get_or written r false ≡ false)
@@ -361,10 +412,13 @@ module _ {W R : Type 0} (view : W → SinkView) (standing : R → ReportView) (s
               numbers = numbers_all;
               readings = readings;
               finds = finds;
-              unread = rose_on (unread_in readings) old.vault.faults vault_mid.faults vault_new.faults fixed.fixes.unread synced.syncs.some.goes_on.later;
-              unread_cells_of = λ d within. rose_through d _ _ within (fixed.unread d within) (makes d within).goes_on.later;
-              spare = fixed.fixes.spare;
-              vault = mends_synced plan (facts_of stripes) old.vault vault_mid vault_new fixed.fixes.vault synced.syncs.some synced.syncs.drafts synced.syncs.changes;
+              ahead = nothing_ahead;
+              looked = looked;
+              unread = all_read vault_new.faults (rose_on (unread_in readings) old.vault.faults vault_mid.faults vault_new.faults fixed.fixes.unread synced.syncs.some.goes_on.later);
+              cells_ahead = All-nil (IsPresentAt plan starts mids);
+              unread_cells_of = λ d within. unread_all d _ _ (rose_through d _ _ within (fixed.unread d within) (makes d within).goes_on.later);
+              spare = all_asked;
+              vault = mends_synced plan (facts_of stripes) old.vault vault_mid vault_new fixed.fixes.mends.vault synced.syncs.some synced.syncs.drafts synced.syncs.changes;
               first = opening ++ (mended ++ broke.first);
               off = inr (
                 refl,
@@ -389,7 +443,7 @@ module _ {W R : Type 0} (view : W → SinkView) (standing : R → ReportView) (s
               told = told_with broke.first broke.told;
               folders = broke.folders ∙ writes.underway.folders ∙ begun.as_many;
               calls = fix_calls_of plan starts stripes mids folders_new all_written writes makes;
-              reads = λ d within. reads_on (AreReadAhead plan starts d (facts_of stripes) []) (reads_all d within)
+              reads = λ d within. reads_on (AreAllRead plan starts d (facts_of stripes ++ [])) (reads_all d within)
                   (quiet_in_column disk (length table.columns) (λ (k : ℕ). AreColumnFinishCalls plan k (starts_at starts_mid.columns k) (states_at states_mid k) (finishes_at broke.finishes k))
                   (λ (k : ℕ). FinishesOne plan k starts_mid states_mid) folders_mid folders_new
                   (λ k. finish_writes plan k (starts_at starts_mid.columns k) (states_at states_mid k))
@@ -421,7 +475,7 @@ module _ {W R : Type 0} (view : W → SinkView) (standing : R → ReportView) (s
             (files_outside starts_new states_new folders_new lines_end reports_new) news) same finished_then in
             let finish_news = all_finish_news plan finished.finishes in
             let told = told_with finish_news finished.told in
-            let counted = and_all opening (mended ++ finish_news) opening_counted (and_news mended finish_news fixed.fixes.totals_are.counts finished.counts_are) in
+            let counted = and_all opening (mended ++ finish_news) opening_counted (and_news mended finish_news fixed.fixes.mends.totals_are.counts finished.counts_are) in
             record {
               lists = begun.lists;
               mids = mids;
@@ -450,6 +504,6 @@ module _ {W R : Type 0} (view : W → SinkView) (standing : R → ReportView) (s
               settled = settled;
               findings = counted.found;
               left = counted.left;
-              blocks = fixed.fixes.totals_are.blocks;
-              parities = fixed.fixes.totals_are.parities;
+              blocks = fixed.fixes.mends.totals_are.blocks;
+              parities = fixed.fixes.mends.totals_are.parities;
             }

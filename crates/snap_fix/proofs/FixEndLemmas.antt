@@ -7,25 +7,25 @@ use Rattle.disk_model.specs.Path.{lost_suffix}
 use Rattle.disk_model.specs.Tree.{Tree, File, IsApart, file_of, is_directory_of, meta_of, path_of}
 use Rattle.disk_model.specs.declared.meta.Meta.{Meta}
 use Rattle.disk_model.proofs.TreeLemmas.{own_name}
-use Rattle.file_table.specs.Table.{Record}
+use Rattle.file_table.specs.Table.{Record, records_in}
 use Rattle.file_table.specs.Valid.{IsValid}
 use Rattle.stripe_reader.specs.Columns.{folder_at}
 use Rattle.stripe_reader.specs.Starts.{StartsFit, StartsValue, no_start, starts_at}
 use Rattle.stripe_reader.specs.declared.starts.Place.{Place}
 use Rattle.stripe_reader.specs.declared.starts.Place.TheVariants.{Plain, Lost, Nowhere}
 use Rattle.stripe_reader.specs.declared.starts.Start.{Start}
-use Rattle.snap_fix.specs.declared.state.FileState.{FileState}
+use Rattle.file_restorer.specs.declared.state.FileState.{FileState}
 use Rattle.snap_fix.specs.Ending.{CanFinishAll, CanFinishFile, is_finished, states_at}
-use Rattle.snap_fix.specs.Finishing.{FitsTree}
+use Rattle.file_restorer.specs.Finishing.{FitsTree}
 use Rattle.snap_fix.specs.Mended.{Mended, column_writes}
-use Rattle.snap_fix.specs.Mending.{IsFree, StatesFit}
-use Rattle.snap_fix.specs.Plan.{EntriesFit, FixPlan, entry_at, records_in}
-use Rattle.snap_fix.specs.State.{HoldsBy, HoldsColumn, HoldsRecord, IsNameOf, IsTouched, IsUntouched, Write, bytes_or, bytes_placed, lost_then, no_state, place_by, place_in, place_then, puts, record_path, stands}
+use Rattle.file_restorer.specs.Mending.{IsFree, StatesFit}
+use Rattle.stripe_examiner.specs.Plan.{EntriesFit, FixPlan, entry_at}
+use Rattle.file_restorer.specs.State.{HoldsBy, HoldsColumn, HoldsRecord, IsNameOf, IsTouched, IsUntouched, Write, bytes_or, bytes_placed, lost_then, no_state, place_by, place_in, place_then, puts, record_path, stands}
 use Rattle.snap_fix.specs.Underway.{AreFixable, AreUnderway}
 use Rattle.snap_fix.proofs.EndingFilesLemmas.{names_not_nested}
 use Rattle.snap_fix.proofs.FixTreeLemmas.{there_is}
-use Rattle.snap_fix.proofs.MendedColumnLemmas.{apart_now}
-use Rattle.snap_fix.proofs.RecordPathsLemmas.{ArePaths, nested_is, table_paths}
+use Rattle.file_restorer.proofs.MendedColumnLemmas.{apart_now}
+use Rattle.file_restorer.proofs.RecordPathsLemmas.{ArePaths, nested_is, table_paths}
 
 -- ---- no file stands in the way
 

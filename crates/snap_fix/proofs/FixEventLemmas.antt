@@ -3,17 +3,17 @@ use Rattle.std.proofs.Common.{◌≡◌, ℕ, List, [], ◌∷◌, ◌++◌, len
 use Rattle.std.specs.Prelude.{◌&&◌}
 use Rattle.std.specs.List.{count_by, flat_map, range_with_len}
 use Rattle.disk_model.specs.declared.meta.Meta.{Meta}
-use Rattle.file_table.specs.Table.{record_at}
+use Rattle.file_table.specs.Table.{record_at, records_in}
 use Rattle.snap_report.specs.Answer.{is_io_of, is_parity_io}
 use Rattle.snap_report.specs.declared.events.Event.{Event}
 use Rattle.snap_report.specs.declared.events.Event.TheVariants.{Changed, Blocked, Restored as RestoredEvent, Renamed as RenamedEvent, NoStamp}
-use Rattle.snap_fix.specs.declared.entry.Entry.{Entry}
-use Rattle.snap_fix.specs.declared.finishing.Finish.{Finish}
-use Rattle.snap_fix.specs.declared.finishing.Finish.TheVariants.{Kept, Restored, Unstamped, Renamed, Gone}
+use Rattle.stripe_examiner.specs.declared.entry.Entry.{Entry}
+use Rattle.file_restorer.specs.declared.finishing.Finish.{Finish}
+use Rattle.file_restorer.specs.declared.finishing.Finish.TheVariants.{Kept, Restored, Unstamped, Renamed, Gone}
 use Rattle.snap_fix.specs.Ending.{all_finish_news, column_news_at, finish_at, finish_news, finishes_at, is_finished, record_news, stamp_news}
-use Rattle.snap_fix.specs.Findings.{blocked_event, changed_event, column_events, file_events, opening_events, record_events}
-use Rattle.snap_fix.specs.Plan.{FixPlan, entry_at, is_audit, records_in}
-use Rattle.snap_fix.specs.Selected.{is_as_recorded}
+use Rattle.stripe_examiner.specs.Findings.{blocked_event, changed_event, column_events, file_events, opening_events, record_events}
+use Rattle.stripe_examiner.specs.Plan.{FixPlan, entry_at, is_audit}
+use Rattle.stripe_examiner.specs.Selected.{is_as_recorded}
 use Rattle.snap_fix.proofs.FixCountLemmas.{count_append}
 
 -- the test passes no event that is told of a file as a whole

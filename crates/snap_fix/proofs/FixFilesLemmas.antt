@@ -3,17 +3,17 @@ use Rattle.std.proofs.Common.{◌≡◌, ℕ, ◌<◌, List, [], length, IsTrue,
 use Rattle.disk_model.specs.Folder.{FolderView}
 use Rattle.stripe_reader.specs.Columns.{folder_at}
 use Rattle.stripe_reader.specs.Starts.{StartsValue, starts_at}
-use Rattle.snap_fix.specs.declared.finishing.Finish.{Finish}
+use Rattle.file_restorer.specs.declared.finishing.Finish.{Finish}
 use Rattle.snap_fix.specs.Ending.{FinishesColumn, column_calls, finishes_at, states_at}
 use Rattle.snap_fix.specs.FixCourse.{FixesFiles, Written, WritesFiles}
 use Rattle.snap_fix.specs.Fixing.{facts_of}
 use Rattle.snap_fix.specs.Mended.{Mended}
-use Rattle.snap_fix.specs.Plan.{FixPlan}
+use Rattle.stripe_examiner.specs.Plan.{FixPlan}
 use Rattle.snap_fix.specs.Reads.{AreReadBy, FolderReads}
 use Rattle.snap_fix.specs.StripeOrder.{writes_after}
 use Rattle.snap_fix.proofs.FixCallLemmas.{fix_calls_of_all}
 use Rattle.snap_fix.proofs.FinishPartsLemmas.{finish_quiet}
-use Rattle.snap_fix.proofs.OrderLemmas.{writes_then}
+use Rattle.file_restorer.proofs.OrderLemmas.{writes_then}
 use Rattle.snap_fix.proofs.ReadsLemmas.{reads_on}
 
 -- All blocks were written, and then the files were finished.

@@ -15,26 +15,26 @@ use Rattle.stripe_reader.specs.Reading.{CellReading, NoBlock, Nowhere, Beyond, U
 use Rattle.stripe_reader.specs.FolderCalls.{AreColumnCalls}
 use Rattle.stripe_reader.specs.Slot.{kept}
 use Rattle.stripe_reader.specs.SlotValue.{SlotValue}
-use Rattle.stripe_reader.specs.Starts.{StartsValue}
+use Rattle.stripe_reader.specs.Starts.{StartsValue, starts_at}
 use Rattle.stripe_reader.specs.WindowValue.{WindowValue, lane_at, no_slot}
 use Rattle.stripe_reader.proofs.ColumnLemmas.{slot_is}
-use Rattle.snap_fix.specs.declared.state.FileState.{FileState}
-use Rattle.snap_fix.specs.Facts.{StripeFacts, slot_of}
+use Rattle.file_restorer.specs.declared.state.FileState.{FileState}
+use Rattle.stripe_examiner.specs.Facts.{StripeFacts, slot_of}
 use Rattle.snap_fix.specs.Fixing.{IsCellRead, facts_of}
-use Rattle.snap_fix.specs.Looking.{facts_at, no_facts, slots_of, unread_cells}
-use Rattle.snap_fix.specs.Marks.{slots_at}
+use Rattle.stripe_examiner.specs.Looking.{facts_at, no_facts, slots_of, unread_cells}
+use Rattle.stripe_examiner.specs.Marks.{slots_at}
 use Rattle.snap_fix.specs.Mended.{Mended, column_writes}
-use Rattle.snap_fix.specs.Order.{FolderWrites}
-use Rattle.snap_fix.specs.Plan.{FixPlan, records_in}
+use Rattle.file_restorer.specs.Order.{FolderWrites}
+use Rattle.stripe_examiner.specs.Plan.{FixPlan}
+use Rattle.file_table.specs.Table.{records_in}
 use Rattle.snap_fix.specs.Reads.{FolderReads}
-use Rattle.snap_fix.specs.State.{FolderMakesBy, HoldsColumn}
+use Rattle.file_restorer.specs.State.{FolderMakesBy, HoldsColumn}
 use Rattle.snap_fix.specs.StripeOrder.{writes_after}
 use Rattle.snap_fix.specs.Underway.{AreStripeCalls, AreUnderway, FixUnderway}
-use Rattle.stripe_reader.specs.Starts.{starts_at}
 use Rattle.snap_fix.proofs.FixCountLemmas.{count_cons, failed_in, slot_unread, unread_slots}
-use Rattle.snap_fix.proofs.FolderCallLemmas.{calls_then, makes_column_reading}
+use Rattle.file_restorer.proofs.FolderCallLemmas.{calls_then, makes_column_reading}
 use Rattle.snap_fix.proofs.KeptStartsLemmas.{reads_makes}
-use Rattle.snap_fix.proofs.OrderLemmas.{column_read, writes_then}
+use Rattle.file_restorer.proofs.OrderLemmas.{column_read, writes_then}
 use Rattle.snap_fix.proofs.ReadsLemmas.{column_reads}
 
 -- ---- the calls of a reading

@@ -9,30 +9,30 @@ use Rattle.disk_model.specs.Folder.{FolderView, IsFolder, quiet_folder-is_folder
 use Rattle.disk_model.specs.Tree.{Tree, file_of, listing_of, meta_of}
 use Rattle.array_scan.specs.Kept.{ListedFile}
 use Rattle.array_scan.specs.Listings.{Lists, ListsAll}
-use Rattle.file_table.specs.Table.{Record, TableValue, no_record}
+use Rattle.file_table.specs.Table.{Record, TableValue, no_record, records_in}
 use Rattle.snap_config.specs.declared.options.Selection.{Selection}
 use Rattle.stripe_reader.specs.Columns.{folder_at}
 use Rattle.stripe_reader.specs.Starts.{StartsFit, StartsValue, no_start, starts_at}
 use Rattle.stripe_reader.specs.declared.starts.Start.{Start}
 use Rattle.snap_fix.specs.declared.beginning.Work.{Work}
-use Rattle.snap_fix.specs.declared.entry.Entry.{Entry}
-use Rattle.snap_fix.specs.declared.scope.Mode.{Mode}
-use Rattle.snap_fix.specs.declared.scope.Scope.{Scope}
-use Rattle.snap_fix.specs.declared.state.FileState.{FileState}
+use Rattle.stripe_examiner.specs.declared.entry.Entry.{Entry}
+use Rattle.stripe_examiner.specs.declared.scope.Mode.{Mode}
+use Rattle.stripe_examiner.specs.declared.scope.Scope.{Scope}
+use Rattle.file_restorer.specs.declared.state.FileState.{FileState}
 use Rattle.snap_fix.specs.Beginning.{Begins}
 use Rattle.snap_fix.specs.Checking.{plan_for}
 use Rattle.snap_fix.specs.FixCourse.{AreOpen}
 use Rattle.snap_fix.specs.FixRun.{AreAscending}
 use Rattle.snap_fix.specs.Mended.{column_writes, writes_of}
-use Rattle.snap_fix.specs.Mending.{StatesFit}
-use Rattle.snap_fix.specs.Place.{found_in, is_blocked, start_of}
-use Rattle.snap_fix.specs.Plan.{FixPlan, column_entries, column_starts, entries_of, entry_at, entry_in, entry_of, is_looked_at, no_entry, plan_of, records_in, starts_of, stripes_of}
-use Rattle.snap_fix.specs.State.{HoldsColumn, first_state, first_states, no_state, record_path}
+use Rattle.file_restorer.specs.Mending.{StatesFit}
+use Rattle.stripe_examiner.specs.Place.{found_in, is_blocked, start_of}
+use Rattle.stripe_examiner.specs.Plan.{FixPlan, column_entries, column_starts, entries_of, entry_at, entry_in, entry_of, is_looked_at, no_entry, plan_of, starts_of, stripes_of}
+use Rattle.file_restorer.specs.State.{HoldsColumn, first_state, first_states, no_state, record_path}
 use Rattle.snap_fix.specs.Underway.{AreFixable, AreUnderway}
-use Rattle.snap_fix.proofs.OrderLemmas.{writes_none}
+use Rattle.file_restorer.proofs.OrderLemmas.{writes_none}
 use Rattle.snap_fix.proofs.CourseLemmas.{starts_fit}
 use Rattle.snap_fix.proofs.FixTreeLemmas.{found_tree, free_of, untouched}
-use Rattle.snap_fix.proofs.FolderCallLemmas.{some_none}
+use Rattle.file_restorer.proofs.FolderCallLemmas.{some_none}
 
 -- ---- the stripes
 

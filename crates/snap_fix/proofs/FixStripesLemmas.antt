@@ -1,15 +1,16 @@
 -- All stripes of a fix, window after window, and how that breaks off.
-use Rattle.std.proofs.Common.{◌≡◌, ◌⊎◌, inl, inr, ℕ, ◌+◌, ◌-◌, ◌<◌, ◌≤◌, List, [], ◌∷◌, ◌++◌, length, take, drop, get_or, All, Result, Ok, Err, refl, sym, ap, ap₂, ◌∙◌, subst, arith, append_assoc}
-use Rattle.std.specs.Prelude.{IfOk, IfErr}
+use Rattle.std.proofs.Common.{◌≡◌, ◌⊎◌, inl, inr, ℕ, ◌+◌, ◌-◌, ◌<◌, ◌≤◌, List, [], ◌∷◌, ◌++◌, length, take, drop, get_or, refl, sym, ap, ap₂, ◌∙◌, subst, arith, append_assoc}
 use Rattle.std.proofs.Math.ListN.{get_or-map as get_or-map-at}
 use Rattle.std.proofs.Math.Seq.{take-add, take-append_seam}
 use Rattle.std.proofs.lemmas.Bool.{cases_lt}
+use Rattle.std.proofs.lemmas.List.Elements.{Contains-append_left}
 use Rattle.std.proofs.lemmas.List.{map-append, append-nil, length-map, length-append, get_or_append_left, get_or-append_right, take-append-le, take-append-drop}
 use Rattle.file_table.proofs.ListFacts.{AllPairs-take}
+use Rattle.file_table.proofs.PrefixLemmas.{All-left, All-right}
+use Rattle.parity_writer.specs.LevelReading.{LevelReading}
 use Rattle.disk_model.specs.Cause.{RoseBy}
 use Rattle.disk_model.specs.Folder.{FolderCall, FolderDone, FolderView}
 use Rattle.disk_model.specs.Sink.{SinkView}
-use Rattle.file_table.specs.Table.{TableValue}
 use Rattle.snap_report.specs.Answer.{is_io_of, is_parity_io}
 use Rattle.snap_report.specs.Report.{ReportView}
 use Rattle.snap_report.specs.declared.answer.RunFault.{RunFault}
@@ -20,43 +21,39 @@ use Rattle.stripe_reader.specs.Columns.{ReadsWindow, folder_at}
 use Rattle.stripe_reader.specs.FolderCalls.{AreColumnCalls}
 use Rattle.stripe_reader.specs.Reading.{CellReading, NoBlock, tasks_at}
 use Rattle.stripe_reader.specs.Slot.{kept}
-use Rattle.stripe_reader.specs.Starts.{StartsFit, StartsValue}
 use Rattle.stripe_reader.specs.WindowValue.{WindowValue}
-use Rattle.snap_fix.specs.declared.beginning.Work.{Work}
 use Rattle.snap_fix.specs.declared.fixing.Totals.{Totals}
-use Rattle.snap_fix.specs.declared.state.FileState.{FileState}
-use Rattle.snap_fix.specs.Checking.{IsWorkFor, plan_for}
-use Rattle.snap_fix.specs.Facts.{StripeFacts, slot_of}
-use Rattle.snap_fix.specs.FixRun.{AreAscending, BreaksFolders, BreaksInto, BreaksStripes, BreaksWindow, FixesAll, FixesInto, FixesStripes, FixesWindow, HasBroken, HasBrokenInto, KeepsFixWork, with_folders}
-use Rattle.snap_fix.specs.Fixing.{AreReadThen, AreTotals, FixScene, IsReadThen, SceneFits, facts_of, mended_at, no_mended}
-use Rattle.snap_fix.specs.Looking.{facts_at, no_facts, numbers_of, unread_cells}
-use Rattle.snap_fix.specs.Marks.{slots_at}
+use Rattle.stripe_examiner.specs.Facts.{StripeFacts, slot_of}
+use Rattle.snap_fix.specs.FixRun.{AreAscending, BreaksFolders, BreaksInLast, BreaksInto, BreaksStripes, FixesAll, FixesInto, FixesStripes, HasBroken, HasBrokenInto, MendsAll, with_folders}
+use Rattle.snap_fix.specs.Fixing.{AreReadThen, AreTotals, FixScene, IsReadThen, SceneFits, facts_of, mended_at, no_mended, unwritten}
+use Rattle.stripe_examiner.specs.Asking.{AsksSpare}
+use Rattle.stripe_examiner.specs.Known.{AreFacts}
+use Rattle.stripe_examiner.specs.Looking.{facts_at, no_facts, numbers_of, unread_cells, unread_in}
+use Rattle.stripe_examiner.specs.Marks.{slots_at}
 use Rattle.snap_fix.specs.Mended.{Mended, all_mended_events}
-use Rattle.snap_fix.specs.Plan.{EntriesFit, FixPlan}
-use Rattle.snap_fix.specs.Reads.{AreReadAhead, AreReadBy, FolderReads}
-use Rattle.snap_fix.specs.State.{AnyCall, FolderMakes, FolderMakesBy}
-use Rattle.snap_fix.specs.Underway.{AreFixable, AreStripeCalls, AreUnderway, FixUnderway, IsStripeCall}
-use Rattle.snap_fix.proofs.FixAllLemmas.{answered_then, asked_then, breaks_in_last, facts_append, facts_then, fixes_none, fixes_then, levels_then, precede, tells_first, tells_then, unread_then}
+use Rattle.stripe_examiner.specs.Plan.{FixPlan}
+use Rattle.snap_fix.specs.Reads.{AreAllRead, AreReadBy, FolderReads}
+use Rattle.file_restorer.specs.State.{AnyCall, FolderMakes, FolderMakesBy}
+use Rattle.snap_fix.specs.Underway.{AreFixable, AreStripeCalls, AreUnderway, IsStripeCall}
+use Rattle.snap_fix.proofs.AskedLemmas.{asks_then}
+use Rattle.snap_fix.proofs.FixAllLemmas.{answered_then, breaks_in_last, facts_append, facts_beside, facts_then, fixes_none, fixes_then, levels_then, parity_io_rose, precede, tells_first, tells_then, unread_then}
 use Rattle.snap_fix.proofs.FixCountLemmas.{count_append, io_in_cells}
 use Rattle.snap_fix.proofs.FixIntoLemmas.{count_first, folder_gained, vault_gained}
 use Rattle.snap_fix.proofs.FixReadLemmas.{cell_read, cells_unread, near, slot_read, underway_read, window_makes, window_reads}
 use Rattle.snap_fix.proofs.KeptStartsLemmas.{files_any, files_then, well_then}
-use Rattle.snap_fix.proofs.MendedVaultLemmas.{Precede}
-use Rattle.snap_fix.proofs.ReadsLemmas.{ahead_then, all_looked, read_append, read_until, reads_on, reads_then, reads_wider, stripes_unread}
+use Rattle.snap_fix.proofs.MendedVaultLemmas.{Precede, levels_before}
+use Rattle.snap_fix.proofs.ReadsLemmas.{all_looked, read_append, read_until, reads_on, reads_then, reads_wider, stripes_unread}
 use Rattle.snap_fix.proofs.StartsKeptLemmas.{keeps_starts_same}
-
--- what follows of an answer, whichever it is
-pub if_ok : {T E : Type 0} (result : Result T E) (P Q : T → Type 0) → ((x : T) → P x → Q x) → IfOk result P → IfOk result Q
-if_ok (Ok x) P Q more p = more x p
-if_ok (Err e) P Q more p = tt
-
-pub if_err : {T E : Type 0} (result : Result T E) (P Q : E → Type 0) → ((e : E) → P e → Q e) → IfErr result P → IfErr result Q
-if_err (Ok x) P Q more p = tt
-if_err (Err e) P Q more p = more e p
 
 -- the first numbers ascend as all do
 front_ascending : (front back : List ℕ) → AreAscending (front ++ back) → AreAscending front
 front_ascending front back ascending = subst AreAscending (take-append_seam front back) (AllPairs-take (λ (a b : ℕ). a < b) (length front) (front ++ back) ascending)
+
+-- of ascending stripes the first ones come before those behind the next ones
+precede_ahead : (xs ys zs : List StripeFacts) → AreAscending ((numbers_of xs ++ numbers_of ys) ++ numbers_of zs) → Precede xs zs
+precede_ahead xs ys zs ascending one other first second =
+    precede (xs ++ ys) zs (subst (λ (its : List ℕ). AreAscending (its ++ numbers_of zs)) (sym (map-append (λ (it : StripeFacts). it.stripe) xs ys)) ascending)
+    one other (Contains-append_left xs ys one first) second
 
 module _ {W R : Type 0} (view : W → SinkView) (standing : R → ReportView) (stands : R → List Event → Type 0) (plan : FixPlan) where
   pub stripes_none : (totals : Totals) (s : FixScene W R) → SceneFits plan s → AreTotals plan [] totals → FixesStripes view standing stands plan [] s s totals
@@ -80,27 +77,33 @@ module _ {W R : Type 0} (view : W → SinkView) (standing : R → ReportView) (s
     told_as d below = (reads d below).goes_on.tells
 
     -- what was done after the window was read was done since before it
+    mends_read : (stripes : List Mended) (totals : Totals) (new : FixScene W R) → MendsAll view standing stands plan stripes (with_folders mid mids) new totals → MendsAll view standing stands plan stripes mid new totals
+    mends_read stripes totals new mends = record {
+      fits = mends.fits;
+      told = mends.told;
+      totals_are = mends.totals_are;
+      written = mends.written;
+      answered = λ k none within d below told. mends.answered k none within d below (told_as d below ∙ told);
+      stood = mends.stood;
+      vault = mends.vault;
+      zeros = mends.zeros;
+      holds = mends.holds;
+      makes = λ d below. well_then plan mid.starts mid.starts (keeps_starts_same mid.starts) d [] stripes (reads d below) (mends.makes d below);
+      underway = λ earlier firsts fixable is. mends.underway earlier firsts fixable
+          (underway_read plan mid.starts numbers before window mid.folders mids read fits.folders earlier firsts mid.starts mid.states is);
+    }
+
     since_read : (stripes : List Mended) (totals : Totals) (new : FixScene W R) → FixesAll view standing stands plan stripes (with_folders mid mids) new totals → FixesAll view standing stands plan stripes mid new totals
     since_read stripes totals new fixes = record {
       are = fixes.are;
-      fits = fixes.fits;
-      told = fixes.told;
-      totals_are = fixes.totals_are;
-      written = fixes.written;
-      answered = λ k none within d below told. fixes.answered k none within d below (told_as d below ∙ told);
-      stood = fixes.stood;
+      mends = mends_read stripes totals new fixes.mends;
+      windows = fixes.windows;
       readings = fixes.readings;
+      windows_are = fixes.windows_are;
       read = fixes.read;
       unread = fixes.unread;
       ran = fixes.ran;
-      vault = fixes.vault;
-      zeros = fixes.zeros;
-      holds = fixes.holds;
-      parity_io = fixes.parity_io;
       spare = fixes.spare;
-      makes = λ d below. well_then plan mid.starts mid.starts (keeps_starts_same mid.starts) d [] stripes (reads d below) (fixes.makes d below);
-      underway = λ earlier firsts fixable is. fixes.underway earlier firsts fixable
-          (underway_read plan mid.starts numbers before window mid.folders mids read fits.folders earlier firsts mid.starts mid.states is);
     }
 
     -- These stripes of the window were looked at, after those before it.
@@ -142,7 +145,7 @@ module _ {W R : Type 0} (view : W → SinkView) (standing : R → ReportView) (s
         count = length xs;
         earlier = far;
         starts = mid.starts;
-        stood = so_far.fixes.stood;
+        stood = so_far.fixes.mends.stood;
         states = mid.states;
         folders = mid.folders;
         underway = subst (λ (stripes : List Mended). AreUnderway plan stripes firsts mid.folders mid.starts mid.states) (sym (take-append_seam xs ys)) is;
@@ -160,7 +163,7 @@ module _ {W R : Type 0} (view : W → SinkView) (standing : R → ReportView) (s
           at (inl near) = read_before firsts k near (so_far.read firsts fixable start k near)
           at (inr far) =
               subst (λ (facts : StripeFacts). IsReadThen plan old.starts firsts (xs ++ ys) k facts) (facts_here k far)
-              (read_now firsts (k - length xs) (omega (arith, below, far, length-append xs ys)) (so_far.fixes.underway [] firsts fixable start) k far)
+              (read_now firsts (k - length xs) (omega (arith, below, far, length-append xs ys)) (so_far.fixes.mends.underway [] firsts fixable start) k far)
 
       -- the calls that read: those before the window, and then those of it
       abbrev Before : ℕ → List FolderDone → Type 0
@@ -172,15 +175,6 @@ module _ {W R : Type 0} (view : W → SinkView) (standing : R → ReportView) (s
       slots_seen : (d : ℕ) (below : d < length plan.table.columns) (k : ℕ) → k < length (facts_of ys) → slot_of (facts_at (facts_of ys) k) d ≡ kept plan.table.shape (get_or (seen_of d below) k NoBlock)
       slots_seen d below k inside = slot_read plan mid.starts numbers before window mid.folders mids read fits.folders ys few slots k d
           (omega (arith, inside, length-map ys (λ (it : Mended). it.facts))) below
-
-      ahead_of : (d : ℕ) (below : d < length plan.table.columns) (later : List ℕ) → FolderReads (AreReadAhead plan old.starts d (facts_of (xs ++ ys)) (behind ++ later)) (folder_at old.folders d) (folder_at mids d)
-      ahead_of d below later =
-          reads_then (Before d) (AreColumnCalls (tasks_at plan.table mid.starts d numbers) (seen_of d below)) (AreReadAhead plan old.starts d (facts_of (xs ++ ys)) (behind ++ later))
-          (λ first_calls more is are.
-          subst (λ (its : List StripeFacts). AreReadAhead plan old.starts d its (behind ++ later) (first_calls ++ more)) (sym (facts_append xs ys))
-          (ahead_then plan old.starts mid.starts d (facts_of xs) (facts_of ys) behind later (behind ++ later) (seen_of d below) first_calls more refl is
-          (subst (λ (ns : List ℕ). AreColumnCalls (tasks_at plan.table mid.starts d ns) (seen_of d below) more) numbers_are are) (slots_seen d below)))
-          (so_far.reads d below) (window_reads plan mid.starts numbers before window mid.folders mids read fits.folders ys few slots d below)
 
       both_read : (d : ℕ) (below : d < length plan.table.columns) → behind ≡ [] → FolderReads (AreReadBy plan old.starts mid.starts d (facts_of (xs ++ ys))) (folder_at old.folders d) (folder_at mids d)
       both_read d below none =
@@ -231,17 +225,17 @@ module _ {W R : Type 0} (view : W → SinkView) (standing : R → ReportView) (s
         let xs = so_far.stripes in
         let ys = into.stripes in
         let all_here : numbers ≡ numbers_of (facts_of ys) ++ [] = sym into.numbers_are ∙ sym (append-nil (numbers_of (facts_of ys))) in
-        let unread = λ (d : ℕ) (below : d < length plan.table.columns). unread_since first one old so_far ys [] all_here into.slots d (folder_at new.folders d).faults below (into.fixes.makes d below).goes_on.later in
+        let unread = λ (d : ℕ) (below : d < length plan.table.columns). unread_since first one old so_far ys [] all_here into.slots d (folder_at new.folders d).faults below (into.fixes.mends.makes d below).goes_on.later in
         record {
           stripes = xs ++ ys;
           numbers_are = numbers_append first one old so_far ys [] all_here into.slots
               ∙ sym (append-nil (numbers_of (facts_of xs) ++ numbers_of (facts_of ys))) ∙ numbers_both first one old so_far ys [] all_here into.slots items done count refl numbers_is;
           fixes = fixes_then view standing stands plan xs ys one two both old mid new
-              (precede xs ys (ascend first one old so_far ys [] all_here into.slots items done count ascending refl numbers_is)) and so_far.fixes (since_read ys two new into.fixes);
+              (precede (facts_of xs) (facts_of ys) (ascend first one old so_far ys [] all_here into.slots items done count ascending refl numbers_is)) and so_far.fixes (since_read ys two new into.fixes);
           read = read_more first one old so_far ys [] all_here into.slots;
           reads = λ d below.
               reads_wider (AreReadBy plan old.starts mid.starts d (facts_of (xs ++ ys))) (AreReadBy plan old.starts new.starts d (facts_of (xs ++ ys)))
-              (λ done is. read_until plan old.starts mid.starts new.starts d (facts_of (xs ++ ys)) done into.fixes.stood is)
+              (λ done is. read_until plan old.starts mid.starts new.starts d (facts_of (xs ++ ys)) done into.fixes.mends.stood is)
               (reads_on (AreReadBy plan old.starts mid.starts d (facts_of (xs ++ ys))) (both_read first one old so_far ys [] all_here into.slots d below refl) (into.quiet d below));
           unread = unread;
           io = λ d below. let few = io_in_cells plan d (xs ++ ys) in let rose = unread d below in omega (arith, few, rose);
@@ -277,6 +271,51 @@ module _ {W R : Type 0} (view : W → SinkView) (standing : R → ReportView) (s
       told_first : all_mended_events plan into.stripes ≡ into.first ++ into.tells.tells.rest
       told_first = tells_first plan fault into.level into.stripes into.earlier into.last into.first into.stripes_are into.tells
 
+      -- the slots of the stripes that were looked at
+      slots_looked : (k : ℕ) → k < length into.stripes → (facts_at (facts_of into.stripes) k).slots ≡ slots_at window k
+      slots_looked k below =
+          let near : k < length (facts_of into.stripes) = omega (arith, below, length-map into.stripes (λ (it : Mended). it.facts)) in
+          ap (λ (it : StripeFacts). it.slots) (sym (get_or_append_left (facts_of into.stripes) into.ahead.stripes no_facts k near))
+          ∙ into.slots k (omega (arith, near, length-append (facts_of into.stripes) into.ahead.stripes))
+
+      -- all stripes of the window, those behind the last one among them
+      abbrev here : List Mended
+      here = into.stripes ++ unwritten into.ahead.stripes
+
+      facts_here_are : facts_of here ≡ facts_of into.stripes ++ into.ahead.stripes
+      facts_here_are = facts_beside into.stripes into.ahead.stripes
+
+      numbers_here : numbers ≡ numbers_of (facts_of here) ++ []
+      numbers_here =
+          into.numbers_are ∙ sym (map-append (λ (it : StripeFacts). it.stripe) (facts_of into.stripes) into.ahead.stripes)
+          ∙ ap numbers_of (sym facts_here_are) ∙ sym (append-nil (numbers_of (facts_of here)))
+
+      slots_here : (k : ℕ) → k < length here → (facts_at (facts_of here) k).slots ≡ slots_at window k
+      slots_here k below =
+          ap (λ (its : List StripeFacts). (facts_at its k).slots) facts_here_are
+          ∙ into.slots k (omega (arith, below, length-map here (λ (it : Mended). it.facts), ap (λ (its : List StripeFacts). length its) facts_here_are))
+
+      -- and those of the windows before it
+      facts_all : facts_of (so_far.stripes ++ here) ≡ facts_of (so_far.stripes ++ into.stripes) ++ into.ahead.stripes
+      facts_all =
+          facts_append so_far.stripes here ∙ ap (λ (its : List StripeFacts). facts_of so_far.stripes ++ its) facts_here_are
+          ∙ sym (append_assoc (facts_of so_far.stripes) (facts_of into.stripes) into.ahead.stripes)
+          ∙ ap (λ (its : List StripeFacts). its ++ into.ahead.stripes) (sym (facts_append so_far.stripes into.stripes))
+
+      all_read_then : (firsts : List FolderView) → AreFixable plan firsts → AreUnderway plan [] firsts old.folders old.starts old.states
+          → AreReadThen plan old.starts firsts ((so_far.stripes ++ into.stripes) ++ unwritten into.ahead.stripes)
+      all_read_then firsts fixable start =
+          subst (AreReadThen plan old.starts firsts) (sym (append_assoc so_far.stripes into.stripes (unwritten into.ahead.stripes)))
+          (read_more first one old so_far here [] numbers_here slots_here firsts fixable start)
+
+      all_reads : (d : ℕ) → d < length plan.table.columns
+          → FolderReads (AreAllRead plan old.starts d (facts_of (so_far.stripes ++ into.stripes) ++ into.ahead.stripes)) (folder_at old.folders d) (folder_at new.folders d)
+      all_reads d below =
+          let By = AreReadBy plan old.starts mid.starts d (facts_of (so_far.stripes ++ here)) in
+          reads_wider By (AreAllRead plan old.starts d (facts_of (so_far.stripes ++ into.stripes) ++ into.ahead.stripes))
+          (λ done is. (mid.starts, subst (λ (its : List StripeFacts). AreReadBy plan old.starts mid.starts d its done) facts_all is))
+          (reads_on By (both_read first one old so_far here [] numbers_here slots_here d below refl) (into.quiet d below))
+
       -- the failed readings of the window count too, and those before it
       broke_then : (by : RunFault) → HasBrokenInto plan by into.first mids new.folders mid.vault new.vault
           → HasBroken plan by (all_mended_events plan so_far.stripes ++ into.first) old.folders new.folders old.vault new.vault
@@ -288,21 +327,21 @@ module _ {W R : Type 0} (view : W → SinkView) (standing : R → ReportView) (s
               let told = count_first (is_io_of disk) (all_mended_events plan into.stripes) into.first into.tells.tells.rest told_first in
               let xs_few = io_in_cells plan disk so_far.stripes in
               let ys_few = io_in_cells plan disk into.stripes in
-              let both = unread_both first one old so_far into.stripes into.behind into.numbers_are into.slots disk in
-              let before = unread_since first one old so_far into.stripes into.behind into.numbers_are into.slots disk (folder_at mids disk).faults within (omega arith) in
+              let both = unread_both first one old so_far into.stripes (numbers_of into.ahead.stripes) into.numbers_are slots_looked disk in
+              let before = unread_since first one old so_far into.stripes (numbers_of into.ahead.stripes) into.numbers_are slots_looked disk (folder_at mids disk).faults within (omega arith) in
               let rose = broke.rose in
               omega (arith, counted, told, xs_few, ys_few, both, before, rose);
-          call = folder_gained (folder_at old.folders disk) (folder_at mid.folders disk) (folder_at new.folders disk) (so_far.fixes.makes disk within).goes_on (since_any disk within).goes_on
+          call = folder_gained (folder_at old.folders disk) (folder_at mid.folders disk) (folder_at new.folders disk) (so_far.fixes.mends.makes disk within).goes_on (since_any disk within).goes_on
               (folder_gained (folder_at mid.folders disk) (folder_at mids disk) (folder_at new.folders disk) (reads disk within).goes_on (into_any disk within).goes_on broke.call);
         },
       )
       broke_then Vault broke = record {
         rose =
             let counted = count_append is_parity_io (all_mended_events plan so_far.stripes) into.first in
-            let before = so_far.fixes.parity_io in
+            let before = parity_io_rose view standing stands plan so_far.stripes one old mid so_far.fixes in
             let rose = broke.rose in
             omega (arith, counted, before, rose);
-        call = vault_gained old.vault mid.vault new.vault so_far.fixes.vault.calls into.ran.vault.calls broke.call;
+        call = vault_gained old.vault mid.vault new.vault so_far.fixes.mends.vault.calls into.ran.vault.calls broke.call;
       }
       broke_then Memory broke = broke
 
@@ -313,88 +352,53 @@ module _ {W R : Type 0} (view : W → SinkView) (standing : R → ReportView) (s
           let ys = into.stripes in
           let front = all_mended_events plan xs in
           let left = drop (done + count) items in
-          let both = numbers_both first one old so_far ys into.behind into.numbers_are into.slots items done count first_is numbers_is in
-          let before = precede xs ys (ascend first one old so_far ys into.behind into.numbers_are into.slots items done count ascending first_is numbers_is) in
+          let ahead = into.ahead.stripes in
+          let behind = numbers_of ahead in
+          let both = numbers_both first one old so_far ys behind into.numbers_are slots_looked items done count first_is numbers_is in
+          let firsts = subst AreAscending (sym both) (AllPairs-take (λ (a b : ℕ). a < b) (done + count) items ascending) in
+          let before = precede (facts_of xs) (facts_of ys) (ascend first one old so_far ys behind into.numbers_are slots_looked items done count ascending first_is numbers_is) in
           let before_last = subst (λ (its : List Mended). Precede (facts_of xs) (facts_of its)) into.stripes_are before in
+          let before_ahead = precede_ahead (facts_of xs) (facts_of ys) ahead firsts in
+          let read_apart = append_assoc so_far.fixes.readings into.readings into.ahead.readings in
           record {
             earlier = xs ++ into.earlier;
             last = into.last;
             stripes = xs ++ ys;
             stripes_are = ap (λ (its : List Mended). xs ++ its) into.stripes_are ∙ sym (append_assoc xs into.earlier (into.last ∷ []));
-            behind = into.behind ++ left;
+            behind = behind ++ left;
             numbers_are = sym (take-append-drop (done + count) items) ∙ ap (λ (its : List ℕ). its ++ left) (sym both)
-                ∙ append_assoc (numbers_of (facts_of xs) ++ numbers_of (facts_of ys)) into.behind left
-                ∙ ap (λ (its : List ℕ). its ++ (into.behind ++ left)) (sym (numbers_append first one old so_far ys into.behind into.numbers_are into.slots));
-            are = facts_then plan xs ys so_far.fixes.are into.are;
+                ∙ append_assoc (numbers_of (facts_of xs) ++ numbers_of (facts_of ys)) behind left
+                ∙ ap (λ (its : List ℕ). its ++ (behind ++ left)) (sym (numbers_append first one old so_far ys behind into.numbers_are slots_looked));
+            are = facts_then plan xs ys so_far.fixes.are (All-left (AreFacts plan) (facts_of ys) ahead into.are);
             level = into.level;
             first = front ++ into.first;
             tells = tells_then plan fault into.level xs into.earlier into.last into.first into.tells;
-            told = told_then view standing stands plan.table.columns front into.first old.lines mid.lines new.lines old.reports mid.reports new.reports so_far.fixes.told into.told;
-            folders = into.folders ∙ read.folders ∙ so_far.fixes.fits.folders ∙ sym fits_old.folders;
-            answered = answered_then plan xs ys old.folders mids (λ d below. told_as d below ∙ (so_far.fixes.makes d below).goes_on.tells) so_far.fixes.answered into.answered;
-            cells = read_more first one old so_far ys into.behind into.numbers_are into.slots;
-            reads = λ d below.
-                reads_on (AreReadAhead plan old.starts d (facts_of (xs ++ ys)) (into.behind ++ left))
-                (ahead_of first one old so_far ys into.behind into.numbers_are into.slots d below left) (into.quiet d below);
+            told = told_then view standing stands plan.table.columns front into.first old.lines mid.lines new.lines old.reports mid.reports new.reports so_far.fixes.mends.told into.told;
+            folders = into.folders ∙ read.folders ∙ so_far.fixes.mends.fits.folders ∙ sym fits_old.folders;
+            answered = answered_then plan xs ys old.folders mids (λ d below. told_as d below ∙ (so_far.fixes.mends.makes d below).goes_on.tells) so_far.fixes.mends.answered into.answered;
+            cells = all_read_then;
+            reads = all_reads;
             readings = so_far.fixes.readings ++ into.readings;
-            read = levels_then plan xs ys old.vault mid.vault so_far.fixes.readings into.readings so_far.fixes.vault before so_far.fixes.read into.read;
-            ran = breaks_in_last fault plan into.level xs into.earlier into.last so_far.fixes.readings into.readings old.vault mid.vault new.vault before_last
-                so_far.fixes.read so_far.fixes.ran so_far.fixes.vault so_far.fixes.holds into.ran;
-            unread = unread_then so_far.fixes.readings into.readings old.vault.faults mid.vault.faults new.vault.faults so_far.fixes.unread into.unread;
+            read = levels_then plan xs ys old.vault mid.vault so_far.fixes.readings into.readings so_far.fixes.mends.vault before so_far.fixes.read into.read;
+            ahead = into.ahead;
+            looked = record {
+              are = All-right (AreFacts plan) (facts_of ys) ahead into.are;
+              levels = levels_before plan (facts_of xs) ahead old.vault mid.vault so_far.fixes.mends.vault before_ahead into.ahead.readings into.read_ahead;
+              more = left;
+              behind_is = refl;
+            };
+            ran = subst (λ (its : List (List LevelReading)). BreaksInLast plan fault into.level (facts_of (xs ++ into.earlier)) into.last.facts ahead its old.vault new.vault) (sym read_apart)
+                (breaks_in_last fault plan into.level xs into.earlier into.last ahead so_far.fixes.windows so_far.fixes.readings (into.readings ++ into.ahead.readings) old.vault mid.vault new.vault
+                before_last so_far.fixes.windows_are so_far.fixes.ran so_far.fixes.mends.vault so_far.fixes.mends.holds into.ran);
+            unread = subst (λ (its : List (List LevelReading)). RoseBy (unread_in its) old.vault.faults new.vault.faults) (sym read_apart)
+                (unread_then so_far.fixes.readings (into.readings ++ into.ahead.readings) old.vault.faults mid.vault.faults new.vault.faults so_far.fixes.unread into.unread);
             unread_cells_of = λ d below.
-                unread_since first one old so_far ys into.behind into.numbers_are into.slots d (folder_at new.folders d).faults below (into_any d below).goes_on.later;
-            spare = asked_then plan xs ys old.spare mid.spare new.spare so_far.fixes.spare into.spare;
-            makes = files_then plan fault old.starts mid.starts old.states mid.states so_far.fixes.stood xs into.earlier into.last
-                old.folders mid.folders new.folders so_far.fixes.makes so_far.fixes.underway since;
+                subst (λ (its : List StripeFacts). RoseBy (unread_cells d its) (folder_at old.folders d).faults (folder_at new.folders d).faults) facts_all
+                (unread_since first one old so_far here [] numbers_here slots_here d (folder_at new.folders d).faults below (into_any d below).goes_on.later);
+            spare = subst (λ (its : List StripeFacts). AsksSpare plan its old.spare new.spare)
+                (sym (ap (λ (its : List StripeFacts). its ++ ahead) (facts_append xs ys) ∙ append_assoc (facts_of xs) (facts_of ys) ahead))
+                (asks_then plan (facts_of xs) (facts_of ys ++ ahead) old.spare mid.spare new.spare so_far.fixes.spare into.spare);
+            makes = files_then plan fault old.starts mid.starts old.states mid.states so_far.fixes.mends.stood xs into.earlier into.last
+                old.folders mid.folders new.folders so_far.fixes.mends.makes so_far.fixes.mends.underway since;
             broke = broke_then fault into.broke;
           }
-
--- ---- the work of a window is that of the run, but for its room and the places of the files
-
-module _ (table : TableValue) (first work : Work) (kept : KeepsFixWork table first work) where
-  pub plan_same : plan_for table work ≡ plan_for table first
-  plan_same = ap (plan_for table) kept.rest
-
-  pub items_same : (done count : ℕ) → take count (drop done work.stripes.items) ≡ take count (drop done first.stripes.items)
-  items_same done count = ap (λ (it : Work). take count (drop done it.stripes.items)) kept.rest
-
-  pub work_goes_on : IsWorkFor table first → StartsFit table work.starts → IsWorkFor table work
-  work_goes_on is starts = record {
-    entries = subst (λ (it : Work). EntriesFit table it.entries) (sym kept.rest) is.entries;
-    starts = starts;
-    within = subst (λ (it : Work). All (λ stripe. stripe < length table.infos) it.stripes.items) (sym kept.rest) is.within;
-    room = kept.room;
-  }
-
-  -- what is said by the one plan is said by the other
-  pub underway_for : (nows : List FolderView) (starts : StartsValue) (states : List (List FileState)) → FixUnderway (plan_for table first) nows starts states → FixUnderway (plan_for table work) nows starts states
-  underway_for nows starts states is = subst (λ (plan : FixPlan). FixUnderway plan nows starts states) (sym plan_same) is
-
-  module _ {W R : Type 0} (view : W → SinkView) (standing : R → ReportView) (stands : R → List Event → Type 0) where
-    pub into_for : (numbers : List ℕ) (window : WindowValue) (old new : FixScene W R) (totals : Totals) → FixesInto view standing stands (plan_for table work) numbers window old new totals
-        → FixesInto view standing stands (plan_for table first) numbers window old new totals
-    into_for numbers window old new totals into = subst (λ (plan : FixPlan). FixesInto view standing stands plan numbers window old new totals) plan_same into
-
-    pub breaks_for : (numbers : List ℕ) (window : WindowValue) (old new : FixScene W R) (fault : RunFault) → BreaksInto view standing stands (plan_for table work) numbers window old new fault
-        → BreaksInto view standing stands (plan_for table first) numbers window old new fault
-    breaks_for numbers window old new fault broke = subst (λ (plan : FixPlan). BreaksInto view standing stands plan numbers window old new fault) plan_same broke
-
-pub keeps_fix_then : (table : TableValue) (one two three : Work) → KeepsFixWork table one two → KeepsFixWork table two three → KeepsFixWork table one three
-keeps_fix_then table one two three first next = record {
-  rest = next.rest ∙ ap (λ (it : Work). let w : Work = record it { room = three.room; starts = three.starts } in w) first.rest;
-  room = next.room;
-}
-
--- a window that was read and written anew, by the numbers that it was read for
-pub window_fixes : {W R : Type 0} (view : W → SinkView) (standing : R → ReportView) (stands : R → List Event → Type 0) (table : TableValue) (work : Work) (asked numbers : List ℕ) → asked ≡ numbers
-    → (window : WindowValue) (mids : List FolderView) (old new : FixScene W R) (totals : Totals) → ReadsWindow table work.starts asked work.room.window window old.folders mids
-    → FixesInto view standing stands (plan_for table work) asked window (with_folders old mids) new totals → FixesWindow view standing stands table work numbers old new totals
-window_fixes view standing stands table work asked numbers same window mids old new totals read into =
-    subst (λ (its : List ℕ). FixesWindow view standing stands table work its old new totals) same (record { window = window; mids = mids; read = read; fixes = into })
-
--- and one that broke off
-pub window_breaks : {W R : Type 0} (view : W → SinkView) (standing : R → ReportView) (stands : R → List Event → Type 0) (table : TableValue) (work : Work) (asked numbers : List ℕ) → asked ≡ numbers
-    → (window : WindowValue) (mids : List FolderView) (old new : FixScene W R) (fault : RunFault) → ReadsWindow table work.starts asked work.room.window window old.folders mids
-    → BreaksInto view standing stands (plan_for table work) asked window (with_folders old mids) new fault → BreaksWindow view standing stands table work numbers old new fault
-window_breaks view standing stands table work asked numbers same window mids old new fault read into =
-    subst (λ (its : List ℕ). BreaksWindow view standing stands table work its old new fault) same (record { window = window; mids = mids; read = read; breaks = into })

@@ -7,14 +7,15 @@ use Rattle.disk_model.specs.Vault.{VaultView, VaultCall, VaultDone, GoesOn, Some
 use Rattle.disk_model.proofs.VaultLemmas.{calls_then, then_stays}
 use Rattle.parity_writer.specs.LevelReading.{LevelReading}
 use Rattle.snap_fix.specs.Ending.{IsLevelSettled, SyncsWritten, sync_call, sync_if, written_syncs}
-use Rattle.snap_fix.specs.Facts.{StripeFacts}
+use Rattle.stripe_examiner.specs.Facts.{StripeFacts}
 use Rattle.snap_fix.specs.FixCourse.{FixesVault, fix_calls, mend_syncs}
 use Rattle.snap_fix.specs.FixRun.{HoldAllWrong}
 use Rattle.snap_fix.specs.Fixing.{MendsVault, Writes, facts_of, was_written}
-use Rattle.snap_fix.specs.Looking.{unread_in}
+use Rattle.stripe_examiner.specs.Looking.{unread_in}
 use Rattle.snap_fix.specs.Mended.{Mended}
-use Rattle.snap_fix.specs.Plan.{FixPlan}
-use Rattle.snap_fix.specs.Underway.{AddsZeros, HoldsWrong, IsMendedLevel, KeepsLevels, done_well, mend_calls}
+use Rattle.stripe_examiner.specs.Plan.{FixPlan}
+use Rattle.snap_fix.specs.Underway.{AddsZeros, HoldsWrong, IsMendedLevel, KeepsLevels, done_well}
+use Rattle.snap_fix.specs.Windows.{AreWindows, FixWindow, mend_calls}
 
 -- ---- what stays of what was done
 
@@ -91,22 +92,25 @@ calls_on old mid new one two a b = record {
 
 -- ---- all of it
 
-module _ (plan : FixPlan) (stripes : List Mended) (readings : List (List LevelReading)) (old mid new : VaultView) (levels : List Bool)
+module _ (plan : FixPlan) (stripes : List Mended) (readings : List (List LevelReading)) (windows : List FixWindow) (windows_are : AreWindows windows (facts_of stripes) readings)
+    (old mid new : VaultView) (levels : List Bool)
     (long : length levels ≡ plan.table.shape.levels) (flags : (r : ℕ) → r < plan.table.shape.levels → get_or levels r false ≡ was_written plan stripes r)
     (synced : SyncsWritten levels mid new) where
   abbrev facts : List StripeFacts
   facts = facts_of stripes
 
   -- all calls were made
-  pub fixes_ran : GoesOn old mid (mend_calls plan facts readings) → GoesOn old new (fix_calls plan stripes readings)
-  fixes_ran ran = subst (λ (calls : List VaultCall). GoesOn old new (mend_calls plan facts readings ++ done_well calls)) (syncs_are plan stripes levels long flags)
-      (calls_on old mid new (mend_calls plan facts readings) (done_well (written_syncs levels)) ran synced.syncs.ran)
+  pub fixes_ran : GoesOn old mid (mend_calls plan windows) → GoesOn old new (fix_calls plan stripes windows)
+  fixes_ran ran = subst (λ (calls : List VaultCall). GoesOn old new (mend_calls plan windows ++ done_well calls)) (syncs_are plan stripes levels long flags)
+      (calls_on old mid new (mend_calls plan windows) (done_well (written_syncs levels)) ran synced.syncs.ran)
 
   -- The levels that were written anew are synced.
-  pub fixes_vault : IsWellFormed new → GoesOn old mid (mend_calls plan facts readings) → RoseBy (unread_in readings) old.faults mid.faults → MendsVault plan facts old mid
+  pub fixes_vault : IsWellFormed new → GoesOn old mid (mend_calls plan windows) → RoseBy (unread_in readings) old.faults mid.faults → MendsVault plan facts old mid
       → (IsTrue old.tells → AddsZeros plan.table.shape.block_size (IsMendedLevel plan facts) old.files mid.files) → HoldAllWrong plan facts mid
       → FixesVault plan stripes readings old new
   fixes_vault formed ran unread mends zeros holds = record {
+    windows = windows;
+    windows_are = windows_are;
     ran = fixes_ran ran;
     unread = rose_on (unread_in readings) old.faults mid.faults new.faults unread synced.syncs.some.goes_on.later;
     mends = mends_synced plan facts old mid new mends synced.syncs.some synced.syncs.drafts synced.syncs.changes;

@@ -12,16 +12,16 @@ use Rattle.snap_report.specs.declared.events.Event.{Event}
 use Rattle.snap_report.specs.declared.pages.Lines.{Lines}
 use Rattle.snap_report.proofs.ToldLemmas.{told_nothing}
 use Rattle.stripe_reader.specs.WindowValue.{WindowValue}
-use Rattle.snap_fix.specs.Facts.{StripeFacts}
-use Rattle.snap_fix.specs.Findings.{is_wrong_by}
+use Rattle.stripe_examiner.specs.Facts.{StripeFacts}
+use Rattle.stripe_examiner.specs.Findings.{is_wrong_by}
 use Rattle.snap_fix.specs.FixSteps.{MendsNotParity, MendsParity, ShowsTried}
-use Rattle.snap_fix.specs.Known.{IsTried}
-use Rattle.snap_fix.specs.Marks.{levels_read}
+use Rattle.stripe_examiner.specs.Known.{IsTried}
+use Rattle.stripe_examiner.specs.Marks.{levels_read}
 use Rattle.snap_fix.specs.Mended.{all_level_news, is_wrong_level, level_news}
-use Rattle.snap_fix.specs.Plan.{FixPlan, is_searched, selects_level}
+use Rattle.stripe_examiner.specs.Plan.{FixPlan, is_searched, selects_level}
 use Rattle.snap_fix.specs.Repairing.{FlagsWritten, LevelsOutside, MendsLevels, MendsNotLevels, ShowsLevels, levels_outside}
 use Rattle.snap_fix.specs.Underway.{IsMendedLevel, KeepsLevels, done_well, wrong_write, wrong_writes}
-use Rattle.snap_fix.proofs.TellingLemmas.{told_as}
+use Rattle.stripe_examiner.proofs.TellingLemmas.{told_as}
 use Rattle.snap_fix.proofs.WrittenLevelLemmas.{keeps_nothing, ran_nothing, zeros_none}
 
 -- what is left where nothing is written

@@ -1,7 +1,6 @@
--- A stripe that was looked at and written anew: what holds of it where all went well, and where a folder or the vault failed.
-use Rattle.std.proofs.Common.{◌≡◌, ℕ, ◌<◌, ◌≤◌, ◌^◌, List, [], ◌∷◌, ◌++◌, length, Bool, refl, sym, ap, ◌∙◌, subst, append_assoc, arith}
-use Rattle.std.specs.Vec.{with_items}
-use Rattle.std.proofs.lemmas.List.{with_items_is}
+-- A stripe that was examined is told and written anew: what holds of it where all went well, and where a folder or the vault failed.
+use Rattle.std.proofs.Common.{◌≡◌, ℕ, ◌<◌, ◌^◌, List, [], ◌∷◌, ◌++◌, length, Bool, refl, sym, ap, ◌∙◌, subst, append_assoc, arith}
+use Rattle.disk_model.specs.Folder.{FolderView}
 use Rattle.disk_model.specs.Sink.{SinkView}
 use Rattle.disk_model.specs.Vault.{VaultView, GoesOn}
 use Rattle.snap_report.specs.Report.{ReportView}
@@ -10,93 +9,76 @@ use Rattle.snap_report.specs.declared.answer.RunFault.TheVariants as fault
 use Rattle.snap_report.specs.declared.events.Event.{Event}
 use Rattle.snap_report.specs.declared.pages.Lines.{Lines}
 use Rattle.snap_report.proofs.ToldLemmas.{told_then}
+use Rattle.stripe_reader.specs.Starts.{StartsValue}
 use Rattle.stripe_reader.specs.WindowValue.{WindowValue}
 use Rattle.snap_fix.specs.declared.fixing.Totals.{Totals}
-use Rattle.snap_fix.specs.declared.marking.CellMark.{CellMark}
+use Rattle.stripe_examiner.specs.declared.marking.CellMark.{CellMark}
+use Rattle.stripe_examiner.specs.declared.room.StripeRoom.{StripeRoom}
+use Rattle.file_restorer.specs.declared.state.FileState.{FileState}
 use Rattle.snap_fix.specs.declared.repairing.Repaired.{Repaired}
-use Rattle.snap_fix.specs.declared.room.Room.{Room}
-use Rattle.snap_fix.specs.Asking.{AsksSpare}
-use Rattle.snap_fix.specs.Counts.{AreCounts}
-use Rattle.snap_fix.specs.Examining.{Examines, ReadsTried, facts_examined}
-use Rattle.snap_fix.specs.Facts.{StripeFacts}
-use Rattle.snap_fix.specs.Findings.{stripe_events}
-use Rattle.snap_fix.specs.Fixing.{BreaksStripe, FixScene, FixesStripe, LevelsWereRead, MendsVault, SceneFits}
+use Rattle.stripe_examiner.specs.Counts.{AreCounts}
+use Rattle.stripe_examiner.specs.Facts.{StripeFacts}
+use Rattle.stripe_examiner.specs.Findings.{stripe_events}
+use Rattle.snap_fix.specs.Fixing.{BreaksStripe, FixScene, FixesStripe, MendsVault, SceneFits, fix_scene, with_answers}
 use Rattle.snap_fix.specs.FixSteps.{MendsNotParity, MendsParity, ShowsTried}
-use Rattle.snap_fix.specs.Looking.{LevelsAreRead}
-use Rattle.snap_fix.specs.Marks.{ChangesStripe}
 use Rattle.snap_fix.specs.Mended.{Mended, all_cell_news, all_level_news, cell_news, level_news}
-use Rattle.snap_fix.specs.Plan.{FixPlan, is_searched}
+use Rattle.stripe_examiner.specs.Marks.{levels_read}
+use Rattle.stripe_examiner.specs.Plan.{FixPlan, is_searched}
 use Rattle.snap_fix.specs.Repairing.{MendsFiles, MendsNotFiles, levels_outside, outside}
-use Rattle.snap_fix.specs.Room.{IsRoomFor}
-use Rattle.snap_fix.specs.Spare.{IsSpareFor}
-use Rattle.snap_fix.specs.Underway.{IsMendCall, ShowsFacts, stripe_reads}
+use Rattle.stripe_examiner.specs.Showing.{ShowsFacts}
+use Rattle.stripe_examiner.specs.Spare.{IsSpareFor, SpareView}
+use Rattle.snap_fix.specs.Underway.{IsMendCall}
+use Rattle.snap_fix.specs.WindowShown.{ShowsFactsOf}
 use Rattle.snap_fix.proofs.FixedCountLemmas.{totals_of, writes_one}
-use Rattle.snap_fix.proofs.FixedVaultLemmas.{fails_stripe, mends_vault, mends_zeros, ran_stripe, read_broke, reading_calls, reads_mend, reads_stripe, vault_broke, were_read}
-use Rattle.snap_fix.proofs.FolderFailsLemmas.{fails_gained}
+use Rattle.file_restorer.proofs.FolderFailsLemmas.{fails_gained}
 use Rattle.snap_fix.proofs.MendedCounts.{events_split}
-use Rattle.snap_fix.proofs.TellingLemmas.{events_to}
-use Rattle.snap_fix.proofs.WindowLemmas.{length_tried, levels_one}
+use Rattle.snap_fix.proofs.MendedVaultLemmas.{goes_on_none, mends_nothing}
+use Rattle.stripe_examiner.proofs.TellingLemmas.{events_to}
 
--- room with another sum in its block
-pub room_then : (plan : FixPlan) (room : Room) (items : List ℕ) → length items ≡ length room.block.items → IsRoomFor plan.table room
-    → IsRoomFor plan.table (record room { block = with_items room.block items })
-room_then plan room items long is = record {
-  some = is.some;
-  window = is.window;
-  levels = is.levels;
-  marks = is.marks;
-  remainders = is.remainders;
-  blocks = is.blocks;
-  block = ap (λ (bytes : List ℕ). length bytes) (with_items_is room.block items (long ∙ sym room.block.ok.0)) ∙ long ∙ is.block;
+-- ---- what its room shows
+
+module _ (plan : FixPlan) (facts : StripeFacts) (stripe i : ℕ) (window : WindowValue) (own : StripeRoom) (it : ShowsFactsOf plan facts stripe i window own) where
+  -- as its facts are shown to what writes its cells and its levels
+  pub shows_tried : ShowsTried plan facts stripe i window own.levels own.known
+  shows_tried = record {
+    are = it.shows.are;
+    stripe_is = it.stripe_is;
+    levels_are = it.shows.levels ∙ ap (λ (n : ℕ). levels_read (is_searched plan n) own.levels) it.stripe_is;
+    row = it.shows.shows.row;
+  }
+
+  pub shows_marks : (marks : List CellMark) → marks ≡ own.marks.items → ShowsFacts plan facts i marks own.known window
+  shows_marks marks same = subst (λ (all : List CellMark). ShowsFacts plan facts i all own.known window) (sym same) it.shows.shows
+
+-- whatever the spare is
+pub fits_with : {W R : Type 0} (plan : FixPlan) (starts : StartsValue) (states : List (List FileState)) (written : List Bool) (folders : List FolderView) (vault : VaultView)
+    (one other : SpareView) (lines : Lines W) (reports : List R) → SceneFits plan (fix_scene starts states written folders vault one lines reports) → IsSpareFor plan.table.shape other
+    → SceneFits plan (fix_scene starts states written folders vault other lines reports)
+fits_with plan starts states written folders vault one other lines reports fits spare = record {
+  folders = fits.folders;
+  starts = fits.starts;
+  states = fits.states;
+  written = fits.written;
+  levels = fits.levels;
+  spare = spare;
 }
 
--- ---- the stripe was examined
+-- ---- it is told and written
 
 module _ {W R : Type 0} (view : W → SinkView) (standing : R → ReportView) (stands : R → List Event → Type 0)
-    (plan : FixPlan) (stripe i : ℕ) (before mid : Room) (known : Bool) (examined : Examines plan stripe i before mid known)
-    (marks : List CellMark) (marks_are : marks ≡ mid.marks.items)
-    (old : FixScene W R) (vault : VaultView) (lines : Lines W) (reports : List R)
-    (reads : ReadsTried (is_searched plan stripe) stripe mid.levels old.vault vault)
-    (told : Told view standing stands plan.table.columns (stripe_events plan (facts_examined plan stripe i before mid known)) old.lines lines old.reports reports) where
-  abbrev facts : StripeFacts
-  facts = facts_examined plan stripe i before mid known
-
+    (plan : FixPlan) (facts : StripeFacts) (stripe i : ℕ) (stripe_is : facts.stripe ≡ stripe) (window : WindowValue) (marks : List CellMark) (known : Bool)
+    (shown : ShowsFacts plan facts i marks known window) (old : FixScene W R) (lines : Lines W) (reports : List R)
+    (told : Told view standing stands plan.table.columns (stripe_events plan facts) old.lines lines old.reports reports) where
   abbrev found : List Event
   found = stripe_events plan facts
-
-  shown : ShowsFacts plan facts i marks known mid.window
-  shown = subst (λ (all : List CellMark). ShowsFacts plan facts i all known mid.window) (sym marks_are) examined.shows
-
-  -- as its facts are shown to what writes its levels
-  pub shows_tried : ShowsTried plan facts stripe i mid.window mid.levels known
-  shows_tried = record { are = examined.facts; stripe_is = refl; levels_are = refl; row = refl }
-
-  levels_read_of : LevelsAreRead plan (facts ∷ []) old.vault vault
-  levels_read_of =
-      levels_one plan facts (is_searched plan stripe) mid.levels old.vault vault examined.room.levels
-      (λ sure. length_tried plan facts sure examined.facts ∙ sym (examined.count sure)) refl reads
-
-  read_by : (after : VaultView) → vault.faults ≤ after.faults → LevelsWereRead plan facts old.vault after
-  read_by after later = were_read plan facts old.vault vault after later levels_read_of
-
-  -- its levels were read, and no other call of the vault was made
-  record ReadsAlone (after : VaultView) : Type 0 where
-    pub read : LevelsWereRead plan facts old.vault after
-    pub ran : GoesOn old.vault after (stripe_reads plan facts read.readings)
-
-  read_alone : ReadsAlone vault
-  unfolding read_by
-  read_alone =
-      let later : vault.faults ≤ vault.faults = omega arith in
-      record { read = read_by vault later; ran = reads_stripe plan facts old.vault vault vault later levels_read_of }
 
   -- ---- its cells were written
 
   module _ (new : FixScene W R) (lines_then : Lines W) (reports_then : List R) (repaired : Repaired)
-      (files : MendsFiles view standing stands plan stripe i mid.window marks known
-      (outside old.starts old.states old.folders lines reports) (outside new.starts new.states new.folders lines_then reports_then) repaired) where
+      (files : MendsFiles view standing stands plan stripe i window marks known
+      (outside old.starts old.states old.folders lines reports) (outside new.starts new.states new.folders lines_then reports_then) repaired) (spare : new.spare ≡ old.spare) where
     abbrev mended : Mended
-    mended = record { facts = facts; answers = files.answers }
+    mended = with_answers facts files.answers
 
     abbrev cells : List Event
     cells = all_cell_news plan mended
@@ -104,67 +86,53 @@ module _ {W R : Type 0} (view : W → SinkView) (standing : R → ReportView) (s
     told_cells : Told view standing stands plan.table.columns (found ++ cells) old.lines lines_then old.reports reports_then
     told_cells =
         told_then view standing stands plan.table.columns found cells old.lines lines lines_then old.reports reports reports_then told
-        (files.told facts refl shown)
+        (files.told facts stripe_is shown)
 
     -- and its levels
-    pub fixed : (after : Room) (totals : Totals) (parities : ℕ) → after.window ≡ mid.window → IsRoomFor plan.table after → SceneFits plan old
-        → MendsParity view standing stands plan facts old.written new.written (levels_outside vault lines_then reports_then) (levels_outside new.vault new.lines new.reports) parities
+    pub fixed : (totals : Totals) (parities : ℕ) → SceneFits plan old
+        → MendsParity view standing stands plan facts old.written new.written (levels_outside old.vault lines_then reports_then) (levels_outside new.vault new.lines new.reports) parities
         → (AreCounts cells repaired.counts → AreCounts (found ++ cells) totals.counts)
         → totals.blocks < 2 ^ 64 → totals.blocks ≡ repaired.blocks → totals.parities < 2 ^ 64 → totals.parities ≡ parities
-        → AsksSpare plan (facts ∷ []) old.spare new.spare
-        → FixesStripe view standing stands plan stripe i before after old new totals
-    unfolding read_by
-    fixed after totals parities window room fits parity counts few_blocks blocks few_parities parities_are asks =
+        → FixesStripe view standing stands plan facts old new totals
+    fixed totals parities fits parity counts few_blocks blocks few_parities parities_are =
         let levels : List Event = all_level_news plan facts in
-        let first = reading_calls (is_searched plan stripe) stripe mid.levels old.vault vault reads in
         record {
-          mended = mended;
-          number = refl;
-          slots = refl;
-          are = examined.facts;
-          answers = files.as_many;
-          room = room;
-          changes = subst (λ (w : WindowValue). ChangesStripe i before.window w) (sym window) examined.changes;
+          answers = files.answers;
+          as_many = files.as_many;
           fits = record {
             folders = files.folders ∙ fits.folders;
             starts = files.starts_fit;
             states = files.states_fit;
             written = parity.flags.0 ∙ fits.written;
-            levels = parity.calls.goes_on.levels ∙ first.goes_on.levels ∙ fits.levels;
-            spare = subst (IsSpareFor plan.table.shape) (sym asks.same) fits.spare;
+            levels = parity.calls.goes_on.levels ∙ fits.levels;
+            spare = subst (IsSpareFor plan.table.shape) (sym spare) fits.spare;
           };
           told = subst (λ (events : List Event). Told view standing stands plan.table.columns events old.lines new.lines old.reports new.reports)
               (append_assoc found cells levels)
               (told_then view standing stands plan.table.columns (found ++ cells) levels old.lines lines_then new.lines old.reports reports_then new.reports told_cells parity.told);
-          totals_are = totals_of plan mended totals (counts (files.counts facts refl shown))
-              few_blocks (blocks ∙ files.blocks facts refl shown) few_parities (parities_are ∙ parity.count_is);
+          totals_are = totals_of plan mended totals (counts (files.counts facts stripe_is shown))
+              few_blocks (blocks ∙ files.blocks facts stripe_is shown) few_parities (parities_are ∙ parity.count_is);
           written = writes_one plan mended old.written new.written parity.flags;
-          answered = files.answered facts refl shown;
+          answers_fit = files.answered facts stripe_is shown;
           stood = files.stood;
-          read = read_by new.vault parity.calls.goes_on.later;
-          ran = ran_stripe plan facts old.vault vault new.vault parity.calls.goes_on.later levels_read_of parity.ran;
-          vault = mends_vault plan facts (is_searched plan stripe) stripe mid.levels old.vault vault new.vault reads parity.calls parity.drafts parity.changes;
-          zeros = mends_zeros plan facts (is_searched plan stripe) stripe mid.levels old.vault vault new.vault reads parity.zeros;
+          ran = parity.ran;
+          vault = record { calls = parity.calls; drafts = parity.drafts; changes = parity.changes };
+          zeros = parity.zeros;
           holds = parity.holds;
-          spare = asks;
-          makes = files.makes facts refl shown;
-          underway = files.underway facts refl shown;
+          spare = spare;
+          makes = files.makes facts stripe_is shown;
+          underway = files.underway facts stripe_is shown;
         }
 
     -- or the vault failed
-    pub vault_failed : MendsNotParity view standing stands plan facts (levels_outside vault lines_then reports_then) (levels_outside new.vault new.lines new.reports)
-        → AsksSpare plan (facts ∷ []) old.spare new.spare
-        → BreaksStripe view standing stands plan stripe i before old new fault.Vault
-    unfolding read_by
-    vault_failed parity asks =
+    pub vault_failed : MendsNotParity view standing stands plan facts (levels_outside old.vault lines_then reports_then) (levels_outside new.vault new.lines new.reports)
+        → BreaksStripe view standing stands plan facts old new fault.Vault
+    vault_failed parity =
         let below : List Event = events_to (level_news plan facts) parity.level in
         let within = parity.ran.within in
         let split = events_split (level_news plan facts) parity.level (length facts.levels) (omega (arith, within)) in
         record {
-          mended = mended;
-          number = refl;
-          slots = refl;
-          are = examined.facts;
+          answers = files.answers;
           level = parity.level;
           first = (found ++ cells) ++ below;
           tells = record {
@@ -177,44 +145,37 @@ module _ {W R : Type 0} (view : W → SinkView) (standing : R → ReportView) (s
           };
           told = told_then view standing stands plan.table.columns (found ++ cells) below old.lines lines_then new.lines old.reports reports_then new.reports told_cells parity.told;
           folders = files.folders;
-          answered = files.answered facts refl shown;
-          read = read_by new.vault parity.calls.goes_on.later;
-          ran = fails_stripe plan facts old.vault vault new.vault parity.calls.goes_on.later levels_read_of parity.level parity.ran;
-          spare = asks;
-          vault = mends_vault plan facts (is_searched plan stripe) stripe mid.levels old.vault vault new.vault reads parity.calls parity.drafts parity.changes;
+          answers_fit = files.answered facts stripe_is shown;
+          ran = parity.ran;
+          vault = record { calls = parity.calls; drafts = parity.drafts; changes = parity.changes };
+          spare = spare;
           makes = record {
             starts = new.starts;
             states = new.states;
             stood = files.stood;
-            makes = files.makes facts refl shown;
-            underway = files.underway facts refl shown;
+            makes = files.makes facts stripe_is shown;
+            underway = files.underway facts stripe_is shown;
           };
-          broke = vault_broke plan facts (is_searched plan stripe) stripe mid.levels old.vault vault new.vault reads _ parity.calls
-              (read_broke plan facts old.vault vault new.vault parity.calls.goes_on.later parity.rose levels_read_of) parity.call;
+          broke = record { rose = parity.rose; call = parity.call };
         }
 
   -- ---- a folder failed
 
-  pub folder_failed : (new : FixScene W R) (disk : ℕ) → new.vault ≡ vault
-      → MendsNotFiles view standing stands plan stripe i mid.window marks known
+  pub folder_failed : (new : FixScene W R) (disk : ℕ) → new.vault ≡ old.vault → new.spare ≡ old.spare
+      → MendsNotFiles view standing stands plan stripe i window marks known
       (outside old.starts old.states old.folders lines reports) (outside new.starts new.states new.folders new.lines new.reports) disk
-      → AsksSpare plan (facts ∷ []) old.spare new.spare
-      → BreaksStripe view standing stands plan stripe i before old new (fault.Folder disk)
-  folder_failed new disk same files asks =
-      let part = files.broke facts refl shown in
+      → BreaksStripe view standing stands plan facts old new (fault.Folder disk)
+  folder_failed new disk same spare files =
+      let part = files.broke facts stripe_is shown in
       let answers : List Bool = part.0 in
-      let cells_to : List Event = events_to (cell_news plan (record { facts = facts; answers = answers })) disk in
+      let cells_to : List Event = events_to (cell_news plan (with_answers facts answers)) disk in
       let levels : List Event = all_level_news plan facts in
-      let then_read : ReadsAlone new.vault = subst ReadsAlone (sym same) read_alone in
       let fails = part.3 in
       let within = fails.within in
-      let split = events_split (cell_news plan (record { facts = facts; answers = answers })) disk
+      let split = events_split (cell_news plan (with_answers facts answers)) disk
       (length plan.table.columns) (omega (arith, within)) in
       record {
-        mended = record { facts = facts; answers = answers };
-        number = refl;
-        slots = refl;
-        are = examined.facts;
+        answers = answers;
         level = 0;
         first = found ++ cells_to;
         tells = record {
@@ -227,11 +188,10 @@ module _ {W R : Type 0} (view : W → SinkView) (standing : R → ReportView) (s
         };
         told = told_then view standing stands plan.table.columns found cells_to old.lines lines new.lines old.reports reports new.reports told part.2;
         folders = files.folders;
-        answered = part.1;
-        spare = asks;
-        read = then_read.read;
-        ran = then_read.ran;
-        vault = subst (MendsVault plan [] old.vault) (sym same) (reads_mend plan [] (is_searched plan stripe) stripe mid.levels old.vault vault reads);
+        answers_fit = part.1;
+        ran = subst (λ (vault : VaultView). GoesOn old.vault vault []) (sym same) (goes_on_none old.vault);
+        vault = subst (MendsVault plan [] old.vault) (sym same) (mends_nothing plan [] old.vault);
+        spare = spare;
         makes = fails;
-        broke = (fails.within, record { rose = fails.here.rose; call = fails_gained (IsMendCall plan old.starts disk (record { facts = facts; answers = answers } ∷ [])) fails.here });
+        broke = (fails.within, record { rose = fails.here.rose; call = fails_gained (IsMendCall plan old.starts disk (with_answers facts answers ∷ [])) fails.here });
       }

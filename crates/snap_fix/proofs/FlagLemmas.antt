@@ -2,9 +2,9 @@
 use Rattle.std.proofs.Common.{◌≡◌, ◌≢◌, inl, inr, ℕ, ◌+◌, ◌<◌, ◌≤◌, ◌||◌, List, length, get_or, set, Bool, true, false, refl, sym, ap, ◌∙◌, subst, arith}
 use Rattle.std.proofs.lemmas.Bool.Decides.{eqb_tells}
 use Rattle.std.proofs.lemmas.List.{get_or-set_same, get_or-set_other}
-use Rattle.snap_fix.specs.Facts.{StripeFacts}
+use Rattle.stripe_examiner.specs.Facts.{StripeFacts}
 use Rattle.snap_fix.specs.Mended.{is_wrong_level}
-use Rattle.snap_fix.specs.Plan.{FixPlan}
+use Rattle.stripe_examiner.specs.Plan.{FixPlan}
 use Rattle.snap_fix.specs.Repairing.{FlagsWritten}
 
 -- the wrong ones among the first levels have their flags

@@ -10,7 +10,7 @@ use Rattle.block_hash.specs.declared.Digest16.{Digest16}
 use Rattle.disk_model.specs.Folder.{FolderView}
 use Rattle.disk_model.specs.declared.meta.Meta.{Meta}
 use Rattle.file_table.specs.Cells.{CellView, cell_seen}
-use Rattle.file_table.specs.Table.{column_at, record_at}
+use Rattle.file_table.specs.Table.{column_at, record_at, records_in}
 use Rattle.file_table.specs.declared.block.Cell.{Cell}
 use Rattle.parity_writer.specs.LevelsValue.{no_level}
 use Rattle.snap_report.specs.Kind.{is_finding}
@@ -21,23 +21,23 @@ use Rattle.stripe_reader.specs.SlotValue.{SlotValue}
 use Rattle.stripe_reader.specs.Starts.{StartsValue, start_in, starts_at}
 use Rattle.stripe_reader.specs.WindowValue.{no_slot}
 use Rattle.stripe_reader.specs.declared.starts.Start.{Start}
-use Rattle.snap_fix.specs.declared.entry.Entry.{Entry}
-use Rattle.snap_fix.specs.declared.finishing.Finish.{Finish}
-use Rattle.snap_fix.specs.declared.finishing.Finish.TheVariants.{Kept, Restored, Unstamped, Renamed, Gone}
-use Rattle.snap_fix.specs.declared.state.FileState.{FileState}
+use Rattle.stripe_examiner.specs.declared.entry.Entry.{Entry}
+use Rattle.file_restorer.specs.declared.finishing.Finish.{Finish}
+use Rattle.file_restorer.specs.declared.finishing.Finish.TheVariants.{Kept, Restored, Unstamped, Renamed, Gone}
+use Rattle.file_restorer.specs.declared.state.FileState.{FileState}
 use Rattle.snap_fix.specs.Course.{check_events}
 use Rattle.snap_fix.specs.Ending.{IsDone, all_finish_news, column_news_at, finish_at, finish_news, finishes_at, is_finished, record_news, stamp_news, state_at, states_at}
-use Rattle.snap_fix.specs.Facts.{StripeFacts, is_missing}
-use Rattle.snap_fix.specs.Findings.{all_cell_events, all_level_events, all_level_io_events, all_lost_events, blocked_event, cell_events, changed_event, column_events, events_of, file_events, is_lost, is_unread, is_unread_level, is_wrong, level_events, level_io_events, lost_event, lost_events, opening_events, read_event, read_events, record_events, silent_event, stripe_events, unsynced_events}
-use Rattle.snap_fix.specs.Finishing.{lost_finish, stamped_finish, whole_finish, is_changed, is_stamped}
+use Rattle.stripe_examiner.specs.Facts.{StripeFacts, is_missing}
+use Rattle.stripe_examiner.specs.Findings.{all_cell_events, all_level_events, all_level_io_events, all_lost_events, blocked_event, cell_events, changed_event, column_events, events_of, file_events, is_lost, is_unread, is_unread_level, is_wrong, level_events, level_io_events, lost_event, lost_events, opening_events, read_event, read_events, record_events, silent_event, stripe_events, unsynced_events}
+use Rattle.file_restorer.specs.Finishing.{lost_finish, stamped_finish, whole_finish, is_changed, is_stamped}
 use Rattle.snap_fix.specs.FixCourse.{Written, fix_events}
 use Rattle.snap_fix.specs.Fixing.{facts_of}
 use Rattle.snap_fix.specs.Found.{AreAllWritten, IsNoneGone}
 use Rattle.snap_fix.specs.Mended.{AnswersFit, Mended, all_cell_news, all_level_news, all_mended_events, answer_of, cell_news, fixed_event, is_repaired, is_wrong_level, level_news, mended_event, mended_events}
-use Rattle.snap_fix.specs.Plan.{FixPlan, cell_at, entry_at, has_selected_cell, is_audit, is_synced, records_in, selects_cell, selects_level}
+use Rattle.stripe_examiner.specs.Plan.{FixPlan, cell_at, entry_at, has_selected_cell, is_audit, is_synced, selects_cell, selects_level}
 use Rattle.snap_fix.specs.Restored.{HasFixed}
-use Rattle.snap_fix.specs.Selected.{is_as_recorded}
-use Rattle.snap_fix.specs.State.{stands}
+use Rattle.stripe_examiner.specs.Selected.{is_as_recorded}
+use Rattle.file_restorer.specs.State.{stands}
 
 -- ---- the findings among some events
 

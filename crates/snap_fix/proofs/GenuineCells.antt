@@ -24,11 +24,11 @@ use Rattle.stripe_reader.specs.WindowValue.{no_slot}
 use Rattle.stripe_reader.specs.declared.slot.Found.{Found}
 use Rattle.stripe_reader.specs.declared.starts.Place.{Place}
 use Rattle.stripe_reader.specs.declared.starts.Place.TheVariants as place
-use Rattle.snap_fix.specs.Facts.{StripeFacts, IsGift, IsGiftFor, agrees, bytes_before, damaged_at, gift_of, gift_or, is_damaged, is_missing, slot_of}
-use Rattle.snap_fix.specs.Fixing.{IsPresent}
+use Rattle.stripe_examiner.specs.Facts.{StripeFacts, IsGift, IsGiftFor, agrees, bytes_before, damaged_at, gift_of, gift_or, is_damaged, is_missing, slot_of}
+use Rattle.stripe_examiner.specs.Present.{IsPresent}
 use Rattle.snap_fix.specs.Genuine.{HasGenuineFacts, IsBlockIn}
-use Rattle.snap_fix.specs.Plan.{FixPlan, seen_at}
-use Rattle.snap_fix.proofs.CellFactsLemmas.{given_found}
+use Rattle.stripe_examiner.specs.Plan.{FixPlan, seen_at}
+use Rattle.stripe_examiner.proofs.CellFactsLemmas.{given_found}
 
 not_false : (b : Bool) → not b ≡ false → b ≡ true
 not_false true is = refl

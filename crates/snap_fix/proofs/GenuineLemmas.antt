@@ -27,20 +27,19 @@ use Rattle.parity_writer.proofs.ElsewhereLemmas.{length-resized}
 use Rattle.parity_writer.proofs.PaddedLemmas.{resized_byte}
 use Rattle.stripe_reader.specs.SlotValue.{SlotValue}
 use Rattle.stripe_reader.specs.Starts.{StartsValue}
-use Rattle.snap_fix.specs.declared.search.Wanted.{Wanted}
-use Rattle.snap_fix.specs.Facts.{StripeFacts, bytes_before, gift_of, gift_or, hash_or_none, is_damaged, is_missing, missing_in, row_before, slot_of, wanted_by, wanted_in}
+use Rattle.stripe_examiner.specs.declared.search.Wanted.{Wanted}
+use Rattle.stripe_examiner.specs.Facts.{StripeFacts, bytes_before, gift_of, gift_or, hash_or_none, is_damaged, is_missing, missing_in, row_before, slot_of, wanted_by, wanted_in}
 use Rattle.snap_fix.specs.Genuine.{HasGenuineFacts, IsRestorableStripe, IsSameRow, TellsIntactLevels, lost_of}
-use Rattle.snap_fix.specs.Known.{AreRemainders, IsKnown, IsSearchOf, IsTried, whole_level, whole_levels}
-use Rattle.snap_fix.specs.Plan.{FixPlan, seen_at}
-use Rattle.snap_fix.specs.Restorable.{AgreesOutside, AreBlocksOf, HasRemainders, IsLost, IsSnapshotOf, LostStripe, filled, padded_block}
-use Rattle.snap_fix.specs.Search.{IsRightBlock, columns_of, no_wanted, wanted_at as wanted_of}
-use Rattle.snap_fix.specs.Restorable.{SomeAccepted}
+use Rattle.stripe_examiner.specs.Known.{AreRemainders, IsKnown, IsSearchOf, IsTried, whole_level, whole_levels}
+use Rattle.stripe_examiner.specs.Plan.{FixPlan, seen_at}
+use Rattle.stripe_examiner.specs.Restorable.{AgreesOutside, AreBlocksOf, HasRemainders, IsLost, IsSnapshotOf, LostStripe, filled, padded_block, SomeAccepted}
+use Rattle.stripe_examiner.specs.Search.{IsRightBlock, columns_of, no_wanted, wanted_at as wanted_of}
 use Rattle.snap_fix.proofs.GenuineCells.{before_is, snapshot_block, snapshot_long}
-use Rattle.snap_fix.proofs.KnowLemmas.{passed_distinct, wanted_columns}
-use Rattle.snap_fix.proofs.RestorableFilling.{filled_agrees, filled_holds}
+use Rattle.stripe_examiner.proofs.KnowLemmas.{passed_distinct, wanted_columns}
+use Rattle.stripe_examiner.proofs.RestorableFilling.{filled_agrees, filled_holds}
 use Rattle.snap_fix.proofs.RestorableLemmas.{accepted_from_count, count_from_accepted, found_choice, none_accepted}
-use Rattle.snap_fix.proofs.RestorableSums.{empty_level}
-use Rattle.snap_fix.proofs.SearchAccepted.{column_at, length-columns_of}
+use Rattle.stripe_examiner.proofs.RestorableSums.{empty_level}
+use Rattle.stripe_examiner.proofs.SearchAccepted.{column_at, length-columns_of}
 
 -- ---- the numbers that are among others
 

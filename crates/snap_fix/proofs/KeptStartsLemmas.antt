@@ -9,18 +9,18 @@ use Rattle.snap_report.specs.declared.answer.RunFault.{RunFault}
 use Rattle.snap_report.specs.declared.answer.RunFault.TheVariants.{Folder, Vault, Memory}
 use Rattle.stripe_reader.specs.Columns.{folder_at}
 use Rattle.stripe_reader.specs.Starts.{StartsValue}
-use Rattle.snap_fix.specs.declared.state.FileState.{FileState}
+use Rattle.file_restorer.specs.declared.state.FileState.{FileState}
 use Rattle.snap_fix.specs.FixRun.{BreaksFolders}
 use Rattle.snap_fix.specs.Fixing.{BreaksCells}
 use Rattle.snap_fix.specs.Mended.{Mended}
-use Rattle.snap_fix.specs.Plan.{FixPlan}
-use Rattle.snap_fix.specs.Order.{is_writing}
+use Rattle.stripe_examiner.specs.Plan.{FixPlan}
+use Rattle.file_restorer.specs.Order.{is_writing}
 use Rattle.snap_fix.specs.Reads.{FolderReads, IsQuiet}
-use Rattle.snap_fix.specs.State.{AnyCall, WellCall, FolderMakes, FolderMakesBy, KeepsStarts}
+use Rattle.file_restorer.specs.State.{AnyCall, WellCall, FolderMakes, FolderMakesBy, KeepsStarts}
 use Rattle.snap_fix.specs.Underway.{AreAllMendCalls, AreFixable, AreMendCalls, AreStripeCalls, AreUnderway, IsMendCall, IsStripeCall}
-use Rattle.snap_fix.proofs.FolderCallLemmas.{makes_any_wider, makes_by_none, makes_by_then, makes_by_wider, makes_each, makes_then, well_wider}
-use Rattle.snap_fix.proofs.FolderFailsLemmas.{in_column_any}
-use Rattle.snap_fix.proofs.OrderLemmas.{none_write}
+use Rattle.file_restorer.proofs.FolderCallLemmas.{makes_any_wider, makes_by_none, makes_by_then, makes_by_wider, makes_each, makes_then, well_wider}
+use Rattle.file_restorer.proofs.FolderFailsLemmas.{in_column_any}
+use Rattle.file_restorer.proofs.OrderLemmas.{none_write}
 use Rattle.snap_fix.proofs.ReadsLemmas.{quiet_in_column, quiet_makes}
 use Rattle.snap_fix.proofs.StartsKeptLemmas.{keeps_starts_same, keeps_starts_then, mend_call_wider, mend_calls_before}
 

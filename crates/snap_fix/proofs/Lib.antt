@@ -1,51 +1,11 @@
-mod FinishNameLemmas
-mod FinishCallsLemmas
 mod FinishPartsLemmas
-mod FinishTreeLemmas
-mod FinishStepsLemmas
-mod FinishWholeLemmas
-mod FinishRecordLemmas
-pub mod LookingLemmas
-pub mod WindowLemmas
 pub mod ReadLemmas
 pub mod CheckLemmas
-pub mod SearchChoices
-pub mod SearchBlocks
-pub mod SearchRight
-pub mod SharingLemmas
-pub mod JudgingLemmas
-pub mod SearchAccepted
-pub mod SearchLemmas
-pub mod SearchExamples
-pub mod RestorableSums
-pub mod RestorableCounts
-pub mod RestorableFilling
 pub mod RestorableLemmas
 pub mod BeginningLemmas
-pub mod LookUpLemmas
-pub mod PlacingLemmas
-pub mod SelectLemmas
 pub mod CourseLemmas
-pub mod TellingLemmas
-pub mod StripeLemmas
-pub mod FindingLemmas
-pub mod FolderCallLemmas
-pub mod FolderFailsLemmas
 pub mod StartsKeptLemmas
 pub mod WritesLemmas
-pub mod MendedRecordLemmas
-pub mod GoesOnLemmas
-pub mod RecordPathsLemmas
-pub mod MendedColumnLemmas
-pub mod MendedCellLemmas
-pub mod NestedLemmas
-pub mod CellFactsLemmas
-pub mod ExaminedLemmas
-pub mod KnowLemmas
-pub mod ShownLemmas
-pub mod KnowRemainders
-pub mod KnowFilled
-pub mod AskingLemmas
 pub mod FixedParityLemmas
 pub mod FixedVaultLemmas
 pub mod FixedCountLemmas
@@ -71,14 +31,18 @@ pub mod FixCountLemmas
 pub mod AskedLemmas
 pub mod KeptStartsLemmas
 pub mod MendedVaultLemmas
+pub mod WindowsLemmas
+pub mod WindowShownLemmas
 pub mod FixAllLemmas
 pub mod FixIntoLemmas
+pub mod FixWindowLemmas
 pub mod FixReadLemmas
 pub mod PresentCellLemmas
 pub mod PresentLemmas
 pub mod FixCallLemmas
 pub mod StoppedLemmas
 pub mod FixStripesLemmas
+pub mod FixWorkLemmas
 mod FixTreeLemmas
 mod FixStartLemmas
 mod FixEndLemmas
@@ -96,7 +60,6 @@ pub mod RestoredRest
 pub mod FoundLemmas
 pub mod ModeLemmas
 mod ByModeLemmas
-mod OrderLemmas
 mod StripeOrderLemmas
 mod BreakingLemmas
 mod ReadsLemmas

@@ -1,17 +1,15 @@
 -- How many of the first numbers pass a test, which events there are of them, and counts of faults and calls that go on.
 use Rattle.std.proofs.Common.{◌≡◌, ℕ, ◌+◌, ◌-◌, ◌≤◌, zero, suc, List, [], ◌∷◌, ◌++◌, Bool, true, false, if◌then◌else◌, refl, sym, ap, ◌∙◌, arith, append_assoc}
-use Rattle.std.specs.Prelude.{count_by}
-use Rattle.std.specs.List.{range_with_len}
+use Rattle.std.specs.Prelude.{count_by, ◌||◌, IsTrue}
+use Rattle.std.specs.List.{range_with_len, list_any}
 use Rattle.std.proofs.lemmas.List.Recursion.{is_count_by}
-use Rattle.std.specs.Prelude.{◌||◌, IsTrue}
-use Rattle.std.specs.List.{list_any}
 use Rattle.std.proofs.lemmas.List.{append-nil}
 use Rattle.std.proofs.lemmas.List.Folds.{list_any-append}
 use Rattle.disk_model.specs.Cause.{Rose, Grows}
 use Rattle.snap_report.specs.Answer.{Gained}
 use Rattle.snap_report.specs.declared.events.Event.{Event}
-use Rattle.snap_fix.proofs.SelectLemmas.{range_more}
-use Rattle.snap_fix.proofs.TellingLemmas.{events_to, events_to-more}
+use Rattle.stripe_examiner.proofs.SelectLemmas.{range_more}
+use Rattle.stripe_examiner.proofs.TellingLemmas.{events_to, events_to-more}
 
 abbrev pub one_if : Bool → ℕ
 one_if passed = if passed then 1 else 0

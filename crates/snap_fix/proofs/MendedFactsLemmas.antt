@@ -10,17 +10,17 @@ use Rattle.std.proofs.lemmas.List.FromFn.{length-map-range_with_len, get_or-map-
 use Rattle.file_table.specs.declared.block.Cell.{Cell}
 use Rattle.parity_writer.specs.Parity.{Row}
 use Rattle.stripe_reader.specs.WindowValue.{WindowValue}
-use Rattle.snap_fix.specs.declared.marking.CellMark.{CellMark}
-use Rattle.snap_fix.specs.declared.marking.CellMark.TheVariants.{Right, Given, Missing}
-use Rattle.snap_fix.specs.Facts.{StripeFacts, gift_of, damaged_at, is_missing}
-use Rattle.snap_fix.specs.Findings.{is_lost}
-use Rattle.snap_fix.specs.Marks.{mark_in, row_if, is_marked_missing}
-use Rattle.snap_fix.specs.Mended.{Mended, known_by, known_block, block_or_none, is_blocked_cell, is_repaired, is_written, is_of, loses, has_lost, write_of, writes_in, writes_of, column_writes, answer_of}
-use Rattle.snap_fix.specs.Mending.{block_start, with_write}
-use Rattle.snap_fix.specs.Plan.{FixPlan, cell_at, selects_cell}
+use Rattle.stripe_examiner.specs.declared.marking.CellMark.{CellMark}
+use Rattle.stripe_examiner.specs.declared.marking.CellMark.TheVariants.{Right, Given, Missing}
+use Rattle.stripe_examiner.specs.Facts.{StripeFacts, gift_of, damaged_at, is_missing}
+use Rattle.stripe_examiner.specs.Findings.{is_lost}
+use Rattle.stripe_examiner.specs.Marks.{mark_in, row_if, is_marked_missing}
+use Rattle.snap_fix.specs.Mended.{Mended, is_blocked_cell, is_repaired, is_written, is_of, loses, has_lost, write_of, writes_in, writes_of, column_writes, answer_of}
+use Rattle.stripe_examiner.specs.Showing.{known_by, known_block, block_or_none, ShowsFacts, is_damaged_mark, is_given_mark}
+use Rattle.file_restorer.specs.Mending.{block_start, with_write}
+use Rattle.stripe_examiner.specs.Plan.{FixPlan, cell_at, selects_cell}
 use Rattle.snap_fix.specs.RepairSteps.{is_repaired_by, is_lost_by}
-use Rattle.snap_fix.specs.State.{Write}
-use Rattle.snap_fix.specs.Underway.{ShowsFacts, is_damaged_mark, is_given_mark}
+use Rattle.file_restorer.specs.State.{Write}
 
 -- ---- what the marks say
 

@@ -1,5 +1,5 @@
 -- What was done to a vault for stripes, and then for later ones: what its levels keep and gain, and what was read of them.
-use Rattle.std.proofs.Common.{◌≡◌, ◌⊎◌, inl, inr, ℕ, ◌+◌, ◌*◌, ◌<◌, ◌≤◌, List, [], ◌∷◌, ◌++◌, length, drop, get_or, IsTrue, None, Some, refl, sym, ap, ◌∙◌, subst, arith, append_assoc}
+use Rattle.std.proofs.Common.{◌≡◌, ◌⊎◌, inl, inr, ℕ, ◌+◌, ◌*◌, ◌<◌, ◌≤◌, List, [], ◌∷◌, ◌++◌, length, drop, get_or, IsTrue, None, Some, refl, sym, ◌∙◌, subst, arith}
 use Rattle.std.specs.List.{Contains}
 use Rattle.std.proofs.lemmas.Bool.{cases_lt}
 use Rattle.std.proofs.lemmas.List.{append-nil, length-take, length-drop, get_or-take, get_or-drop, ext_get_or}
@@ -7,17 +7,17 @@ use Rattle.std.proofs.lemmas.List.Elements.{All-append, Contains-append_left, Co
 use Rattle.std.proofs.lemmas.Nat.{row_fits}
 use Rattle.disk_model.specs.Bytes.{read_from}
 use Rattle.disk_model.specs.Files.{Files, parity_of}
-use Rattle.disk_model.specs.Vault.{VaultView, VaultDone, GoesOn}
+use Rattle.disk_model.specs.Vault.{VaultView, GoesOn}
 use Rattle.disk_model.proofs.VaultLemmas.{no_calls, calls_then, changes_start, changes_then}
 use Rattle.parity_writer.specs.Keeps.{HasByte, IsOutside}
 use Rattle.parity_writer.specs.LevelReading.{LevelReading, IsReadingOf}
 use Rattle.parity_writer.proofs.WriteLemmas.{apart}
-use Rattle.snap_fix.specs.Facts.{StripeFacts}
+use Rattle.stripe_examiner.specs.Facts.{StripeFacts}
 use Rattle.snap_fix.specs.FixRun.{HoldAllWrong}
 use Rattle.snap_fix.specs.Fixing.{MendsVault}
-use Rattle.snap_fix.specs.Looking.{AreAllLevelsOf}
-use Rattle.snap_fix.specs.Plan.{FixPlan}
-use Rattle.snap_fix.specs.Underway.{AddsZeros, HoldsWrong, IsMendedLevel, KeepsLevels, mend_calls, stripe_calls}
+use Rattle.stripe_examiner.specs.Looking.{AreAllLevelsOf}
+use Rattle.stripe_examiner.specs.Plan.{FixPlan}
+use Rattle.snap_fix.specs.Underway.{AddsZeros, HoldsWrong, IsMendedLevel, KeepsLevels}
 
 -- each of these stripes comes before each of those
 abbrev pub Precede : List StripeFacts → List StripeFacts → Type 0
@@ -61,15 +61,6 @@ all_levels_append size v [] ys [] ss one two = two
 all_levels_append size v [] ys (of ∷ rs) ss one two = absurd one
 all_levels_append size v (facts ∷ xs) ys [] ss one two = absurd one
 all_levels_append size v (facts ∷ xs) ys (of ∷ rs) ss (first, rest) two = (first, all_levels_append size v xs ys rs ss rest two)
-
-pub mend_calls_append : (plan : FixPlan) (size : ℕ) (v : VaultView) (xs ys : List StripeFacts) (rs ss : List (List LevelReading)) → AreAllLevelsOf size v xs rs
-    → mend_calls plan (xs ++ ys) (rs ++ ss) ≡ mend_calls plan xs rs ++ mend_calls plan ys ss
-mend_calls_append plan size v [] ys [] ss one = refl
-mend_calls_append plan size v [] ys (of ∷ rs) ss one = absurd one
-mend_calls_append plan size v (facts ∷ xs) ys [] ss one = absurd one
-mend_calls_append plan size v (facts ∷ xs) ys (of ∷ rs) ss (first, rest) =
-    ap (λ (calls : List VaultDone). stripe_calls plan facts of ++ calls) (mend_calls_append plan size v xs ys rs ss rest)
-    ∙ sym (append_assoc (stripe_calls plan facts of) (mend_calls plan xs rs) (mend_calls plan ys ss))
 
 pub goes_on_none : (v : VaultView) → GoesOn v v []
 goes_on_none v = record { later = omega arith; levels = refl; copies = refl; tells = refl; calls = record { told = λ t. t; more = λ t. sym (append-nil v.calls) } }

@@ -17,9 +17,10 @@ use Rattle.stripe_reader.specs.SlotValue.{SlotValue}
 use Rattle.stripe_reader.specs.declared.starts.Place.{Place}
 use Rattle.stripe_reader.specs.declared.starts.Place.TheVariants.{Plain, Lost, Nowhere}
 use Rattle.stripe_reader.specs.declared.starts.Start.{Start}
-use Rattle.snap_fix.specs.declared.state.FileState.{FileState}
-use Rattle.snap_fix.specs.Fixing.{IsCellRead, IsPresent}
-use Rattle.snap_fix.specs.State.{HoldsBy, HoldsRecord, IsTouched, IsUntouched, StaysPlace, Write, bytes_or, bytes_placed, place_by, place_in, place_then, puts}
+use Rattle.file_restorer.specs.declared.state.FileState.{FileState}
+use Rattle.snap_fix.specs.Fixing.{IsCellRead}
+use Rattle.stripe_examiner.specs.Present.{IsPresent}
+use Rattle.file_restorer.specs.State.{HoldsBy, HoldsRecord, IsTouched, IsUntouched, StaysPlace, Write, bytes_or, bytes_placed, place_by, place_in, place_then, puts}
 
 -- ---- where a file stood at first
 

@@ -10,7 +10,7 @@ use Rattle.array_scan.proofs.LaidLemmas.{all_flat}
 use Rattle.disk_model.specs.Folder.{FolderView}
 use Rattle.disk_model.specs.Tree.{Tree}
 use Rattle.file_table.specs.Cells.{cell_seen}
-use Rattle.file_table.specs.Table.{Record, block_in, column_at, record_in}
+use Rattle.file_table.specs.Table.{Record, block_in, column_at, record_in, records_in}
 use Rattle.file_table.specs.Valid.{IsValid}
 use Rattle.file_table.specs.declared.block.Cell.{Cell}
 use Rattle.file_table.proofs.CellInLemmas.{cell_in-Some}
@@ -18,18 +18,20 @@ use Rattle.stripe_reader.specs.Columns.{folder_at}
 use Rattle.stripe_reader.specs.Reading.{NoBlock, block_length, cell_task, task_at}
 use Rattle.stripe_reader.specs.Starts.{StartsValue, no_start, start_in, starts_at}
 use Rattle.stripe_reader.specs.declared.starts.Start.{Start}
-use Rattle.snap_fix.specs.declared.state.FileState.{FileState}
-use Rattle.snap_fix.specs.Facts.{StripeFacts, damaged_at, slot_of}
+use Rattle.file_restorer.specs.declared.state.FileState.{FileState}
+use Rattle.stripe_examiner.specs.Facts.{StripeFacts, damaged_at, slot_of}
 use Rattle.snap_fix.specs.FixRun.{AreAscending}
-use Rattle.snap_fix.specs.Fixing.{AreReadThen, ArePresent, IsCellRead, IsPresent, IsReadThen, facts_of, mended_at, no_mended}
-use Rattle.snap_fix.specs.Known.{AreFacts}
-use Rattle.snap_fix.specs.Looking.{numbers_of}
-use Rattle.snap_fix.specs.Mended.{Mended, answer_of, block_or_none, column_writes, is_blocked_cell, is_of, is_repaired, is_written, known_block, write_of, writes_in, writes_of}
-use Rattle.snap_fix.specs.Plan.{FixPlan, cell_at, records_in, selects_cell}
-use Rattle.snap_fix.specs.State.{HoldsRecord, Write, bytes_placed, first_state, first_states, no_state, puts, record_path}
+use Rattle.snap_fix.specs.Fixing.{AreReadThen, IsCellRead, IsReadThen, facts_of, mended_at, no_mended}
+use Rattle.stripe_examiner.specs.Present.{ArePresent, IsPresent}
+use Rattle.stripe_examiner.specs.Known.{AreFacts}
+use Rattle.stripe_examiner.specs.Looking.{numbers_of}
+use Rattle.snap_fix.specs.Mended.{Mended, answer_of, column_writes, is_blocked_cell, is_of, is_repaired, is_written, write_of, writes_in, writes_of}
+use Rattle.stripe_examiner.specs.Showing.{block_or_none, known_block}
+use Rattle.stripe_examiner.specs.Plan.{FixPlan, cell_at, selects_cell}
+use Rattle.file_restorer.specs.State.{HoldsRecord, Write, bytes_placed, first_state, first_states, no_state, puts, record_path}
 use Rattle.snap_fix.specs.Underway.{AreUnderway, IsColumnUnderway}
 use Rattle.snap_fix.proofs.MendedFactsLemmas.{and_parts}
-use Rattle.snap_fix.proofs.ShownLemmas.{known_long}
+use Rattle.stripe_examiner.proofs.ShownLemmas.{known_long}
 use Rattle.snap_fix.proofs.PresentCellLemmas.{IsStartIn, Leaves, blocks_apart, present_file, present_known, still_gives}
 
 -- ---- where files stood at first

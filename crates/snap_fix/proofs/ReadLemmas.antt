@@ -11,10 +11,10 @@ use Rattle.stripe_reader.specs.SlotValue.{SlotValue}
 use Rattle.stripe_reader.specs.Starts.{StartsValue}
 use Rattle.stripe_reader.specs.WindowValue.{WindowValue, lane_at, no_slot}
 use Rattle.stripe_reader.proofs.ColumnLemmas.{no_cells, column_then}
-use Rattle.snap_fix.specs.Facts.{StripeFacts, slot_of}
-use Rattle.snap_fix.specs.Looking.{AreRead, numbers_of, slots_of, facts_at, no_facts}
-use Rattle.snap_fix.specs.Marks.{slots_at}
-use Rattle.snap_fix.specs.Plan.{FixPlan}
+use Rattle.stripe_examiner.specs.Facts.{StripeFacts, slot_of}
+use Rattle.stripe_examiner.specs.Looking.{AreRead, numbers_of, slots_of, facts_at, no_facts}
+use Rattle.stripe_examiner.specs.Marks.{slots_at}
+use Rattle.stripe_examiner.specs.Plan.{FixPlan}
 
 module _ (plan : FixPlan) (starts : StartsValue) where
   abbrev task : ℕ → ℕ → Task

@@ -13,13 +13,13 @@ use Rattle.stripe_reader.specs.Reading.{CellReading, NoBlock, Task, tasks_at}
 use Rattle.stripe_reader.specs.Slot.{kept}
 use Rattle.stripe_reader.specs.Starts.{StartsValue}
 use Rattle.stripe_reader.proofs.FolderLemmas.{goes_on_then}
-use Rattle.snap_fix.specs.Breaking.{FailsInColumn, FolderFails}
-use Rattle.snap_fix.specs.Facts.{StripeFacts, slot_of}
-use Rattle.snap_fix.specs.Looking.{facts_at, numbers_of}
-use Rattle.snap_fix.specs.Plan.{FixPlan}
-use Rattle.snap_fix.specs.Reads.{AreReadAhead, AreReadBy, FolderReads, IsQuiet, is_read}
-use Rattle.snap_fix.specs.State.{FolderMakesBy, KeepsStarts, WellCall}
-use Rattle.snap_fix.proofs.FolderCallLemmas.{well_column}
+use Rattle.file_restorer.specs.Breaking.{FailsInColumn, FolderFails}
+use Rattle.stripe_examiner.specs.Facts.{StripeFacts, slot_of}
+use Rattle.stripe_examiner.specs.Looking.{facts_at, numbers_of}
+use Rattle.stripe_examiner.specs.Plan.{FixPlan}
+use Rattle.snap_fix.specs.Reads.{AreReadBy, FolderReads, IsQuiet, is_read}
+use Rattle.file_restorer.specs.State.{FolderMakesBy, KeepsStarts, WellCall}
+use Rattle.file_restorer.proofs.FolderCallLemmas.{well_column}
 use Rattle.snap_fix.proofs.StartsKeptLemmas.{keeps_starts_same, keeps_starts_then}
 
 -- ---- one after another
@@ -139,42 +139,6 @@ read_window_as plan starts d (facts ∷ ys) behind (reading ∷ readings) done (
       (starts, one, first, keeps_starts_same starts, refl, record { reading = reading; are = its; is_kept = slots 0 (omega arith) }, then_read.4),
       then_read.5,
     )
-
--- stripes were read, and then a window of which some were looked at
-pub ahead_then : (plan : FixPlan) (begun mid : StartsValue) (d : ℕ) (xs ys : List StripeFacts) (ahead more behind : List ℕ) (readings : List CellReading) (one two : List FolderDone)
-    → behind ≡ ahead ++ more → AreReadBy plan begun mid d xs one → AreColumnCalls (tasks_at plan.table mid d (numbers_of ys ++ ahead)) readings two
-    → ((k : ℕ) → k < length ys → slot_of (facts_at ys k) d ≡ kept plan.table.shape (get_or readings k NoBlock))
-    → AreReadAhead plan begun d (xs ++ ys) behind (one ++ two)
-ahead_then plan begun mid d xs ys ahead more behind readings one two behind_is looked are slots =
-    let window = read_window_as plan mid d ys ahead readings two are slots in
-    record {
-      starts = mid;
-      first = one ++ window.0;
-      rest = window.1;
-      done_is = ap (λ (calls : List FolderDone). one ++ calls) window.3 ∙ sym (append_assoc one window.0 window.1);
-      looked = read_append plan begun mid mid d xs ys one window.0 looked window.4;
-      ahead = ahead;
-      more = more;
-      behind_is = behind_is;
-      readings = window.2;
-      are = window.5;
-    }
-
--- all were looked at
-pub ahead_none : (plan : FixPlan) (begun ended : StartsValue) (d : ℕ) (stripes : List StripeFacts) (done : List FolderDone) → AreReadBy plan begun ended d stripes done
-    → AreReadAhead plan begun d stripes [] done
-ahead_none plan begun ended d stripes done looked = record {
-  starts = ended;
-  first = done;
-  rest = [];
-  done_is = sym (append-nil done);
-  looked = looked;
-  ahead = [];
-  more = [];
-  behind_is = refl;
-  readings = [];
-  are = refl;
-}
 
 pub all_looked : (plan : FixPlan) (starts : StartsValue) (d : ℕ) (ys : List StripeFacts) (readings : List CellReading) (done : List FolderDone)
     → AreColumnCalls (tasks_at plan.table starts d (numbers_of ys ++ [])) readings done

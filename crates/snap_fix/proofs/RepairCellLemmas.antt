@@ -6,7 +6,7 @@ use Rattle.std.proofs.lemmas.Bool.{cases_eq, eq-eqb, ne_eqb}
 use Rattle.std.proofs.lemmas.List.{get_or-set_other}
 use Rattle.disk_model.specs.Folder.{FolderView, FolderCall, SomeFolderCalls}
 use Rattle.disk_model.specs.Sink.{SinkView}
-use Rattle.file_table.specs.Table.{record_at}
+use Rattle.file_table.specs.Table.{record_at, records_in}
 use Rattle.file_table.specs.declared.block.Cell.{Cell}
 use Rattle.parity_writer.specs.WindowRow.{bytes_of}
 use Rattle.snap_report.specs.Report.{ReportView}
@@ -17,27 +17,28 @@ use Rattle.stripe_reader.specs.Starts.{StartsValue, StartsFit, starts_at, start_
 use Rattle.stripe_reader.specs.WindowValue.{WindowValue, slot_at}
 use Rattle.stripe_reader.specs.declared.starts.Place.{Place}
 use Rattle.stripe_reader.specs.declared.starts.Place.TheVariants.{Lost, Nowhere}
-use Rattle.snap_fix.specs.declared.marking.CellMark.{CellMark}
+use Rattle.stripe_examiner.specs.declared.marking.CellMark.{CellMark}
 use Rattle.snap_fix.specs.declared.repairing.Repaired.{Repaired}
-use Rattle.snap_fix.specs.declared.state.FileState.{FileState}
-use Rattle.snap_fix.specs.Counts.{AreCounts}
-use Rattle.snap_fix.specs.Facts.{StripeFacts, damaged_at}
-use Rattle.snap_fix.specs.Marks.{mark_in}
-use Rattle.snap_fix.specs.Mended.{Mended, known_block, block_or_none, is_repaired, is_written, is_of, loses, column_writes, writes_in, answer_of, cell_news, mended_event, is_blocked_cell}
-use Rattle.snap_fix.specs.Mending.{StatesFit, IsBlockCall, CanWrite, block_start, cell_path, mended_writes, with_state}
-use Rattle.snap_fix.specs.Plan.{FixPlan, cell_at, entry_at, records_in, selects_cell}
+use Rattle.file_restorer.specs.declared.state.FileState.{FileState}
+use Rattle.stripe_examiner.specs.Counts.{AreCounts}
+use Rattle.stripe_examiner.specs.Facts.{StripeFacts, damaged_at}
+use Rattle.stripe_examiner.specs.Marks.{mark_in}
+use Rattle.snap_fix.specs.Mended.{Mended, is_repaired, is_written, is_of, loses, column_writes, writes_in, answer_of, cell_news, mended_event, is_blocked_cell}
+use Rattle.stripe_examiner.specs.Showing.{known_block, block_or_none, ShowsFacts, is_damaged_mark, is_given_mark}
+use Rattle.file_restorer.specs.Mending.{StatesFit, IsBlockCall, CanWrite, block_start, cell_path, mended_writes, with_state}
+use Rattle.stripe_examiner.specs.Plan.{FixPlan, cell_at, entry_at, selects_cell}
 use Rattle.snap_fix.specs.RepairSteps.{ColumnOutside, IsMendedAs, CanMendColumn, MendsColumn, MendsNotColumn, WritesBlockOf, WritesNotBlockOf, is_repaired_by, is_lost_by}
-use Rattle.snap_fix.specs.Order.{FolderWrites, block_calls}
-use Rattle.snap_fix.specs.State.{Write, HoldsTold, FolderMakesBy, KeepsStarts, StepMakes, has_some, size_after, state_in}
+use Rattle.file_restorer.specs.Order.{FolderWrites, block_calls}
+use Rattle.file_restorer.specs.State.{Write, HoldsTold, FolderMakesBy, KeepsStarts, StepMakes, has_some, size_after, state_in}
 use Rattle.snap_fix.specs.StripeOrder.{stripe_writes}
-use Rattle.snap_fix.specs.Underway.{AreMendCalls, IsMendCall, IsColumnUnderway, SetsUpOneOf, ShowsFacts, is_damaged_mark, is_given_mark}
-use Rattle.snap_fix.proofs.FolderCallLemmas.{some_none, step_none, step_wider}
-use Rattle.snap_fix.proofs.FolderFailsLemmas.{fails_wider}
+use Rattle.snap_fix.specs.Underway.{AreMendCalls, IsMendCall, IsColumnUnderway, SetsUpOneOf}
+use Rattle.file_restorer.proofs.FolderCallLemmas.{some_none, step_none, step_wider}
+use Rattle.file_restorer.proofs.FolderFailsLemmas.{fails_wider}
 use Rattle.snap_fix.proofs.MendedFactsLemmas.{and_parts, block_known, repaired_shown, lost_shown, writes_same, writes_more, loses_by}
 use Rattle.snap_fix.proofs.RepairLemmas.{RecordGoesOn, record_still, column_lost, underway_more, state_same, state_other, row_same, states_fit-with, starts_fit-with}
 use Rattle.snap_fix.proofs.StartsKeptLemmas.{keeps_starts_same, keeps_starts_with}
 use Rattle.snap_fix.proofs.StripeOrderLemmas.{cell_written, nothing_written}
-use Rattle.snap_fix.proofs.TellingLemmas.{told_as}
+use Rattle.stripe_examiner.proofs.TellingLemmas.{told_as}
 use Rattle.snap_fix.proofs.WritesLemmas.{writes_in-none, writes_in-other, writes_in-here}
 use Rattle.snap_fix.proofs.RepairMarkLemmas.{and_false, or_true, or_swap, not_blocked, not_lost_by}
 

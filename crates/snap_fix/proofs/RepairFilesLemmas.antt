@@ -13,24 +13,25 @@ use Rattle.snap_report.proofs.ToldLemmas.{told_nothing, told_then}
 use Rattle.stripe_reader.specs.Columns.{folder_at}
 use Rattle.stripe_reader.specs.Starts.{StartsFit, starts_at}
 use Rattle.stripe_reader.specs.WindowValue.{WindowValue}
-use Rattle.snap_fix.specs.declared.marking.CellMark.{CellMark}
+use Rattle.stripe_examiner.specs.declared.marking.CellMark.{CellMark}
 use Rattle.snap_fix.specs.declared.repairing.Repaired.{Repaired}
-use Rattle.snap_fix.specs.Breaking.{FolderFails}
-use Rattle.snap_fix.specs.Counts.{AreCounts}
-use Rattle.snap_fix.specs.Facts.{StripeFacts}
+use Rattle.file_restorer.specs.Breaking.{FolderFails}
+use Rattle.stripe_examiner.specs.Counts.{AreCounts}
+use Rattle.stripe_examiner.specs.Facts.{StripeFacts}
 use Rattle.snap_fix.specs.Mended.{Mended, answer_of, cell_news, is_repaired, is_written}
-use Rattle.snap_fix.specs.Mending.{StatesFit}
-use Rattle.snap_fix.specs.Plan.{FixPlan}
+use Rattle.file_restorer.specs.Mending.{StatesFit}
+use Rattle.stripe_examiner.specs.Plan.{FixPlan}
 use Rattle.snap_fix.specs.Repairing.{FilesOutside, CanMend, MendsFiles, MendsNotFiles}
 use Rattle.snap_fix.specs.RepairSteps.{column_outside, IsMendedAs, CanMendColumn, MendsColumn, MendsNotColumn}
-use Rattle.snap_fix.specs.State.{FolderMakesBy, KeepsStarts}
-use Rattle.snap_fix.specs.Underway.{AreMendCalls, IsFixable, IsColumnUnderway, IsMendCall, ShowsFacts}
-use Rattle.snap_fix.proofs.FolderFailsLemmas.{fails_wider}
+use Rattle.file_restorer.specs.State.{FolderMakesBy, KeepsStarts}
+use Rattle.snap_fix.specs.Underway.{AreMendCalls, IsFixable, IsColumnUnderway, IsMendCall}
+use Rattle.stripe_examiner.specs.Showing.{ShowsFacts}
+use Rattle.file_restorer.proofs.FolderFailsLemmas.{fails_wider}
 use Rattle.snap_fix.proofs.MendedCounts.{count_to-more}
 use Rattle.snap_fix.proofs.RepairCellLemmas.{none_written}
 use Rattle.snap_fix.proofs.RepairLemmas.{underway_same}
 use Rattle.snap_fix.proofs.StartsKeptLemmas.{keeps_starts_same, keeps_starts_then, makes_before, mend_call_before}
-use Rattle.snap_fix.proofs.TellingLemmas.{Joins, events_to, events_to-more, told_as}
+use Rattle.stripe_examiner.proofs.TellingLemmas.{Joins, events_to, events_to-more, told_as}
 
 module _ {W R : Type 0} (view : W → SinkView) (standing : R → ReportView) (stands : R → List Event → Type 0)
     (plan : FixPlan) (stripe i : ℕ) (window : WindowValue) (marks : List CellMark) (known : Bool) (old : FilesOutside W R) where

@@ -6,21 +6,21 @@ use Rattle.std.proofs.lemmas.Bool.{cases_eq}
 use Rattle.std.proofs.lemmas.List.{length-set, get_or-set_same, get_or-set_other}
 use Rattle.disk_model.specs.Folder.{FolderView, FolderCall, SomeFolderCalls}
 use Rattle.disk_model.specs.Tree.{Tree}
-use Rattle.file_table.specs.Table.{Record}
+use Rattle.file_table.specs.Table.{Record, records_in}
 use Rattle.stripe_reader.specs.Starts.{StartsValue, StartsFit, no_start, starts_at, start_in}
 use Rattle.stripe_reader.specs.declared.starts.Start.{Start}
 use Rattle.stripe_reader.specs.declared.starts.Place.{Place}
-use Rattle.snap_fix.specs.declared.state.FileState.{FileState}
+use Rattle.file_restorer.specs.declared.state.FileState.{FileState}
 use Rattle.snap_fix.specs.Mended.{Mended, loses, column_writes, writes_in, writes_of}
-use Rattle.snap_fix.specs.Mending.{StatesFit, with_place, with_state}
-use Rattle.snap_fix.specs.Order.{FolderWrites}
-use Rattle.snap_fix.specs.Plan.{FixPlan, records_in}
-use Rattle.snap_fix.specs.State.{Write, HoldsBy, HoldsRecord, HoldsColumn, HoldsTold, has_some, size_after, record_path, state_in, no_state}
+use Rattle.file_restorer.specs.Mending.{StatesFit, with_place, with_state}
+use Rattle.file_restorer.specs.Order.{FolderWrites}
+use Rattle.stripe_examiner.specs.Plan.{FixPlan}
+use Rattle.file_restorer.specs.State.{Write, HoldsBy, HoldsRecord, HoldsColumn, HoldsTold, has_some, size_after, record_path, state_in, no_state}
 use Rattle.snap_fix.specs.StripeOrder.{stripe_writes, writes_after}
 use Rattle.snap_fix.specs.Underway.{IsColumnUnderway}
-use Rattle.snap_fix.proofs.FolderCallLemmas.{calls_then}
+use Rattle.file_restorer.proofs.FolderCallLemmas.{calls_then}
 use Rattle.snap_fix.proofs.MendedFactsLemmas.{lost_push}
-use Rattle.snap_fix.proofs.OrderLemmas.{writes_then}
+use Rattle.file_restorer.proofs.OrderLemmas.{writes_then}
 use Rattle.snap_fix.proofs.StripeOrderLemmas.{writes_after-push}
 use Rattle.snap_fix.proofs.WritesLemmas.{size_after-append, has_some-append, writes_of-push}
 

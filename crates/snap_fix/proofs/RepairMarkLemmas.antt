@@ -2,13 +2,13 @@
 use Rattle.std.proofs.Common.{◌≡◌, ℕ, Bool, true, false, Option, None, refl, sym, ap, ◌∙◌}
 use Rattle.std.specs.Prelude.{◌&&◌, ◌||◌, not}
 use Rattle.file_table.specs.declared.block.Cell.{Cell}
-use Rattle.snap_fix.specs.declared.marking.CellMark.{CellMark}
-use Rattle.snap_fix.specs.declared.marking.CellMark.TheVariants.{Right, Given, Missing}
-use Rattle.snap_fix.specs.Marks.{is_marked_missing}
+use Rattle.stripe_examiner.specs.declared.marking.CellMark.{CellMark}
+use Rattle.stripe_examiner.specs.declared.marking.CellMark.TheVariants.{Right, Given, Missing}
+use Rattle.stripe_examiner.specs.Marks.{is_marked_missing}
 use Rattle.snap_fix.specs.Mended.{is_blocked_cell}
-use Rattle.snap_fix.specs.Plan.{FixPlan, cell_at, has_selected, is_in_scope, selects_cell}
+use Rattle.stripe_examiner.specs.Plan.{FixPlan, cell_at, has_selected, is_in_scope, selects_cell}
 use Rattle.snap_fix.specs.RepairSteps.{is_repaired_by, is_lost_by}
-use Rattle.snap_fix.specs.Underway.{is_damaged_mark, is_given_mark}
+use Rattle.stripe_examiner.specs.Showing.{is_damaged_mark, is_given_mark}
 
 pub and_false : (b : Bool) → (b && false) ≡ false
 and_false true = refl

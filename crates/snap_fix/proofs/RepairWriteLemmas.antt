@@ -3,19 +3,18 @@ use Rattle.std.proofs.Common.{◌≡◌, ℕ, ◌<◌, List, [], ◌∷◌, leng
 use Rattle.std.proofs.lemmas.List.{set-set, length-set}
 use Rattle.disk_model.specs.Folder.{FolderView, FolderCall}
 use Rattle.disk_model.specs.Sink.{SinkView}
-use Rattle.file_table.specs.Table.{TableValue}
+use Rattle.file_table.specs.Table.{TableValue, records_in}
 use Rattle.file_table.specs.declared.block.Cell.{Cell}
 use Rattle.snap_report.specs.Report.{ReportView}
 use Rattle.snap_report.specs.Told.{Told}
 use Rattle.snap_report.specs.declared.events.Event.{Event}
 use Rattle.snap_report.specs.declared.pages.Lines.{Lines}
 use Rattle.stripe_reader.specs.Starts.{StartsValue, start_in, starts_at}
-use Rattle.snap_fix.specs.declared.state.FileState.{FileState}
+use Rattle.file_restorer.specs.declared.state.FileState.{FileState}
 use Rattle.snap_fix.specs.Mended.{mended_event}
-use Rattle.snap_fix.specs.Mending.{CanWrite, IsBlockCall, MendsCell, block_start, cell_path, mended_writes, with_state}
-use Rattle.snap_fix.specs.Plan.{records_in}
+use Rattle.file_restorer.specs.Mending.{CanWrite, IsBlockCall, MendsCell, block_start, cell_path, mended_writes, with_state}
 use Rattle.snap_fix.specs.RepairSteps.{WritesBlockOf, column_outside}
-use Rattle.snap_fix.specs.State.{HoldsColumn, HoldsTold, StepMakes, size_after, state_in}
+use Rattle.file_restorer.specs.State.{HoldsColumn, HoldsTold, StepMakes, size_after, state_in}
 use Rattle.snap_fix.proofs.RepairLemmas.{column_lost, row_same, state_same}
 
 pub if_ok_then : {T E : Type 0} (P Q : T → Type 0) (result : Result T E) → ((x : T) → P x → Q x) → IfOk result P → IfOk result Q

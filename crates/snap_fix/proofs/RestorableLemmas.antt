@@ -9,13 +9,13 @@ use Rattle.cauchy.specs.Matrix.{byte_of}
 use Rattle.cauchy.specs.Recovery.{HoldsColumns}
 use Rattle.cauchy.specs.System.{AreDistinctBelow, IsChoice, IsSolution, byte_in}
 use Rattle.disk_model.specs.Bytes.{resized}
-use Rattle.snap_fix.specs.Restorable.{AgreesOutside, Accepts, AreBlocksOf, CanAccept, CandidatesAreGenuine, Follows, IsIntact, IsLost, IsOneOf, IsRestorable, IsSnapshotOf, LostStripe, SearchFinds, SearchFindsNone, SomeAccepted, TellsIntact}
-use Rattle.snap_fix.specs.Search.{block_in, choices, columns_of, given, wanted_at, IsRightBlock}
-use Rattle.snap_fix.proofs.SearchAccepted.{HasOneSolution, column_at, length-columns_of}
-use Rattle.snap_fix.proofs.SearchBlocks.{block_byte, joined_byte, length-block_in, length-given, length-joined}
-use Rattle.snap_fix.proofs.SearchChoices.{HasSome, choices_fit, choices_sublists, sublist_all}
-use Rattle.snap_fix.proofs.RestorableCounts.{passing_choice, sublist_count}
-use Rattle.snap_fix.proofs.RestorableFilling.{chosen_sum-holds, has_levels, remainder_is, remainder_of}
+use Rattle.stripe_examiner.specs.Restorable.{AgreesOutside, Accepts, AreBlocksOf, CanAccept, CandidatesAreGenuine, Follows, IsIntact, IsLost, IsOneOf, IsRestorable, IsSnapshotOf, LostStripe, SearchFinds, SearchFindsNone, SomeAccepted, TellsIntact}
+use Rattle.stripe_examiner.specs.Search.{block_in, choices, columns_of, given, wanted_at, IsRightBlock}
+use Rattle.stripe_examiner.proofs.SearchAccepted.{HasOneSolution, column_at, length-columns_of}
+use Rattle.stripe_examiner.proofs.SearchBlocks.{block_byte, joined_byte, length-block_in, length-given, length-joined}
+use Rattle.stripe_examiner.proofs.SearchChoices.{HasSome, choices_fit, choices_sublists, sublist_all}
+use Rattle.stripe_examiner.proofs.RestorableCounts.{passing_choice, sublist_count}
+use Rattle.stripe_examiner.proofs.RestorableFilling.{chosen_sum-holds, has_levels, remainder_is, remainder_of}
 
 -- ---- padded blocks
 

@@ -10,7 +10,7 @@ use Rattle.block_hash.specs.declared.Digest16.{Digest16}
 use Rattle.disk_model.specs.Folder.{FolderView}
 use Rattle.disk_model.specs.declared.meta.Meta.{Meta}
 use Rattle.file_table.specs.Cells.{CellView, cell_seen}
-use Rattle.file_table.specs.Table.{column_at, record_at}
+use Rattle.file_table.specs.Table.{column_at, record_at, records_in}
 use Rattle.file_table.specs.declared.block.Cell.{Cell}
 use Rattle.parity_writer.specs.LevelsValue.{LevelValue, no_level}
 use Rattle.parity_writer.specs.Parity.{Row}
@@ -20,18 +20,19 @@ use Rattle.stripe_reader.specs.Columns.{folder_at}
 use Rattle.stripe_reader.specs.SlotValue.{SlotValue}
 use Rattle.stripe_reader.specs.Starts.{StartsValue}
 use Rattle.stripe_reader.specs.WindowValue.{no_slot}
-use Rattle.snap_fix.specs.declared.entry.Entry.{Entry}
-use Rattle.snap_fix.specs.declared.finishing.Finish.{Finish}
-use Rattle.snap_fix.specs.declared.finishing.Finish.TheVariants.{Kept, Restored, Unstamped, Renamed, Gone}
+use Rattle.stripe_examiner.specs.declared.entry.Entry.{Entry}
+use Rattle.file_restorer.specs.declared.finishing.Finish.{Finish}
+use Rattle.file_restorer.specs.declared.finishing.Finish.TheVariants.{Kept, Restored, Unstamped, Renamed, Gone}
 use Rattle.snap_fix.specs.Ending.{all_finish_news, column_news_at, finish_news, record_news, finish_at, finishes_at, is_finished, stamp_news}
-use Rattle.snap_fix.specs.Facts.{StripeFacts, damaged_at, gift_of, is_missing}
-use Rattle.snap_fix.specs.Findings.{all_cell_events, all_level_events, all_level_io_events, all_lost_events, blocked_event, cell_events, changed_event, column_events, file_events, is_lost, is_unread, is_wrong, is_unread_level, level_events, level_io_events, lost_event, lost_events, opening_events, read_event, read_events, record_events, silent_event, stripe_events, unsynced_events}
+use Rattle.stripe_examiner.specs.Facts.{StripeFacts, damaged_at, gift_of, is_missing}
+use Rattle.stripe_examiner.specs.Findings.{all_cell_events, all_level_events, all_level_io_events, all_lost_events, blocked_event, cell_events, changed_event, column_events, file_events, is_lost, is_unread, is_wrong, is_unread_level, level_events, level_io_events, lost_event, lost_events, opening_events, read_event, read_events, record_events, silent_event, stripe_events, unsynced_events}
 use Rattle.snap_fix.specs.FixCourse.{fix_events}
 use Rattle.snap_fix.specs.Fixing.{facts_of}
-use Rattle.snap_fix.specs.Mended.{Mended, all_cell_news, all_level_news, all_mended_events, AnswersFit, answer_of, cell_news, fixed_event, is_repaired, is_wrong_level, known_by, level_news, mended_event, mended_events}
-use Rattle.snap_fix.specs.Plan.{FixPlan, cell_at, entry_at, is_audit, is_synced, has_selected_cell, records_in, selects_cell, selects_level}
+use Rattle.snap_fix.specs.Mended.{Mended, all_cell_news, all_level_news, all_mended_events, AnswersFit, answer_of, cell_news, fixed_event, is_repaired, is_wrong_level, level_news, mended_event, mended_events}
+use Rattle.stripe_examiner.specs.Showing.{known_by}
+use Rattle.stripe_examiner.specs.Plan.{FixPlan, cell_at, entry_at, is_audit, is_synced, has_selected_cell, selects_cell, selects_level}
 use Rattle.snap_fix.specs.Restored.{HasFixed, IsUnknownCell}
-use Rattle.snap_fix.specs.Selected.{is_as_recorded}
+use Rattle.stripe_examiner.specs.Selected.{is_as_recorded}
 
 -- ---- what is so of each lost cell that is told
 

@@ -11,7 +11,7 @@ use Rattle.cauchy.specs.Recovery.{AreBytes}
 use Rattle.disk_model.specs.Bytes.{resized}
 use Rattle.disk_model.specs.Folder.{FolderView}
 use Rattle.disk_model.specs.Tree.{Tree, File, file_of, path_of}
-use Rattle.file_table.specs.Table.{column_at, record_at}
+use Rattle.file_table.specs.Table.{column_at, record_at, records_in}
 use Rattle.file_table.specs.declared.block.Cell.{Cell}
 use Rattle.file_table.proofs.CellInLemmas.{cell_in-Some}
 use Rattle.parity_writer.specs.Keeps.{HasByte}
@@ -26,21 +26,22 @@ use Rattle.stripe_reader.specs.Starts.{StartsValue, starts_at, start_in}
 use Rattle.stripe_reader.specs.declared.starts.Start.{Start}
 use Rattle.stripe_reader.specs.declared.starts.Place.{Place}
 use Rattle.stripe_reader.specs.declared.starts.Place.TheVariants as place
-use Rattle.snap_fix.specs.declared.finishing.Finish.{Finish}
-use Rattle.snap_fix.specs.declared.finishing.Finish.TheVariants.{Kept, Renamed}
-use Rattle.snap_fix.specs.declared.state.FileState.{FileState}
+use Rattle.file_restorer.specs.declared.finishing.Finish.{Finish}
+use Rattle.file_restorer.specs.declared.finishing.Finish.TheVariants.{Kept, Renamed}
+use Rattle.file_restorer.specs.declared.state.FileState.{FileState}
 use Rattle.snap_fix.specs.Ending.{FinishesColumn, HoldsEnd, StandsEnd, IsDone, all_finish_news, finish_at, finishes_at, is_finished, states_at}
-use Rattle.snap_fix.specs.Facts.{StripeFacts, damaged_at, gift_of, is_missing}
-use Rattle.snap_fix.specs.Findings.{all_cell_events, all_level_events, all_level_io_events, is_lost, lost_event, lost_events, opening_events, stripe_events, unsynced_events}
-use Rattle.snap_fix.specs.Finishing.{StandsLost, bytes_now, finish_of, lost_finish, whole_finish}
+use Rattle.stripe_examiner.specs.Facts.{StripeFacts, damaged_at, gift_of, is_missing}
+use Rattle.stripe_examiner.specs.Findings.{all_cell_events, all_level_events, all_level_io_events, is_lost, lost_event, lost_events, opening_events, stripe_events, unsynced_events}
+use Rattle.file_restorer.specs.Finishing.{StandsLost, bytes_now, finish_of, lost_finish, whole_finish}
 use Rattle.snap_fix.specs.FixCourse.{Written, fix_events}
 use Rattle.snap_fix.specs.Fixing.{facts_of}
 use Rattle.snap_fix.specs.Genuine.{HasGenuineFacts, IsBlockIn, TellsIntactLevels}
-use Rattle.snap_fix.specs.Mended.{Mended, all_cell_news, all_level_news, all_mended_events, answer_of, block_or_none, column_writes, has_lost, is_blocked_cell, is_repaired, is_written, known_block, known_by, mended_events, writes_of}
-use Rattle.snap_fix.specs.Mending.{block_start, cell_path}
-use Rattle.snap_fix.specs.Plan.{FixPlan, cell_at, entry_at, is_audit, is_searched, is_synced, records_in, is_in_scope, has_selected, selects_cell}
+use Rattle.snap_fix.specs.Mended.{Mended, all_cell_news, all_level_news, all_mended_events, answer_of, column_writes, has_lost, is_blocked_cell, is_repaired, is_written, mended_events, writes_of}
+use Rattle.stripe_examiner.specs.Showing.{block_or_none, known_block, known_by}
+use Rattle.file_restorer.specs.Mending.{block_start, cell_path}
+use Rattle.stripe_examiner.specs.Plan.{FixPlan, cell_at, entry_at, is_audit, is_searched, is_synced, is_in_scope, has_selected, selects_cell}
 use Rattle.snap_fix.specs.Restored.{CanBeHad, HasFixed, HoldsCell, IsDamagedCell}
-use Rattle.snap_fix.specs.State.{HoldsBy, HoldsRecord, IsTouched, Write, bytes_or, bytes_placed, place_then, puts, stands, state_in}
+use Rattle.file_restorer.specs.State.{HoldsBy, HoldsRecord, IsTouched, Write, bytes_or, bytes_placed, place_then, puts, stands, state_in}
 use Rattle.snap_fix.specs.Underway.{IsColumnUnderway}
 use Rattle.snap_fix.proofs.GenuineCells.{given_is}
 use Rattle.snap_fix.proofs.GenuineLemmas.{known_by_count, row_same}

@@ -8,7 +8,7 @@ use Rattle.std.proofs.lemmas.List.FromFn.{get_or-map-range_with_len}
 use Rattle.disk_model.specs.Folder.{FolderView}
 use Rattle.disk_model.specs.Tree.{Tree, File, file_of, path_of}
 use Rattle.disk_model.specs.declared.meta.Meta.{Meta}
-use Rattle.file_table.specs.Table.{record_at}
+use Rattle.file_table.specs.Table.{record_at, records_in}
 use Rattle.file_table.specs.declared.block.Cell.{Cell}
 use Rattle.parity_writer.specs.Keeps.{HasByte}
 use Rattle.parity_writer.proofs.ElsewhereLemmas.{length-resized}
@@ -18,18 +18,18 @@ use Rattle.stripe_reader.specs.Starts.{StartsValue, starts_at, start_in}
 use Rattle.stripe_reader.specs.declared.starts.Start.{Start}
 use Rattle.stripe_reader.specs.declared.starts.Place.{Place}
 use Rattle.stripe_reader.specs.declared.starts.Place.TheVariants as place
-use Rattle.snap_fix.specs.declared.finishing.Finish.{Finish}
-use Rattle.snap_fix.specs.declared.finishing.Finish.TheVariants.{Kept, Restored, Unstamped, Renamed, Gone}
-use Rattle.snap_fix.specs.declared.state.FileState.{FileState}
+use Rattle.file_restorer.specs.declared.finishing.Finish.{Finish}
+use Rattle.file_restorer.specs.declared.finishing.Finish.TheVariants.{Kept, Restored, Unstamped, Renamed, Gone}
+use Rattle.file_restorer.specs.declared.state.FileState.{FileState}
 use Rattle.snap_fix.specs.Ending.{FinishesColumn, HoldsEnd, StandsEnd, IsDone, finish_at, finishes_at, is_finished, states_at}
-use Rattle.snap_fix.specs.Finishing.{StandsLost, bytes_now, finish_of, lost_finish, lost_after, stamped_finish, whole_finish, is_changed, is_stamped}
+use Rattle.file_restorer.specs.Finishing.{StandsLost, bytes_now, finish_of, lost_finish, lost_after, stamped_finish, whole_finish, is_changed, is_stamped}
 use Rattle.snap_fix.specs.FixCourse.{Written}
 use Rattle.snap_fix.specs.Mended.{Mended, column_writes, has_lost, is_blocked_cell, is_of, is_repaired, is_written, answer_of, write_of, writes_in, writes_of}
-use Rattle.snap_fix.specs.Plan.{FixPlan, cell_at, entry_at, has_selected, is_in_scope, records_in}
+use Rattle.stripe_examiner.specs.Plan.{FixPlan, cell_at, entry_at, has_selected, is_in_scope}
 use Rattle.snap_fix.specs.Restored.{HasFixed, IsNotWritten, StandsRestored, StandsUnrecoverable}
-use Rattle.snap_fix.specs.State.{HoldsBy, HoldsRecord, IsNameOf, IsTouched, IsUntouched, Write, bytes_or, bytes_placed, has_some, lost_then, place_by, place_in, place_then, record_path, stands, state_in}
+use Rattle.file_restorer.specs.State.{HoldsBy, HoldsRecord, IsNameOf, IsTouched, IsUntouched, Write, bytes_or, bytes_placed, has_some, lost_then, place_by, place_in, place_then, record_path, stands, state_in}
 use Rattle.snap_fix.specs.Underway.{IsColumnUnderway}
-use Rattle.snap_fix.proofs.RecordPathsLemmas.{names_distinct, table_paths}
+use Rattle.file_restorer.proofs.RecordPathsLemmas.{names_distinct, table_paths}
 use Rattle.snap_fix.proofs.RestoredLemmas.{in_size, then_stands}
 use Rattle.snap_fix.proofs.RestoredWrites.{Outside, none_covers, puts_keep, repaired_parts}
 

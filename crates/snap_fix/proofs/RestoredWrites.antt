@@ -19,18 +19,19 @@ use Rattle.parity_writer.proofs.ElsewhereLemmas.{length-resized}
 use Rattle.parity_writer.proofs.WriteLemmas.{apart}
 use Rattle.stripe_reader.specs.Reading.{block_length}
 use Rattle.stripe_reader.specs.Starts.{StartsValue}
-use Rattle.snap_fix.specs.declared.finishing.Finish.{Finish}
-use Rattle.snap_fix.specs.Facts.{StripeFacts, damaged_at}
+use Rattle.file_restorer.specs.declared.finishing.Finish.{Finish}
+use Rattle.stripe_examiner.specs.Facts.{StripeFacts, damaged_at}
 use Rattle.snap_fix.specs.Fixing.{facts_of}
-use Rattle.snap_fix.specs.Known.{AreFacts}
-use Rattle.snap_fix.specs.Looking.{no_facts}
-use Rattle.snap_fix.specs.Mended.{Mended, answer_of, block_or_none, is_blocked_cell, is_of, is_repaired, is_written, known_block, write_of, writes_in, writes_of}
-use Rattle.snap_fix.specs.Mending.{block_start}
-use Rattle.snap_fix.specs.Plan.{FixPlan, cell_at, is_looked_at, selects_cell, stripes_of}
+use Rattle.stripe_examiner.specs.Known.{AreFacts}
+use Rattle.stripe_examiner.specs.Looking.{no_facts}
+use Rattle.snap_fix.specs.Mended.{Mended, answer_of, is_blocked_cell, is_of, is_repaired, is_written, write_of, writes_in, writes_of}
+use Rattle.stripe_examiner.specs.Showing.{block_or_none, known_block}
+use Rattle.file_restorer.specs.Mending.{block_start}
+use Rattle.stripe_examiner.specs.Plan.{FixPlan, cell_at, is_looked_at, selects_cell, stripes_of}
 use Rattle.snap_fix.specs.Restored.{HasFixed}
-use Rattle.snap_fix.specs.State.{Write, has_some, puts}
-use Rattle.snap_fix.proofs.KnowLemmas.{passed_distinct}
-use Rattle.snap_fix.proofs.ShownLemmas.{known_long}
+use Rattle.file_restorer.specs.State.{Write, has_some, puts}
+use Rattle.stripe_examiner.proofs.KnowLemmas.{passed_distinct}
+use Rattle.stripe_examiner.proofs.ShownLemmas.{known_long}
 
 -- ---- one write, and some writes
 

@@ -11,7 +11,7 @@ use Rattle.cauchy.specs.Matrix.{byte_of, entry_of, parity_byte, parity_of as lev
 use Rattle.disk_model.specs.Bytes.{read_from}
 use Rattle.disk_model.specs.Files.{Files, parity_of}
 use Rattle.disk_model.specs.Folder.{FolderView}
-use Rattle.file_table.specs.Table.{TableValue, info_at}
+use Rattle.file_table.specs.Table.{TableValue, info_at, is_synced_mark}
 use Rattle.file_table.specs.declared.info.Mark.{Mark}
 use Rattle.file_table.specs.declared.info.Mark.TheVariants.{Pending, Synced}
 use Rattle.parity_writer.specs.LevelReading.{LevelReading, kept_level}
@@ -26,16 +26,16 @@ use Rattle.parity_writer.proofs.WriteLemmas.{apart}
 use Rattle.stripe_reader.specs.Columns.{folder_at}
 use Rattle.stripe_reader.specs.Reading.{task_at}
 use Rattle.stripe_reader.specs.Starts.{StartsValue}
-use Rattle.snap_fix.specs.Facts.{StripeFacts, slot_of}
-use Rattle.snap_fix.specs.Findings.{is_wrong_by}
-use Rattle.snap_fix.specs.Fixing.{IsPresent}
+use Rattle.stripe_examiner.specs.Facts.{StripeFacts, slot_of}
+use Rattle.stripe_examiner.specs.Findings.{is_wrong_by}
+use Rattle.stripe_examiner.specs.Present.{IsPresent}
 use Rattle.snap_fix.specs.Genuine.{AreGenuineOf, HasGenuineFacts, IsLevelOf, IsGenuine, IsSameRow}
-use Rattle.snap_fix.specs.Known.{AreFacts, IsTried}
+use Rattle.stripe_examiner.specs.Known.{AreFacts, IsTried}
 use Rattle.snap_fix.specs.Mended.{is_wrong_level}
-use Rattle.snap_fix.specs.Plan.{FixPlan, is_marked_synced, is_searched, selects_level}
+use Rattle.stripe_examiner.specs.Plan.{FixPlan, is_searched, selects_level}
 use Rattle.snap_fix.specs.Underway.{HoldsWrong, IsMendedLevel, KeepsLevels}
 use Rattle.snap_fix.proofs.GenuineLemmas.{row_same}
-use Rattle.snap_fix.proofs.RestorableSums.{sum_below-same}
+use Rattle.stripe_examiner.proofs.RestorableSums.{sum_below-same}
 
 -- ---- the same rows have the same levels
 
@@ -92,7 +92,7 @@ searched_or_none : (plan : FixPlan) (facts : StripeFacts) (row : Row) (b : Bool)
 searched_or_none plan facts row true tried known = refl
 searched_or_none plan facts row false tried known = let clash : Some row ≡ None = sym known ∙ tried.2 in absurd cc
 
-synced_mark : (mark : Mark) → is_marked_synced mark ≡ true → mark ≡ Synced
+synced_mark : (mark : Mark) → is_synced_mark mark ≡ true → mark ≡ Synced
 synced_mark Pending is = absurd cc
 synced_mark Synced is = refl
 

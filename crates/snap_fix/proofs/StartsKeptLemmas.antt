@@ -8,13 +8,13 @@ use Rattle.stripe_reader.specs.Starts.{StartsValue, no_start, starts_at, start_i
 use Rattle.stripe_reader.specs.declared.starts.Start.{Start}
 use Rattle.stripe_reader.specs.declared.starts.Place.{Place}
 use Rattle.stripe_reader.specs.declared.starts.Place.TheVariants.{Plain, Lost, Nowhere}
-use Rattle.snap_fix.specs.Facts.{StripeFacts}
+use Rattle.stripe_examiner.specs.Facts.{StripeFacts}
 use Rattle.snap_fix.specs.Mended.{Mended, is_gone}
-use Rattle.snap_fix.specs.Mending.{with_place}
-use Rattle.snap_fix.specs.Plan.{FixPlan}
-use Rattle.snap_fix.specs.State.{FolderMakesBy, StaysPlace, KeepsStarts}
+use Rattle.file_restorer.specs.Mending.{with_place}
+use Rattle.stripe_examiner.specs.Plan.{FixPlan}
+use Rattle.file_restorer.specs.State.{FolderMakesBy, StaysPlace, KeepsStarts}
 use Rattle.snap_fix.specs.Underway.{AreMendCalls, IsMendCall, SetsUpCell, SetsUpOneOf}
-use Rattle.snap_fix.proofs.FolderCallLemmas.{makes_by_wider, step_calls_wider}
+use Rattle.file_restorer.proofs.FolderCallLemmas.{makes_by_wider, step_calls_wider}
 
 -- ---- places
 

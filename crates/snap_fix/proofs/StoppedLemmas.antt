@@ -7,7 +7,7 @@ use Rattle.array_scan.specs.Kept.{ListedFile}
 use Rattle.disk_model.specs.Folder.{FolderCall, FolderDone, ListFiles, Look, ReadAt, Make, WriteAt, SetSize, SetStamp, Rename}
 use Rattle.disk_model.specs.Stopped.{EachCall, IsOwnOrApart, IsUntouchedBy, KeepsPlace, LeavesAlone, MayBeLeft, StandsKept, written_path}
 use Rattle.disk_model.specs.Tree.{Tree, File, file_of, listing_of, path_of}
-use Rattle.file_table.specs.Table.{Record, no_record, record_at}
+use Rattle.file_table.specs.Table.{Record, no_record, record_at, records_in}
 use Rattle.stripe_reader.specs.Starts.{StartsValue, no_start, start_in, starts_at}
 use Rattle.stripe_reader.specs.declared.starts.Place.{Place}
 use Rattle.stripe_reader.specs.declared.starts.Place.TheVariants.{Plain, Lost, Nowhere}
@@ -15,14 +15,14 @@ use Rattle.stripe_reader.specs.declared.starts.Start.{Start}
 use Rattle.snap_fix.specs.Ending.{is_finished}
 use Rattle.snap_fix.specs.FixCourse.{IsFixCall, IsForPlace, IsForRecord}
 use Rattle.snap_fix.specs.Mended.{Mended, has_lost}
-use Rattle.snap_fix.specs.Place.{start_of}
-use Rattle.snap_fix.specs.Plan.{FixPlan, column_starts, entry_at, records_in, starts_of}
-use Rattle.snap_fix.specs.State.{first_state, place_by, place_in, record_path}
+use Rattle.stripe_examiner.specs.Place.{start_of}
+use Rattle.stripe_examiner.specs.Plan.{FixPlan, column_starts, entry_at, starts_of}
+use Rattle.file_restorer.specs.State.{first_state, place_by, place_in, record_path}
 use Rattle.snap_fix.specs.Stopped.{FixStop, IsNoneOf, IsSpared, IsStop, StandInPlace, StandsSpared, file_or, file_placed, records_of}
 use Rattle.snap_fix.specs.Underway.{WritesOneOf}
 use Rattle.snap_fix.proofs.FixCallLemmas.{for_cell}
 use Rattle.snap_fix.proofs.FixTreeLemmas.{untouched}
-use Rattle.snap_fix.proofs.RecordPathsLemmas.{ArePaths, names_distinct, table_paths}
+use Rattle.file_restorer.proofs.RecordPathsLemmas.{ArePaths, names_distinct, table_paths}
 
 -- ---- where the files stood that a folder listed
 

@@ -7,14 +7,15 @@ use Rattle.file_table.specs.declared.block.Cell.{Cell}
 use Rattle.stripe_reader.specs.declared.starts.Place.{Place}
 use Rattle.stripe_reader.specs.declared.starts.Place.TheVariants.{Plain, Lost, Nowhere}
 use Rattle.stripe_reader.specs.declared.starts.Start.{Start}
-use Rattle.snap_fix.specs.declared.state.FileState.{FileState}
-use Rattle.snap_fix.specs.Mended.{Mended, block_or_none, is_written, known_block, writes_of}
-use Rattle.snap_fix.specs.Mending.{block_start, cell_path}
-use Rattle.snap_fix.specs.Order.{FolderWrites, block_calls, put_calls, set_up_calls}
-use Rattle.snap_fix.specs.Plan.{FixPlan, cell_at}
-use Rattle.snap_fix.specs.State.{HoldsBy, HoldsRecord, Write, has_some, place_in, place_then}
+use Rattle.file_restorer.specs.declared.state.FileState.{FileState}
+use Rattle.snap_fix.specs.Mended.{Mended, is_written, writes_of}
+use Rattle.stripe_examiner.specs.Showing.{block_or_none, known_block}
+use Rattle.file_restorer.specs.Mending.{block_start, cell_path}
+use Rattle.file_restorer.specs.Order.{FolderWrites, block_calls, put_calls, set_up_calls}
+use Rattle.stripe_examiner.specs.Plan.{FixPlan, cell_at}
+use Rattle.file_restorer.specs.State.{HoldsBy, HoldsRecord, Write, has_some, place_in, place_then}
 use Rattle.snap_fix.specs.StripeOrder.{cell_calls, stripe_writes, writes_after}
-use Rattle.snap_fix.proofs.OrderLemmas.{writes_none}
+use Rattle.file_restorer.proofs.OrderLemmas.{writes_none}
 
 -- a stripe more
 pub writes_after-push : (plan : FixPlan) (d : ℕ) (first : Tree) (mended : Mended) (before stripes : List Mended)

@@ -5,10 +5,11 @@ use Rattle.std.proofs.lemmas.Bool.{eq-eqb, ne_eqb}
 use Rattle.std.proofs.lemmas.Grind.{flat_map-append}
 use Rattle.std.proofs.lemmas.List.{append-nil}
 use Rattle.file_table.specs.declared.block.Cell.{Cell}
-use Rattle.snap_fix.specs.Mended.{Mended, known_block, block_or_none, is_written, is_of, write_of, writes_in, writes_of}
-use Rattle.snap_fix.specs.Mending.{block_start}
-use Rattle.snap_fix.specs.Plan.{FixPlan, cell_at}
-use Rattle.snap_fix.specs.State.{Write, has_some, size_after}
+use Rattle.snap_fix.specs.Mended.{Mended, is_written, is_of, write_of, writes_in, writes_of}
+use Rattle.stripe_examiner.specs.Showing.{known_block, block_or_none}
+use Rattle.file_restorer.specs.Mending.{block_start}
+use Rattle.stripe_examiner.specs.Plan.{FixPlan, cell_at}
+use Rattle.file_restorer.specs.State.{Write, has_some, size_after}
 
 -- ---- some writes, and then others
 

@@ -10,9 +10,9 @@ use Rattle.snap_config.specs.declared.options.Selection.{Selection}
 use Rattle.snap_report.specs.declared.answer.RunFault.{RunFault}
 use Rattle.snap_report.specs.declared.answer.RunFault.TheVariants.{Folder, Vault, Memory}
 use Rattle.snap_fix.specs.declared.beginning.Work.{Work}
-use Rattle.snap_fix.specs.declared.scope.Mode.{Mode}
-use Rattle.snap_fix.specs.Plan.{IsScope, plan_of, entries_of, starts_of, stripes_of}
-use Rattle.snap_fix.specs.Room.{IsRoomFor}
+use Rattle.stripe_examiner.specs.declared.scope.Mode.{Mode}
+use Rattle.stripe_examiner.specs.Plan.{IsScope, plan_of, entries_of, starts_of, stripes_of}
+use Rattle.stripe_examiner.specs.Room.{IsRoomFor}
 
 -- The folders were listed, each once, and this is what the run works with.
 pub record Begins (mode : Mode) (selection : Selection) (names : List (List ℕ)) (table : TableValue) (work : Work)

@@ -7,10 +7,10 @@ use Rattle.parity_writer.specs.Parity.{HasLevel, Row}
 use Rattle.snap_report.specs.declared.answer.RunFault.{RunFault}
 use Rattle.snap_report.specs.declared.answer.RunFault.TheVariants.{Folder, Vault, Memory}
 use Rattle.snap_report.specs.declared.events.Event.{Event}
-use Rattle.snap_fix.specs.Facts.{StripeFacts}
-use Rattle.snap_fix.specs.Findings.{stripe_events}
+use Rattle.stripe_examiner.specs.Facts.{StripeFacts}
+use Rattle.stripe_examiner.specs.Findings.{stripe_events}
 use Rattle.snap_fix.specs.Mended.{Mended, all_cell_news, cell_news, is_wrong_level, level_news}
-use Rattle.snap_fix.specs.Plan.{FixPlan}
+use Rattle.stripe_examiner.specs.Plan.{FixPlan}
 use Rattle.snap_fix.specs.Underway.{done_well, level_write, wrong_write}
 
 -- ---- its levels

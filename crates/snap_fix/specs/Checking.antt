@@ -1,5 +1,5 @@
 -- All stripes that a run is for are looked at, and nothing is written.
-use Rattle.std.specs.Prelude.{◌≡◌, ℕ, ◌<◌, List, length, All}
+use Rattle.std.specs.Prelude.{◌≡◌, ℕ, ◌<◌, List, length, slice_index_or, All}
 use Rattle.disk_model.specs.Folder.{FolderView}
 use Rattle.disk_model.specs.Sink.{SinkView}
 use Rattle.file_table.specs.Table.{TableValue}
@@ -9,11 +9,13 @@ use Rattle.stripe_reader.specs.Columns.{ReadsWindow}
 use Rattle.stripe_reader.specs.Starts.{StartsFit}
 use Rattle.stripe_reader.specs.WindowValue.{WindowValue}
 use Rattle.snap_fix.specs.declared.beginning.Work.{Work}
-use Rattle.snap_fix.specs.declared.counts.Counts.{Counts}
-use Rattle.snap_fix.specs.Facts.{StripeFacts}
-use Rattle.snap_fix.specs.Looking.{AreRead, LooksAt, LooksInto, Scene, numbers_of}
-use Rattle.snap_fix.specs.Plan.{FixPlan, EntriesFit, plan_of}
-use Rattle.snap_fix.specs.Room.{IsRoomFor}
+use Rattle.stripe_examiner.specs.declared.counts.Counts.{Counts}
+use Rattle.stripe_examiner.specs.declared.room.StripeRoom.{StripeRoom}
+use Rattle.stripe_examiner.specs.Facts.{StripeFacts}
+use Rattle.stripe_examiner.specs.Looking.{AreRead, LooksAt, LooksInto, Scene, facts_at, numbers_of}
+use Rattle.stripe_examiner.specs.Plan.{FixPlan, EntriesFit, plan_of}
+use Rattle.stripe_examiner.specs.Room.{IsRoomFor}
+use Rattle.stripe_examiner.specs.Shown.{ShowsStripe}
 
 -- the plan of this work
 abbrev pub plan_for : TableValue → Work → FixPlan
@@ -30,6 +32,12 @@ pub record IsWorkFor (table : TableValue) (work : Work) : Type 0 where
 pub record KeepsWork (table : TableValue) (old new : Work) : Type 0 where
   pub rest : new ≡ record old { room = new.room }
   pub room : IsRoomFor table new.room
+
+-- the rooms show the facts of all stripes of a window
+pub record AreShown (plan : FixPlan) (stripes : List StripeFacts) (numbers : List ℕ) (window : WindowValue) (rooms : List StripeRoom) : Type 0 where
+  pub numbers_are : numbers_of stripes ≡ numbers
+  pub each : (k : ℕ) (other : StripeRoom) → k < length stripes
+      → ShowsStripe plan (facts_at stripes k) k window (slice_index_or rooms k other)
 
 -- Some stripes of the work were read into the window and looked at.
 pub record ChecksWindow {W R : Type 0} (view : W → SinkView) (standing : R → ReportView) (stands : R → List Event → Type 0)

@@ -16,15 +16,15 @@ use Rattle.snap_report.specs.Telling.{Settled}
 use Rattle.snap_report.specs.declared.events.Event.{Event}
 use Rattle.snap_report.specs.declared.pages.Lines.{Lines}
 use Rattle.snap_fix.specs.declared.checks.FixEnd.{FixEnd}
-use Rattle.snap_fix.specs.declared.scope.Mode.{Mode}
-use Rattle.snap_fix.specs.Asking.{AsksSpare}
-use Rattle.snap_fix.specs.Counts.{at_most}
-use Rattle.snap_fix.specs.Facts.{StripeFacts}
-use Rattle.snap_fix.specs.Findings.{opening_events, events_of}
-use Rattle.snap_fix.specs.Known.{AreFacts}
-use Rattle.snap_fix.specs.Looking.{AreRead, LevelsAreRead, numbers_of}
-use Rattle.snap_fix.specs.Plan.{FixPlan, IsScope, entries_of, starts_of, stripes_of}
-use Rattle.snap_fix.specs.Spare.{SpareView, IsSpareFor}
+use Rattle.stripe_examiner.specs.declared.scope.Mode.{Mode}
+use Rattle.stripe_examiner.specs.Asking.{AsksSpare}
+use Rattle.stripe_examiner.specs.Counts.{at_most}
+use Rattle.stripe_examiner.specs.Facts.{StripeFacts}
+use Rattle.stripe_examiner.specs.Findings.{opening_events, events_of}
+use Rattle.stripe_examiner.specs.Known.{AreFacts}
+use Rattle.stripe_examiner.specs.Looking.{AreRead, LevelsAreRead, numbers_of}
+use Rattle.stripe_examiner.specs.Plan.{FixPlan, IsScope, entries_of, starts_of, stripes_of}
+use Rattle.stripe_examiner.specs.Spare.{SpareView, IsSpareFor}
 
 -- what a check or a fix works on: the folders, the vault, the spare, the lines, and those who are told
 pub record Outside (W R : Type 0) : Type 1 where

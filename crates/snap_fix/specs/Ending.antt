@@ -7,9 +7,9 @@ use Rattle.disk_model.specs.Folder.{FolderView, FolderCall, FolderDone}
 use Rattle.disk_model.specs.Sink.{SinkView}
 use Rattle.disk_model.specs.Tree.{Tree, file_of, path_of}
 use Rattle.disk_model.specs.Vault.{VaultView, VaultCall, ParitySync, GoesOn, SomeCalls, ChangesBy, DraftsStay, Holds}
-use Rattle.file_table.specs.Table.{record_at}
+use Rattle.file_table.specs.Table.{record_at, records_in}
 use Rattle.snap_report.specs.Answer.{Gained}
-use Rattle.snap_fix.specs.Breaking.{FailsAfter, FailsInColumn, FolderFails, broke_parity}
+use Rattle.file_restorer.specs.Breaking.{FailsAfter, FailsInColumn, FolderFails, broke_parity}
 use Rattle.snap_report.specs.Report.{ReportView}
 use Rattle.snap_report.specs.Told.{Told}
 use Rattle.snap_report.specs.declared.events.Event.{Event}
@@ -17,17 +17,17 @@ use Rattle.snap_report.specs.declared.events.Event.TheVariants.{Blocked, Restore
 use Rattle.stripe_reader.specs.Columns.{folder_at}
 use Rattle.stripe_reader.specs.Starts.{StartsValue, StartsFit, starts_at, start_in}
 use Rattle.stripe_reader.specs.declared.starts.Start.{Start}
-use Rattle.snap_fix.specs.declared.counts.Counts.{Counts}
-use Rattle.snap_fix.specs.declared.finishing.Finish.{Finish}
-use Rattle.snap_fix.specs.declared.finishing.Finish.TheVariants.{Kept, Restored, Unstamped, Renamed, Gone}
-use Rattle.snap_fix.specs.declared.state.FileState.{FileState}
-use Rattle.snap_fix.specs.Counts.{AreCounts}
-use Rattle.snap_fix.specs.Finishing.{FitsTree, HoldsFinished, StandsWhole, IsFinishCall, bytes_now, finish_calls, finish_of, was_gone}
-use Rattle.snap_fix.specs.Mending.{StatesFit, IsFree}
-use Rattle.snap_fix.specs.Order.{FolderWrites}
-use Rattle.snap_fix.specs.Plan.{FixPlan, EntriesFit, entry_at, records_in}
+use Rattle.stripe_examiner.specs.declared.counts.Counts.{Counts}
+use Rattle.file_restorer.specs.declared.finishing.Finish.{Finish}
+use Rattle.file_restorer.specs.declared.finishing.Finish.TheVariants.{Kept, Restored, Unstamped, Renamed, Gone}
+use Rattle.file_restorer.specs.declared.state.FileState.{FileState}
+use Rattle.stripe_examiner.specs.Counts.{AreCounts}
+use Rattle.file_restorer.specs.Finishing.{FitsTree, HoldsFinished, StandsWhole, IsFinishCall, bytes_now, finish_calls, finish_of, was_gone}
+use Rattle.file_restorer.specs.Mending.{StatesFit, IsFree}
+use Rattle.file_restorer.specs.Order.{FolderWrites}
+use Rattle.stripe_examiner.specs.Plan.{FixPlan, EntriesFit, entry_at}
 use Rattle.snap_fix.specs.Repairing.{FilesOutside}
-use Rattle.snap_fix.specs.State.{AreStepCalls, FolderMakesBy, no_state, record_path}
+use Rattle.file_restorer.specs.State.{AreStepCalls, FolderMakesBy, no_state, record_path}
 use Rattle.snap_fix.specs.Underway.{done_well}
 
 -- ---- levels

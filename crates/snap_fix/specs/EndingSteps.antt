@@ -10,18 +10,19 @@ use Rattle.snap_report.specs.declared.events.Event.{Event}
 use Rattle.snap_report.specs.declared.events.Event.TheVariants.{Blocked, Restored as RestoredEvent, Renamed as RenamedEvent, NoStamp}
 use Rattle.snap_report.specs.declared.pages.Lines.{Lines}
 use Rattle.stripe_reader.specs.Starts.{StartsValue, StartsFit, starts_at, start_in}
-use Rattle.snap_fix.specs.declared.counts.Counts.{Counts}
-use Rattle.snap_fix.specs.declared.finishing.Finish.{Finish}
-use Rattle.snap_fix.specs.declared.finishing.Finish.TheVariants.{Kept, Restored, Unstamped, Renamed, Gone}
-use Rattle.snap_fix.specs.declared.state.FileState.{FileState}
-use Rattle.snap_fix.specs.Breaking.{FolderFails}
-use Rattle.snap_fix.specs.Counts.{AreCounts}
+use Rattle.stripe_examiner.specs.declared.counts.Counts.{Counts}
+use Rattle.file_restorer.specs.declared.finishing.Finish.{Finish}
+use Rattle.file_restorer.specs.declared.finishing.Finish.TheVariants.{Kept, Restored, Unstamped, Renamed, Gone}
+use Rattle.file_restorer.specs.declared.state.FileState.{FileState}
+use Rattle.file_restorer.specs.Breaking.{FolderFails}
+use Rattle.stripe_examiner.specs.Counts.{AreCounts}
 use Rattle.snap_fix.specs.Ending.{FailsAtRecord, CanFinishFile, CanFinishColumn, FinishesFiles, FinishesFile, FinishesThis, HoldsEnd, StandsEnd, IsDone, column_news, finish_at, is_finished, news_of, record_calls, stamp_news, states_at}
-use Rattle.snap_fix.specs.Finishing.{was_gone}
-use Rattle.snap_fix.specs.Mending.{StatesFit}
-use Rattle.snap_fix.specs.Order.{FolderWrites}
-use Rattle.snap_fix.specs.Plan.{FixPlan, EntriesFit, records_in}
-use Rattle.snap_fix.specs.State.{StepMakes, record_path, state_in}
+use Rattle.file_restorer.specs.Finishing.{was_gone}
+use Rattle.file_restorer.specs.Mending.{StatesFit}
+use Rattle.file_restorer.specs.Order.{FolderWrites}
+use Rattle.stripe_examiner.specs.Plan.{FixPlan, EntriesFit}
+use Rattle.file_table.specs.Table.{records_in}
+use Rattle.file_restorer.specs.State.{StepMakes, record_path, state_in}
 
 -- what is written, and told, for one column: as of a run, with the folder of the column alone
 pub record ColumnOutside (W R : Type 0) : Type 0 where

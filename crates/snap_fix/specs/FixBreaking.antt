@@ -17,25 +17,27 @@ use Rattle.snap_report.specs.declared.answer.RunFault.TheVariants.{Folder, Vault
 use Rattle.snap_report.specs.declared.events.Event.{Event}
 use Rattle.stripe_reader.specs.Columns.{folder_at}
 use Rattle.stripe_reader.specs.Starts.{StartsValue}
-use Rattle.snap_fix.specs.declared.finishing.Finish.{Finish}
-use Rattle.snap_fix.specs.declared.scope.Mode.{Mode}
-use Rattle.snap_fix.specs.Asking.{AsksSpare}
+use Rattle.file_restorer.specs.declared.finishing.Finish.{Finish}
+use Rattle.stripe_examiner.specs.declared.scope.Mode.{Mode}
+use Rattle.stripe_examiner.specs.Asking.{AsksSpare}
 use Rattle.snap_fix.specs.Beginning.{BeginsNot}
-use Rattle.snap_fix.specs.Breaking.{FailsAfter}
+use Rattle.file_restorer.specs.Breaking.{FailsAfter}
 use Rattle.snap_fix.specs.BrokenStripe.{broken_events}
 use Rattle.snap_fix.specs.Course.{IsPlan, Outside}
 use Rattle.snap_fix.specs.Ending.{AreDone, FailsInFinish, FailsInRecord, all_finish_news, column_news_at}
-use Rattle.snap_fix.specs.Findings.{opening_events}
+use Rattle.stripe_examiner.specs.Findings.{opening_events}
 use Rattle.snap_fix.specs.FixCourse.{FixFinds, FixesVault, MakeFixCalls, WritesFiles, Written, mend_syncs}
-use Rattle.snap_fix.specs.FixRun.{BreaksInLast, HasBroken, HoldAllWrong}
+use Rattle.snap_fix.specs.FixRun.{BreaksInLast, HasBroken, HoldAllWrong, LooksAhead}
 use Rattle.snap_fix.specs.Fixing.{MendsVault, facts_of}
-use Rattle.snap_fix.specs.Looking.{numbers_of, unread_cells, unread_in}
+use Rattle.stripe_examiner.specs.Looking.{numbers_of, unread_cells, unread_in}
 use Rattle.snap_fix.specs.Mended.{Mended, all_mended_events}
-use Rattle.snap_fix.specs.Plan.{FixPlan, starts_of, stripes_of}
-use Rattle.snap_fix.specs.Reads.{AreReadAhead, FolderReads}
+use Rattle.stripe_examiner.specs.Plan.{FixPlan, starts_of, stripes_of}
+use Rattle.stripe_examiner.specs.Present.{ArePresent}
+use Rattle.snap_fix.specs.Reads.{AreAllRead, FolderReads}
 use Rattle.snap_fix.specs.Repairing.{FailsInCell}
-use Rattle.snap_fix.specs.State.{FolderMakesBy, KeepsStarts}
-use Rattle.snap_fix.specs.Underway.{AreMendCalls, done_well, mend_calls}
+use Rattle.file_restorer.specs.State.{FolderMakesBy, KeepsStarts}
+use Rattle.snap_fix.specs.Underway.{AreMendCalls, done_well}
+use Rattle.snap_fix.specs.Windows.{AreWindows, FixWindow, mend_calls}
 
 -- what is told before files are finished
 abbrev pub written_events : FixPlan → List Mended → List Event
@@ -72,19 +74,19 @@ pub record BreaksFiles (plan : FixPlan) (starts : StartsValue) (fault : RunFault
 -- While blocks were written, in the last of its stripes: all events of the stripes before it were told, and of its own
 -- all that was found in it, and what was written of it before a call failed. Of the folders only calls that write their
 -- blocks were made, which went well but for the last one of a folder that failed, in the last stripe. All blocks of the
--- stripes before it were written, and where the vault failed, all of the last one. Of the vault all calls for these
--- stripes were made, up to the writes of the last one; where the vault failed, then those below this level, and that of
--- it, which failed.
+-- stripes before it were written, and where the vault failed, all of the last one. Of the vault all calls for the windows
+-- before that of the last stripe were made, and for its window, the stripes behind it among them, all up to the writes of
+-- the last stripe; where the vault failed, then those below this level, and that of it, which failed.
 pub record BreaksWriting (plan : FixPlan) (starts : StartsValue) (fault : RunFault) (stripes : List Mended)
-    (readings : List (List LevelReading)) (first : List Event) (firsts news : List FolderView) (old new : VaultView)
-    : Type 0 where
+    (readings : List (List LevelReading)) (ahead : FixWindow) (first : List Event) (firsts news : List FolderView)
+    (old new : VaultView) : Type 0 where
   pub earlier : List Mended
   pub last : Mended
   pub stripes_are : stripes ≡ earlier ++ last ∷ []
   pub level : ℕ
   pub first_is : first ≡ written_events plan earlier ++ broken_events fault plan last level
   pub makes : BreaksFiles plan starts fault earlier last firsts news
-  pub ran : BreaksInLast plan fault level (facts_of earlier) last.facts readings old new
+  pub ran : BreaksInLast plan fault level (facts_of earlier) last.facts ahead.stripes (readings ++ ahead.readings) old new
 
 -- While levels were synced: all calls for its stripes were made of the vault, then the first syncs and one that
 -- failed. All that was written was told, wrong levels hold their sums, and the folders are as they were once all
@@ -92,7 +94,9 @@ pub record BreaksWriting (plan : FixPlan) (starts : StartsValue) (fault : RunFau
 pub record BreaksSyncing (plan : FixPlan) (stripes : List Mended) (readings : List (List LevelReading))
     (first : List Event) (written : Written) (news : List FolderView) (old new : VaultView) : Type 0 where
   pub events : first ≡ written_events plan stripes
-  pub ran : FailsAfter (mend_calls plan (facts_of stripes) readings) (done_well (mend_syncs plan stripes)) old new
+  pub windows : List FixWindow
+  pub windows_are : AreWindows windows (facts_of stripes) readings
+  pub ran : FailsAfter (mend_calls plan windows) (done_well (mend_syncs plan stripes)) old new
   pub holds : HoldAllWrong plan (facts_of stripes) new
   pub folders : news ≡ written.folders
 
@@ -133,11 +137,12 @@ pub record BreaksAtEnd (plan : FixPlan) (starts : StartsValue) (fault : RunFault
   pub writes : WritesFiles plan starts stripes firsts written
   pub ending : BreaksEnding fault plan stripes readings first written news old new
 
--- Where a fix broke off, with so many stripes behind those that it looked at: at the end there are none.
-abbrev pub BreaksOff : FixPlan → StartsValue → RunFault → List Mended → List ℕ → List (List LevelReading) → List Event
-    → List FolderView → List FolderView → VaultView → VaultView → Type 0
-BreaksOff plan starts fault stripes behind readings first firsts news old new =
-    BreaksWriting plan starts fault stripes readings first firsts news old new
+-- Where a fix broke off, with so many stripes behind those that it looked at, and so many of these read ahead: at the end
+-- there are none.
+abbrev pub BreaksOff : FixPlan → StartsValue → RunFault → List Mended → List ℕ → List (List LevelReading) → FixWindow
+    → List Event → List FolderView → List FolderView → VaultView → VaultView → Type 0
+BreaksOff plan starts fault stripes behind readings ahead first firsts news old new =
+    BreaksWriting plan starts fault stripes readings ahead first firsts news old new
     ⊎ ((behind ≡ []) × BreaksAtEnd plan starts fault stripes readings first firsts news old new)
 
 -- A fix that broke off after the folders were listed: an object failed otherwise than in the readings that were told.
@@ -156,19 +161,22 @@ pub record FixBreaks {W R : Type 0} (view : W → SinkView) (standing : R → Re
   pub numbers : stripes_of plan ≡ numbers_of (facts_of stripes) ++ behind
   pub readings : List (List LevelReading)
   pub finds : FixFinds plan (starts_of table lists) mids old.vault stripes readings
-  pub unread : RoseBy (unread_in readings) old.vault.faults new.vault.faults
+  pub ahead : FixWindow
+  pub looked : LooksAhead plan ahead behind old.vault
+  pub cells_ahead : ArePresent plan (starts_of table lists) mids ahead.stripes
+  pub unread : RoseBy (unread_in (readings ++ ahead.readings)) old.vault.faults new.vault.faults
   pub unread_cells_of : (d : ℕ) → d < length plan.table.columns
-      → RoseBy (unread_cells d (facts_of stripes)) (folder_at old.folders d).faults (folder_at new.folders d).faults
-  pub spare : AsksSpare plan (facts_of stripes) old.spare new.spare
+      → RoseBy (unread_cells d (facts_of stripes ++ ahead.stripes)) (folder_at old.folders d).faults (folder_at new.folders d).faults
+  pub spare : AsksSpare plan (facts_of stripes ++ ahead.stripes) old.spare new.spare
   pub vault : MendsVault plan (facts_of stripes) old.vault new.vault
   pub first : List Event
-  pub off : BreaksOff plan (starts_of table lists) fault stripes behind readings first mids new.folders
+  pub off : BreaksOff plan (starts_of table lists) fault stripes behind readings ahead first mids new.folders
       old.vault new.vault
   pub told : Told view standing stands table.columns first old.lines new.lines old.reports new.reports
   pub folders : length new.folders ≡ length old.folders
   pub calls : MakeFixCalls plan (starts_of table lists) stripes mids new.folders
   pub reads : (d : ℕ) → d < length plan.table.columns
-      → FolderReads (AreReadAhead plan (starts_of table lists) d (facts_of stripes) behind)
+      → FolderReads (AreAllRead plan (starts_of table lists) d (facts_of stripes ++ ahead.stripes))
       (folder_at mids d) (folder_at new.folders d)
   pub broke : HasBroken plan fault first mids new.folders old.vault new.vault
 

@@ -9,7 +9,7 @@ use Rattle.disk_model.specs.Sink.{SinkView}
 use Rattle.disk_model.specs.Tree.{Tree}
 use Rattle.disk_model.specs.Vault.{VaultView, VaultCall, VaultDone, GoesOn}
 use Rattle.disk_model.specs.declared.meta.Meta.{Meta}
-use Rattle.file_table.specs.Table.{TableValue, record_at}
+use Rattle.file_table.specs.Table.{TableValue, record_at, records_in}
 use Rattle.parity_writer.specs.LevelReading.{LevelReading}
 use Rattle.snap_config.specs.declared.options.Selection.{Selection}
 use Rattle.snap_report.specs.Answer.{is_io_of}
@@ -25,25 +25,27 @@ use Rattle.stripe_reader.specs.Starts.{StartsValue, start_in, starts_at}
 use Rattle.stripe_reader.specs.declared.starts.Place.{Place}
 use Rattle.stripe_reader.specs.declared.starts.Place.TheVariants.{Lost, Nowhere}
 use Rattle.snap_fix.specs.declared.checks.FixEnd.{FixEnd}
-use Rattle.snap_fix.specs.declared.finishing.Finish.{Finish}
-use Rattle.snap_fix.specs.declared.scope.Mode.{Mode}
-use Rattle.snap_fix.specs.declared.state.FileState.{FileState}
-use Rattle.snap_fix.specs.Asking.{AsksSpare}
-use Rattle.snap_fix.specs.Counts.{at_most}
+use Rattle.file_restorer.specs.declared.finishing.Finish.{Finish}
+use Rattle.stripe_examiner.specs.declared.scope.Mode.{Mode}
+use Rattle.file_restorer.specs.declared.state.FileState.{FileState}
+use Rattle.stripe_examiner.specs.Asking.{AsksSpare}
+use Rattle.stripe_examiner.specs.Counts.{at_most}
 use Rattle.snap_fix.specs.Course.{IsPlan, Outside}
 use Rattle.snap_fix.specs.Ending.{FinishesColumn, IsLevelSettled, all_finish_news, column_calls, states_at, sync_if}
-use Rattle.snap_fix.specs.Findings.{opening_events}
+use Rattle.stripe_examiner.specs.Findings.{opening_events}
 use Rattle.snap_fix.specs.FixRun.{HoldAllWrong}
-use Rattle.snap_fix.specs.Fixing.{ArePresent, MendsVault, facts_of, was_written}
-use Rattle.snap_fix.specs.Known.{AreFacts}
-use Rattle.snap_fix.specs.Looking.{AreAllLevelsOf, numbers_of, unread_cells, unread_in}
+use Rattle.stripe_examiner.specs.Present.{ArePresent}
+use Rattle.snap_fix.specs.Fixing.{MendsVault, facts_of, was_written}
+use Rattle.stripe_examiner.specs.Known.{AreFacts}
+use Rattle.stripe_examiner.specs.Looking.{AreAllLevelsOf, numbers_of, unread_cells, unread_in}
 use Rattle.snap_fix.specs.Mended.{AnswersFit, Mended, has_lost, all_mended_events, written_in, wrong_in}
-use Rattle.snap_fix.specs.Order.{FolderWrites}
-use Rattle.snap_fix.specs.Plan.{FixPlan, entry_at, records_in, starts_of, stripes_of}
+use Rattle.file_restorer.specs.Order.{FolderWrites}
+use Rattle.stripe_examiner.specs.Plan.{FixPlan, entry_at, starts_of, stripes_of}
 use Rattle.snap_fix.specs.Reads.{AreReadBy, FolderReads}
-use Rattle.snap_fix.specs.State.{AnyCall, FolderMakes, FolderMakesBy, KeepsStarts, record_path}
+use Rattle.file_restorer.specs.State.{AnyCall, FolderMakes, FolderMakesBy, KeepsStarts, record_path}
 use Rattle.snap_fix.specs.StripeOrder.{writes_after}
-use Rattle.snap_fix.specs.Underway.{AddsZeros, AreStripeCalls, AreUnderway, IsMendedLevel, WritesOneOf, done_well, mend_calls}
+use Rattle.snap_fix.specs.Underway.{AddsZeros, AreStripeCalls, AreUnderway, IsMendedLevel, WritesOneOf, done_well}
+use Rattle.snap_fix.specs.Windows.{AreWindows, FixWindow, mend_calls}
 
 -- the folders of all columns that have records are open
 abbrev pub AreOpen : TableValue → List FolderView → Type 0
@@ -68,18 +70,20 @@ pub record FixFinds (plan : FixPlan) (starts : StartsValue) (firsts : List Folde
   pub levels : AreAllLevelsOf plan.table.shape.block_size vault (facts_of stripes) readings
   pub answered : All (AnswersFit plan firsts) stripes
 
--- one sync of each level that was written, in order, and all calls of a fix: stripe after stripe its levels are read and the wrong ones
--- written, and then those levels are synced
+-- one sync of each level that was written, in order, and all calls of a fix: window after window the levels of its stripes are read and
+-- the wrong ones written, and then those levels are synced
 abbrev pub mend_syncs : FixPlan → List Mended → List VaultCall
 mend_syncs plan stripes = flat_map (λ (r : ℕ). sync_if (was_written plan stripes r) r) (range_with_len 0 plan.table.shape.levels)
 
-abbrev pub fix_calls : FixPlan → List Mended → List (List LevelReading) → List VaultDone
-fix_calls plan stripes readings = mend_calls plan (facts_of stripes) readings ++ done_well (mend_syncs plan stripes)
+abbrev pub fix_calls : FixPlan → List Mended → List FixWindow → List VaultDone
+fix_calls plan stripes windows = mend_calls plan windows ++ done_well (mend_syncs plan stripes)
 
--- What a fix did to the vault: just these calls were made; the wrong levels of its stripes were written and nothing else changed, and a
+-- What a fix did to the vault: its stripes are cut into windows, and just these calls were made; the wrong levels of its stripes were written and nothing else changed, and a
 -- level grew by zeros and such blocks alone; each that was written is synced.
 pub record FixesVault (plan : FixPlan) (stripes : List Mended) (readings : List (List LevelReading)) (old new : VaultView) : Type 0 where
-  pub ran : GoesOn old new (fix_calls plan stripes readings)
+  pub windows : List FixWindow
+  pub windows_are : AreWindows windows (facts_of stripes) readings
+  pub ran : GoesOn old new (fix_calls plan stripes windows)
   pub unread : RoseBy (unread_in readings) old.faults new.faults
   pub mends : MendsVault plan (facts_of stripes) old new
   pub zeros : IsTrue old.tells → AddsZeros plan.table.shape.block_size (IsMendedLevel plan (facts_of stripes)) old.files new.files

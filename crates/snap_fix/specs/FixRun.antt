@@ -3,11 +3,11 @@ use Rattle.std.specs.Prelude.{◌≡◌, ℕ, ◌+◌, ◌<◌, List, [], ◌∷
 use Rattle.disk_model.specs.Cause.{RoseBy}
 use Rattle.disk_model.specs.Folder.{FolderView}
 use Rattle.disk_model.specs.Sink.{SinkView}
-use Rattle.disk_model.specs.Vault.{VaultView, VaultDone, GoesOn, Reads}
+use Rattle.disk_model.specs.Vault.{VaultView, GoesOn, Reads}
 use Rattle.parity_writer.specs.LevelReading.{LevelReading}
 use Rattle.file_table.specs.Table.{TableValue}
 use Rattle.snap_report.specs.Answer.{Gained, broke_folder, is_io_of, is_parity_io}
-use Rattle.snap_fix.specs.Breaking.{broke_parity}
+use Rattle.file_restorer.specs.Breaking.{broke_parity}
 use Rattle.snap_fix.specs.BrokenStripe.{BreaksLevels}
 use Rattle.snap_report.specs.Report.{ReportView}
 use Rattle.snap_report.specs.Told.{Told}
@@ -19,20 +19,21 @@ use Rattle.stripe_reader.specs.Starts.{StartsValue}
 use Rattle.stripe_reader.specs.WindowValue.{WindowValue}
 use Rattle.snap_fix.specs.declared.beginning.Work.{Work}
 use Rattle.snap_fix.specs.declared.fixing.Totals.{Totals}
-use Rattle.snap_fix.specs.declared.state.FileState.{FileState}
-use Rattle.snap_fix.specs.Asking.{AsksSpare}
+use Rattle.file_restorer.specs.declared.state.FileState.{FileState}
+use Rattle.stripe_examiner.specs.Asking.{AsksSpare}
 use Rattle.snap_fix.specs.Checking.{plan_for}
-use Rattle.snap_fix.specs.Facts.{StripeFacts}
-use Rattle.snap_fix.specs.Fixing.{AreTotals, AreReadThen, BreaksCells, FixScene, FolderBroke, MendsVault, SceneFits, TellsOfBroken, Writes, facts_of, levels_begun}
-use Rattle.snap_fix.specs.Known.{AreFacts}
-use Rattle.snap_fix.specs.Looking.{AreAllLevelsOf, numbers_of, facts_at, unread_cells, unread_in}
-use Rattle.snap_fix.specs.Marks.{slots_at}
+use Rattle.stripe_examiner.specs.Facts.{StripeFacts}
+use Rattle.snap_fix.specs.Fixing.{AreTotals, AreReadThen, BreaksCells, FixScene, FolderBroke, IsBrokenBy, MendsVault, SceneFits, TellsOfBroken, Writes, facts_of, levels_begun, unwritten}
+use Rattle.stripe_examiner.specs.Known.{AreFacts}
+use Rattle.stripe_examiner.specs.Looking.{AreAllLevelsOf, numbers_of, facts_at, unread_cells, unread_in}
+use Rattle.stripe_examiner.specs.Marks.{slots_at}
 use Rattle.snap_fix.specs.Mended.{Mended, AnswersFit, all_mended_events}
-use Rattle.snap_fix.specs.Plan.{FixPlan}
-use Rattle.snap_fix.specs.Reads.{AreReadAhead, AreReadBy, FolderReads, IsQuiet}
-use Rattle.snap_fix.specs.Room.{IsRoomFor}
-use Rattle.snap_fix.specs.State.{FolderMakesBy, KeepsStarts}
-use Rattle.snap_fix.specs.Underway.{AddsZeros, AreFixable, AreStripeCalls, AreUnderway, HoldsWrong, IsMendedLevel, done_well, mend_calls, wrong_writes}
+use Rattle.stripe_examiner.specs.Plan.{FixPlan}
+use Rattle.snap_fix.specs.Reads.{AreAllRead, AreReadBy, FolderReads, IsQuiet}
+use Rattle.stripe_examiner.specs.Room.{IsRoomFor}
+use Rattle.file_restorer.specs.State.{FolderMakesBy, KeepsStarts}
+use Rattle.snap_fix.specs.Underway.{AddsZeros, AreFixable, AreStripeCalls, AreUnderway, HoldsWrong, IsMendedLevel, done_well}
+use Rattle.snap_fix.specs.Windows.{AreWindows, FixWindow, all_wrong_writes, mend_calls, stripes_in, window_reads}
 
 -- the stripes are looked at in ascending order, none twice
 abbrev pub AreAscending : List ℕ → Type 0
@@ -42,11 +43,9 @@ AreAscending numbers = AllPairs (λ (a b : ℕ). a < b) numbers
 abbrev pub HoldAllWrong : FixPlan → List StripeFacts → VaultView → Type 0
 HoldAllWrong plan stripes v = Reads (λ files. All (λ (facts : StripeFacts). HoldsWrong plan facts files) stripes) v
 
--- These stripes were looked at and written anew: just their events were told, and whatever the fix did before, it goes
--- on with them.
-pub record FixesAll {W R : Type 0} (view : W → SinkView) (standing : R → ReportView) (stands : R → List Event → Type 0)
+-- These stripes were written anew: just their events were told, and whatever the fix did before, it goes on with them.
+pub record MendsAll {W R : Type 0} (view : W → SinkView) (standing : R → ReportView) (stands : R → List Event → Type 0)
     (plan : FixPlan) (stripes : List Mended) (old new : FixScene W R) (totals : Totals) : Type 0 where
-  pub are : All (AreFacts plan) (facts_of stripes)
   pub fits : SceneFits plan new
   pub told : Told view standing stands plan.table.columns (all_mended_events plan stripes) old.lines new.lines
       old.reports new.reports
@@ -54,22 +53,41 @@ pub record FixesAll {W R : Type 0} (view : W → SinkView) (standing : R → Rep
   pub written : Writes plan stripes old.written new.written
   pub answered : All (AnswersFit plan old.folders) stripes
   pub stood : KeepsStarts old.starts new.starts
-  pub readings : List (List LevelReading)
-  pub read : AreAllLevelsOf plan.table.shape.block_size old.vault (facts_of stripes) readings
-  pub unread : RoseBy (unread_in readings) old.vault.faults new.vault.faults
-  pub ran : GoesOn old.vault new.vault (mend_calls plan (facts_of stripes) readings)
   pub vault : MendsVault plan (facts_of stripes) old.vault new.vault
   pub zeros : IsTrue old.vault.tells
       → AddsZeros plan.table.shape.block_size (IsMendedLevel plan (facts_of stripes)) old.vault.files new.vault.files
   pub holds : HoldAllWrong plan (facts_of stripes) new.vault
-  pub parity_io : RoseBy (count_by is_parity_io (all_mended_events plan stripes)) old.vault.faults new.vault.faults
-  pub spare : AsksSpare plan (facts_of stripes) old.spare new.spare
   pub makes : (d : ℕ) → d < length plan.table.columns
       → FolderMakesBy (AreStripeCalls plan old.starts d stripes)
       (folder_at old.folders d) (folder_at new.folders d)
   pub underway : (before : List Mended) (firsts : List FolderView) → AreFixable plan firsts
       → AreUnderway plan before firsts old.folders old.starts old.states
       → AreUnderway plan (before ++ stripes) firsts new.folders new.starts new.states
+
+-- Stripes of a window, whose levels were read before, were written anew: of the vault only their wrong levels were
+-- written, the spare was not asked, and no folder was read.
+pub record MendsInto {W R : Type 0} (view : W → SinkView) (standing : R → ReportView) (stands : R → List Event → Type 0)
+    (plan : FixPlan) (facts : List StripeFacts) (old new : FixScene W R) (totals : Totals) : Type 0 where
+  pub stripes : List Mended
+  pub facts_are : facts_of stripes ≡ facts
+  pub mends : MendsAll view standing stands plan stripes old new totals
+  pub wrote : GoesOn old.vault new.vault (done_well (all_wrong_writes plan (facts_of stripes)))
+  pub spare : new.spare ≡ old.spare
+  pub quiet : (d : ℕ) → d < length plan.table.columns
+      → FolderReads IsQuiet (folder_at old.folders d) (folder_at new.folders d)
+
+-- These stripes were looked at and written anew, window by window.
+pub record FixesAll {W R : Type 0} (view : W → SinkView) (standing : R → ReportView) (stands : R → List Event → Type 0)
+    (plan : FixPlan) (stripes : List Mended) (old new : FixScene W R) (totals : Totals) : Type 0 where
+  pub are : All (AreFacts plan) (facts_of stripes)
+  pub mends : MendsAll view standing stands plan stripes old new totals
+  pub windows : List FixWindow
+  pub readings : List (List LevelReading)
+  pub windows_are : AreWindows windows (facts_of stripes) readings
+  pub read : AreAllLevelsOf plan.table.shape.block_size old.vault (facts_of stripes) readings
+  pub unread : RoseBy (unread_in readings) old.vault.faults new.vault.faults
+  pub ran : GoesOn old.vault new.vault (mend_calls plan windows)
+  pub spare : AsksSpare plan (facts_of stripes) old.spare new.spare
 
 -- The stripes of a window were, as they were read into it, and no folder was read meanwhile.
 pub record FixesInto {W R : Type 0} (view : W → SinkView) (standing : R → ReportView) (stands : R → List Event → Type 0)
@@ -135,18 +153,31 @@ HasBroken plan (Folder disk) told olds news old new =
 HasBroken plan Vault told olds news old new = VaultFailedBy told old new
 HasBroken plan Memory told olds news old new = ⊥
 
--- Of the vault all calls for these stripes and the last one were made, but for the writes of the last one: where a
--- folder failed, none of them, and where a call of the vault did, those below this level, and that of it, which failed.
--- So only wrong levels of
--- these stripes changed, and of the last one only where the vault failed. Those of the stripes before it hold the sums
--- of their rows.
-pub record BreaksInLast (plan : FixPlan) (fault : RunFault) (level : ℕ) (earlier : List StripeFacts)
-    (last : StripeFacts) (readings : List (List LevelReading)) (old new : VaultView) : Type 0 where
-  pub before : List VaultDone
-  pub calls_are : mend_calls plan (earlier ++ last ∷ []) readings ≡ before ++ done_well (wrong_writes plan last)
-  pub ran : BreaksLevels fault plan last level before old new
+-- A fix broke off in the last one of these stripes, or where it was to be written: of the vault all calls for the windows
+-- before that stripe's were made; then the levels of all stripes of that window were read, also of those behind it, and the
+-- wrong ones of the stripes before it written. Of its own wrong levels, where a folder failed, none was written, and where a
+-- call of the vault did, those below this level, and that of it, which failed. So only wrong levels of these stripes
+-- changed, and of the last one only where the vault failed. Those of the stripes before it hold the sums of their rows.
+pub record BreaksInLast (plan : FixPlan) (fault : RunFault) (level : ℕ) (earlier : List StripeFacts) (last : StripeFacts)
+    (behind : List StripeFacts) (readings : List (List LevelReading)) (old new : VaultView) : Type 0 where
+  pub windows : List FixWindow
+  pub window : FixWindow
+  pub windows_are : AreWindows (windows ++ window ∷ []) (earlier ++ last ∷ behind) readings
+  pub front : List StripeFacts
+  pub earlier_are : earlier ≡ stripes_in windows ++ front
+  pub window_is : window.stripes ≡ front ++ last ∷ behind
+  pub ran : BreaksLevels fault plan last level
+      (mend_calls plan windows ++ (window_reads plan window ++ done_well (all_wrong_writes plan front))) old new
   pub vault : MendsVault plan (levels_begun fault earlier last) old new
   pub holds : HoldAllWrong plan earlier new
+
+-- Of the next stripes behind the last one that was looked at, as many as its window has, cells and levels were read beside
+-- it, too: these are their facts.
+pub record LooksAhead (plan : FixPlan) (ahead : FixWindow) (behind : List ℕ) (vault : VaultView) : Type 0 where
+  pub are : All (AreFacts plan) ahead.stripes
+  pub levels : AreAllLevelsOf plan.table.shape.block_size vault ahead.stripes ahead.readings
+  pub more : List ℕ
+  pub behind_is : behind ≡ numbers_of ahead.stripes ++ more
 
 -- Of the folders only calls that went well were made for the stripes before the last one, and whatever the fix did
 -- before, it went on with them. Then calls were made for the last one, by where files stood then: where a folder
@@ -172,6 +203,30 @@ pub record TellsInLast (plan : FixPlan) (fault : RunFault) (level : ℕ) (earlie
   pub first_is : first ≡ all_mended_events plan earlier ++ told
   pub tells : TellsOfBroken plan fault level last told
 
+-- The first stripes of a window, whose levels were read before, were written anew, and the one after them broke off: of the
+-- vault only their wrong levels were written, and of that one those below the level where the vault failed.
+pub record MendsNotInto {W R : Type 0} (view : W → SinkView) (standing : R → ReportView)
+    (stands : R → List Event → Type 0) (plan : FixPlan) (facts : List StripeFacts) (old new : FixScene W R)
+    (fault : RunFault) : Type 0 where
+  pub earlier : List Mended
+  pub last : Mended
+  pub behind : List StripeFacts
+  pub facts_are : facts ≡ facts_of (earlier ++ last ∷ []) ++ behind
+  pub level : ℕ
+  pub first : List Event
+  pub tells : TellsInLast plan fault level earlier last first
+  pub told : Told view standing stands plan.table.columns first old.lines new.lines old.reports new.reports
+  pub folders : length new.folders ≡ length old.folders
+  pub answered : All (AnswersFit plan old.folders) (earlier ++ last ∷ [])
+  pub ran : BreaksLevels fault plan last.facts level (done_well (all_wrong_writes plan (facts_of earlier))) old.vault new.vault
+  pub vault : MendsVault plan (levels_begun fault (facts_of earlier) last.facts) old.vault new.vault
+  pub holds : HoldAllWrong plan (facts_of earlier) new.vault
+  pub spare : new.spare ≡ old.spare
+  pub makes : BreaksFolders plan old.starts old.states fault earlier last old.folders new.folders
+  pub quiet : (d : ℕ) → d < length plan.table.columns
+      → FolderReads IsQuiet (folder_at old.folders d) (folder_at new.folders d)
+  pub broke : IsBrokenBy plan fault old.folders new.folders old.vault new.vault
+
 -- Some first stripes were written anew, and the one after them broke off: their events were told, of
 -- that one what was found and what was written, and only calls were made that they ask for.
 pub record BreaksStripes {W R : Type 0} (view : W → SinkView) (standing : R → ReportView)
@@ -183,6 +238,8 @@ pub record BreaksStripes {W R : Type 0} (view : W → SinkView) (standing : R �
   pub stripes_are : stripes ≡ earlier ++ last ∷ []
   pub behind : List ℕ
   pub numbers_are : numbers ≡ numbers_of (facts_of stripes) ++ behind
+  pub ahead : FixWindow
+  pub looked : LooksAhead plan ahead behind old.vault
   pub are : All (AreFacts plan) (facts_of stripes)
   pub level : ℕ
   pub first : List Event
@@ -190,18 +247,18 @@ pub record BreaksStripes {W R : Type 0} (view : W → SinkView) (standing : R �
   pub told : Told view standing stands plan.table.columns first old.lines new.lines old.reports new.reports
   pub folders : length new.folders ≡ length old.folders
   pub answered : All (AnswersFit plan old.folders) stripes
-  pub cells : (firsts : List FolderView) → AreFixable plan firsts
-      → AreUnderway plan [] firsts old.folders old.starts old.states → AreReadThen plan old.starts firsts stripes
+  pub cells : (firsts : List FolderView) → AreFixable plan firsts → AreUnderway plan [] firsts old.folders old.starts old.states
+      → AreReadThen plan old.starts firsts (stripes ++ unwritten ahead.stripes)
   pub reads : (d : ℕ) → d < length plan.table.columns
-      → FolderReads (AreReadAhead plan old.starts d (facts_of stripes) behind)
+      → FolderReads (AreAllRead plan old.starts d (facts_of stripes ++ ahead.stripes))
       (folder_at old.folders d) (folder_at new.folders d)
   pub readings : List (List LevelReading)
   pub read : AreAllLevelsOf plan.table.shape.block_size old.vault (facts_of stripes) readings
-  pub ran : BreaksInLast plan fault level (facts_of earlier) last.facts readings old.vault new.vault
-  pub unread : RoseBy (unread_in readings) old.vault.faults new.vault.faults
+  pub ran : BreaksInLast plan fault level (facts_of earlier) last.facts ahead.stripes (readings ++ ahead.readings) old.vault new.vault
+  pub unread : RoseBy (unread_in (readings ++ ahead.readings)) old.vault.faults new.vault.faults
   pub unread_cells_of : (d : ℕ) → d < length plan.table.columns
-      → RoseBy (unread_cells d (facts_of stripes)) (folder_at old.folders d).faults (folder_at new.folders d).faults
-  pub spare : AsksSpare plan (facts_of stripes) old.spare new.spare
+      → RoseBy (unread_cells d (facts_of stripes ++ ahead.stripes)) (folder_at old.folders d).faults (folder_at new.folders d).faults
+  pub spare : AsksSpare plan (facts_of stripes ++ ahead.stripes) old.spare new.spare
   pub makes : BreaksFolders plan old.starts old.states fault earlier last old.folders new.folders
   pub broke : HasBroken plan fault first old.folders new.folders old.vault new.vault
 
@@ -220,10 +277,11 @@ pub record BreaksInto {W R : Type 0} (view : W → SinkView) (standing : R → R
   pub last : Mended
   pub stripes : List Mended
   pub stripes_are : stripes ≡ earlier ++ last ∷ []
-  pub behind : List ℕ
-  pub numbers_are : numbers ≡ numbers_of (facts_of stripes) ++ behind
-  pub slots : (k : ℕ) → k < length stripes → (facts_at (facts_of stripes) k).slots ≡ slots_at window k
-  pub are : All (AreFacts plan) (facts_of stripes)
+  pub ahead : FixWindow
+  pub numbers_are : numbers ≡ numbers_of (facts_of stripes) ++ numbers_of ahead.stripes
+  pub slots : (k : ℕ) → k < length (facts_of stripes ++ ahead.stripes)
+      → (facts_at (facts_of stripes ++ ahead.stripes) k).slots ≡ slots_at window k
+  pub are : All (AreFacts plan) (facts_of stripes ++ ahead.stripes)
   pub level : ℕ
   pub first : List Event
   pub tells : TellsInLast plan fault level earlier last first
@@ -232,9 +290,10 @@ pub record BreaksInto {W R : Type 0} (view : W → SinkView) (standing : R → R
   pub answered : All (AnswersFit plan old.folders) stripes
   pub readings : List (List LevelReading)
   pub read : AreAllLevelsOf plan.table.shape.block_size old.vault (facts_of stripes) readings
-  pub ran : BreaksInLast plan fault level (facts_of earlier) last.facts readings old.vault new.vault
-  pub unread : RoseBy (unread_in readings) old.vault.faults new.vault.faults
-  pub spare : AsksSpare plan (facts_of stripes) old.spare new.spare
+  pub read_ahead : AreAllLevelsOf plan.table.shape.block_size old.vault ahead.stripes ahead.readings
+  pub ran : BreaksInLast plan fault level (facts_of earlier) last.facts ahead.stripes (readings ++ ahead.readings) old.vault new.vault
+  pub unread : RoseBy (unread_in (readings ++ ahead.readings)) old.vault.faults new.vault.faults
+  pub spare : AsksSpare plan (facts_of stripes ++ ahead.stripes) old.spare new.spare
   pub makes : BreaksFolders plan old.starts old.states fault earlier last old.folders new.folders
   pub quiet : (d : ℕ) → d < length plan.table.columns
       → FolderReads IsQuiet (folder_at old.folders d) (folder_at new.folders d)

@@ -6,17 +6,17 @@ use Rattle.disk_model.specs.Sink.{SinkView}
 use Rattle.disk_model.specs.Vault.{GoesOn, SomeCalls, ChangesBy, DraftsStay, Reads}
 use Rattle.parity_writer.specs.LevelsValue.{LevelsValue}
 use Rattle.snap_report.specs.Answer.{Gained}
-use Rattle.snap_fix.specs.Breaking.{broke_parity}
+use Rattle.file_restorer.specs.Breaking.{broke_parity}
 use Rattle.snap_fix.specs.BrokenStripe.{FailsAtLevel}
 use Rattle.snap_report.specs.Report.{ReportView}
 use Rattle.snap_report.specs.Told.{Told}
 use Rattle.snap_report.specs.declared.events.Event.{Event}
 use Rattle.stripe_reader.specs.WindowValue.{WindowValue}
-use Rattle.snap_fix.specs.Facts.{StripeFacts}
-use Rattle.snap_fix.specs.Known.{AreFacts}
-use Rattle.snap_fix.specs.Marks.{levels_read, row_if}
+use Rattle.stripe_examiner.specs.Facts.{StripeFacts}
+use Rattle.stripe_examiner.specs.Known.{AreFacts}
+use Rattle.stripe_examiner.specs.Marks.{levels_read, row_if}
 use Rattle.snap_fix.specs.Mended.{all_level_news, level_news, wrong_in}
-use Rattle.snap_fix.specs.Plan.{FixPlan, is_searched}
+use Rattle.stripe_examiner.specs.Plan.{FixPlan, is_searched}
 use Rattle.snap_fix.specs.Repairing.{FlagsWritten, LevelsOutside}
 use Rattle.snap_fix.specs.Underway.{AddsZeros, KeepsLevels, IsMendedLevel, HoldsWrong, done_well, wrong_writes}
 

@@ -1,14 +1,13 @@
 -- Stripes that are looked at and written anew, one after another.
-use Rattle.std.specs.Prelude.{◌≡◌, ◌⊎◌, ℕ, ◌+◌, ◌<◌, ◌≤◌, List, [], ◌∷◌, ◌++◌, length, map, take, get_or, count_by, sum_by, All, Bool, true, false, IsTrue, None}
+use Rattle.std.specs.Prelude.{◌≡◌, ◌⊎◌, ℕ, ◌<◌, ◌≤◌, List, [], ◌∷◌, ◌++◌, length, map, take, get_or, sum_by, Bool, true, false, IsTrue, None}
 use Rattle.std.specs.List.{list_any}
-use Rattle.disk_model.specs.Cause.{Rose, RoseBy}
+use Rattle.disk_model.specs.Cause.{Rose}
 use Rattle.disk_model.specs.Folder.{FolderView}
 use Rattle.disk_model.specs.Sink.{SinkView}
 use Rattle.disk_model.specs.Vault.{VaultView, GoesOn, SomeCalls, ChangesBy, DraftsStay, Reads}
 use Rattle.file_table.specs.declared.shape.Shape.{Shape}
-use Rattle.parity_writer.specs.LevelReading.{LevelReading, has_failed}
 use Rattle.snap_report.specs.Answer.{Gained, broke_folder}
-use Rattle.snap_fix.specs.Breaking.{broke_parity}
+use Rattle.file_restorer.specs.Breaking.{broke_parity}
 use Rattle.snap_fix.specs.BrokenStripe.{BreaksLevels, broken_events}
 use Rattle.snap_report.specs.Report.{ReportView}
 use Rattle.snap_report.specs.Told.{Told}
@@ -23,22 +22,16 @@ use Rattle.stripe_reader.specs.Slot.{kept}
 use Rattle.stripe_reader.specs.SlotValue.{SlotValue}
 use Rattle.stripe_reader.specs.Starts.{StartsValue, StartsFit}
 use Rattle.snap_fix.specs.declared.fixing.Totals.{Totals}
-use Rattle.snap_fix.specs.declared.room.Room.{Room}
-use Rattle.snap_fix.specs.declared.state.FileState.{FileState}
-use Rattle.snap_fix.specs.Asking.{AsksSpare}
-use Rattle.snap_fix.specs.Counts.{AreCounts, at_most}
-use Rattle.snap_fix.specs.Facts.{StripeFacts, slot_of}
-use Rattle.snap_fix.specs.Known.{AreFacts}
-use Rattle.snap_fix.specs.Looking.{AreLevelsOf}
-use Rattle.snap_fix.specs.Marks.{ChangesStripe, slots_at}
+use Rattle.file_restorer.specs.declared.state.FileState.{FileState}
+use Rattle.stripe_examiner.specs.Counts.{AreCounts, at_most}
+use Rattle.stripe_examiner.specs.Facts.{StripeFacts, slot_of}
 use Rattle.snap_fix.specs.Mended.{Mended, AnswersFit, all_mended_events, mended_events, is_wrong_level, written_in, wrong_in}
-use Rattle.snap_fix.specs.Mending.{StatesFit}
-use Rattle.snap_fix.specs.Plan.{FixPlan}
+use Rattle.file_restorer.specs.Mending.{StatesFit}
+use Rattle.stripe_examiner.specs.Plan.{FixPlan}
 use Rattle.snap_fix.specs.Repairing.{FailsInCell}
-use Rattle.snap_fix.specs.Room.{IsRoomFor}
-use Rattle.snap_fix.specs.Spare.{SpareView, IsSpareFor}
-use Rattle.snap_fix.specs.State.{FolderMakesBy, KeepsStarts}
-use Rattle.snap_fix.specs.Underway.{AreFixable, AreMendCalls, AreUnderway, AddsZeros, KeepsLevels, IsMendedLevel, HoldsWrong, stripe_calls, stripe_reads}
+use Rattle.stripe_examiner.specs.Spare.{SpareView, IsSpareFor}
+use Rattle.file_restorer.specs.State.{FolderMakesBy, KeepsStarts}
+use Rattle.snap_fix.specs.Underway.{AreFixable, AreMendCalls, AreUnderway, AddsZeros, KeepsLevels, IsMendedLevel, HoldsWrong, done_well, wrong_writes}
 
 -- all that a fix works on: where files stand, what was done to them, which levels were written, the folders, the vault, the spare, the
 -- lines, and those who are told
@@ -77,6 +70,14 @@ pub record SceneFits {W R : Type 0} (plan : FixPlan) (scene : FixScene W R) : Ty
 abbrev pub facts_of : List Mended → List StripeFacts
 facts_of stripes = map (λ (mended : Mended). mended.facts) stripes
 
+-- a stripe with these facts, and of each column whether its block was there to be written
+abbrev pub with_answers : StripeFacts → List Bool → Mended
+with_answers facts answers = record { facts = facts; answers = answers }
+
+-- stripes with these facts, of which no block was there to be written
+abbrev pub unwritten : List StripeFacts → List Mended
+unwritten stripes = map (λ (facts : StripeFacts). with_answers facts []) stripes
+
 -- ---- what was counted, and which levels were written
 
 pub record AreTotals (plan : FixPlan) (stripes : List Mended) (totals : Totals) : Type 0 where
@@ -113,22 +114,6 @@ pub record IsReadThen (plan : FixPlan) (begun : StartsValue) (firsts : List Fold
   pub cells : (d : ℕ) → d < length plan.table.columns
       → IsCellRead plan.table.shape (folder_at folders d) (task_at plan.table starts d facts.stripe) (slot_of facts d)
 
--- What a slot keeps of a cell is what stood in its place at first, or its reading failed; what was seen of the file's size and stamp
--- may be later.
-pub record IsPresent (shape : Shape) (first : FolderView) (task : Task) (slot : SlotValue) : Type 0 where
-  pub reading : CellReading
-  pub is_of : IsReadingOf first task reading
-  pub found : slot.cell.found ≡ (kept shape reading).cell.found
-  pub got : slot.cell.got ≡ (kept shape reading).cell.got
-  pub digest : slot.digest ≡ (kept shape reading).digest
-  pub block : slot.block ≡ (kept shape reading).block
-
--- The cells of stripes are those that stood there at first.
-abbrev pub ArePresent : FixPlan → StartsValue → List FolderView → List StripeFacts → Type 0
-ArePresent plan starts firsts stripes =
-    All (λ (facts : StripeFacts). (d : ℕ) → d < length plan.table.columns
-    → IsPresent plan.table.shape (folder_at firsts d) (task_at plan.table starts d facts.stripe) (slot_of facts d)) stripes
-
 -- what stands for a stripe that is not there
 abbrev pub no_mended : Mended
 no_mended = record { facts = record { stripe = 0; slots = []; gifts = []; levels = []; row = None }; answers = [] }
@@ -142,46 +127,34 @@ AreReadThen plan begun firsts stripes =
 
 -- ---- one stripe
 
--- the levels of a stripe were read of the vault: no more of them were not read than its count of faults rose by
-pub record LevelsWereRead (plan : FixPlan) (facts : StripeFacts) (old new : VaultView) : Type 0 where
-  pub readings : List LevelReading
-  pub are : AreLevelsOf plan.table.shape.block_size facts.stripe facts.levels old readings
-  pub unread : RoseBy (count_by has_failed readings) old.faults new.faults
-
 -- what was done to the vault: the wrong levels of stripes were written, and nothing else of it changed
 pub record MendsVault (plan : FixPlan) (stripes : List StripeFacts) (old new : VaultView) : Type 0 where
   pub calls : SomeCalls old new
   pub drafts : DraftsStay old new
   pub changes : ChangesBy (KeepsLevels plan.table.shape.block_size (IsMendedLevel plan stripes)) old new
 
--- A stripe of the window was looked at, and its damaged blocks and wrong levels were written. Whatever the fix did before, it goes on
--- with this stripe.
+-- The stripe with these facts was told, and its damaged blocks and wrong levels were written. Whatever the fix did
+-- before, it goes on with this stripe.
 pub record FixesStripe {W R : Type 0} (view : W → SinkView) (standing : R → ReportView) (stands : R → List Event → Type 0)
-    (plan : FixPlan) (stripe i : ℕ) (before after : Room) (old new : FixScene W R) (totals : Totals) : Type 0 where
-  pub mended : Mended
-  pub number : mended.facts.stripe ≡ stripe
-  pub slots : mended.facts.slots ≡ slots_at before.window i
-  pub are : AreFacts plan mended.facts
-  pub answers : length mended.answers ≡ length plan.table.columns
-  pub room : IsRoomFor plan.table after
-  pub changes : ChangesStripe i before.window after.window
+    (plan : FixPlan) (facts : StripeFacts) (old new : FixScene W R) (totals : Totals) : Type 0 where
+  pub answers : List Bool
+  pub as_many : length answers ≡ length plan.table.columns
   pub fits : SceneFits plan new
-  pub told : Told view standing stands plan.table.columns (mended_events plan mended) old.lines new.lines old.reports new.reports
-  pub totals_are : AreTotals plan (mended ∷ []) totals
-  pub written : Writes plan (mended ∷ []) old.written new.written
-  pub answered : AnswersFit plan old.folders mended
+  pub told : Told view standing stands plan.table.columns (mended_events plan (with_answers facts answers)) old.lines new.lines old.reports new.reports
+  pub totals_are : AreTotals plan (with_answers facts answers ∷ []) totals
+  pub written : Writes plan (with_answers facts answers ∷ []) old.written new.written
+  pub answers_fit : AnswersFit plan old.folders (with_answers facts answers)
   pub stood : KeepsStarts old.starts new.starts
-  pub read : LevelsWereRead plan mended.facts old.vault new.vault
-  pub ran : GoesOn old.vault new.vault (stripe_calls plan mended.facts read.readings)
-  pub vault : MendsVault plan (mended.facts ∷ []) old.vault new.vault
-  pub zeros : IsTrue old.vault.tells → AddsZeros plan.table.shape.block_size (IsMendedLevel plan (mended.facts ∷ [])) old.vault.files new.vault.files
-  pub holds : Reads (HoldsWrong plan mended.facts) new.vault
-  pub spare : AsksSpare plan (mended.facts ∷ []) old.spare new.spare
+  pub ran : GoesOn old.vault new.vault (done_well (wrong_writes plan facts))
+  pub vault : MendsVault plan (facts ∷ []) old.vault new.vault
+  pub zeros : IsTrue old.vault.tells → AddsZeros plan.table.shape.block_size (IsMendedLevel plan (facts ∷ [])) old.vault.files new.vault.files
+  pub holds : Reads (HoldsWrong plan facts) new.vault
+  pub spare : new.spare ≡ old.spare
   pub makes : (d : ℕ) → d < length plan.table.columns
-      → FolderMakesBy (AreMendCalls plan old.starts d mended) (folder_at old.folders d) (folder_at new.folders d)
+      → FolderMakesBy (AreMendCalls plan old.starts d (with_answers facts answers)) (folder_at old.folders d) (folder_at new.folders d)
   pub underway : (stripes : List Mended) (firsts : List FolderView) → AreFixable plan firsts
       → AreUnderway plan stripes firsts old.folders old.starts old.states
-      → AreUnderway plan (stripes ++ mended ∷ []) firsts new.folders new.starts new.states
+      → AreUnderway plan (stripes ++ with_answers facts answers ∷ []) firsts new.folders new.starts new.states
 
 -- ---- how a fix breaks off
 
@@ -190,15 +163,15 @@ pub record FolderBroke (old new : FolderView) : Type 0 where
   pub rose : Rose old.faults new.faults
   pub call : IsTrue new.tells_calls → Gained broke_folder old.calls new.calls
 
--- the same of a vault, besides so many readings of levels that failed
-pub record VaultBroke (unread : ℕ) (old new : VaultView) : Type 0 where
-  pub rose : RoseBy (unread + 1) old.faults new.faults
+-- the same of a vault
+pub record VaultBroke (old new : VaultView) : Type 0 where
+  pub rose : Rose old.faults new.faults
   pub call : IsTrue new.tells_calls → Gained broke_parity old.calls new.calls
 
-abbrev pub IsBrokenBy : FixPlan → RunFault → ℕ → List FolderView → List FolderView → VaultView → VaultView → Type 0
-IsBrokenBy plan (Folder disk) unread olds news old new = (disk < length plan.table.columns) × FolderBroke (folder_at olds disk) (folder_at news disk)
-IsBrokenBy plan Vault unread olds news old new = VaultBroke unread old new
-IsBrokenBy plan Memory unread olds news old new = ⊥
+abbrev pub IsBrokenBy : FixPlan → RunFault → List FolderView → List FolderView → VaultView → VaultView → Type 0
+IsBrokenBy plan (Folder disk) olds news old new = (disk < length plan.table.columns) × FolderBroke (folder_at olds disk) (folder_at news disk)
+IsBrokenBy plan Vault olds news old new = VaultBroke old new
+IsBrokenBy plan Memory olds news old new = ⊥
 
 -- the stripes whose levels were begun to be written: where a folder failed, not those of the last one
 abbrev pub levels_begun : RunFault → List StripeFacts → StripeFacts → List StripeFacts
@@ -235,25 +208,20 @@ BreaksCells (Folder disk) plan mended starts states olds news =
 BreaksCells Vault plan mended starts states olds news = WritesCells plan mended starts states olds news
 BreaksCells Memory plan mended starts states olds news = ⊥
 
--- A stripe that broke off: the facts of it stand, what was found and what was written was told, and only calls were
--- made that it asks for, none of a folder behind one that failed. Its levels were read. Where a call of the vault
--- failed, all its blocks were written, and that call is the write of this wrong level; else no level was written.
+-- A stripe with these facts that broke off: what was found and what was written was told, and only calls were made that
+-- it asks for, none of a folder behind one that failed. Where a call of the vault failed, all its blocks were written, and
+-- that call is the write of this wrong level; else no level was written.
 pub record BreaksStripe {W R : Type 0} (view : W → SinkView) (standing : R → ReportView) (stands : R → List Event → Type 0)
-    (plan : FixPlan) (stripe i : ℕ) (before : Room) (old new : FixScene W R) (fault : RunFault) : Type 0 where
-  pub mended : Mended
-  pub number : mended.facts.stripe ≡ stripe
-  pub slots : mended.facts.slots ≡ slots_at before.window i
-  pub are : AreFacts plan mended.facts
+    (plan : FixPlan) (facts : StripeFacts) (old new : FixScene W R) (fault : RunFault) : Type 0 where
+  pub answers : List Bool
   pub level : ℕ
   pub first : List Event
-  pub tells : TellsOfBroken plan fault level mended first
+  pub tells : TellsOfBroken plan fault level (with_answers facts answers) first
   pub told : Told view standing stands plan.table.columns first old.lines new.lines old.reports new.reports
   pub folders : length new.folders ≡ length old.folders
-  pub answered : AnswersFit plan old.folders mended
-  pub read : LevelsWereRead plan mended.facts old.vault new.vault
-  pub ran : BreaksLevels fault plan mended.facts level (stripe_reads plan mended.facts read.readings)
-      old.vault new.vault
-  pub spare : AsksSpare plan (mended.facts ∷ []) old.spare new.spare
-  pub vault : MendsVault plan (levels_begun fault [] mended.facts) old.vault new.vault
-  pub makes : BreaksCells fault plan mended old.starts old.states old.folders new.folders
-  pub broke : IsBrokenBy plan fault (count_by has_failed read.readings) old.folders new.folders old.vault new.vault
+  pub answers_fit : AnswersFit plan old.folders (with_answers facts answers)
+  pub ran : BreaksLevels fault plan facts level [] old.vault new.vault
+  pub vault : MendsVault plan (levels_begun fault [] facts) old.vault new.vault
+  pub spare : new.spare ≡ old.spare
+  pub makes : BreaksCells fault plan (with_answers facts answers) old.starts old.states old.folders new.folders
+  pub broke : IsBrokenBy plan fault old.folders new.folders old.vault new.vault

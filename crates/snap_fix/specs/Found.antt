@@ -1,11 +1,12 @@
 -- What a check and a fix of the same selection share.
 use Rattle.std.specs.Prelude.{◌≡◌, ◌≢◌, ℕ, ◌<◌, List, length, true, Contains}
-use Rattle.snap_fix.specs.declared.finishing.Finish.{Finish}
-use Rattle.snap_fix.specs.declared.finishing.Finish.TheVariants.{Gone}
-use Rattle.snap_fix.specs.declared.scope.Mode.TheVariants.{Check, Fix}
+use Rattle.file_restorer.specs.declared.finishing.Finish.{Finish}
+use Rattle.file_restorer.specs.declared.finishing.Finish.TheVariants.{Gone}
+use Rattle.stripe_examiner.specs.declared.scope.Mode.TheVariants.{Check, Fix}
 use Rattle.snap_fix.specs.Ending.{finish_at, finishes_at, is_finished}
 use Rattle.snap_fix.specs.Mended.{Mended, answer_of, is_repaired}
-use Rattle.snap_fix.specs.Plan.{FixPlan, records_in}
+use Rattle.stripe_examiner.specs.Plan.{FixPlan}
+use Rattle.file_table.specs.Table.{records_in}
 
 -- each cell that is to be written is
 abbrev pub AreAllWritten : FixPlan → List Mended → Type 0

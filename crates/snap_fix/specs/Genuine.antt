@@ -12,11 +12,11 @@ use Rattle.parity_writer.specs.Parity.{Row}
 use Rattle.parity_writer.specs.Sound.{Snapshot, Sound, IsRowOf}
 use Rattle.parity_writer.specs.WindowRow.{bytes_of}
 use Rattle.stripe_reader.specs.Starts.{StartsValue}
-use Rattle.snap_fix.specs.Facts.{StripeFacts, IsGift, gift_of, missing_in, row_before, slot_of, wanted_in}
-use Rattle.snap_fix.specs.Fixing.{ArePresent}
-use Rattle.snap_fix.specs.Known.{AreFacts, AreRemainders, whole_levels}
-use Rattle.snap_fix.specs.Plan.{FixPlan, is_searched, seen_at}
-use Rattle.snap_fix.specs.Restorable.{LostStripe, CandidatesAreGenuine, IsIntact}
+use Rattle.stripe_examiner.specs.Facts.{StripeFacts, IsGift, gift_of, missing_in, row_before, slot_of, wanted_in}
+use Rattle.stripe_examiner.specs.Present.{ArePresent}
+use Rattle.stripe_examiner.specs.Known.{AreFacts, AreRemainders, whole_levels}
+use Rattle.stripe_examiner.specs.Plan.{FixPlan, is_searched, seen_at}
+use Rattle.stripe_examiner.specs.Restorable.{LostStripe, CandidatesAreGenuine, IsIntact}
 
 -- the stripe with what is missing of it, as it is searched
 abbrev pub lost_of : FixPlan → StripeFacts → List ℕ → LostStripe

@@ -4,14 +4,14 @@ use Rattle.std.specs.List.{range_with_len, flat_map, list_any}
 use Rattle.disk_model.specs.Folder.{FolderView}
 use Rattle.file_table.specs.declared.block.Cell.{Cell}
 use Rattle.parity_writer.specs.LevelsValue.{no_level}
-use Rattle.parity_writer.specs.Parity.{Row}
 use Rattle.snap_report.specs.declared.events.Event.{Event}
 use Rattle.snap_report.specs.declared.events.Event.TheVariants.{Fixed, FixedParity}
 use Rattle.stripe_reader.specs.Columns.{folder_at}
-use Rattle.snap_fix.specs.Facts.{StripeFacts, gift_of, damaged_at, is_missing}
-use Rattle.snap_fix.specs.Findings.{is_lost, is_wrong, lost_event, stripe_events}
-use Rattle.snap_fix.specs.Plan.{FixPlan, cell_at, entry_at, selects_cell}
-use Rattle.snap_fix.specs.State.{Write}
+use Rattle.stripe_examiner.specs.Facts.{StripeFacts, damaged_at, is_missing}
+use Rattle.stripe_examiner.specs.Findings.{is_lost, is_wrong, lost_event, stripe_events}
+use Rattle.stripe_examiner.specs.Plan.{FixPlan, cell_at, entry_at, selects_cell}
+use Rattle.stripe_examiner.specs.Showing.{block_or_none, known_block}
+use Rattle.file_restorer.specs.State.{Write}
 
 -- the facts of a stripe, and of each column whether its block was there to be written
 pub record Mended : Type 0 where
@@ -20,19 +20,6 @@ pub record Mended : Type 0 where
 
 abbrev pub answer_of : Mended → ℕ → Bool
 answer_of mended d = get_or mended.answers d false
-
--- the block of a damaged cell, where it is known: the spare gave it, or the row is known
-abbrev pub known_by : Option (List ℕ) → Option Row → ℕ → Option (List ℕ)
-known_by (Some given) row d = Some given
-known_by None None d = None
-known_by None (Some row) d = Some (get_or row d [])
-
-abbrev pub known_block : StripeFacts → ℕ → Option (List ℕ)
-known_block facts d = known_by (gift_of facts d) facts.row d
-
-abbrev pub block_or_none : Option (List ℕ) → List ℕ
-block_or_none None = []
-block_or_none (Some bytes) = bytes
 
 -- the file of a cell can't be written
 abbrev pub is_blocked_cell : FixPlan → ℕ → Option Cell → Bool

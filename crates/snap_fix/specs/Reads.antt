@@ -2,13 +2,13 @@
 use Rattle.std.specs.Prelude.{◌≡◌, ℕ, List, [], ◌∷◌, ◌++◌, filter, Bool}
 use Rattle.disk_model.specs.Folder.{FolderView, FolderDone, FolderGoesOn}
 use Rattle.snap_report.specs.Answer.{is_reading}
-use Rattle.stripe_reader.specs.FolderCalls.{AreCellCalls, AreColumnCalls}
-use Rattle.stripe_reader.specs.Reading.{CellReading, task_at, tasks_at}
+use Rattle.stripe_reader.specs.FolderCalls.{AreCellCalls}
+use Rattle.stripe_reader.specs.Reading.{CellReading, task_at}
 use Rattle.stripe_reader.specs.Slot.{kept}
 use Rattle.stripe_reader.specs.Starts.{StartsValue}
-use Rattle.snap_fix.specs.Facts.{StripeFacts, slot_of}
-use Rattle.snap_fix.specs.Plan.{FixPlan}
-use Rattle.snap_fix.specs.State.{KeepsStarts}
+use Rattle.stripe_examiner.specs.Facts.{StripeFacts, slot_of}
+use Rattle.stripe_examiner.specs.Plan.{FixPlan}
+use Rattle.file_restorer.specs.State.{KeepsStarts}
 
 -- a call that looks at a file or reads one
 abbrev pub is_read : FolderDone → Bool
@@ -40,16 +40,6 @@ AreReadBy plan begun ended d (facts ∷ stripes) done =
     (starts : StartsValue) × (first : List FolderDone) × (rest : List FolderDone) × KeepsStarts begun starts
     × (done ≡ first ++ rest) × IsReadBy plan starts d facts first × AreReadBy plan starts ended d stripes rest
 
--- The same, and then cells of the first ones of the stripes behind them, which were read beside the last of them.
-pub record AreReadAhead (plan : FixPlan) (begun : StartsValue) (d : ℕ) (stripes : List StripeFacts) (behind : List ℕ)
-    (done : List FolderDone) : Type 0 where
-  pub starts : StartsValue
-  pub first : List FolderDone
-  pub rest : List FolderDone
-  pub done_is : done ≡ first ++ rest
-  pub looked : AreReadBy plan begun starts d stripes first
-  pub ahead : List ℕ
-  pub more : List ℕ
-  pub behind_is : behind ≡ ahead ++ more
-  pub readings : List CellReading
-  pub are : AreColumnCalls (tasks_at plan.table starts d ahead) readings rest
+-- The same, wherever the files stand at the end.
+abbrev pub AreAllRead : FixPlan → StartsValue → ℕ → List StripeFacts → List FolderDone → Type 0
+AreAllRead plan begun d stripes done = (ended : StartsValue) × AreReadBy plan begun ended d stripes done

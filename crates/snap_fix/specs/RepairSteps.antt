@@ -8,11 +8,11 @@ use Rattle.disk_model.specs.Folder.{FolderView}
 use Rattle.disk_model.specs.Sink.{SinkView}
 use Rattle.disk_model.specs.Tree.{IsTree}
 use Rattle.disk_model.specs.Vault.{plain_done, GoesOn, ParityWrite, SomeCalls, ChangesBy, DraftsStay, Reads}
-use Rattle.file_table.specs.Table.{Column, TableValue}
+use Rattle.file_table.specs.Table.{Column, TableValue, records_in}
 use Rattle.file_table.specs.declared.block.Cell.{Cell}
 use Rattle.parity_writer.specs.Parity.{Row, HasLevel}
 use Rattle.snap_report.specs.Answer.{Gained}
-use Rattle.snap_fix.specs.Breaking.{FolderFails, broke_parity}
+use Rattle.file_restorer.specs.Breaking.{FolderFails, broke_parity}
 use Rattle.snap_report.specs.Report.{ReportView}
 use Rattle.snap_report.specs.Told.{Told}
 use Rattle.snap_report.specs.declared.events.Event.{Event}
@@ -21,20 +21,21 @@ use Rattle.snap_report.specs.declared.pages.Lines.{Lines}
 use Rattle.stripe_reader.specs.Starts.{StartsValue, StartsFit, starts_at, start_in}
 use Rattle.stripe_reader.specs.WindowValue.{WindowValue}
 use Rattle.stripe_reader.specs.declared.starts.Place.{Place}
-use Rattle.snap_fix.specs.declared.marking.CellMark.{CellMark}
+use Rattle.stripe_examiner.specs.declared.marking.CellMark.{CellMark}
 use Rattle.snap_fix.specs.declared.repairing.Repaired.{Repaired}
-use Rattle.snap_fix.specs.declared.state.FileState.{FileState}
-use Rattle.snap_fix.specs.Counts.{AreCounts}
-use Rattle.snap_fix.specs.Facts.{StripeFacts}
-use Rattle.snap_fix.specs.Findings.{is_lost}
-use Rattle.snap_fix.specs.Marks.{is_marked_missing}
+use Rattle.file_restorer.specs.declared.state.FileState.{FileState}
+use Rattle.stripe_examiner.specs.Counts.{AreCounts}
+use Rattle.stripe_examiner.specs.Facts.{StripeFacts}
+use Rattle.stripe_examiner.specs.Findings.{is_lost}
+use Rattle.stripe_examiner.specs.Marks.{is_marked_missing}
 use Rattle.snap_fix.specs.Mended.{Mended, answer_of, cell_news, is_repaired, is_written, is_blocked_cell, mended_event}
-use Rattle.snap_fix.specs.Mending.{StatesFit, IsFree, IsBlockCall, block_start, cell_path, mended_writes, with_place, with_state}
-use Rattle.snap_fix.specs.Order.{FolderWrites, block_calls}
-use Rattle.snap_fix.specs.Plan.{FixPlan, cell_at, records_in, selects_cell}
+use Rattle.file_restorer.specs.Mending.{StatesFit, IsFree, IsBlockCall, block_start, cell_path, mended_writes, with_place, with_state}
+use Rattle.file_restorer.specs.Order.{FolderWrites, block_calls}
+use Rattle.stripe_examiner.specs.Plan.{FixPlan, cell_at, selects_cell}
 use Rattle.snap_fix.specs.Repairing.{LevelsOutside}
-use Rattle.snap_fix.specs.State.{Write, HoldsTold, FolderMakesBy, KeepsStarts, StaysPlace, StepMakes, size_after, state_in}
-use Rattle.snap_fix.specs.Underway.{AreMendCalls, IsFixable, IsColumnUnderway, IsMendCall, ShowsFacts, done_well, is_damaged_mark, is_given_mark}
+use Rattle.file_restorer.specs.State.{Write, HoldsTold, FolderMakesBy, KeepsStarts, StaysPlace, StepMakes, size_after, state_in}
+use Rattle.snap_fix.specs.Underway.{AreMendCalls, IsFixable, IsColumnUnderway, IsMendCall, done_well}
+use Rattle.stripe_examiner.specs.Showing.{ShowsFacts, is_damaged_mark, is_given_mark}
 
 -- ---- one cell
 

@@ -7,7 +7,7 @@ use Rattle.disk_model.specs.Sink.{SinkView}
 use Rattle.disk_model.specs.Vault.{VaultView, GoesOn, SomeCalls, ChangesBy, DraftsStay, Reads}
 use Rattle.parity_writer.specs.LevelsValue.{LevelsValue}
 use Rattle.snap_report.specs.Answer.{Gained}
-use Rattle.snap_fix.specs.Breaking.{FailsInColumn, broke_parity}
+use Rattle.file_restorer.specs.Breaking.{FailsInColumn, broke_parity}
 use Rattle.snap_fix.specs.BrokenStripe.{FailsAtLevel}
 use Rattle.snap_report.specs.Report.{ReportView}
 use Rattle.snap_report.specs.Told.{Told}
@@ -16,17 +16,18 @@ use Rattle.snap_report.specs.declared.pages.Lines.{Lines}
 use Rattle.stripe_reader.specs.Columns.{folder_at}
 use Rattle.stripe_reader.specs.Starts.{StartsValue, StartsFit}
 use Rattle.stripe_reader.specs.WindowValue.{WindowValue}
-use Rattle.snap_fix.specs.declared.marking.CellMark.{CellMark}
+use Rattle.stripe_examiner.specs.declared.marking.CellMark.{CellMark}
 use Rattle.snap_fix.specs.declared.repairing.Repaired.{Repaired}
-use Rattle.snap_fix.specs.declared.state.FileState.{FileState}
-use Rattle.snap_fix.specs.Counts.{AreCounts}
-use Rattle.snap_fix.specs.Facts.{StripeFacts}
-use Rattle.snap_fix.specs.Marks.{row_if}
+use Rattle.file_restorer.specs.declared.state.FileState.{FileState}
+use Rattle.stripe_examiner.specs.Counts.{AreCounts}
+use Rattle.stripe_examiner.specs.Facts.{StripeFacts}
+use Rattle.stripe_examiner.specs.Marks.{row_if}
 use Rattle.snap_fix.specs.Mended.{Mended, AnswersFit, all_cell_news, all_level_news, cell_news, is_wrong_level, level_news, written_in, wrong_in}
-use Rattle.snap_fix.specs.Mending.{StatesFit}
-use Rattle.snap_fix.specs.Plan.{FixPlan}
-use Rattle.snap_fix.specs.State.{FolderMakesBy, KeepsStarts}
-use Rattle.snap_fix.specs.Underway.{AreFixable, AreMendCalls, AreUnderway, FixUnderway, IsMendCall, ShowsFacts, KeepsLevels, AddsZeros, IsMendedLevel, HoldsWrong, done_well, wrong_writes}
+use Rattle.file_restorer.specs.Mending.{StatesFit}
+use Rattle.stripe_examiner.specs.Plan.{FixPlan}
+use Rattle.file_restorer.specs.State.{FolderMakesBy, KeepsStarts}
+use Rattle.snap_fix.specs.Underway.{AreFixable, AreMendCalls, AreUnderway, FixUnderway, IsMendCall, KeepsLevels, AddsZeros, IsMendedLevel, HoldsWrong, done_well, wrong_writes}
+use Rattle.stripe_examiner.specs.Showing.{ShowsFacts}
 
 -- ---- files
 

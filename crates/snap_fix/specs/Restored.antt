@@ -9,16 +9,17 @@ use Rattle.file_table.specs.declared.block.Cell.{Cell}
 use Rattle.parity_writer.specs.Keeps.{HasByte}
 use Rattle.stripe_reader.specs.Reading.{block_length}
 use Rattle.stripe_reader.specs.Starts.{StartsValue}
-use Rattle.snap_fix.specs.declared.finishing.Finish.{Finish}
-use Rattle.snap_fix.specs.Facts.{StripeFacts, damaged_at, gift_of}
+use Rattle.file_restorer.specs.declared.finishing.Finish.{Finish}
+use Rattle.stripe_examiner.specs.Facts.{StripeFacts, damaged_at, gift_of}
 use Rattle.snap_fix.specs.FixCourse.{FixesFiles}
 use Rattle.snap_fix.specs.Fixing.{facts_of}
 use Rattle.snap_fix.specs.Genuine.{IsRestorableStripe}
-use Rattle.snap_fix.specs.Known.{AreFacts}
-use Rattle.snap_fix.specs.Looking.{numbers_of}
-use Rattle.snap_fix.specs.Mended.{AnswersFit, Mended, is_written, known_block}
-use Rattle.snap_fix.specs.Mending.{block_start, cell_path}
-use Rattle.snap_fix.specs.Plan.{FixPlan, cell_at, selects_cell, stripes_of}
+use Rattle.stripe_examiner.specs.Known.{AreFacts}
+use Rattle.stripe_examiner.specs.Looking.{numbers_of}
+use Rattle.snap_fix.specs.Mended.{AnswersFit, Mended, is_written}
+use Rattle.stripe_examiner.specs.Showing.{known_block}
+use Rattle.file_restorer.specs.Mending.{block_start, cell_path}
+use Rattle.stripe_examiner.specs.Plan.{FixPlan, cell_at, selects_cell, stripes_of}
 
 -- A fix that ended: it found these facts of the stripes of its plan, and did that to the files.
 pub record HasFixed (plan : FixPlan) (starts : StartsValue) (stripes : List Mended) (finishes : List (List Finish)) (firsts news : List FolderView) : Type 0 where

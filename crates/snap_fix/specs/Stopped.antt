@@ -3,14 +3,14 @@ use Rattle.std.specs.Prelude.{◌≡◌, ◌≢◌, ◌⊎◌, ℕ, ◌+◌, ◌
 use Rattle.disk_model.specs.Folder.{FolderCall, FolderDone, ListFiles}
 use Rattle.disk_model.specs.Stopped.{MayBeLeft}
 use Rattle.disk_model.specs.Tree.{Tree, File, file_of, path_of}
-use Rattle.file_table.specs.Table.{Record, record_at}
+use Rattle.file_table.specs.Table.{Record, record_at, records_in}
 use Rattle.file_table.specs.Valid.{IsValid}
 use Rattle.stripe_reader.specs.Starts.{StartsValue, start_in, starts_at}
 use Rattle.snap_fix.specs.Ending.{is_finished}
 use Rattle.snap_fix.specs.FixCourse.{IsFixCall}
 use Rattle.snap_fix.specs.Mended.{Mended, has_lost}
-use Rattle.snap_fix.specs.Plan.{FixPlan, records_in}
-use Rattle.snap_fix.specs.State.{AnyCall, place_in, record_path}
+use Rattle.stripe_examiner.specs.Plan.{FixPlan}
+use Rattle.file_restorer.specs.State.{AnyCall, place_in, record_path}
 use Rattle.snap_fix.specs.Underway.{WritesOneOf}
 
 -- ---- a stop

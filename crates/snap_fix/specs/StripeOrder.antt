@@ -3,12 +3,13 @@ use Rattle.std.specs.Prelude.{ℕ, List, [], ◌∷◌, ◌++◌, if◌then◌el
 use Rattle.disk_model.specs.Folder.{FolderCall, WriteAt}
 use Rattle.disk_model.specs.Tree.{Tree}
 use Rattle.file_table.specs.declared.block.Cell.{Cell}
-use Rattle.snap_fix.specs.Facts.{StripeFacts}
-use Rattle.snap_fix.specs.Mended.{Mended, block_or_none, is_written, known_block, writes_of}
-use Rattle.snap_fix.specs.Mending.{block_start, cell_path}
-use Rattle.snap_fix.specs.Order.{set_up_calls}
-use Rattle.snap_fix.specs.Plan.{FixPlan, cell_at}
-use Rattle.snap_fix.specs.State.{has_some, place_in}
+use Rattle.stripe_examiner.specs.Facts.{StripeFacts}
+use Rattle.snap_fix.specs.Mended.{Mended, is_written, writes_of}
+use Rattle.stripe_examiner.specs.Showing.{block_or_none, known_block}
+use Rattle.file_restorer.specs.Mending.{block_start, cell_path}
+use Rattle.file_restorer.specs.Order.{set_up_calls}
+use Rattle.stripe_examiner.specs.Plan.{FixPlan, cell_at}
+use Rattle.file_restorer.specs.State.{has_some, place_in}
 
 -- The calls that write the block of a cell, after some stripes: before the first block of its file, that is put under PATH, from the place
 -- where it stood at first.

@@ -1,34 +1,28 @@
 -- How far a fix is with the files of its columns.
-use Rattle.std.specs.Prelude.{◌≡◌, ◌⊎◌, ℕ, ◌*◌, ◌<◌, ◌≤◌, List, [], ◌∷◌, ◌++◌, length, map, filter, get_or, All, is_some, Bool, true, false, if◌then◌else◌, Option, None, Some, IsTrue, Contains}
+use Rattle.std.specs.Prelude.{◌≡◌, ◌⊎◌, ℕ, ◌*◌, ◌<◌, ◌≤◌, List, [], ◌∷◌, ◌++◌, length, map, filter, get_or, All, true, false, if◌then◌else◌, Option, None, Some, IsTrue, Contains}
 use Rattle.std.specs.List.{range_with_len, flat_map}
 use Rattle.disk_model.specs.Files.{Files, parity_of}
 use Rattle.disk_model.specs.Folder.{FolderView, FolderCall, FolderDone, SomeFolderCalls, ListFiles, Look, ReadAt, Make, WriteAt, SetSize, SetStamp, Rename}
 use Rattle.disk_model.specs.Tree.{IsTree}
 use Rattle.disk_model.specs.Vault.{plain_done, VaultCall, VaultDone, ParityWrite}
 use Rattle.cauchy.specs.Matrix.{parity_of as level_of}
-use Rattle.file_table.specs.Table.{record_at}
+use Rattle.file_table.specs.Table.{records_in}
 use Rattle.file_table.specs.declared.block.Cell.{Cell}
 use Rattle.parity_writer.specs.Keeps.{HasByte, IsOutside}
-use Rattle.parity_writer.specs.LevelReading.{LevelReading, calls_of}
 use Rattle.parity_writer.specs.Parity.{Row, HasLevel}
-use Rattle.parity_writer.specs.WindowRow.{bytes_of}
 use Rattle.snap_report.specs.Answer.{is_reading}
 use Rattle.stripe_reader.specs.Columns.{folder_at}
-use Rattle.stripe_reader.specs.Reading.{block_length}
 use Rattle.stripe_reader.specs.Starts.{StartsValue, starts_at, start_in}
-use Rattle.stripe_reader.specs.WindowValue.{WindowValue, slot_at}
 use Rattle.stripe_reader.specs.declared.starts.Place.{Place}
 use Rattle.stripe_reader.specs.declared.starts.Place.TheVariants.{Lost, Nowhere}
-use Rattle.snap_fix.specs.declared.marking.CellMark.{CellMark}
-use Rattle.snap_fix.specs.declared.marking.CellMark.TheVariants.{Right, Given, Missing}
-use Rattle.snap_fix.specs.declared.state.FileState.{FileState}
-use Rattle.snap_fix.specs.Facts.{StripeFacts, gift_of, damaged_at}
-use Rattle.snap_fix.specs.Marks.{mark_in, row_if}
-use Rattle.snap_fix.specs.Mended.{Mended, is_gone, is_repaired, is_wrong_level, known_block, block_or_none, has_lost, column_writes, writes_of}
-use Rattle.snap_fix.specs.Mending.{IsFree, block_start}
-use Rattle.snap_fix.specs.Order.{FolderWrites, is_writing}
-use Rattle.snap_fix.specs.Plan.{FixPlan, cell_at, entry_at, records_in}
-use Rattle.snap_fix.specs.State.{AreStepCalls, HoldsTold, WellCall, has_some, record_path, size_after, state_in}
+use Rattle.file_restorer.specs.declared.state.FileState.{FileState}
+use Rattle.stripe_examiner.specs.Facts.{StripeFacts}
+use Rattle.snap_fix.specs.Mended.{Mended, is_gone, is_repaired, is_wrong_level, has_lost, column_writes, writes_of}
+use Rattle.stripe_examiner.specs.Showing.{known_block, block_or_none}
+use Rattle.file_restorer.specs.Mending.{IsFree, block_start}
+use Rattle.file_restorer.specs.Order.{FolderWrites, is_writing}
+use Rattle.stripe_examiner.specs.Plan.{FixPlan, cell_at, entry_at}
+use Rattle.file_restorer.specs.State.{AreStepCalls, HoldsTold, WellCall, has_some, record_path, size_after, state_in}
 use Rattle.snap_fix.specs.StripeOrder.{writes_after}
 
 -- ---- what a fix stands on
@@ -149,32 +143,6 @@ pub record FixUnderway (plan : FixPlan) (nows : List FolderView) (starts : Start
   pub fixable : AreFixable plan firsts
   pub underway : AreUnderway plan stripes firsts nows starts states
 
--- ---- a stripe in the window, and its facts
-
-abbrev pub is_damaged_mark : CellMark → Bool
-is_damaged_mark Right = false
-is_damaged_mark Given = true
-is_damaged_mark Missing = true
-
-abbrev pub is_given_mark : CellMark → Bool
-is_given_mark Right = false
-is_given_mark Given = true
-is_given_mark Missing = false
-
--- The marks and the window show the facts of a stripe: which of its cells are damaged and given, and of a damaged cell
--- whose block is known that block, at its real length.
-pub record ShowsFacts (plan : FixPlan) (facts : StripeFacts) (i : ℕ) (marks : List CellMark) (known : Bool)
-    (window : WindowValue) : Type 0 where
-  pub row : facts.row ≡ row_if known window i
-  pub damaged : (d : ℕ) → d < length plan.table.columns → damaged_at plan facts d ≡ is_damaged_mark (mark_in marks d)
-  pub given : (d : ℕ) → d < length plan.table.columns → is_some (gift_of facts d) ≡ is_given_mark (mark_in marks d)
-  pub block : (d : ℕ) → d < length plan.table.columns → damaged_at plan facts d ≡ true
-      → is_some (known_block facts d) ≡ true → bytes_of (slot_at window i d) ≡ block_or_none (known_block facts d)
-  pub long : (d : ℕ) (cell : Cell) → d < length plan.table.columns → cell_at plan facts.stripe d ≡ Some cell
-      → damaged_at plan facts d ≡ true → is_some (known_block facts d) ≡ true
-      → length (block_or_none (known_block facts d))
-      ≡ block_length plan.table.shape.block_size (record_at plan.table.columns d cell.rec).meta.size cell.index
-
 -- ---- levels
 
 -- the write of a level of a stripe
@@ -193,19 +161,6 @@ wrong_writes plan facts = flat_map (wrong_write plan facts facts.row) (range_wit
 -- calls of which none failed
 abbrev pub done_well : List VaultCall → List VaultDone
 done_well calls = map (λ (call : VaultCall). plain_done call false) calls
-
--- all calls for a stripe: its levels are read, and then the wrong ones written
-abbrev pub stripe_reads : FixPlan → StripeFacts → List LevelReading → List VaultDone
-stripe_reads plan facts readings = calls_of plan.table.shape.block_size facts.stripe readings
-
-abbrev pub stripe_calls : FixPlan → StripeFacts → List LevelReading → List VaultDone
-stripe_calls plan facts readings = stripe_reads plan facts readings ++ done_well (wrong_writes plan facts)
-
--- for stripes, one after another
-abbrev pub mend_calls : FixPlan → List StripeFacts → List (List LevelReading) → List VaultDone
-mend_calls plan [] readings = []
-mend_calls plan (facts ∷ stripes) [] = []
-mend_calls plan (facts ∷ stripes) (of ∷ readings) = stripe_calls plan facts of ++ mend_calls plan stripes readings
 
 -- such a block of a level is written anew
 abbrev pub IsMendedLevel : FixPlan → List StripeFacts → ℕ → ℕ → Type 0

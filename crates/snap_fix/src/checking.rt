@@ -1,71 +1,54 @@
 // The stripes of a check, window by window.
-ghost use Rattle.std.specs.Prelude.{◌≡◌, ◌+◌, ◌<◌, ◌≤◌, All, length, map, take, drop};
-ghost use Rattle.snap_fix.specs.Checking.{IsWorkFor, KeepsWork, ChecksStripes, ChecksWindow};
-ghost use Rattle.snap_fix.specs.Looking.{LooksInto, scene};
-ghost use Rattle.snap_fix.specs.Marks.{CanExamine};
-ghost use Rattle.snap_fix.specs.Plan.{EntriesFit, plan_of};
-ghost use Rattle.snap_fix.specs.Room.{IsRoomFor};
-ghost use Rattle.snap_fix.specs.Spare.{IsSpareFor};
-ghost use Rattle.stripe_reader.specs.WindowValue.{Fits};
+ghost use Rattle.std.specs.Prelude.{◌≡◌, ℕ, ◌+◌, ◌<◌, ◌≤◌, List, length, map, take, drop, get_or, slice_index_or};
+ghost use Rattle.snap_report.specs.Told.{Told};
+ghost use Rattle.snap_fix.specs.Checking.{AreShown, IsWorkFor, KeepsWork, ChecksStripes, ChecksWindow};
+ghost use Rattle.stripe_examiner.specs.declared.room.StripeRoom.{StripeRoom};
+ghost use Rattle.stripe_examiner.specs.Counts.{AreCounts};
+ghost use Rattle.stripe_examiner.specs.Facts.{StripeFacts};
+ghost use Rattle.stripe_examiner.specs.Findings.{events_of};
+ghost use Rattle.stripe_examiner.specs.Looking.{scene};
+ghost use Rattle.stripe_examiner.specs.Plan.{plan_of};
+ghost use Rattle.stripe_examiner.specs.Shown.{CanTell};
+ghost use Rattle.stripe_examiner.specs.Spare.{IsSpareFor};
+ghost use Rattle.stripe_reader.specs.WindowValue.{WindowValue};
 
 use crate::beginning::Work;
-use crate::counts::Counts;
-use crate::entry::Entries;
-use crate::examining::examine;
-use crate::room::Room;
-use crate::scope::Scope;
-use crate::spare::Spare;
 use disk_model::{Folder, Sink, Vault};
 use file_table::Table;
 use snap_report::{Lines, Report};
 use std::thread::Threads;
-use stripe_reader::read_window;
+use stripe_examiner::{Counts, Entries, Scope, Spare, StripeRoom, examine_window, tell_stripe};
 
-// Looks at the stripes of the window, which was read for them.
-fn look_into<R: Threads + Sync, V: Vault, P: Spare, W: Sink>(
-    rt: &R,
+// Tells what is found in the stripes of a window that was examined, one stripe after another.
+fn tell_window<W: Sink>(
     scope: Scope,
     table: &Table,
     entries: &Entries,
     stripes: &[u32],
-    room: &mut Room,
-    vault: &mut V,
-    spare: &mut P,
+    rooms: &[StripeRoom],
     lines: &mut Lines<'_, W>,
     reports: &mut Vec<Box<dyn Report>>,
 ) -> Counts
-    requires entries { EntriesFit table.now entries.now }
-    requires room { IsRoomFor table.now room.old }
-    requires count { room.old.window.count ≡ length stripes.now }
-    requires within { All (λ stripe. stripe < length table.now.infos) stripes.now }
-    requires levels { (V.view vault.old).levels ≡ table.now.shape.levels }
-    requires spare { IsSpareFor table.now.shape (P.holding spare.old) }
-    ensures room { IsRoomFor table.now room.new }
-    ensures same_room { room.new.window.room ≡ room.old.window.room }
-    ensures looks { LooksInto W.view standing stands (plan_of scope table.now entries.now) stripes.now room.old.window result
-        (scene (V.view vault.old) (P.holding spare.old) lines.old reports.old.items) (scene (V.view vault.new) (P.holding spare.new) lines.new reports.new.items) }
+    requires count { length stripes.now ≤ length rooms.now }
+    requires can { (k : ℕ) (other : StripeRoom) → k < length stripes.now →
+        CanTell (plan_of scope table.now entries.now) (get_or stripes.now k 0) (slice_index_or rooms.now k other) }
+    ensures told { (all : List StripeFacts) (window : WindowValue) →
+        AreShown (plan_of scope table.now entries.now) all stripes.now window rooms.now →
+        Told W.view standing stands table.now.columns (events_of (plan_of scope table.now entries.now) all)
+        lines.old lines.new reports.old.items reports.new.items }
+    ensures counts { (all : List StripeFacts) (window : WindowValue) →
+        AreShown (plan_of scope table.now entries.now) all stripes.now window rooms.now →
+        AreCounts (events_of (plan_of scope table.now entries.now) all) result }
 {
     let mut counts = Counts::NONE;
-    for i in 0..room.window.count() {
-        let examined = examine(
-            rt,
-            scope,
-            table,
-            entries,
-            stripes[i as usize],
-            i,
-            room,
-            vault,
-            spare,
-            lines,
-            reports,
-        );
-        counts = counts.and(examined.counts);
+    for k in 0..stripes.len() {
+        let more = tell_stripe(scope, table, entries, stripes[k], &rooms[k], lines, reports);
+        counts = counts.and(more);
     }
     counts
 }
 
-// Reads so many stripes after some into the window, by so many readers at most, and looks at them.
+// Examines so many stripes after some, by so many readers at most, and tells what is found in them.
 fn check_window<R: Threads + Sync, F: Folder, V: Vault, P: Spare, W: Sink>(
     rt: &R,
     table: &Table,
@@ -92,31 +75,32 @@ fn check_window<R: Threads + Sync, F: Folder, V: Vault, P: Spare, W: Sink>(
         (scene (V.view vault.old) (P.holding spare.old) lines.old reports.old.items) (scene (V.view vault.new) (P.holding spare.new) lines.new reports.new.items) }
 {
     let stripes = &work.stripes[done..done + count];
-    let room = &mut work.room;
-    read_window(
-        rt,
-        folders,
-        table,
-        &work.starts,
-        stripes,
-        readers,
-        &mut room.window,
-    );
-    look_into(
+    examine_window(
         rt,
         work.scope,
         table,
         &work.entries,
+        &work.starts,
         stripes,
-        room,
+        readers,
+        &mut work.room,
+        folders,
         vault,
         spare,
+    );
+    tell_window(
+        work.scope,
+        table,
+        &work.entries,
+        stripes,
+        &work.room.stripes,
         lines,
         reports,
     )
 }
 
-/// Looks at all stripes that a run is for: a window of them is read, by so many readers at most, and then each is examined.
+/// Looks at all stripes that a run is for: a window of them is examined, by so many readers at most, and then what is found in each is
+/// told.
 pub(crate) fn check_stripes<R: Threads + Sync, F: Folder, V: Vault, P: Spare, W: Sink>(
     rt: &R,
     table: &Table,

@@ -3,19 +3,17 @@ ghost use Rattle.std.specs.Prelude.{◌≡◌, IfOk, IfErr, length, map};
 ghost use Rattle.snap_config.specs.Setup.{setup_value};
 ghost use Rattle.snap_fix.specs.Beginning.{BeginsNot};
 ghost use Rattle.snap_fix.specs.Course.{Checks, IsArray, outside};
-ghost use Rattle.snap_fix.specs.Plan.{names_of};
+ghost use Rattle.stripe_examiner.specs.Plan.{names_of};
 
 use crate::beginning::begin;
 use crate::checking::check_stripes;
-use crate::scope::Mode;
-use crate::spare::Spare;
-use crate::telling::tell_opening;
 use disk_model::{Folder, Sink, Vault};
 use file_table::Table;
 use snap_config::{Selection, Setup};
 use snap_report::{Lines, Report, RunFault};
 use std::alloc::Global;
 use std::thread::Threads;
+use stripe_examiner::{Mode, Spare, tell_opening};
 
 /// How a check or a fix ended. Each number stays at the greatest u64.
 #[derive(Clone, Copy, Debug, PartialEq, Eq)]

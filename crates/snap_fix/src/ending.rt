@@ -3,24 +3,18 @@ ghost use Rattle.std.specs.Prelude.{◌≡◌, ◌<◌, ◌&&◌, not, true, len
 ghost use Rattle.std.specs.Option.{option_to_list};
 ghost use Rattle.file_table.specs.Table.{column_at};
 ghost use Rattle.snap_report.specs.Told.{Told};
-ghost use Rattle.snap_fix.specs.Counts.{AreCounts};
-ghost use Rattle.snap_fix.specs.Ending.{CanFinishAll, FinishesAll, FinishesNotAll, IsLevelSettled, SyncsWritten, SyncsNot, Syncs};
-ghost use Rattle.snap_fix.specs.Ending.{finish_news, sync_if, written_syncs};
-ghost use Rattle.snap_fix.specs.EndingSteps.{CanEndRecord, EndsRecord, EndsNotRecord, CanEndColumn, EndsColumn, EndsNotColumn};
-ghost use Rattle.snap_fix.specs.EndingSteps.{column_outside, done_news, unstamped_news};
-ghost use Rattle.snap_fix.specs.Plan.{EntriesFit, plan_of};
+ghost use Rattle.stripe_examiner.specs.Counts.{AreCounts};
+ghost use Rattle.snap_fix.specs.Ending.{CanFinishAll, FinishesAll, FinishesNotAll, IsLevelSettled, SyncsWritten, SyncsNot, Syncs, finish_news, sync_if, written_syncs};
+ghost use Rattle.snap_fix.specs.EndingSteps.{CanEndRecord, EndsRecord, EndsNotRecord, CanEndColumn, EndsColumn, EndsNotColumn, column_outside, done_news, unstamped_news};
+ghost use Rattle.stripe_examiner.specs.Plan.{EntriesFit, plan_of};
 ghost use Rattle.snap_fix.specs.Repairing.{outside};
 
-use crate::counts::Counts;
-use crate::entry::{Entries, Entry};
-use crate::finishing::{Finish, finish_record};
-use crate::scope::Scope;
-use crate::state::States;
-use crate::telling::tell_found;
 use disk_model::{Failed, Folder, Sink, Vault};
+use file_restorer::{Finish, States, finish_record};
 use file_table::Table;
 use snap_report::events::Event;
 use snap_report::{Lines, Report};
+use stripe_examiner::{Counts, Entries, Entry, Scope, tell_found};
 use stripe_reader::Starts;
 
 // Syncs a level, if it was written.

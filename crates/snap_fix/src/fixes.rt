@@ -1,26 +1,24 @@
 // The stripes of a fix, window by window.
-ghost use Rattle.std.specs.Prelude.{◌≡◌, ◌+◌, ◌++◌, ◌<◌, ◌≤◌, All, IfOk, IfErr, List, length, map, take, drop};
+ghost use Rattle.std.specs.Prelude.{◌≡◌, ◌+◌, ◌++◌, ◌≤◌, IfOk, IfErr, List, length, map, take, drop};
 ghost use Rattle.snap_fix.specs.Checking.{IsWorkFor, plan_for};
 ghost use Rattle.snap_fix.specs.Fixing.{AreTotals, SceneFits, fix_scene};
-ghost use Rattle.snap_fix.specs.FixRun.{AreAscending, BreaksInto, BreaksStripes, BreaksWindow, FixesInto, FixesStripes, FixesWindow, KeepsFixWork};
+ghost use Rattle.snap_fix.specs.FixRun.{AreAscending, BreaksStripes, BreaksWindow, FixesStripes, FixesWindow, KeepsFixWork, MendsInto, MendsNotInto};
 ghost use Rattle.snap_fix.specs.Mended.{Mended};
-ghost use Rattle.snap_fix.specs.Plan.{EntriesFit, FixPlan, plan_of};
-ghost use Rattle.snap_fix.specs.Room.{IsRoomFor};
+ghost use Rattle.stripe_examiner.specs.Facts.{StripeFacts};
+ghost use Rattle.stripe_examiner.specs.Plan.{FixPlan, plan_of};
+ghost use Rattle.stripe_examiner.specs.Spare.{IsSpareFor, SpareView, nothing};
 ghost use Rattle.snap_fix.specs.Underway.{FixUnderway};
+ghost use Rattle.snap_fix.specs.WindowShown.{ShowsAll};
 
 use crate::beginning::Work;
-use crate::counts::Counts;
-use crate::entry::Entries;
 use crate::fixing::{Totals, fix_stripe};
-use crate::room::Room;
-use crate::scope::Scope;
-use crate::spare::Spare;
-use crate::state::States;
 use disk_model::{Folder, Sink, Vault};
+use file_restorer::States;
 use file_table::Table;
 use snap_report::{Lines, Report, RunFault};
 use std::thread::Threads;
-use stripe_reader::{Starts, read_window};
+use stripe_examiner::{Counts, Entries, Scope, Spare, StripeRoom, examine_window};
+use stripe_reader::{Starts, Window};
 
 impl Totals {
     /// Nothing was found or written.
@@ -43,56 +41,57 @@ impl Totals {
     }
 }
 
-// Looks at the stripes of the window, which was read for them, and writes what is damaged.
-fn fix_into<R: Threads + Sync, F: Folder, V: Vault, P: Spare, W: Sink>(
-    rt: &R,
+// Tells what is found in the stripes of the window, which was examined for them, and writes what is damaged.
+fn fix_into<F: Folder, V: Vault, W: Sink>(
     scope: Scope,
     table: &Table,
     entries: &Entries,
     stripes: &[u32],
-    room: &mut Room,
+    window: &Window,
+    rooms: &[StripeRoom],
+    block: &mut [u8],
     starts: &mut Starts,
     states: &mut States,
     written: &mut [bool],
     folders: &mut [F],
     vault: &mut V,
-    spare: &mut P,
     lines: &mut Lines<'_, W>,
     reports: &mut Vec<Box<dyn Report>>,
 ) -> Result<Totals, RunFault>
-    requires entries { EntriesFit table.now entries.now }
-    requires room { IsRoomFor table.now room.old }
-    requires count { room.old.window.count ≡ length stripes.now }
-    requires within { All (λ stripe. stripe < length table.now.infos) stripes.now }
+    requires shown { (all : List StripeFacts) × ShowsAll (plan_of scope table.now entries.now) all stripes.now window.now rooms.now }
+    requires block { length block.old ≡ table.now.shape.block_size }
     requires ascending { AreAscending stripes.now }
     requires fits { SceneFits (plan_of scope table.now entries.now) (fix_scene starts.old states.old written.old
-        (map F.view folders.old) (V.view vault.old) (P.holding spare.old) lines.old reports.old.items) }
+        (map F.view folders.old) (V.view vault.old) nothing lines.old reports.old.items) }
     requires underway { FixUnderway (plan_of scope table.now entries.now) (map F.view folders.old) starts.old states.old }
-    ensures room { IfOk result (λ _. IsRoomFor table.now room.new) }
-    ensures same_room { IfOk result (λ _. room.new.window.room ≡ room.old.window.room) }
-    ensures fixed { IfOk result (FixesInto W.view standing stands (plan_of scope table.now entries.now) stripes.now room.old.window
-        (fix_scene starts.old states.old written.old (map F.view folders.old) (V.view vault.old) (P.holding spare.old) lines.old reports.old.items)
-        (fix_scene starts.new states.new written.new (map F.view folders.new) (V.view vault.new) (P.holding spare.new) lines.new reports.new.items)) }
-    ensures broke { IfErr result (BreaksInto W.view standing stands (plan_of scope table.now entries.now) stripes.now room.old.window
-        (fix_scene starts.old states.old written.old (map F.view folders.old) (V.view vault.old) (P.holding spare.old) lines.old reports.old.items)
-        (fix_scene starts.new states.new written.new (map F.view folders.new) (V.view vault.new) (P.holding spare.new) lines.new reports.new.items)) }
+    ensures block { length block.new ≡ length block.old }
+    ensures fixed { IfOk result (λ totals. (all : List StripeFacts) (spare : SpareView)
+        → ShowsAll (plan_of scope table.now entries.now) all stripes.now window.now rooms.now → IsSpareFor table.now.shape spare
+        → MendsInto W.view standing stands (plan_of scope table.now entries.now) all
+        (fix_scene starts.old states.old written.old (map F.view folders.old) (V.view vault.old) spare lines.old reports.old.items)
+        (fix_scene starts.new states.new written.new (map F.view folders.new) (V.view vault.new) spare lines.new reports.new.items) totals) }
+    ensures broke { IfErr result (λ fault. (all : List StripeFacts) (spare : SpareView)
+        → ShowsAll (plan_of scope table.now entries.now) all stripes.now window.now rooms.now → IsSpareFor table.now.shape spare
+        → MendsNotInto W.view standing stands (plan_of scope table.now entries.now) all
+        (fix_scene starts.old states.old written.old (map F.view folders.old) (V.view vault.old) spare lines.old reports.old.items)
+        (fix_scene starts.new states.new written.new (map F.view folders.new) (V.view vault.new) spare lines.new reports.new.items) fault) }
 {
     let mut totals = Totals::NONE;
-    for i in 0..room.window.count() {
+    for i in 0..window.count() {
         let more = fix_stripe(
-            rt,
             scope,
             table,
             entries,
             stripes[i as usize],
             i,
-            room,
+            window,
+            &rooms[i as usize],
+            block,
             starts,
             states,
             written,
             folders,
             vault,
-            spare,
             lines,
             reports,
         )?;
@@ -101,7 +100,7 @@ fn fix_into<R: Threads + Sync, F: Folder, V: Vault, P: Spare, W: Sink>(
     Ok(totals)
 }
 
-// Reads so many stripes after some into the window, by so many readers at most, looks at them, and writes what is damaged.
+// Examines so many stripes after some, by so many readers at most, and writes what is damaged of them.
 fn fix_window<R: Threads + Sync, F: Folder, V: Vault, P: Spare, W: Sink>(
     rt: &R,
     table: &Table,
@@ -135,35 +134,39 @@ fn fix_window<R: Threads + Sync, F: Folder, V: Vault, P: Spare, W: Sink>(
 {
     let stripes = &work.stripes[done..done + count];
     let room = &mut work.room;
-    read_window(
-        rt,
-        folders,
-        table,
-        &work.starts,
-        stripes,
-        readers,
-        &mut room.window,
-    );
-    fix_into(
+    examine_window(
         rt,
         work.scope,
         table,
         &work.entries,
+        &work.starts,
         stripes,
+        readers,
         room,
+        folders,
+        vault,
+        spare,
+    );
+    fix_into(
+        work.scope,
+        table,
+        &work.entries,
+        stripes,
+        &room.window,
+        &room.stripes,
+        &mut room.block,
         &mut work.starts,
         states,
         written,
         folders,
         vault,
-        spare,
         lines,
         reports,
     )
 }
 
-/// Looks at all stripes that a fix is for, and writes what is damaged: a window of them is read, by so many readers at most, and then
-/// each is examined and written anew.
+/// Looks at all stripes that a fix is for, and writes what is damaged: a window of them is examined, by so many readers at most, and
+/// then each is written anew.
 pub(crate) fn fix_stripes<R: Threads + Sync, F: Folder, V: Vault, P: Spare, W: Sink>(
     rt: &R,
     table: &Table,

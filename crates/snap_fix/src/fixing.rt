@@ -1,29 +1,23 @@
 // The stripes of a fix.
 ghost use Rattle.std.specs.Prelude.{◌≡◌, IfOk, IfErr, length, map, true};
-ghost use Rattle.snap_fix.specs.Facts.{StripeFacts};
+ghost use Rattle.stripe_examiner.specs.Facts.{StripeFacts};
 ghost use Rattle.snap_fix.specs.Fixing.{FixesStripe, BreaksStripe, SceneFits, fix_scene};
 ghost use Rattle.snap_fix.specs.FixSteps.{MendsNotParity, MendsParity, ShowsTried};
-ghost use Rattle.snap_fix.specs.Judging.{TellsWrong};
-ghost use Rattle.snap_fix.specs.Marks.{CanExamine, row_if};
-ghost use Rattle.snap_fix.specs.Plan.{plan_of, is_searched as is_searched_at};
+ghost use Rattle.stripe_examiner.specs.Judging.{TellsWrong};
+ghost use Rattle.stripe_examiner.specs.Marks.{CanExamine, row_if};
+ghost use Rattle.stripe_examiner.specs.Plan.{plan_of, is_searched as is_searched_at};
 ghost use Rattle.snap_fix.specs.Repairing.{CanMendLevels, levels_outside};
-ghost use Rattle.snap_fix.specs.Room.{IsRoomFor};
+ghost use Rattle.stripe_examiner.specs.Spare.{IsSpareFor, SpareView, nothing};
 ghost use Rattle.snap_fix.specs.Underway.{FixUnderway};
+ghost use Rattle.snap_fix.specs.WindowShown.{ShowsFactsOf};
 
-use crate::counts::Counts;
-use crate::entry::Entries;
-use crate::examining::examine;
 use crate::repairing::{mend_files, mend_levels};
-use crate::room::Room;
-use crate::scope::Scope;
-use crate::spare::Spare;
-use crate::state::States;
-use crate::trying::is_searched;
 use disk_model::{Failed, Folder, Sink, Vault};
+use file_restorer::States;
 use file_table::Table;
 use parity_writer::Levels;
 use snap_report::{Lines, Report, RunFault};
-use std::thread::Threads;
+use stripe_examiner::{Counts, Entries, Scope, StripeRoom, is_searched, tell_stripe};
 use stripe_reader::{Starts, Window};
 
 /// How much was found, and how many blocks of files and of levels were written anew. Each number stays at the greatest u64.
@@ -79,53 +73,47 @@ fn mend_parity<V: Vault, W: Sink>(
     )
 }
 
-/// Looks at a stripe of the window, and writes its damaged blocks and its wrong levels anew.
-pub(crate) fn fix_stripe<R: Threads + Sync, F: Folder, V: Vault, P: Spare, W: Sink>(
-    rt: &R,
+/// Tells what is found in a stripe of a window that was examined, and writes its damaged blocks and its wrong levels anew.
+pub(crate) fn fix_stripe<F: Folder, V: Vault, W: Sink>(
     scope: Scope,
     table: &Table,
     entries: &Entries,
     stripe: u32,
     i: u32,
-    room: &mut Room,
+    window: &Window,
+    own: &StripeRoom,
+    block: &mut [u8],
     starts: &mut Starts,
     states: &mut States,
     written: &mut [bool],
     folders: &mut [F],
     vault: &mut V,
-    spare: &mut P,
     lines: &mut Lines<'_, W>,
     reports: &mut Vec<Box<dyn Report>>,
 ) -> Result<Totals, RunFault>
-    requires can { CanExamine (plan_of scope table.now entries.now) stripe i room.old.window }
-    requires room { IsRoomFor table.now room.old }
+    requires can { CanExamine (plan_of scope table.now entries.now) stripe i window.now }
+    requires shown { (facts : StripeFacts) × ShowsFactsOf (plan_of scope table.now entries.now) facts stripe i window.now own.now }
+    requires block { length block.old ≡ table.now.shape.block_size }
     requires fits { SceneFits (plan_of scope table.now entries.now) (fix_scene starts.old states.old written.old
-        (map F.view folders.old) (V.view vault.old) (P.holding spare.old) lines.old reports.old.items) }
+        (map F.view folders.old) (V.view vault.old) nothing lines.old reports.old.items) }
     requires underway { FixUnderway (plan_of scope table.now entries.now) (map F.view folders.old) starts.old states.old }
-    ensures fixed { IfOk result (FixesStripe W.view standing stands (plan_of scope table.now entries.now) stripe i room.old room.new
-        (fix_scene starts.old states.old written.old (map F.view folders.old) (V.view vault.old) (P.holding spare.old) lines.old reports.old.items)
-        (fix_scene starts.new states.new written.new (map F.view folders.new) (V.view vault.new) (P.holding spare.new) lines.new reports.new.items)) }
-    ensures broke { IfErr result (BreaksStripe W.view standing stands (plan_of scope table.now entries.now) stripe i room.old
-        (fix_scene starts.old states.old written.old (map F.view folders.old) (V.view vault.old) (P.holding spare.old) lines.old reports.old.items)
-        (fix_scene starts.new states.new written.new (map F.view folders.new) (V.view vault.new) (P.holding spare.new) lines.new reports.new.items)) }
+    ensures block { length block.new ≡ length block.old }
+    // Whatever spare there is, it is not asked.
+    ensures fixed { IfOk result (λ totals. (facts : StripeFacts) (spare : SpareView)
+        → ShowsFactsOf (plan_of scope table.now entries.now) facts stripe i window.now own.now → IsSpareFor table.now.shape spare
+        → FixesStripe W.view standing stands (plan_of scope table.now entries.now) facts
+        (fix_scene starts.old states.old written.old (map F.view folders.old) (V.view vault.old) spare lines.old reports.old.items)
+        (fix_scene starts.new states.new written.new (map F.view folders.new) (V.view vault.new) spare lines.new reports.new.items) totals) }
+    ensures broke { IfErr result (λ fault. (facts : StripeFacts) (spare : SpareView)
+        → ShowsFactsOf (plan_of scope table.now entries.now) facts stripe i window.now own.now
+        → BreaksStripe W.view standing stands (plan_of scope table.now entries.now) facts
+        (fix_scene starts.old states.old written.old (map F.view folders.old) (V.view vault.old) spare lines.old reports.old.items)
+        (fix_scene starts.new states.new written.new (map F.view folders.new) (V.view vault.new) spare lines.new reports.new.items) fault) }
 {
-    let examined = examine(
-        rt, scope, table, entries, stripe, i, room, vault, spare, lines, reports,
-    );
+    let found = tell_stripe(scope, table, entries, stripe, own, lines, reports);
     let repaired = match mend_files(
-        scope,
-        table,
-        entries,
-        stripe,
-        i,
-        &room.window,
-        &room.marks,
-        examined.known,
-        starts,
-        states,
-        folders,
-        lines,
-        reports,
+        scope, table, entries, stripe, i, window, &own.marks, own.known, starts, states, folders,
+        lines, reports,
     ) {
         Ok(repaired) => repaired,
         Err(disk) => return Err(RunFault::Folder { disk }),
@@ -136,11 +124,11 @@ pub(crate) fn fix_stripe<R: Threads + Sync, F: Folder, V: Vault, P: Spare, W: Si
         entries,
         stripe,
         i,
-        &room.window,
-        examined.known,
-        &room.levels,
-        &examined.wrong,
-        &mut room.block,
+        window,
+        own.known,
+        &own.levels,
+        &own.wrong,
+        block,
         written,
         vault,
         lines,
@@ -149,7 +137,7 @@ pub(crate) fn fix_stripe<R: Threads + Sync, F: Folder, V: Vault, P: Spare, W: Si
         return Err(RunFault::Vault);
     };
     Ok(Totals {
-        counts: examined.counts.and(repaired.counts),
+        counts: found.and(repaired.counts),
         blocks: u64::from(repaired.blocks),
         parities: u64::from(parities),
     })

@@ -3,9 +3,9 @@ mod cells;
 mod files;
 mod levels;
 
-use crate::counts::Counts;
 pub(crate) use files::mend_files;
 pub(crate) use levels::mend_levels;
+use stripe_examiner::Counts;
 
 /// How many blocks of a stripe were written anew, and what is left.
 #[derive(Clone, Copy, Debug, PartialEq, Eq)]

@@ -4,23 +4,21 @@ ghost use Rattle.snap_config.specs.Setup.{setup_value};
 ghost use Rattle.snap_fix.specs.Course.{IsArray, outside};
 ghost use Rattle.snap_fix.specs.FixBreaking.{FixesNot};
 ghost use Rattle.snap_fix.specs.FixCourse.{AreOpen, Fixes};
-ghost use Rattle.snap_fix.specs.Plan.{names_of};
-ghost use Rattle.snap_fix.specs.State.{first_state, first_states};
+ghost use Rattle.stripe_examiner.specs.Plan.{names_of};
+ghost use Rattle.file_restorer.specs.State.{first_state, first_states};
 
 use crate::beginning::begin;
 use crate::checks::FixEnd;
 use crate::ending::{finish_all, sync_levels};
 use crate::fixes::fix_stripes;
-use crate::scope::Mode;
-use crate::spare::Spare;
-use crate::state::{FileState, States};
-use crate::telling::tell_opening;
 use disk_model::{Folder, NoMemory, Sink, Vault};
+use file_restorer::{FileState, States};
 use file_table::Table;
 use snap_config::{Selection, Setup};
 use snap_report::{Lines, Report, RunFault};
 use std::alloc::Global;
 use std::thread::Threads;
+use stripe_examiner::{Mode, Spare, tell_opening};
 use stripe_reader::{Start, Starts};
 
 // The states of the files of a column when a fix begins.

@@ -11,19 +11,19 @@ use Rattle.disk_model.proofs.VaultLemmas.{no_calls, changes_start}
 use Rattle.file_table.specs.Table.{TableValue}
 use Rattle.snap_config.specs.declared.options.Command.{Command}
 use Rattle.snap_config.specs.declared.options.Selection.{Selection}
-use Rattle.snap_fix.specs.Asking.{AsksSpare, is_held}
+use Rattle.stripe_examiner.specs.Asking.{AsksSpare, is_held}
 use Rattle.snap_fix.specs.Beginning.{BeginsNot}
 use Rattle.snap_fix.specs.ByMode.{AreOpenFor, Repairs, RepairsNot}
 use Rattle.snap_fix.specs.Course.{Checks, Outside as OutsideOf, check_events, outside}
-use Rattle.snap_fix.specs.Facts.{StripeFacts, gift_of}
+use Rattle.stripe_examiner.specs.Facts.{StripeFacts, gift_of}
 use Rattle.parity_writer.specs.LevelReading.{LevelReading, IsReadingOf}
-use Rattle.snap_fix.specs.Looking.{AreAllLevelsOf, AreRead, LevelsAreRead}
+use Rattle.stripe_examiner.specs.Looking.{AreAllLevelsOf, AreRead, LevelsAreRead}
 use Rattle.stripe_reader.specs.Starts.{StartsValue}
-use Rattle.snap_fix.specs.Plan.{FixPlan, names_of}
-use Rattle.snap_fix.specs.Spare.{SpareView, nothing}
+use Rattle.stripe_examiner.specs.Plan.{FixPlan, names_of}
+use Rattle.stripe_examiner.specs.Spare.{SpareView, nothing}
 use Rattle.snap_fix.specs.declared.checks.FixEnd.{FixEnd}
-use Rattle.snap_fix.specs.declared.scope.Mode.{Mode}
-use Rattle.snap_fix.specs.declared.scope.Mode.TheVariants as modes
+use Rattle.stripe_examiner.specs.declared.scope.Mode.{Mode}
+use Rattle.stripe_examiner.specs.declared.scope.Mode.TheVariants as modes
 use Rattle.snap_report.specs.Answer.{Outside, IsCaused, done_answer}
 use Rattle.snap_report.specs.EndLines.{check_text}
 use Rattle.snap_report.specs.EventLines.{lines_of}

@@ -25,9 +25,9 @@ use Rattle.snap_config.specs.Config.{read_setup}
 use Rattle.snap_config.specs.Setup.{SetupValue, setup_value}
 use Rattle.snap_config.specs.declared.options.Command.{Command}
 use Rattle.snap_config.specs.declared.options.Command.TheVariants as commands
-use Rattle.snap_fix.specs.Breaking.{broke_parity}
+use Rattle.file_restorer.specs.Breaking.{broke_parity}
 use Rattle.snap_fix.specs.FixRun.{VaultFailedBy}
-use Rattle.snap_fix.specs.declared.scope.Mode.TheVariants as modes
+use Rattle.stripe_examiner.specs.declared.scope.Mode.TheVariants as modes
 use Rattle.snap_top.specs.Checking.{ChecksBy}
 use Rattle.snap_top.specs.Fixing.{FixBroke, FixesBy}
 use Rattle.snap_config.specs.declared.options.Options.{Options}
@@ -272,21 +272,22 @@ folder_breaks disk told old new failed = record { rose = rose_by_more (count_by 
     rose_by_more : (n old' new' : ℕ) → RoseBy (n + 1) old' new' → Rose old' new'
     rose_by_more n old' new' rose = omega (arith, rose)
 
--- the table that a run begins with is one that it may begin with
-begins_may : (before : Entry) (setup : SetupValue) (given mid : VaultState) (loaded : Option TableValue) (table : TableValue) → given ≡ state_of before.opener.vault → IsTrue before.opener.vault.tells
-    → LoadsFrom given mid loaded → BeginsWith setup before.seed loaded table → MayBegin before setup table
-begins_may before setup given mid None table same tells loads begins = inl begins
-begins_may before setup given mid (Some of) table same tells loads begins =
-    let told : IsTrue given.tells = ap (λ (s : VaultState). s.tells) same ∙ tells in
-    inr (loads.copy, sym (ap (λ (s : VaultState). content_of s.files loads.copy) same) ∙ loads.held told ∙ ap (λ t. Some (spelling t)) (sym begins.0))
+-- the table that a refused sync began with is the one that a run begins with
+begins_may : (before : Entry) (exit : Exit) (setup : SetupValue) (given mid : VaultState) (loaded : Option TableValue) (table : TableValue) → given ≡ state_of before.opener.vault
+    → mid ≡ state_of exit.after.vault → LoadsFrom given mid loaded → BeginsWith setup before.seed loaded table → MayBegin before exit setup table
+begins_may before exit setup given mid loaded table same left loads begins = record {
+  loaded = loaded;
+  loads = subst (λ (s : VaultState). LoadsFrom s (state_of exit.after.vault) loaded) same (subst (λ (s : VaultState). LoadsFrom given s loaded) left loads);
+  begins = begins;
+}
 
 -- what was given is what was held
 pub given_held : (before : Entry) (exit : Exit) (setup : SetupValue) (ending : Ending) (told : List Event) (run : IsRun before exit setup ending told) → IsTrue before.opener.tells → run.given.vault ≡ state_of before.opener.vault
 given_held before exit setup ending told run tells = run.is_given.state.whole tells
 
 -- the folders that were given are those that were held
-pub are_held : (before : Entry) (exit : Exit) (setup : SetupValue) (ending : Ending) (told : List Event) (run : IsRun before exit setup ending told) → IsTrue before.opener.tells → AreHeld before run.given.folders
-are_held before exit setup ending told run tells = λ d below. (run.is_given.each d below).whole tells
+pub are_held : (before : Entry) (exit : Exit) (setup : SetupValue) (ending : Ending) (told : List Event) (run : IsRun before exit setup ending told) → IsTrue before.opener.tells → AreHeld before setup run.given.folders
+are_held before exit setup ending told run tells = (run.is_given.columns, λ d below. (run.is_given.each d below).whole tells)
 
 -- the command of a run is the one that was asked for
 same_command : (before : Entry) (exit : Exit) (command : Command) (readers : ℕ) (setup : SetupValue) → (smooth : IsSmooth before exit) → IsConfigured before.texts before.opener command readers setup → command ≡ smooth.asked.command
@@ -306,10 +307,11 @@ layout_smooth before exit setup ending told smooth run given same left one two =
     let of : run.task.setup ≡ smooth.setup = run.setup_is ∙ same_setup before exit run.task.command run.task.readers setup smooth run.is_given.configured in
     let asked : smooth.asked.command ≡ commands.Sync sync.0 = sym (same_command before exit run.task.command run.task.readers setup smooth run.is_given.configured) ∙ sync.1 in
     let begins = subst (λ seed. BeginsWith run.task.setup seed one.loaded one.table) run.seed_is one.begins in
-    let may = begins_may before run.task.setup given one.start.vault one.loaded one.table same smooth.tells_vault one.loads begins in
+    let left : one.start.vault ≡ state_of exit.after.vault = sym (ap (λ (w : World). w.vault) refuses.others) in
+    let may = begins_may before exit run.task.setup given one.start.vault one.loaded one.table same left one.loads begins in
     let refused = subst (λ fs. RefusesLayout run.task.setup sync.0 one.table fs exit.after.folders layout.0) folders layout.2 in
-    layout.1 (smooth.layout sync.0 one.table run.given.folders layout.0 asked (subst (λ (s : SetupValue). MayBegin before s one.table) of may)
-    (are_held before exit setup ending told run smooth.tells)
+    layout.1 (smooth.layout sync.0 one.table run.given.folders layout.0 asked (subst (λ (s : SetupValue). MayBegin before exit s one.table) of may)
+    (subst (λ (s : SetupValue). AreHeld before s run.given.folders) (sym run.setup_is ∙ of) (are_held before exit setup ending told run smooth.tells))
     (subst (λ (s : SetupValue). RefusesLayout s sync.0 one.table run.given.folders exit.after.folders layout.0) of refused))
 
 smooth_answer : (before : Entry) (exit : Exit) (setup : SetupValue) (ending : Ending) (told : List Event) → IsSmooth before exit → (run : IsRun before exit setup ending told)
@@ -325,7 +327,7 @@ smooth_answer before exit setup ending told smooth run given same (Emptied disk)
 smooth_answer before exit setup ending told smooth run given same (Full blocks files) named counted one = absurd (layout_smooth before exit setup ending told smooth run given same _ one refl)
 smooth_answer before exit setup ending told smooth run given same (Broken (Folder disk)) named counted one =
     let held = are_held before exit setup ending told run smooth.tells in
-    absurd (smooth.unbroken.folders disk (subst (λ v. BreaksFolder v (folder_at exit.after.folders disk)) (held disk one.caused.0) (folder_breaks disk told _ _ one.caused.1)))
+    absurd (smooth.unbroken.folders disk (subst (λ v. BreaksFolder v (folder_at exit.after.folders disk)) (held.1 disk one.caused.0) (folder_breaks disk told _ _ one.caused.1)))
 smooth_answer before exit setup ending told smooth run given same (Broken Vault) named counted one =
     let broke = vault_broke run.task.command run.task one.table one.start (world_of exit.after) _ run.did one.does refl in
     absurd (smooth.unbroken.vault (subst (λ (s : VaultState). BreaksVault (view_of s) (left_vault exit)) same (breaks_since given one.start.vault (state_of exit.after.vault) one.reads.vault broke.0 broke.1)))

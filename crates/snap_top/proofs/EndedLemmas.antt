@@ -113,7 +113,7 @@ module _ (before : Entry) (exit : Exit) (unbroken : NothingBroke before exit) (t
     no_folder : (disk : ℕ) → left.answer ≡ answers.Broken (runs.Folder disk) → ⊥
     no_folder disk is =
         let caused = subst (λ (a : Answer). IsCaused a left.counted left.told (outside_of ran.given) (outside_of (world_of exit.after))) is one.caused in
-        let held = are_held before exit setup ending told ran tells in
+        let held = (are_held before exit setup ending told ran tells).1 in
         unbroken.folders disk (subst (λ v. BreaksFolder v (folder_at exit.after.folders disk)) (held disk caused.0) (folder_breaks disk left.told _ _ caused.1))
 
     no_vault : left.answer ≡ answers.Broken runs.Vault → ⊥

@@ -4,16 +4,17 @@ use Rattle.disk_model.specs.Files.{parity_of}
 use Rattle.disk_model.specs.Folder.{FolderView}
 use Rattle.disk_model.specs.Vault.{VaultView, VaultDone, state_of}
 use Rattle.parity_writer.specs.LevelReading.{LevelReading}
-use Rattle.snap_fix.specs.Breaking.{FailsAfter}
+use Rattle.file_restorer.specs.Breaking.{FailsAfter}
 use Rattle.snap_fix.specs.BrokenStripe.{BreaksLevels}
-use Rattle.snap_fix.specs.Facts.{StripeFacts}
+use Rattle.stripe_examiner.specs.Facts.{StripeFacts}
 use Rattle.snap_fix.specs.FixBreaking.{BreaksAtEnd, BreaksEnding, BreaksOff, BreaksWriting}
 use Rattle.snap_fix.specs.FixCourse.{FixFinds, FixesVault, Written}
-use Rattle.snap_fix.specs.FixRun.{HasBroken}
+use Rattle.snap_fix.specs.FixRun.{HasBroken, LooksAhead}
 use Rattle.snap_fix.specs.Fixing.{MendsVault, facts_of}
 use Rattle.snap_fix.specs.Mended.{Mended}
-use Rattle.snap_fix.specs.Plan.{FixPlan}
+use Rattle.stripe_examiner.specs.Plan.{FixPlan}
 use Rattle.snap_fix.specs.Underway.{IsMendedLevel, KeepsLevels}
+use Rattle.snap_fix.specs.Windows.{FixWindow}
 use Rattle.snap_report.specs.declared.answer.RunFault.{RunFault}
 use Rattle.snap_report.specs.declared.answer.RunFault.TheVariants as runs
 use Rattle.snap_report.specs.declared.events.Event.{Event}
@@ -42,12 +43,22 @@ mends_of plan stripes old new mends = record {
 pub vault_of : (plan : FixPlan) (stripes : List Mended) (readings : List (List LevelReading)) (old new : VaultView) → FixesVault plan stripes readings old new
     → FixesVault plan stripes readings (view_of (state_of old)) (view_of (state_of new))
 vault_of plan stripes readings old new vault = record {
+  windows = vault.windows;
+  windows_are = vault.windows_are;
   ran = goes_on_of old new _ vault.ran;
   unread = vault.unread;
   mends = mends_of plan (facts_of stripes) old new vault.mends;
   zeros = vault.zeros;
   holds = vault.holds;
   synced = λ level below was. holds_of (λ files. parity_of files level ≡ parity_of new.files level) new (vault.synced level below was);
+}
+
+pub looked_of : (plan : FixPlan) (ahead : FixWindow) (behind : List ℕ) (v : VaultView) → LooksAhead plan ahead behind v → LooksAhead plan ahead behind (view_of (state_of v))
+looked_of plan ahead behind v looked = record {
+  are = looked.are;
+  levels = all_levels_of plan.table.shape.block_size v ahead.stripes ahead.readings looked.levels;
+  more = looked.more;
+  behind_is = looked.behind_is;
 }
 
 pub broken_of : (plan : FixPlan) (fault : RunFault) (told : List Event) (olds news : List FolderView) (old new : VaultView) → HasBroken plan fault told olds news old new
@@ -75,9 +86,9 @@ breaks_levels_of runs.Vault plan facts level before old new part = record {
 }
 breaks_levels_of runs.Memory plan facts level before old new part = absurd part
 
-writing_of : (plan : FixPlan) (starts : StartsValue) (fault : RunFault) (stripes : List Mended) (readings : List (List LevelReading)) (first : List Event) (firsts news : List FolderView) (old new : VaultView)
-    → BreaksWriting plan starts fault stripes readings first firsts news old new → BreaksWriting plan starts fault stripes readings first firsts news (view_of (state_of old)) (view_of (state_of new))
-writing_of plan starts fault stripes readings first firsts news old new off =
+writing_of : (plan : FixPlan) (starts : StartsValue) (fault : RunFault) (stripes : List Mended) (readings : List (List LevelReading)) (ahead : FixWindow) (first : List Event) (firsts news : List FolderView) (old new : VaultView)
+    → BreaksWriting plan starts fault stripes readings ahead first firsts news old new → BreaksWriting plan starts fault stripes readings ahead first firsts news (view_of (state_of old)) (view_of (state_of new))
+writing_of plan starts fault stripes readings ahead first firsts news old new off =
     let last = off.ran in
     record {
       earlier = off.earlier;
@@ -87,9 +98,13 @@ writing_of plan starts fault stripes readings first firsts news old new off =
       first_is = off.first_is;
       makes = off.makes;
       ran = record {
-        before = last.before;
-        calls_are = last.calls_are;
-        ran = breaks_levels_of fault plan off.last.facts off.level last.before old new last.ran;
+        windows = last.windows;
+        window = last.window;
+        windows_are = last.windows_are;
+        front = last.front;
+        earlier_are = last.earlier_are;
+        window_is = last.window_is;
+        ran = breaks_levels_of fault plan off.last.facts off.level _ old new last.ran;
         vault = mends_of plan _ old new last.vault;
         holds = last.holds;
       };
@@ -112,6 +127,8 @@ ending_of (runs.Folder disk) plan stripes readings first written news old new of
 }
 ending_of runs.Vault plan stripes readings first written news old new off = record {
   events = off.events;
+  windows = off.windows;
+  windows_are = off.windows_are;
   ran = fails_of _ _ old new off.ran;
   holds = off.holds;
   folders = off.folders;
@@ -126,7 +143,7 @@ at_end_of plan starts fault stripes readings first firsts news old new off = rec
   ending = ending_of fault plan stripes readings first off.written news old new off.ending;
 }
 
-pub off_of : (plan : FixPlan) (starts : StartsValue) (fault : RunFault) (stripes : List Mended) (behind : List ℕ) (readings : List (List LevelReading)) (first : List Event) (firsts news : List FolderView) (old new : VaultView)
-    → BreaksOff plan starts fault stripes behind readings first firsts news old new → BreaksOff plan starts fault stripes behind readings first firsts news (view_of (state_of old)) (view_of (state_of new))
-off_of plan starts fault stripes behind readings first firsts news old new (inl off) = inl (writing_of plan starts fault stripes readings first firsts news old new off)
-off_of plan starts fault stripes behind readings first firsts news old new (inr off) = inr (off.0, at_end_of plan starts fault stripes readings first firsts news old new off.1)
+pub off_of : (plan : FixPlan) (starts : StartsValue) (fault : RunFault) (stripes : List Mended) (behind : List ℕ) (readings : List (List LevelReading)) (ahead : FixWindow) (first : List Event) (firsts news : List FolderView) (old new : VaultView)
+    → BreaksOff plan starts fault stripes behind readings ahead first firsts news old new → BreaksOff plan starts fault stripes behind readings ahead first firsts news (view_of (state_of old)) (view_of (state_of new))
+off_of plan starts fault stripes behind readings ahead first firsts news old new (inl off) = inl (writing_of plan starts fault stripes readings ahead first firsts news old new off)
+off_of plan starts fault stripes behind readings ahead first firsts news old new (inr off) = inr (off.0, at_end_of plan starts fault stripes readings first firsts news old new off.1)

@@ -1,5 +1,5 @@
 -- What a fix leaves, as a command that was carried out.
-use Rattle.std.proofs.Common.{◌≡◌, ◌⊎◌, inl, inr, ℕ, zero, suc, ◌<◌, ◌≤◌, ◌==◌, ◌&&◌, ◌||◌, List, [], ◌∷◌, ◌++◌, length, get_or, All, Bool, true, false, if◌then◌else◌, IsTrue, None, refl, sym, ap, ◌∙◌, subst, arith, append_assoc}
+use Rattle.std.proofs.Common.{◌≡◌, ◌⊎◌, inl, inr, ℕ, zero, suc, ◌+◌, ◌<◌, ◌≤◌, ◌==◌, ◌&&◌, ◌||◌, List, [], ◌∷◌, ◌++◌, length, get_or, All, Bool, true, false, if◌then◌else◌, IsTrue, None, refl, sym, ap, ◌∙◌, subst, arith, append_assoc}
 use Rattle.std.proofs.lemmas.Bool.{cases_lt}
 use Rattle.std.proofs.lemmas.List.{get_or_past}
 use Rattle.std.proofs.lemmas.List.Elements.{All-cons, All-weaker}
@@ -13,6 +13,7 @@ use Rattle.disk_model.specs.Sink.{SinkView}
 use Rattle.disk_model.specs.Stopped.{MayBeLeft}
 use Rattle.disk_model.specs.Tree.{Tree, IsTree}
 use Rattle.disk_model.specs.Vault.{VaultView, VaultCall, VaultDone, ParityLen, ParityRead, ParityWrite, ParitySetLen, ParitySync, ContentSize, ContentRead, DraftBegin, DraftAppend, DraftSeal, Publish, Holds, state_of}
+use Rattle.file_table.proofs.PrefixLemmas.{All-left}
 use Rattle.file_table.specs.Table.{TableValue}
 use Rattle.parity_writer.specs.LevelReading.{LevelReading}
 use Rattle.parity_writer.specs.LevelsValue.{LevelValue, no_level}
@@ -21,22 +22,24 @@ use Rattle.snap_config.specs.declared.options.Command.{Command}
 use Rattle.snap_config.specs.declared.options.Command.TheVariants as commands
 use Rattle.snap_config.specs.declared.options.Selection.{Selection}
 use Rattle.snap_fix.specs.Beginning.{BeginsNot}
-use Rattle.snap_fix.specs.Breaking.{broke_parity}
+use Rattle.file_restorer.specs.Breaking.{broke_parity}
 use Rattle.snap_fix.specs.Course.{IsPlan, outside}
-use Rattle.snap_fix.specs.Facts.{StripeFacts}
-use Rattle.snap_fix.specs.Findings.{is_wrong}
+use Rattle.stripe_examiner.specs.Facts.{StripeFacts, gift_of}
+use Rattle.stripe_examiner.specs.Findings.{is_wrong}
 use Rattle.snap_fix.specs.FixBreaking.{FixBreaks, FixesNot}
 use Rattle.snap_fix.specs.FixCourse.{Fixes, FixesVault, IsFixCall, MakeFixCalls, fix_events}
 use Rattle.snap_fix.specs.FixRun.{FolderFailedBy, HasBroken}
 use Rattle.snap_fix.specs.Fixing.{facts_of, was_written}
-use Rattle.snap_fix.specs.Known.{AreFacts, IsTried}
+use Rattle.stripe_examiner.specs.Known.{AreFacts, IsTried}
+use Rattle.stripe_examiner.specs.Looking.{unread_cells}
+use Rattle.snap_fix.proofs.FixCountLemmas.{count_append}
 use Rattle.snap_fix.specs.Mended.{Mended, is_wrong_level}
-use Rattle.snap_fix.specs.Plan.{FixPlan, is_searched, names_of, selects_level, starts_of}
-use Rattle.snap_fix.specs.Spare.{nothing}
-use Rattle.snap_fix.specs.State.{AnyCall, FolderMakes}
+use Rattle.stripe_examiner.specs.Plan.{FixPlan, is_searched, names_of, selects_level, starts_of}
+use Rattle.stripe_examiner.specs.Spare.{nothing}
+use Rattle.file_restorer.specs.State.{AnyCall, FolderMakes}
 use Rattle.snap_fix.specs.Underway.{HoldsWrong}
 use Rattle.snap_fix.specs.declared.checks.FixEnd.{FixEnd}
-use Rattle.snap_fix.specs.declared.scope.Mode.TheVariants as modes
+use Rattle.stripe_examiner.specs.declared.scope.Mode.TheVariants as modes
 use Rattle.snap_report.specs.Answer.{FolderFailed, IsCaused, Outside, broke_vault, done_answer}
 use Rattle.snap_report.specs.EndLines.{fix_text}
 use Rattle.snap_report.specs.EventLines.{lines_of}
@@ -57,7 +60,7 @@ use Rattle.snap_top.specs.Task.{Did, Left, Task, fixes, reads_only}
 use Rattle.snap_top.specs.Views.{World, outside_of, world_of, world_view}
 use Rattle.snap_top.proofs.CheckedLemmas.{none_given, not_begun_done, refusal_of}
 use Rattle.snap_top.proofs.DoneLemmas.{by_output}
-use Rattle.snap_top.proofs.FixStatesLemmas.{broken_of, finds_of, mends_of, off_of, vault_of}
+use Rattle.snap_top.proofs.FixStatesLemmas.{broken_of, finds_of, looked_of, mends_of, off_of, vault_of}
 use Rattle.snap_top.proofs.SyncLemmas.{any_more, never, printed_lines}
 use Rattle.snap_top.proofs.ViewsLemmas.{some_calls_of}
 
@@ -94,6 +97,12 @@ wrong_written plan (mended ∷ stripes) (suc k) d r below wrong =
     or_true : (b : Bool) → (b || true) ≡ true
     or_true true = refl
     or_true false = refl
+
+-- a count of faults rose by the cells of the first stripes, where it did by those of more
+rose_front : (d : ℕ) (xs ys : List StripeFacts) (before after : ℕ) → RoseBy (unread_cells d (xs ++ ys)) before after → RoseBy (unread_cells d xs) before after
+rose_front d xs ys before after rose =
+    let counted : unread_cells d (xs ++ ys) ≡ unread_cells d xs + unread_cells d ys = count_append _ xs ys in
+    omega (arith, counted, rose)
 
 -- each wrong level holds the sum of its row, as it reads and in each image: it was synced
 leaves_fixed : (plan : FixPlan) (stripes : List Mended) (readings : List (List LevelReading)) (old new : VaultView) → All (AreFacts plan) (facts_of stripes) → FixesVault plan stripes readings old new → IsTrue old.tells
@@ -315,14 +324,19 @@ module _ {W R : Type 0} (standing : R → ReportView) (stands : R → List Event
             readings = is.readings;
             did_is = refl;
             finds = finds_of is.plan (starts_of table is.lists) is.mids vault is.stripes is.readings is.finds;
-            no_gifts = none_given is.plan (facts_of is.stripes) nothing is.spare;
-            unread = is.unread_cells_of;
+            no_gifts = All-left (λ (facts : StripeFacts). (d : ℕ) → gift_of facts d ≡ None) (facts_of is.stripes) is.ahead.stripes
+                (none_given is.plan (facts_of is.stripes ++ is.ahead.stripes) nothing is.spare);
+            unread = λ d below. rose_front d (facts_of is.stripes) is.ahead.stripes _ _ (is.unread_cells_of d below);
           };
           behind = is.behind;
           numbers = is.numbers;
           vault = mends_of is.plan (facts_of is.stripes) vault vault_new is.vault;
+          ahead = is.ahead;
+          cells_ahead = is.cells_ahead;
+          unread_ahead = is.unread_cells_of;
+          looked = looked_of is.plan is.ahead is.behind vault is.looked;
           unread = is.unread;
-          off = off_of is.plan (starts_of table is.lists) fault is.stripes is.behind is.readings is.first is.mids folders_new vault vault_new is.off;
+          off = off_of is.plan (starts_of table is.lists) fault is.stripes is.behind is.readings is.ahead is.first is.mids folders_new vault vault_new is.off;
           calls = is.calls;
           reads = is.reads;
           broke = broken_of is.plan fault is.first is.mids folders_new vault vault_new is.broke;

@@ -7,7 +7,7 @@ use Rattle.std.proofs.lemmas.List.Elements.{All-append, All-cons, All-contains, 
 use Rattle.std.proofs.lemmas.List.FromFn.{get_or-range_with_len, length-range_with_len}
 use Rattle.block_hash.specs.declared.Digest16.{Digest16}
 use Rattle.file_table.specs.Cells.{CellView, cell_seen}
-use Rattle.file_table.specs.Table.{column_at, record_at}
+use Rattle.file_table.specs.Table.{column_at, record_at, records_in}
 use Rattle.file_table.specs.declared.block.Cell.{Cell}
 use Rattle.parity_writer.specs.LevelsValue.{LevelValue, no_level}
 use Rattle.parity_writer.specs.Parity.{Row}
@@ -16,10 +16,10 @@ use Rattle.snap_report.specs.declared.events.Event.TheVariants as event
 use Rattle.stripe_reader.specs.SlotValue.{SlotValue}
 use Rattle.stripe_reader.specs.WindowValue.{no_slot}
 use Rattle.snap_fix.specs.Course.{check_events}
-use Rattle.snap_fix.specs.Facts.{StripeFacts, is_missing}
-use Rattle.snap_fix.specs.Findings.{all_cell_events, all_level_events, all_level_io_events, all_lost_events, blocked_event, cell_events, changed_event, column_events, events_of, is_lost, is_unread, is_unread_level, is_wrong, level_events, level_io_events, lost_event, lost_events, opening_events, read_event, read_events, record_events, silent_event, stripe_events, unsynced_events}
-use Rattle.snap_fix.specs.Plan.{FixPlan, cell_at, entry_at, has_selected_cell, is_audit, is_synced, records_in, selects_cell, selects_level}
-use Rattle.snap_fix.specs.Selected.{is_as_recorded}
+use Rattle.stripe_examiner.specs.Facts.{StripeFacts, is_missing}
+use Rattle.stripe_examiner.specs.Findings.{all_cell_events, all_level_events, all_level_io_events, all_lost_events, blocked_event, cell_events, changed_event, column_events, events_of, is_lost, is_unread, is_unread_level, is_wrong, level_events, level_io_events, lost_event, lost_events, opening_events, read_event, read_events, record_events, silent_event, stripe_events, unsynced_events}
+use Rattle.stripe_examiner.specs.Plan.{FixPlan, cell_at, entry_at, has_selected_cell, is_audit, is_synced, selects_cell, selects_level}
+use Rattle.stripe_examiner.specs.Selected.{is_as_recorded}
 use Rattle.snap_fix.specs.Restored.{IsDamagedCell}
 use Rattle.snap_top.specs.Lost.{IsToldLost}
 

@@ -9,10 +9,10 @@ use Rattle.disk_model.specs.Files.{Files}
 use Rattle.disk_model.specs.Folder.{FolderView}
 use Rattle.parity_writer.specs.Sound.{Snapshot}
 use Rattle.stripe_reader.specs.Starts.{StartsValue}
-use Rattle.snap_fix.specs.Facts.{StripeFacts}
+use Rattle.stripe_examiner.specs.Facts.{StripeFacts}
 use Rattle.snap_fix.specs.Genuine.{AreGenuineOf, HasGenuineFacts}
-use Rattle.snap_fix.specs.Looking.{numbers_of}
-use Rattle.snap_fix.specs.Plan.{FixPlan, is_looked_at, is_searched, stripes_of}
+use Rattle.stripe_examiner.specs.Looking.{numbers_of}
+use Rattle.stripe_examiner.specs.Plan.{FixPlan, is_looked_at, is_searched, stripes_of}
 
 -- what snap_fix says of stripes that were looked at
 abbrev pub FactsAreGenuine : Type 0

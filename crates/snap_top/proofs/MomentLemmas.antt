@@ -10,10 +10,10 @@ use Rattle.file_table.specs.Table.{TableValue}
 use Rattle.parity_writer.specs.Parity.{Rows}
 use Rattle.parity_writer.specs.Sound.{Snapshot, Sound}
 use Rattle.stripe_reader.specs.Starts.{StartsValue}
-use Rattle.snap_fix.specs.Facts.{StripeFacts}
+use Rattle.stripe_examiner.specs.Facts.{StripeFacts}
 use Rattle.snap_fix.specs.Fixing.{facts_of}
 use Rattle.snap_fix.specs.Genuine.{AreGenuineOf}
-use Rattle.snap_fix.specs.Plan.{FixPlan, starts_of}
+use Rattle.stripe_examiner.specs.Plan.{FixPlan, starts_of}
 use Rattle.snap_fix.specs.Underway.{IsMendedLevel, KeepsLevels}
 use Rattle.snap_report.specs.declared.events.Event.{Event}
 use Rattle.snap_sync.specs.Images.{MayStand, rows_after}

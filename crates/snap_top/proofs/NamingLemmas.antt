@@ -25,15 +25,15 @@ use Rattle.snap_config.specs.declared.options.Command.{Command}
 use Rattle.snap_config.specs.declared.options.Command.TheVariants as commands
 use Rattle.snap_config.specs.declared.options.Options.{Options}
 use Rattle.snap_config.specs.declared.options.Selection.{Selection}
-use Rattle.snap_fix.specs.Counts.{at_most}
-use Rattle.snap_fix.specs.Facts.{StripeFacts, gift_of, is_missing, slot_of}
-use Rattle.snap_fix.specs.Findings.{is_lost}
-use Rattle.snap_fix.specs.Fixing.{ArePresent}
+use Rattle.stripe_examiner.specs.Counts.{at_most}
+use Rattle.stripe_examiner.specs.Facts.{StripeFacts, gift_of, is_missing, slot_of}
+use Rattle.stripe_examiner.specs.Findings.{is_lost}
+use Rattle.stripe_examiner.specs.Present.{ArePresent}
 use Rattle.snap_fix.specs.Genuine.{AreGenuine, AreGenuineOf, HasGenuineFacts, IsRestorableStripe, TellsIntactLevels}
-use Rattle.snap_fix.specs.Known.{AreFacts, IsTried}
-use Rattle.snap_fix.specs.Looking.{AreRead, numbers_of, unread_in}
-use Rattle.snap_fix.specs.Plan.{FixPlan, is_audit, is_searched, is_synced, selects_cell, starts_of}
-use Rattle.snap_fix.specs.declared.scope.Mode.TheVariants as modes
+use Rattle.stripe_examiner.specs.Known.{AreFacts, IsTried}
+use Rattle.stripe_examiner.specs.Looking.{AreRead, numbers_of, unread_in}
+use Rattle.stripe_examiner.specs.Plan.{FixPlan, is_audit, is_searched, is_synced, selects_cell, starts_of}
+use Rattle.stripe_examiner.specs.declared.scope.Mode.TheVariants as modes
 use Rattle.snap_report.specs.Answer.{status_of as answer_status}
 use Rattle.snap_report.specs.EndLines.{check_text}
 use Rattle.snap_report.specs.EventLines.{lines_of}

@@ -14,13 +14,13 @@ use Rattle.snap_config.specs.Setup.{SetupValue}
 use Rattle.snap_config.specs.declared.options.Command.{Command}
 use Rattle.snap_config.specs.declared.options.Command.TheVariants as commands
 use Rattle.snap_config.specs.declared.options.Selection.{Selection}
-use Rattle.snap_fix.specs.Facts.{StripeFacts}
+use Rattle.stripe_examiner.specs.Facts.{StripeFacts}
 use Rattle.snap_fix.specs.Fixing.{facts_of}
 use Rattle.snap_fix.specs.Genuine.{AreGenuine, AreGenuineOf, AreLevelsIn, IsLevelOf}
-use Rattle.snap_fix.specs.Looking.{AreAllLevelsOf, numbers_of}
-use Rattle.snap_fix.specs.Plan.{starts_of, stripes_of}
-use Rattle.snap_fix.specs.declared.scope.Mode.{Mode}
-use Rattle.snap_fix.specs.declared.scope.Mode.TheVariants as modes
+use Rattle.stripe_examiner.specs.Looking.{AreAllLevelsOf, numbers_of}
+use Rattle.stripe_examiner.specs.Plan.{starts_of, stripes_of}
+use Rattle.stripe_examiner.specs.declared.scope.Mode.{Mode}
+use Rattle.stripe_examiner.specs.declared.scope.Mode.TheVariants as modes
 use Rattle.snap_report.specs.declared.answer.Answer.{Answer}
 use Rattle.snap_report.specs.declared.answer.Answer.TheVariants as answers
 use Rattle.snap_report.specs.declared.answer.RunFault.{RunFault}

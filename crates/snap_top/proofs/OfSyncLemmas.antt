@@ -134,7 +134,7 @@ module _ (before : Entry) (exit : Exit) (tells : IsTrue before.opener.tells) (te
   given_copies = ap (λ (s : VaultState). length s.drafts) given_is
 
   pub given_folders : ran.given.folders ≡ before.opener.folders
-  given_folders = ext_get_or (quiet_folder 0 false) ran.given.folders before.opener.folders (ran.is_given.just tells) (are_held before exit setup ending told ran tells)
+  given_folders = ext_get_or (quiet_folder 0 false) ran.given.folders before.opener.folders (ran.is_given.just tells) (are_held before exit setup ending told ran tells).1
 
   -- by its command
   pub configured_for : (command : Command) → ran.task.command ≡ command → IsConfigured before.texts before.opener command ran.task.readers ran.task.setup

@@ -22,17 +22,18 @@ use Rattle.snap_config.specs.declared.options.Command.{Command}
 use Rattle.snap_config.specs.declared.options.Command.TheVariants as commands
 use Rattle.snap_config.specs.declared.options.Options.{Options}
 use Rattle.snap_config.specs.declared.options.Selection.{Selection}
-use Rattle.snap_fix.specs.Counts.{at_most}
+use Rattle.stripe_examiner.specs.Counts.{at_most}
 use Rattle.snap_fix.specs.Ending.{Finishes}
-use Rattle.snap_fix.specs.Facts.{StripeFacts, gift_of, is_missing}
-use Rattle.snap_fix.specs.Findings.{is_lost}
+use Rattle.stripe_examiner.specs.Facts.{StripeFacts, gift_of, is_missing}
+use Rattle.stripe_examiner.specs.Findings.{is_lost}
 use Rattle.snap_fix.specs.FixCourse.{fix_events}
 use Rattle.snap_fix.specs.Fixing.{facts_of}
 use Rattle.snap_fix.specs.Genuine.{AreGenuine, AreGenuineOf, HasGenuineFacts, IsRestorableStripe, TellsIntactLevels}
-use Rattle.snap_fix.specs.Known.{AreFacts, IsTried}
-use Rattle.snap_fix.specs.Looking.{numbers_of, unread_in}
-use Rattle.snap_fix.specs.Mended.{Mended, has_lost, is_repaired, known_block, known_by, wrong_in, written_in}
-use Rattle.snap_fix.specs.Plan.{FixPlan, entry_at, is_audit, is_searched, is_synced, starts_of, stripes_of}
+use Rattle.stripe_examiner.specs.Known.{AreFacts, IsTried}
+use Rattle.stripe_examiner.specs.Looking.{numbers_of, unread_in}
+use Rattle.snap_fix.specs.Mended.{Mended, has_lost, is_repaired, wrong_in, written_in}
+use Rattle.stripe_examiner.specs.Showing.{known_block, known_by}
+use Rattle.stripe_examiner.specs.Plan.{FixPlan, entry_at, is_audit, is_searched, is_synced, starts_of, stripes_of}
 use Rattle.snap_fix.specs.Restored.{CanBeHad, HasFixed, HoldsCell, IsDamagedCell, IsUnknownCell}
 use Rattle.snap_fix.specs.Underway.{AddsZeros, IsMendedLevel, KeepsLevels}
 use Rattle.snap_report.specs.Answer.{status_of as answer_status}

@@ -11,10 +11,10 @@ use Rattle.disk_model.specs.Tree.{File, Tree, file_of, listing_of, path_of}
 use Rattle.file_table.specs.Table.{TableValue}
 use Rattle.file_table.specs.Valid.{IsValid}
 use Rattle.snap_fix.specs.Ending.{is_finished}
-use Rattle.snap_fix.specs.Facts.{is_missing}
+use Rattle.stripe_examiner.specs.Facts.{is_missing}
 use Rattle.snap_fix.specs.Mended.{Mended}
-use Rattle.snap_fix.specs.Plan.{FixPlan, starts_of}
-use Rattle.snap_fix.specs.State.{AnyCall, FolderMakes}
+use Rattle.stripe_examiner.specs.Plan.{FixPlan, starts_of}
+use Rattle.file_restorer.specs.State.{AnyCall, FolderMakes}
 use Rattle.snap_fix.specs.Stopped.{FixStop, IsNoneOf, IsStop, StandInPlace, StandsSpared, file_placed, path_at, records_of}
 use Rattle.snap_top.specs.Fix.{FixRun, IsRunCall}
 use Rattle.snap_top.specs.Moment.{IsFixOf}

@@ -10,7 +10,7 @@ use Rattle.std.proofs.lemmas.List.Sums.{length-filter}
 use Rattle.cauchy.specs.Matrix.{byte_of, parity_byte, parity_of as level_of}
 use Rattle.disk_model.specs.Bytes.{read_from}
 use Rattle.disk_model.specs.Files.{Files, parity_of}
-use Rattle.file_table.specs.Table.{TableValue, info_at}
+use Rattle.file_table.specs.Table.{TableValue, info_at, is_synced_mark}
 use Rattle.file_table.specs.declared.info.Mark.{Mark}
 use Rattle.file_table.specs.declared.info.Mark.TheVariants.{Pending, Synced}
 use Rattle.file_table.specs.declared.block.Cell.{Cell}
@@ -21,12 +21,12 @@ use Rattle.parity_writer.specs.Sound.{IsSynced, Snapshot, Sound}
 use Rattle.parity_writer.specs.declared.levels.LevelRead.TheVariants as here
 use Rattle.parity_writer.proofs.SumLemmas.{byte_of_level}
 use Rattle.snap_fix.specs.Ending.{Finishes}
-use Rattle.snap_fix.specs.Facts.{StripeFacts}
+use Rattle.stripe_examiner.specs.Facts.{StripeFacts}
 use Rattle.snap_fix.specs.Fixing.{facts_of}
 use Rattle.snap_fix.specs.Genuine.{AreLevelsIn, IsIntactLevel, IsLevelOf, IsRestorableStripe, TellsIntactLevels}
-use Rattle.snap_fix.specs.Known.{AreFacts, IsTried, is_whole, whole_level, whole_levels}
+use Rattle.stripe_examiner.specs.Known.{AreFacts, IsTried, is_whole, whole_level, whole_levels}
 use Rattle.snap_fix.specs.Mended.{has_lost}
-use Rattle.snap_fix.specs.Plan.{FixPlan, is_marked_synced, is_searched, is_synced}
+use Rattle.stripe_examiner.specs.Plan.{FixPlan, is_searched, is_synced}
 use Rattle.snap_fix.specs.Restored.{HoldsCell}
 use Rattle.snap_top.specs.Fix.{FixRun}
 use Rattle.snap_top.specs.Moment.{IsFixOf}
@@ -46,7 +46,7 @@ and_first : (a b : Bool) → (a && b) ≡ true → a ≡ true
 and_first true b is = refl
 and_first false b is = is
 
-synced_mark : (mark : Mark) → is_marked_synced mark ≡ true → mark ≡ Synced
+synced_mark : (mark : Mark) → is_synced_mark mark ≡ true → mark ≡ Synced
 synced_mark Pending is = absurd (let clash : false ≡ true = is in cc)
 synced_mark Synced is = refl
 

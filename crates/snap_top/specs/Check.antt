@@ -10,11 +10,11 @@ use Rattle.parity_writer.specs.LevelReading.{LevelReading}
 use Rattle.snap_config.specs.Setup.{SetupValue}
 use Rattle.snap_config.specs.declared.options.Selection.{Selection}
 use Rattle.snap_fix.specs.Course.{IsPlan}
-use Rattle.snap_fix.specs.Facts.{StripeFacts, gift_of}
-use Rattle.snap_fix.specs.Known.{AreFacts}
-use Rattle.snap_fix.specs.Looking.{AreAllLevelsOf, AreRead, numbers_of}
-use Rattle.snap_fix.specs.Plan.{FixPlan, names_of, starts_of, stripes_of}
-use Rattle.snap_fix.specs.declared.scope.Mode.TheVariants as modes
+use Rattle.stripe_examiner.specs.Facts.{StripeFacts, gift_of}
+use Rattle.stripe_examiner.specs.Known.{AreFacts}
+use Rattle.stripe_examiner.specs.Looking.{AreAllLevelsOf, AreRead, numbers_of}
+use Rattle.stripe_examiner.specs.Plan.{FixPlan, names_of, starts_of, stripes_of}
+use Rattle.stripe_examiner.specs.declared.scope.Mode.TheVariants as modes
 use Rattle.snap_sync.specs.Soundness.{IsLoadedFrom}
 
 -- What it was asked for, and by which configuration; the table that it began with; what the folders listed, and the

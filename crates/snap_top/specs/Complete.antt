@@ -1,9 +1,9 @@
 -- What every run promises by its status alone, and when a run surely ends well.
-use Rattle.std.specs.Prelude.{◌≡◌, ◌⊎◌, ℕ, ◌<◌, ◌≤◌, List, length, take, true, false, IsTrue, Some, None, Ok}
+use Rattle.std.specs.Prelude.{◌≡◌, ◌⊎◌, ℕ, ◌<◌, ◌≤◌, List, length, take, true, false, IsTrue, Option, Some, None, Ok}
 use Rattle.array_scan.specs.declared.fault.ScanFault.{ScanFault}
 use Rattle.array_scan.specs.declared.fault.ScanFault.TheVariants as scans
 use Rattle.content_file.specs.Load.{LoadsTable, HasFailed}
-use Rattle.content_file.specs.Spelling.{IsContent, spelling}
+use Rattle.content_file.specs.Spelling.{IsContent}
 use Rattle.disk_model.specs.Cause.{Rose}
 use Rattle.disk_model.specs.Files.{Stays, content_of}
 use Rattle.disk_model.specs.Folder.{FolderView}
@@ -20,10 +20,10 @@ use Rattle.snap_config.specs.declared.options.SyncWay.{SyncWay}
 use Rattle.snap_report.specs.Answer.{Gained, broke_folder, broke_vault}
 use Rattle.snap_sync.specs.Beginning.{RefusesLayout}
 use Rattle.snap_sync.specs.Work.{broke_sync}
-use Rattle.snap_top.specs.Array.{Matches, empty_table}
+use Rattle.snap_top.specs.Array.{Matches}
 use Rattle.snap_top.specs.Known.{unknown_in}
 use Rattle.snap_top.specs.Opening.{asked_by}
-use Rattle.snap_top.specs.Run.{Entry, Exit}
+use Rattle.snap_top.specs.Run.{BeginsWith, Entry, Exit, LoadsFrom}
 use Rattle.snap_top.specs.Views.{view_of, folder_at}
 
 -- ---- refusals, and the standard error of a run that is done
@@ -73,19 +73,20 @@ held_vault before = view_of (state_of before.opener.vault)
 abbrev pub left_vault : Exit → VaultView
 left_vault exit = view_of (state_of exit.after.vault)
 
--- a table that a run may begin with: some copy spells it, or it is that of an array without content
-abbrev pub MayBegin : Entry → SetupValue → TableValue → Type 0
-MayBegin before setup table =
-    (table ≡ empty_table setup before.seed)
-    ⊎ ((copy : ℕ) × (content_of before.opener.vault.files copy ≡ Some (spelling table)))
+-- The table that a run begins with: what was loaded in it of what the opener held, or, without a copy, that of an array without content.
+pub record MayBegin (before : Entry) (exit : Exit) (setup : SetupValue) (table : TableValue) : Type 0 where
+  pub loaded : Option TableValue
+  pub loads : LoadsFrom (state_of before.opener.vault) (state_of exit.after.vault) loaded
+  pub begins : BeginsWith setup before.seed loaded table
 
--- these are the folders that the opener held
-abbrev pub AreHeld : Entry → List FolderView → Type 0
-AreHeld before folders = (d : ℕ) → d < length folders → folder_at folders d ≡ folder_held before.opener d
+-- these are the folders that the opener held, one for each directory
+abbrev pub AreHeld : Entry → SetupValue → List FolderView → Type 0
+AreHeld before setup folders =
+    (length folders ≡ length setup.dirs) × ((d : ℕ) → d < length folders → folder_at folders d ≡ folder_held before.opener d)
 
 -- A sync's layout is not refused: of a table that the run may begin with, over what its folders list.
 abbrev pub IsUnrefused : Entry → Exit → Command → SetupValue → Type 0
-IsUnrefused before exit command setup = (way : SyncWay) (table : TableValue) (folders : List FolderView) (fault : ScanFault) → command ≡ commands.Sync way → MayBegin before setup table → AreHeld before folders
+IsUnrefused before exit command setup = (way : SyncWay) (table : TableValue) (folders : List FolderView) (fault : ScanFault) → command ≡ commands.Sync way → MayBegin before exit setup table → AreHeld before setup folders
     → RefusesLayout setup way table folders exit.after.folders fault → fault ≡ scans.Memory
 
 -- Neither the opener nor a folder nor the vault failed so that a run ends.

@@ -10,7 +10,7 @@ use Rattle.snap_report.specs.Report.{ReportView, AllGiven}
 use Rattle.snap_report.specs.StatusText.{status_text, bad_in}
 use Rattle.snap_report.specs.declared.answer.Answer.{Answer}
 use Rattle.snap_report.specs.declared.events.Event.{Event}
-use Rattle.snap_fix.specs.declared.scope.Mode.TheVariants as modes
+use Rattle.stripe_examiner.specs.declared.scope.Mode.TheVariants as modes
 use Rattle.snap_top.specs.Checking.{ChecksBy}
 use Rattle.snap_top.specs.Fixing.{FixesBy}
 use Rattle.snap_top.specs.Syncing.{SyncsBy}

@@ -13,16 +13,16 @@ use Rattle.parity_writer.specs.Sound.{Snapshot}
 use Rattle.snap_config.specs.Setup.{SetupValue}
 use Rattle.snap_config.specs.declared.options.Selection.{Selection}
 use Rattle.snap_fix.specs.Course.{IsPlan}
-use Rattle.snap_fix.specs.Facts.{StripeFacts, gift_of}
+use Rattle.stripe_examiner.specs.Facts.{StripeFacts, gift_of}
 use Rattle.snap_fix.specs.FixCourse.{FixFinds, IsFixCall}
 use Rattle.snap_fix.specs.Fixing.{facts_of}
 use Rattle.snap_fix.specs.Genuine.{AreGenuine}
-use Rattle.snap_fix.specs.Looking.{numbers_of}
+use Rattle.stripe_examiner.specs.Looking.{numbers_of}
 use Rattle.snap_fix.specs.Mended.{Mended}
-use Rattle.snap_fix.specs.Plan.{FixPlan, names_of, starts_of, stripes_of}
-use Rattle.snap_fix.specs.State.{AnyCall, FolderMakes}
+use Rattle.stripe_examiner.specs.Plan.{FixPlan, names_of, starts_of, stripes_of}
+use Rattle.file_restorer.specs.State.{AnyCall, FolderMakes}
 use Rattle.snap_fix.specs.Underway.{HoldsWrong, IsMendedLevel, KeepsLevels}
-use Rattle.snap_fix.specs.declared.scope.Mode.TheVariants as modes
+use Rattle.stripe_examiner.specs.declared.scope.Mode.TheVariants as modes
 use Rattle.snap_sync.specs.Soundness.{IsLoadedFrom}
 use Rattle.snap_top.specs.Views.{folder_at}
 

@@ -7,19 +7,21 @@ use Rattle.disk_model.specs.Folder.{FolderView}
 use Rattle.file_table.specs.Table.{TableValue}
 use Rattle.parity_writer.specs.LevelReading.{LevelReading}
 use Rattle.snap_config.specs.declared.options.Selection.{Selection}
-use Rattle.snap_fix.specs.Counts.{at_most}
+use Rattle.stripe_examiner.specs.Counts.{at_most}
 use Rattle.snap_fix.specs.Course.{IsPlan}
 use Rattle.snap_fix.specs.Ending.{Finishes}
-use Rattle.snap_fix.specs.Facts.{StripeFacts, gift_of}
+use Rattle.stripe_examiner.specs.Facts.{StripeFacts, gift_of}
 use Rattle.snap_fix.specs.FixBreaking.{BreaksOff}
 use Rattle.snap_fix.specs.FixCourse.{FixFinds, FixesFiles, FixesVault, MakeFixCalls, fix_events}
-use Rattle.snap_fix.specs.FixRun.{HasBroken}
+use Rattle.snap_fix.specs.FixRun.{HasBroken, LooksAhead}
 use Rattle.snap_fix.specs.Fixing.{MendsVault, facts_of}
-use Rattle.snap_fix.specs.Looking.{numbers_of, unread_cells, unread_in}
-use Rattle.snap_fix.specs.Reads.{AreReadAhead, FolderReads}
+use Rattle.stripe_examiner.specs.Looking.{numbers_of, unread_cells, unread_in}
+use Rattle.snap_fix.specs.Reads.{AreAllRead, FolderReads}
 use Rattle.snap_fix.specs.Mended.{Mended, wrong_in, written_in}
-use Rattle.snap_fix.specs.Plan.{FixPlan, names_of, starts_of, stripes_of}
-use Rattle.snap_fix.specs.declared.scope.Mode.TheVariants as modes
+use Rattle.snap_fix.specs.Windows.{FixWindow}
+use Rattle.stripe_examiner.specs.Plan.{FixPlan, names_of, starts_of, stripes_of}
+use Rattle.stripe_examiner.specs.Present.{ArePresent}
+use Rattle.stripe_examiner.specs.declared.scope.Mode.TheVariants as modes
 use Rattle.snap_report.specs.Answer.{is_io_of}
 use Rattle.snap_report.specs.EndLines.{fix_text}
 use Rattle.snap_report.specs.EventLines.{lines_of}
@@ -86,18 +88,23 @@ pub record FixEnds (selection : Selection) (task : Task) (table : TableValue) (b
   pub prints : Prints (lines_of table.columns (fix_events course.plan course.stripes finishes) ++ fix_text blocks parities left.counted) left.counted before.out after.out left.answer
 
 -- A fix that broke off after the folders were listed: some first stripes were looked at, and it broke off in the last of them, or at the end.
--- A prefix was told and printed of what is where nothing fails.
+-- Beside the last one the next ones of its window were read. A prefix was told and printed of what is where nothing fails.
 pub record FixBroke (fault : RunFault) (selection : Selection) (task : Task) (table : TableValue) (before after : World) (left : Left) (did : Did) : Type 0 where
   pub course : FixCourse selection task table true before after did
   pub behind : List ℕ
   pub numbers : stripes_of course.plan ≡ numbers_of (facts_of course.stripes) ++ behind
   pub vault : MendsVault course.plan (facts_of course.stripes) (view_of before.vault) (view_of after.vault)
-  pub unread : RoseBy (unread_in course.readings) before.vault.faults after.vault.faults
-  pub off : BreaksOff course.plan (starts_of table course.lists) fault course.stripes behind course.readings left.told course.listed after.folders
+  pub ahead : FixWindow
+  pub looked : LooksAhead course.plan ahead behind (view_of before.vault)
+  pub cells_ahead : ArePresent course.plan (starts_of table course.lists) course.listed ahead.stripes
+  pub unread_ahead : (d : ℕ) → d < length course.plan.table.columns
+      → RoseBy (unread_cells d (facts_of course.stripes ++ ahead.stripes)) (folder_at before.folders d).faults (folder_at after.folders d).faults
+  pub unread : RoseBy (unread_in (course.readings ++ ahead.readings)) before.vault.faults after.vault.faults
+  pub off : BreaksOff course.plan (starts_of table course.lists) fault course.stripes behind course.readings ahead left.told course.listed after.folders
       (view_of before.vault) (view_of after.vault)
   pub calls : MakeFixCalls course.plan (starts_of table course.lists) course.stripes course.listed after.folders
   pub reads : (d : ℕ) → d < length course.plan.table.columns
-      → FolderReads (AreReadAhead course.plan (starts_of table course.lists) d (facts_of course.stripes) behind)
+      → FolderReads (AreAllRead course.plan (starts_of table course.lists) d (facts_of course.stripes ++ ahead.stripes))
       (folder_at course.listed d) (folder_at after.folders d)
   pub broke : HasBroken course.plan fault left.told course.listed after.folders (view_of before.vault) (view_of after.vault)
   pub answer_is : left.answer ≡ answers.Broken fault

@@ -3,9 +3,9 @@ use Rattle.std.specs.Prelude.{◌≡◌, ◌↔◌, ℕ, List, Bool, true, false
 use Rattle.cauchy.specs.Recovery.{AreBytes}
 use Rattle.file_table.specs.declared.block.Cell.{Cell}
 use Rattle.parity_writer.specs.Sound.{Snapshot}
-use Rattle.snap_fix.specs.Facts.{StripeFacts}
+use Rattle.stripe_examiner.specs.Facts.{StripeFacts}
 use Rattle.snap_fix.specs.Genuine.{IsRestorableStripe, TellsIntactLevels}
-use Rattle.snap_fix.specs.Plan.{FixPlan, is_searched, is_synced}
+use Rattle.stripe_examiner.specs.Plan.{FixPlan, is_searched, is_synced}
 use Rattle.snap_fix.specs.Restored.{IsDamagedCell}
 use Rattle.snap_report.specs.declared.events.Event.{Event}
 use Rattle.snap_report.specs.declared.events.Event.TheVariants as events

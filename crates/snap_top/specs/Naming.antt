@@ -7,10 +7,10 @@ use Rattle.parity_writer.specs.Sound.{Snapshot, Sound}
 use Rattle.snap_config.specs.declared.options.Command.TheVariants as commands
 use Rattle.snap_config.specs.declared.options.Options.{Options}
 use Rattle.snap_config.specs.declared.options.Selection.{Selection}
-use Rattle.snap_fix.specs.Counts.{at_most}
+use Rattle.stripe_examiner.specs.Counts.{at_most}
 use Rattle.snap_fix.specs.Course.{check_events}
 use Rattle.snap_fix.specs.Genuine.{AreGenuine}
-use Rattle.snap_fix.specs.Looking.{unread_in}
+use Rattle.stripe_examiner.specs.Looking.{unread_in}
 use Rattle.snap_report.specs.EndLines.{check_text}
 use Rattle.snap_report.specs.EventLines.{lines_of}
 use Rattle.snap_report.specs.Kind.{is_finding}

@@ -8,15 +8,15 @@ use Rattle.parity_writer.specs.Sound.{Snapshot, Sound}
 use Rattle.snap_config.specs.declared.options.Command.TheVariants as commands
 use Rattle.snap_config.specs.declared.options.Options.{Options}
 use Rattle.snap_config.specs.declared.options.Selection.{Selection}
-use Rattle.snap_fix.specs.Counts.{at_most}
+use Rattle.stripe_examiner.specs.Counts.{at_most}
 use Rattle.snap_fix.specs.Ending.{Finishes}
 use Rattle.snap_fix.specs.FixCourse.{fix_events}
 use Rattle.snap_fix.specs.Fixing.{facts_of}
-use Rattle.snap_fix.specs.Facts.{StripeFacts}
+use Rattle.stripe_examiner.specs.Facts.{StripeFacts}
 use Rattle.snap_fix.specs.Genuine.{AreGenuine, IsRestorableStripe}
-use Rattle.snap_fix.specs.Looking.{unread_cells, unread_in}
+use Rattle.stripe_examiner.specs.Looking.{unread_cells, unread_in}
 use Rattle.snap_fix.specs.Mended.{has_lost, wrong_in, written_in}
-use Rattle.snap_fix.specs.Plan.{entry_at, starts_of}
+use Rattle.stripe_examiner.specs.Plan.{entry_at, starts_of}
 use Rattle.snap_fix.specs.Restored.{HasFixed, HoldsCell}
 use Rattle.snap_fix.specs.Underway.{AddsZeros, IsMendedLevel}
 use Rattle.snap_report.specs.EndLines.{fix_text}
@@ -49,7 +49,7 @@ pub record Restores (run : FixRun) (finishes : Finishes) (snapshot : Snapshot) :
   pub named : NamesLost run.plan (facts_of run.stripes) snapshot (events_in run finishes)
 
 -- A fix that went to its end: it looked at all stripes with something selected, and what it did to the files is what follows of that. What it could
--- not read was counted as a fault. Its levels hold the sums of the rows that are known, also in each image; its copies and all other bytes
+-- not read was counted as a fault. Its selected wrong levels hold the sums of the rows that are known, also in each image; its copies and all other bytes
 -- of its levels stay. It printed all lines, or a prefix where the output failed; its status is 0 exactly where that did not and nothing is left.
 -- Each selected damaged cell of a pending stripe is told to be lost. Where the table that it began with was sound, and no hash is met by
 -- chance, it restores the snapshot's blocks. A failure of the output is counted, and changes nothing else of this.

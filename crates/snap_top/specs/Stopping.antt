@@ -5,9 +5,9 @@ use Rattle.disk_model.specs.Opener.{folder_held}
 use Rattle.disk_model.specs.Stopped.{MayBeLeft}
 use Rattle.disk_model.specs.Tree.{File, IsTree, Tree, file_of, path_of}
 use Rattle.snap_fix.specs.Ending.{is_finished}
-use Rattle.snap_fix.specs.Facts.{is_missing}
+use Rattle.stripe_examiner.specs.Facts.{is_missing}
 use Rattle.snap_fix.specs.Mended.{Mended}
-use Rattle.snap_fix.specs.Plan.{starts_of}
+use Rattle.stripe_examiner.specs.Plan.{starts_of}
 use Rattle.snap_fix.specs.Stopped.{FixStop, IsNoneOf, StandsSpared, file_placed, path_at, records_of}
 use Rattle.snap_top.specs.Fix.{FixRun}
 use Rattle.snap_top.specs.Run.{Entry, Exit}

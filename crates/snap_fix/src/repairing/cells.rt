@@ -2,26 +2,20 @@
 ghost use Rattle.std.specs.Prelude.{◌≡◌, ◌<◌, [], length, get_or, IfOk, IfErr, Some, true};
 ghost use Rattle.parity_writer.specs.WindowRow.{bytes_of};
 ghost use Rattle.stripe_reader.specs.WindowValue.{slot_at};
-ghost use Rattle.snap_fix.specs.Marks.{CanExamine, mark_in};
-ghost use Rattle.snap_fix.specs.Mending.{CanWrite, with_state};
-ghost use Rattle.snap_fix.specs.Plan.{EntriesFit, plan_of, cell_at};
-ghost use Rattle.snap_fix.specs.RepairSteps.{CanMendColumn, MendsColumn, MendsNotColumn, column_outside};
-ghost use Rattle.snap_fix.specs.RepairSteps.{WritesBlockOf, WritesNotBlockOf, is_lost_by, is_repaired_by};
-ghost use Rattle.snap_fix.specs.State.{state_in};
-ghost use Rattle.snap_fix.specs.Underway.{is_damaged_mark};
+ghost use Rattle.stripe_examiner.specs.Marks.{CanExamine, mark_in};
+ghost use Rattle.file_restorer.specs.Mending.{CanWrite, with_state};
+ghost use Rattle.stripe_examiner.specs.Plan.{EntriesFit, plan_of, cell_at};
+ghost use Rattle.snap_fix.specs.RepairSteps.{CanMendColumn, MendsColumn, MendsNotColumn, column_outside, WritesBlockOf, WritesNotBlockOf, is_lost_by, is_repaired_by};
+ghost use Rattle.file_restorer.specs.State.{state_in};
+ghost use Rattle.stripe_examiner.specs.Showing.{is_damaged_mark};
 
 use super::Repaired;
-use crate::counts::Counts;
-use crate::entry::Entries;
-use crate::marking::CellMark;
-use crate::mending::mend_cell;
-use crate::scope::Scope;
-use crate::selecting::selects_cell;
-use crate::state::States;
 use disk_model::{Failed, Folder, Sink};
+use file_restorer::{States, mend_cell};
 use file_table::{Cell, Table};
 use snap_report::events::Event;
 use snap_report::{Lines, Report, tell};
+use stripe_examiner::{CellMark, Counts, Entries, Scope, selects_cell};
 use stripe_reader::{Found, Starts, Window};
 
 // The bytes of a cell, without the zeros behind them.

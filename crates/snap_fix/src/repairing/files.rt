@@ -1,18 +1,16 @@
 // The damaged cells of a stripe of the window, written anew.
 ghost use Rattle.std.specs.Prelude.{◌≡◌, ◌<◌, ◌≤◌, length, map, IfOk, IfErr};
-ghost use Rattle.snap_fix.specs.Marks.{CanExamine};
-ghost use Rattle.snap_fix.specs.Plan.{plan_of};
+ghost use Rattle.stripe_examiner.specs.Marks.{CanExamine};
+ghost use Rattle.stripe_examiner.specs.Plan.{plan_of};
 ghost use Rattle.snap_fix.specs.Repairing.{CanMend, MendsFiles, MendsNotFiles, outside};
 
 use super::Repaired;
 use super::cells::mend_column;
-use crate::entry::Entries;
-use crate::marking::CellMark;
-use crate::scope::Scope;
-use crate::state::States;
 use disk_model::{Folder, Sink};
+use file_restorer::States;
 use file_table::Table;
 use snap_report::{Lines, Report};
+use stripe_examiner::{CellMark, Entries, Scope};
 use stripe_reader::{Starts, Window};
 
 /// Writes the damaged blocks of the selected cells of a stripe that are known, column by column, each to the file of its

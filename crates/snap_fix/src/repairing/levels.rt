@@ -1,21 +1,19 @@
 // The wrong levels of a stripe of the window, written anew.
 ghost use Rattle.std.specs.Prelude.{◌≡◌, ◌<◌, ◌≤◌, [], ◌∷◌, length, IfOk, IfErr};
 ghost use Rattle.parity_writer.specs.WindowRow.{row_at};
-ghost use Rattle.snap_fix.specs.Facts.{StripeFacts};
-ghost use Rattle.snap_fix.specs.Judging.{TellsWrong};
-ghost use Rattle.snap_fix.specs.Marks.{CanExamine, row_if};
-ghost use Rattle.snap_fix.specs.Plan.{plan_of};
-ghost use Rattle.snap_fix.specs.Repairing.{CanMendLevels, FlagsWritten, MendsLevels, MendsNotLevels, ShowsLevels};
-ghost use Rattle.snap_fix.specs.Repairing.{levels_outside};
+ghost use Rattle.stripe_examiner.specs.Facts.{StripeFacts};
+ghost use Rattle.stripe_examiner.specs.Judging.{TellsWrong};
+ghost use Rattle.stripe_examiner.specs.Marks.{CanExamine, row_if};
+ghost use Rattle.stripe_examiner.specs.Plan.{plan_of};
+ghost use Rattle.snap_fix.specs.Repairing.{CanMendLevels, FlagsWritten, MendsLevels, MendsNotLevels, ShowsLevels, levels_outside};
 ghost use Rattle.snap_fix.specs.RepairSteps.{WritesLevel, WritesNotLevel};
 
-use crate::entry::Entries;
-use crate::scope::Scope;
 use disk_model::{Failed, Sink, Vault};
 use file_table::Table;
 use parity_writer::{Levels, sum_row};
 use snap_report::events::Event;
 use snap_report::{Lines, Report, tell};
+use stripe_examiner::{Entries, Scope};
 use stripe_reader::Window;
 
 // Writes a level of the row of a stripe of the window, and tells it.

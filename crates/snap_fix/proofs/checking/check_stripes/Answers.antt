@@ -1,8 +1,8 @@
 use Rattle.std.proofs.Common.{[], length, arith, refl, sym, ap, ◌∙◌}
 use Rattle.std.proofs.lemmas.List.{length-map}
-use Rattle.snap_fix.proofs.AskingLemmas.{is_for_still}
+use Rattle.stripe_examiner.proofs.AskingLemmas.{is_for_still}
 use Rattle.snap_fix.proofs.CheckLemmas.{checked_more, keeps_then}
-use Rattle.snap_fix.proofs.LookingLemmas.{looks_none}
+use Rattle.stripe_examiner.proofs.LookingLemmas.{looks_none}
 use Rattle.snap_fix.proofs.ReadLemmas.{read_none}
 use Rattle.snap_fix.proofs.checking.check_stripes.Goals as goal
 

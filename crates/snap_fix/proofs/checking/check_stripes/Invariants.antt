@@ -1,7 +1,7 @@
 use Rattle.std.proofs.Common.{◌≡◌, ◌≤◌, ◌-◌, length, map, take, List}
 use Rattle.snap_fix.specs.Checking.{KeepsWork, plan_for}
-use Rattle.snap_fix.specs.Facts.{StripeFacts}
-use Rattle.snap_fix.specs.Looking.{AreRead, LooksAt, numbers_of, scene}
+use Rattle.stripe_examiner.specs.Facts.{StripeFacts}
+use Rattle.stripe_examiner.specs.Looking.{AreRead, LooksAt, numbers_of, scene}
 use Rattle.snap_fix.proofs.checking.check_stripes.Given as goal
 
 abbrev pub invariant-loop-done : goal.invariant-loop-done

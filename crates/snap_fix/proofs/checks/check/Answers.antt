@@ -4,7 +4,7 @@ use Rattle.snap_report.specs.EventLines.{lines_of}
 use Rattle.snap_report.proofs.PutsLemmas.{puts_then}
 use Rattle.snap_report.proofs.ToldLemmas.{told_then}
 use Rattle.snap_fix.specs.Checking.{plan_for}
-use Rattle.snap_fix.specs.Findings.{opening_events, events_of}
+use Rattle.stripe_examiner.specs.Findings.{opening_events, events_of}
 use Rattle.snap_fix.proofs.CourseLemmas.{entries_begun, work_begun, read_begun}
 use Rattle.snap_fix.proofs.checks.check.Goals as goal
 

@@ -1,8 +1,9 @@
 use Rattle.std.proofs.Common.{◌<◌, length, refl, arith}
-use Rattle.snap_fix.specs.Plan.{plan_of, records_in}
+use Rattle.stripe_examiner.specs.Plan.{plan_of}
+use Rattle.file_table.specs.Table.{records_in}
 use Rattle.snap_fix.proofs.EndingColumnLemmas.{told_start, can_next, told_more, ended_not, ended_all}
 use Rattle.snap_fix.proofs.EndingSyncLemmas.{on_err}
-use Rattle.snap_fix.proofs.RecordPathsLemmas.{table_paths}
+use Rattle.file_restorer.proofs.RecordPathsLemmas.{table_paths}
 use Rattle.snap_fix.proofs.ending.end_column.Goals as goal
 
 pub loop-i-init : goal.loop-i-init

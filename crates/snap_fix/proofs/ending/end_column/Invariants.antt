@@ -1,4 +1,4 @@
-use Rattle.snap_fix.specs.Plan.{plan_of}
+use Rattle.stripe_examiner.specs.Plan.{plan_of}
 use Rattle.snap_fix.proofs.EndingColumnLemmas.{ToldTo}
 use Rattle.snap_fix.proofs.ending.end_column.Given as goal
 

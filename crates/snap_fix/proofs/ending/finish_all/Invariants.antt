@@ -1,5 +1,5 @@
 use Rattle.std.proofs.Common.{map}
-use Rattle.snap_fix.specs.Plan.{plan_of}
+use Rattle.stripe_examiner.specs.Plan.{plan_of}
 use Rattle.snap_fix.proofs.EndingAllLemmas.{AllToldTo}
 use Rattle.snap_fix.proofs.ending.finish_all.Given as goal
 

@@ -1,9 +1,9 @@
 use Rattle.std.proofs.Common.{◌++◌, ◌∙◌, List, ap₂, subst, sym}
 use Rattle.snap_report.specs.declared.events.Event.{Event}
 use Rattle.snap_report.proofs.ToldLemmas.{told_then}
-use Rattle.snap_fix.specs.Counts.{AreCounts}
+use Rattle.stripe_examiner.specs.Counts.{AreCounts}
 use Rattle.snap_fix.proofs.EndingTellLemmas.{news_parts}
-use Rattle.snap_fix.proofs.TellingLemmas.{told_as}
+use Rattle.stripe_examiner.proofs.TellingLemmas.{told_as}
 use Rattle.snap_fix.proofs.ending.tell_finish.Goals as goal
 
 pub returns-clause-told : goal.returns-clause-told

@@ -1,21 +1,20 @@
-use Rattle.std.proofs.Common.{◌≡◌, ◌≤◌, length, map, take, ℕ}
-use Rattle.stripe_reader.specs.WindowValue.{slot_at}
+use Rattle.std.proofs.Common.{◌≡◌, List, length, map, take}
+use Rattle.stripe_examiner.specs.Facts.{StripeFacts}
+use Rattle.stripe_examiner.specs.Plan.{plan_of}
+use Rattle.stripe_examiner.specs.Spare.{IsSpareFor, SpareView}
 use Rattle.snap_fix.specs.Fixing.{fix_scene}
-use Rattle.snap_fix.specs.FixRun.{FixesInto}
-use Rattle.snap_fix.specs.Plan.{plan_of}
-use Rattle.snap_fix.specs.Room.{IsRoomFor}
+use Rattle.snap_fix.specs.FixRun.{MendsInto}
+use Rattle.snap_fix.specs.WindowShown.{ShowsAll}
 use Rattle.snap_fix.proofs.fixes.fix_into.Given as goal
 
 abbrev pub invariant-loop-i : goal.invariant-loop-i
 invariant-loop-i g l =
     record {
-      fixed : FixesInto g.W.Sink.view (λ b. (goal.Report-dyn g (b.vtable, b.value)).standing b.value) (λ b. (goal.Report-dyn g (b.vtable, b.value)).stands b.value)
-          (plan_of l.scope l.table l.entries) (take l.i l.stripes) l.fn.room.window
-          (fix_scene l.fn.starts l.fn.states l.fn.written (map g.F.Folder.view l.fn.folders) (g.V.Vault.view l.fn.vault) (g.P.Spare.holding l.fn.spare) l.fn.lines l.fn.reports.items)
-          (fix_scene l.starts l.states l.written (map g.F.Folder.view l.folders) (g.V.Vault.view l.vault) (g.P.Spare.holding l.spare) l.lines l.reports.items) l.totals;
-      room : IsRoomFor l.table l.room;
-      as_large : l.room.window.room ≡ l.fn.room.window.room;
-      count : l.room.window.count ≡ l.fn.room.window.count;
-      lanes : length l.room.window.lanes ≡ length l.fn.room.window.lanes;
-      later : (k d : ℕ) → l.i ≤ k → slot_at l.room.window k d ≡ slot_at l.fn.room.window k d;
+      mends : (all : List StripeFacts) (spare : SpareView)
+          → ShowsAll (plan_of l.scope l.table l.entries) all l.stripes l.window l.rooms → IsSpareFor l.table.shape spare
+          → MendsInto g.W.Sink.view (λ b. (goal.Report-dyn g (b.vtable, b.value)).standing b.value) (λ b. (goal.Report-dyn g (b.vtable, b.value)).stands b.value)
+          (plan_of l.scope l.table l.entries) (take l.i all)
+          (fix_scene l.fn.starts l.fn.states l.fn.written (map g.F.Folder.view l.fn.folders) (g.V.Vault.view l.fn.vault) spare l.fn.lines l.fn.reports.items)
+          (fix_scene l.starts l.states l.written (map g.F.Folder.view l.folders) (g.V.Vault.view l.vault) spare l.lines l.reports.items) l.totals;
+      block : length l.block ≡ length l.fn.block;
     }

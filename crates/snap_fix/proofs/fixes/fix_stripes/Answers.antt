@@ -3,8 +3,9 @@ use Rattle.snap_fix.specs.Checking.{plan_for}
 use Rattle.snap_fix.specs.FixRun.{BreaksStripes}
 use Rattle.snap_fix.specs.Fixing.{fix_scene}
 use Rattle.snap_fix.proofs.FixIntoLemmas.{still_underway}
-use Rattle.snap_fix.proofs.FixStripesLemmas.{breaks_for, into_for, items_same, keeps_fix_then, stripes_break, stripes_more, stripes_none, underway_for, work_goes_on}
-use Rattle.snap_fix.proofs.GoesOnLemmas.{handed_on}
+use Rattle.snap_fix.proofs.FixStripesLemmas.{stripes_break, stripes_more, stripes_none}
+use Rattle.snap_fix.proofs.FixWorkLemmas.{breaks_for, into_for, items_same, keeps_fix_then, underway_for, work_goes_on}
+use Rattle.file_restorer.proofs.GoesOnLemmas.{handed_on}
 use Rattle.snap_fix.proofs.fixes.fix_stripes.Goals as goal
 
 pub loop-done-init : goal.loop-done-init
@@ -19,7 +20,7 @@ pub fix_window-requires-clause-underway : goal.fix_window-requires-clause-underw
 fix_window-requires-clause-underway g c κs within =
     let so_far = c.loop-done.invariant in
     underway_for c.args.table.now c.args.work.now c.loop-done.work so_far.kept (map g.F.Folder.view c.loop-done.folders) c.loop-done.work.starts c.loop-done.states
-    (still_underway _ _ _ _ _ _ _ _ c.requires.underway so_far.fixed.fixes)
+    (still_underway _ _ _ _ _ _ _ _ c.requires.underway so_far.fixed.fixes.mends)
 
 pub returns-in_err-more-clause-broke : goal.returns-in_err-more-clause-broke
 returns-in_err-more-clause-broke g c =
@@ -38,7 +39,7 @@ returns-in_err-more-clause-broke g c =
     let count = c.min-count.result in
     let numbers = take count (drop done work.stripes.items) in
     handed_on c.from_residual.result (BreaksStripes _ _ _ plan first.stripes.items old new) fault c.from_residual.ensures.1
-    (stripes_break _ _ _ plan numbers work.room.window window.window mid window.mids window.read so_far.fixed.fixes.fits (take done first.stripes.items) c.loop-done.totals old so_far.fixed new fault
+    (stripes_break _ _ _ plan numbers work.room.window window.window mid window.mids window.read so_far.fixed.fixes.mends.fits (take done first.stripes.items) c.loop-done.totals old so_far.fixed new fault
     (breaks_for table first work so_far.kept _ _ _ numbers window.window _ new fault window.breaks) first.stripes.items done count c.requires.ascending refl
     (items_same table first work so_far.kept done count) c.requires.fits)
 
@@ -57,7 +58,7 @@ loop-done-preserved g c =
     let mid = fix_scene work.starts c.loop-done.states c.loop-done.written (map g.F.Folder.view c.loop-done.folders) (g.V.Vault.view c.loop-done.vault) (g.P.Spare.holding c.loop-done.spare) c.loop-done.lines c.loop-done.reports.items in
     let it = c.fix_window.new in
     let new = fix_scene it.work.starts it.states it.written (map g.F.Folder.view it.folders) (g.V.Vault.view it.vault) (g.P.Spare.holding it.spare) it.lines it.reports.items in
-    let more = stripes_more _ _ _ plan numbers work.room.window window.window mid window.mids window.read so_far.fixed.fixes.fits first.stripes.items done count c.requires.ascending
+    let more = stripes_more _ _ _ plan numbers work.room.window window.window mid window.mids window.read so_far.fixed.fixes.mends.fits first.stripes.items done count c.requires.ascending
     (items_same table first work so_far.kept done count) c.loop-done.totals c.in_ok-more.more c.and-totals.result old new so_far.fixed
     (into_for table first work so_far.kept _ _ _ numbers window.window _ new c.in_ok-more.more window.fixes) (c.and-totals.ensures plan) in
     let kept = keeps_fix_then table first work it.work so_far.kept c.in_ok-more.ensures.kept in
@@ -65,5 +66,5 @@ loop-done-preserved g c =
       fixed = more;
       within = omega (arith, c.min-count.ensures, c.len-in-loop-done.ensures, c.loop-done-test.true, ap (λ it. length it.stripes.items) so_far.kept.rest, so_far.within);
       kept = kept;
-      work = work_goes_on table first it.work kept c.requires.work more.fixes.fits.starts;
+      work = work_goes_on table first it.work kept c.requires.work more.fixes.mends.fits.starts;
     }

@@ -1,9 +1,9 @@
 use Rattle.std.proofs.Common.{length}
 use Rattle.cauchy.specs.System.{AreDistinctBelow}
-use Rattle.snap_fix.specs.Search.{columns_of}
-use Rattle.snap_fix.proofs.RestorableFilling.{filled_agrees, filled_holds, filled_right}
+use Rattle.stripe_examiner.specs.Search.{columns_of}
+use Rattle.stripe_examiner.proofs.RestorableFilling.{filled_agrees, filled_holds, filled_right}
 use Rattle.snap_fix.proofs.RestorableLemmas.{accepted_long, levels_of_blocks}
-use Rattle.snap_fix.specs.Restorable.{row_with}
+use Rattle.stripe_examiner.specs.Restorable.{row_with}
 use Rattle.snap_fix.proofs.laws.accepted_blocks_complete_the_row.Goals as goal
 
 pub returns-clause-levels : goal.returns-clause-levels

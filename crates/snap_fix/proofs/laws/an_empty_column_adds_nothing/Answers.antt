@@ -1,4 +1,4 @@
-use Rattle.snap_fix.proofs.RestorableSums.{empty_level}
+use Rattle.stripe_examiner.proofs.RestorableSums.{empty_level}
 use Rattle.snap_fix.proofs.laws.an_empty_column_adds_nothing.Goals as goal
 
 pub returns : goal.returns

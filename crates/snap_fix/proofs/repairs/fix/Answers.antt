@@ -3,21 +3,21 @@ use Rattle.std.specs.Result.{is_err}
 use Rattle.std.proofs.lemmas.List.{get_or-replicate, take_at}
 use Rattle.file_table.specs.declared.shape.Shape.{Shape}
 use Rattle.snap_config.specs.Setup.{setup_value}
-use Rattle.snap_fix.specs.declared.entry.Entry.{Entry}
-use Rattle.snap_fix.specs.declared.scope.Mode.TheVariants.{Fix}
-use Rattle.snap_fix.specs.declared.scope.Scope.{Scope}
-use Rattle.snap_fix.specs.declared.state.FileState.{FileState}
+use Rattle.stripe_examiner.specs.declared.entry.Entry.{Entry}
+use Rattle.stripe_examiner.specs.declared.scope.Mode.TheVariants.{Fix}
+use Rattle.stripe_examiner.specs.declared.scope.Scope.{Scope}
+use Rattle.file_restorer.specs.declared.state.FileState.{FileState}
 use Rattle.snap_fix.specs.Checking.{plan_for}
 use Rattle.snap_fix.specs.Course.{outside}
 use Rattle.snap_fix.specs.Ending.{CanFinishAll}
-use Rattle.snap_fix.specs.Mending.{StatesFit}
-use Rattle.snap_fix.specs.Plan.{FixPlan, names_of, plan_of}
+use Rattle.file_restorer.specs.Mending.{StatesFit}
+use Rattle.stripe_examiner.specs.Plan.{FixPlan, names_of, plan_of}
 use Rattle.snap_fix.proofs.BeginningLemmas.{all_listed}
 use Rattle.snap_fix.proofs.CourseLemmas.{entries_begun, work_begun}
 use Rattle.snap_fix.proofs.FixCourseLemmas.{finish_broke, fixes, stripes_broke, sync_broke}
 use Rattle.snap_fix.proofs.FixEndLemmas.{can_finish}
 use Rattle.snap_fix.proofs.FixStartLemmas.{folders_formed, states_fit, work_ascending, work_fixable, work_listed, work_underway}
-use Rattle.snap_fix.proofs.GoesOnLemmas.{handed_on}
+use Rattle.file_restorer.proofs.GoesOnLemmas.{handed_on}
 use Rattle.snap_fix.proofs.repairs.fix.Goals as goal
 
 -- what holds of each fault, where there is one
@@ -126,10 +126,10 @@ finish_all-requires-after_bounds g c κs within =
     let kept = c.in_ok-totals.ensures.kept in
     let fixable = work_fixable _ _ _ _ _ _ _ begun folders_are c.requires.open (folders_formed g.F.Folder.view g.F.Folder.well_formed c.begin.new.folders) in
     let first = work_underway _ _ _ _ _ _ _ begun folders_are c.in-Ok.states c.in-Ok.ensures in
-    let fits = fixed.fixes.fits in
+    let fits = fixed.fixes.mends.fits in
     subst (λ (plan : FixPlan). CanFinishAll plan mid.work.starts mid.states nows)
     (sym (ap₂ (λ (scope : Scope) (entries : List (List Entry)). plan_of scope table entries) kept.0 kept.1))
-    (can_finish (plan_for table work) c.shape.ensures.valid fixed.stripes mids nows mid.work.starts mid.states fixable (fixed.fixes.underway [] mids fixable first)
+    (can_finish (plan_for table work) c.shape.ensures.valid fixed.stripes mids nows mid.work.starts mid.states fixable (fixed.fixes.mends.underway [] mids fixable first)
     (work_listed _ _ _ _ _ _ _ begun folders_are) fits.folders (entries_begun _ _ _ _ _ _ _ begun) fits.starts fits.states)
 
 pub returns-in-Err-clause-failed : goal.returns-in-Err-clause-failed

@@ -1,5 +1,5 @@
 use Rattle.std.proofs.Common.{◌≡◌, map, take}
-use Rattle.snap_fix.specs.State.{first_state}
+use Rattle.file_restorer.specs.State.{first_state}
 use Rattle.snap_fix.proofs.repairs.states_of_columns.Given as goal
 
 abbrev pub invariant-loop-d : goal.invariant-loop-d

@@ -1,9 +1,9 @@
 use Rattle.std.proofs.Common.{ap, refl, ◌∙◌, true}
 use Rattle.std.specs.Vec.{with_item}
-use Rattle.snap_fix.specs.declared.state.FileState.{FileState}
-use Rattle.snap_fix.specs.Mending.{with_state}
-use Rattle.snap_fix.specs.State.{no_state}
-use Rattle.snap_fix.proofs.NestedLemmas.{element_is, rows_set}
+use Rattle.file_restorer.specs.declared.state.FileState.{FileState}
+use Rattle.file_restorer.specs.Mending.{with_state}
+use Rattle.file_restorer.specs.State.{no_state}
+use Rattle.file_restorer.proofs.NestedLemmas.{element_is, rows_set}
 use Rattle.snap_fix.proofs.repairing.cells.lose.Goals as goal
 
 pub returns : goal.returns

@@ -1,7 +1,7 @@
 use Rattle.std.proofs.Common.{refl, sym, ◌∙◌}
 use Rattle.snap_report.proofs.ToldLemmas.{told_nothing}
-use Rattle.snap_fix.specs.Marks.{mark_in}
-use Rattle.snap_fix.specs.Plan.{plan_of}
+use Rattle.stripe_examiner.specs.Marks.{mark_in}
+use Rattle.stripe_examiner.specs.Plan.{plan_of}
 use Rattle.snap_fix.specs.RepairSteps.{column_outside}
 use Rattle.snap_fix.proofs.RepairCellLemmas.{column_stays, column_loses, can_write, column_written, column_not}
 use Rattle.snap_fix.proofs.RepairMarkLemmas.{lost_stays, right_stays, none_stays}

@@ -1,5 +1,5 @@
 use Rattle.snap_report.proofs.ToldLemmas.{told_nothing}
-use Rattle.snap_fix.proofs.GoesOnLemmas.{handed_on}
+use Rattle.file_restorer.proofs.GoesOnLemmas.{handed_on}
 use Rattle.snap_fix.proofs.RepairWriteLemmas.{block_written, block_lost}
 use Rattle.snap_fix.proofs.repairing.cells.write_cell.Goals as goal
 

@@ -1,10 +1,10 @@
 use Rattle.std.proofs.Common.{◌≡◌, ◌<◌, ◌≤◌, length, true, arith, refl, sym, ap, ◌∙◌}
 use Rattle.disk_model.proofs.VaultLemmas.{no_calls, calls_then}
 use Rattle.parity_writer.proofs.Keeping.{drafts_start, drafts_then}
-use Rattle.snap_fix.specs.Plan.{plan_of}
+use Rattle.stripe_examiner.specs.Plan.{plan_of}
 use Rattle.std.proofs.lemmas.List.{length-set}
 use Rattle.snap_fix.proofs.FlagLemmas.{flags_none, flags_skip, flags_more, flags_all}
-use Rattle.snap_fix.proofs.GoesOnLemmas.{handed_on}
+use Rattle.file_restorer.proofs.GoesOnLemmas.{handed_on}
 use Rattle.snap_fix.proofs.MendedLevelLemmas.{levels_none, levels_skip, mends_more, mends_all, mends_not, wrong_shown}
 use Rattle.snap_fix.proofs.repairing.levels.mend_levels.Goals as goal
 

@@ -1,7 +1,7 @@
 use Rattle.std.proofs.Common.{ℕ, ◌*◌, ap₂, ap, ◌∙◌}
 use Rattle.cauchy.specs.Matrix.{parity_of as level_of}
 use Rattle.parity_writer.specs.WindowRow.{row_at}
-use Rattle.snap_fix.proofs.GoesOnLemmas.{handed_on}
+use Rattle.file_restorer.proofs.GoesOnLemmas.{handed_on}
 use Rattle.snap_fix.proofs.MendedLevelLemmas.{level_not_written, level_written}
 use Rattle.snap_fix.proofs.repairing.levels.write_level.Goals as goal
 

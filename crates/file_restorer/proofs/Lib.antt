@@ -1,0 +1,15 @@
+pub mod FinishNameLemmas
+pub mod FinishCallsLemmas
+pub mod FinishTreeLemmas
+pub mod FinishStepsLemmas
+pub mod FinishWholeLemmas
+pub mod FinishRecordLemmas
+pub mod FolderCallLemmas
+pub mod FolderFailsLemmas
+pub mod MendedRecordLemmas
+pub mod GoesOnLemmas
+pub mod RecordPathsLemmas
+pub mod MendedColumnLemmas
+pub mod MendedCellLemmas
+pub mod NestedLemmas
+pub mod OrderLemmas

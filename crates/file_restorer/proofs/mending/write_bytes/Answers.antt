@@ -1,0 +1,28 @@
+use Rattle.std.proofs.Common.{ℕ, true, subst, sym}
+use Rattle.disk_model.specs.declared.fault.FileFault.{FileFault}
+use Rattle.file_restorer.specs.Mending.{EndsBy, IsBlockCall, WritesBytes}
+use Rattle.file_restorer.proofs.GoesOnLemmas.{handed_on, writes_bytes, write_ends}
+use Rattle.file_restorer.proofs.mending.write_bytes.Goals as goal
+
+pub returns-in_err-write_at-clause-fault : goal.returns-in_err-write_at-clause-fault
+returns-in_err-write_at-clause-fault g c =
+    let failed = c.in_err-write_at in
+    let old = g.F.Folder.view c.args.folder.now in
+    let mid = g.F.Folder.view c.set_up.new.folder in
+    let end = g.F.Folder.view c.write_at.new.self in
+    handed_on c.from_residual-in_err-write_at.result
+    (λ (fault : FileFault). EndsBy fault (IsBlockCall c.args.start.now.place c.args.path.now c.args.at c.args.bytes.now) c.args.path.now c.args.start.now c.args.state.now old c.set_up.new.start c.set_up.new.state end)
+    failed.field-0.0 c.from_residual-in_err-write_at.ensures.1
+    (write_ends c.args.path.now c.args.start.now c.args.state.now old c.requires.ready c.set_up.new.start c.set_up.new.state mid c.in_ok-set_up.ensures.set_up
+    c.args.at c.args.bytes.now failed.field-0.0 end (g.F.Folder.well_formed _) failed.ensures.call failed.ensures.missing)
+
+pub returns-clause-written : goal.returns-clause-written
+returns-clause-written g c =
+    let old = g.F.Folder.view c.args.folder.now in
+    let mid = g.F.Folder.view c.set_up.new.folder in
+    let end = g.F.Folder.view c.write_at.new.self in
+    let state = c.set_up.new.state in
+    subst (λ (n : ℕ). WritesBytes c.args.path.now c.args.at c.args.bytes.now c.args.start.now c.args.state.now old c.set_up.new.start (record { lost = state.lost; touched = true; size = n }) end)
+    (sym c.max-state.ensures)
+    (writes_bytes c.args.path.now c.args.start.now c.args.state.now old c.requires.ready c.set_up.new.start state mid c.in_ok-set_up.ensures.set_up
+    c.args.at c.args.bytes.now end (g.F.Folder.well_formed _) c.in_ok-write_at.ensures.call)

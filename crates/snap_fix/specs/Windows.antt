@@ -1,0 +1,49 @@
+-- The windows of a fix: of the stripes of one all levels are read first, and then the wrong ones written.
+use Rattle.std.specs.Prelude.{◌≡◌, ◌≤◌, List, ◌++◌, length, All}
+use Rattle.std.specs.List.{flat_map}
+use Rattle.disk_model.specs.Vault.{VaultCall, VaultDone}
+use Rattle.parity_writer.specs.LevelReading.{LevelReading}
+use Rattle.stripe_reader.specs.declared.window.TheConstants.{MOST_STRIPES}
+use Rattle.stripe_examiner.specs.Facts.{StripeFacts}
+use Rattle.stripe_examiner.specs.Looking.{level_reads}
+use Rattle.stripe_examiner.specs.Plan.{FixPlan}
+use Rattle.snap_fix.specs.Underway.{done_well, wrong_writes}
+
+-- the stripes of a window, and what was read of the levels of each
+pub record FixWindow : Type 0 where
+  pub stripes : List StripeFacts
+  pub readings : List (List LevelReading)
+
+abbrev pub stripes_in : List FixWindow → List StripeFacts
+stripes_in windows = flat_map (λ (window : FixWindow). window.stripes) windows
+
+abbrev pub readings_in : List FixWindow → List (List LevelReading)
+readings_in windows = flat_map (λ (window : FixWindow). window.readings) windows
+
+-- the readings are one list for each stripe, and there are no more stripes than a window has at most
+pub record IsFixWindow (window : FixWindow) : Type 0 where
+  pub as_many : length window.readings ≡ length window.stripes
+  pub few : length window.stripes ≤ MOST_STRIPES
+
+-- stripes, and what was read of their levels, cut into windows
+pub record AreWindows (windows : List FixWindow) (stripes : List StripeFacts) (readings : List (List LevelReading)) : Type 0 where
+  pub stripes_are : stripes ≡ stripes_in windows
+  pub readings_are : readings ≡ readings_in windows
+  pub each : All IsFixWindow windows
+
+-- ---- the calls of the vault
+
+-- the levels of all stripes of a window are read, stripe after stripe
+abbrev pub window_reads : FixPlan → FixWindow → List VaultDone
+window_reads plan window = level_reads plan.table.shape.block_size window.stripes window.readings
+
+-- the wrong levels of stripes are written, stripe after stripe
+abbrev pub all_wrong_writes : FixPlan → List StripeFacts → List VaultCall
+all_wrong_writes plan stripes = flat_map (wrong_writes plan) stripes
+
+-- all calls for a window, and for windows, one after another
+abbrev pub window_calls : FixPlan → FixWindow → List VaultDone
+window_calls plan window = window_reads plan window ++ done_well (all_wrong_writes plan window.stripes)
+
+abbrev pub mend_calls : FixPlan → List FixWindow → List VaultDone
+mend_calls plan windows = flat_map (window_calls plan) windows

@@ -1,0 +1,84 @@
+use Rattle.std.proofs.Common.{rules, ◌≡◌, ◌≢◌, inl, inr, ℕ, ◌<◌, Bool, length, sym, ap, ◌∙◌, subst, arith}
+use Rattle.std.specs.Prelude.{slice_set}
+use Rattle.std.proofs.lemmas.Bool.{cases_lt}
+use Rattle.std.proofs.lemmas.List.{get_or-set_same, get_or-set_other}
+use Rattle.file_table.specs.Cells.{cell_view}
+use Rattle.file_table.specs.Table.{column_at}
+use Rattle.stripe_reader.specs.SlotValue.{SlotValue}
+use Rattle.stripe_reader.specs.WindowValue.{slot_at}
+use Rattle.stripe_examiner.specs.declared.marking.CellMark.{CellMark}
+use Rattle.stripe_examiner.specs.declared.marking.CellMark.TheVariants.{Right}
+use Rattle.stripe_examiner.specs.AskedCell.{AsksCells, asks_for, holds_wanted, is_marked_given}
+use Rattle.stripe_examiner.specs.Facts.{wanted_by}
+use Rattle.stripe_examiner.specs.Marks.{IsMarked, mark_in}
+use Rattle.stripe_examiner.specs.Plan.{plan_of, seen_at}
+use Rattle.stripe_examiner.proofs.AskingLemmas.{block_as, cells_more, holds_still}
+use Rattle.stripe_examiner.proofs.marking.mark_cells.Goals as goal
+
+pub loop-d-preserved : goal.loop-d-preserved
+loop-d-preserved g c =
+    let so_far = c.loop-d.invariant in
+    let one = c.mark_cell.ensures in
+    let old = g.P.Spare.holding c.args.spare.now in
+    let mid = g.P.Spare.holding c.loop-d.spare in
+    let new = g.P.Spare.holding c.mark_cell.new.spare in
+    let table = c.args.table.now in
+    let d = c.loop-d.d in
+    let marks = slice_set c.loop-d.marks d c.mark_cell.result in
+    let seen = λ (e : ℕ). cell_view (column_at table.columns e) c.args.stripe in
+    let asked = λ (e : ℕ). asks_for c.is_searched-searched.result (seen e) (slot_at c.args.window.now c.args.i e) in
+    let held = λ (e : ℕ). holds_wanted old (wanted_by table.shape e (seen e)) in
+    let after = c.mark_cell.new.window in
+    let is_marked = λ (e : ℕ) (before : SlotValue) (mark : CellMark) (slot : SlotValue). IsMarked c.is_searched-searched.result table.shape (seen e) before mark slot in
+    let within : d < length c.loop-d.marks = omega (arith, c.loop-d.auto.marks, c.requires.marks, c.disks-d-end.ensures.count, c.loop-d-test.true) in
+    record {
+      changes = search rules;
+      marked = λ e below. elim (cases_lt e d) [
+        | inl near ↦
+            let other : e ≢ d = λ same. omega (arith, near, same) in
+            subst (λ mark. is_marked e (slot_at c.args.window.now c.args.i e) mark (slot_at after c.args.i e)) (sym (get_or-set_other c.loop-d.marks d e c.mark_cell.result Right other))
+            (subst (λ slot. is_marked e (slot_at c.args.window.now c.args.i e) (mark_in c.loop-d.marks e) slot) (sym (one.changes.others c.args.i e (inr other))) (so_far.marked e near))
+        | inr far ↦
+            let here : e ≡ d = omega (arith, below, far) in
+            subst (λ (k : ℕ). is_marked k (slot_at c.args.window.now c.args.i k) (mark_in marks k) (slot_at after c.args.i k)) (sym here)
+            (subst (λ mark. is_marked d (slot_at c.args.window.now c.args.i d) mark (slot_at after c.args.i d)) (sym (get_or-set_same c.loop-d.marks d c.mark_cell.result Right within))
+            (subst (λ slot. is_marked d slot c.mark_cell.result (slot_at after c.args.i d)) (so_far.rest d (omega arith)) one.mark))
+      ];
+      asks = cells_more asked held (λ e. is_marked_given (mark_in c.loop-d.marks e)) (λ e. is_marked_given (mark_in marks e)) d old mid new
+          (λ e below. ap (λ mark. is_marked_given mark) (get_or-set_other c.loop-d.marks d e c.mark_cell.result Right (λ same. omega (arith, below, same))))
+          so_far.asks
+          (block_as _ _ _ (asked d) (held d) (is_marked_given (mark_in marks d)) mid new
+          (ap (λ (slot : SlotValue). asks_for c.is_searched-searched.result (seen d) slot) (so_far.rest d (omega arith)))
+          (holds_still old mid _ _ so_far.asks.same)
+          (ap (λ mark. is_marked_given mark) (sym (get_or-set_same c.loop-d.marks d c.mark_cell.result Right within)))
+          one.asks);
+      rest = search rules;
+    }
+
+pub returns-clause-marked : goal.returns-clause-marked
+returns-clause-marked g c =
+    let table = c.args.table.now in
+    let stripe = c.args.stripe in
+    let plan = plan_of c.args.scope table c.args.entries.now in
+    let so_far = c.loop-d.invariant in
+    record {
+      changes = so_far.changes;
+      as_many = c.loop-d.auto.marks ∙ c.requires.marks;
+      each = λ d within.
+          let below : d < c.loop-d.d = omega (arith, within, c.disks-d-end.ensures.count) in
+          subst (λ (searched : Bool). IsMarked searched table.shape (seen_at plan stripe d) (slot_at c.args.window.now c.args.i d) (mark_in c.loop-d.marks d) (slot_at c.loop-d.window c.args.i d))
+          (c.is_searched-searched.ensures c.args.entries.now) (so_far.marked d below);
+    }
+
+pub returns-clause-asks : goal.returns-clause-asks
+returns-clause-asks g c =
+    let table = c.args.table.now in
+    let stripe = c.args.stripe in
+    let plan = plan_of c.args.scope table c.args.entries.now in
+    let old = g.P.Spare.holding c.args.spare.now in
+    let new = g.P.Spare.holding c.loop-d.spare in
+    let asks = λ (searched : Bool) (count : ℕ). AsksCells count (λ e. asks_for searched (seen_at plan stripe e) (slot_at c.args.window.now c.args.i e))
+    (λ e. holds_wanted old (wanted_by table.shape e (seen_at plan stripe e))) (λ e. is_marked_given (mark_in c.loop-d.marks e)) old new in
+    let all : c.loop-d.d ≡ length table.columns = omega (arith, c.disks-d-end.ensures.count, c.loop-d-test.false) in
+    subst (λ (searched : Bool). asks searched (length table.columns)) (c.is_searched-searched.ensures c.args.entries.now)
+    (subst (λ (count : ℕ). asks c.is_searched-searched.result count) all c.loop-d.invariant.asks)

@@ -1,0 +1,23 @@
+use Rattle.std.proofs.Common.{◌≡◌, ℕ, ◌<◌, ◌≤◌}
+use Rattle.file_table.specs.Cells.{cell_view}
+use Rattle.file_table.specs.Table.{column_at}
+use Rattle.stripe_reader.specs.WindowValue.{slot_at}
+use Rattle.stripe_examiner.specs.AskedCell.{AsksCells, asks_for, holds_wanted, is_marked_given}
+use Rattle.stripe_examiner.specs.Facts.{wanted_by}
+use Rattle.stripe_examiner.specs.Marks.{ChangesStripe, IsMarked, mark_in}
+use Rattle.stripe_examiner.proofs.marking.mark_cells.Given as goal
+
+-- the columns so far are marked, and the others are as they were
+abbrev pub invariant-loop-d : goal.invariant-loop-d
+invariant-loop-d g l = record {
+  changes : ChangesStripe l.i l.fn.window l.window;
+  marked : (e : ℕ) → e < l.d
+      → IsMarked l.searched l.table.shape (cell_view (column_at l.table.columns e) l.stripe)
+      (slot_at l.fn.window l.i e) (mark_in l.marks e) (slot_at l.window l.i e);
+  asks : AsksCells l.d
+      (λ e. asks_for l.searched (cell_view (column_at l.table.columns e) l.stripe) (slot_at l.fn.window l.i e))
+      (λ e. holds_wanted (g.P.Spare.holding l.fn.spare) (wanted_by l.table.shape e (cell_view (column_at l.table.columns e) l.stripe)))
+      (λ e. is_marked_given (mark_in l.marks e))
+      (g.P.Spare.holding l.fn.spare) (g.P.Spare.holding l.spare);
+  rest : (e : ℕ) → l.d ≤ e → slot_at l.window l.i e ≡ slot_at l.fn.window l.i e;
+}

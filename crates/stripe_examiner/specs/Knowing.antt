@@ -1,0 +1,28 @@
+-- What leads from the marks of a stripe to its row.
+use Rattle.std.specs.Prelude.{◌≡◌, ◌≢◌, ℕ, ◌<◌, List, length, slice_index, is_some, true, All}
+use Rattle.gf256.specs.Field.{field_sum}
+use Rattle.cauchy.specs.Matrix.{parity_byte}
+use Rattle.parity_writer.specs.Parity.{Row}
+use Rattle.stripe_reader.specs.WindowValue.{WindowValue, slot_at}
+use Rattle.stripe_examiner.specs.declared.marking.CellMark.{CellMark}
+use Rattle.stripe_examiner.specs.declared.search.Wanted.{Wanted}
+use Rattle.stripe_examiner.specs.Marks.{is_marked_missing, mark_in}
+use Rattle.stripe_examiner.specs.Plan.{FixPlan, seen_at}
+
+-- each column that is marked as missing has a cell
+abbrev pub HaveCells : FixPlan → ℕ → List CellMark → Type 0
+HaveCells plan stripe marks =
+    (d : ℕ) → d < length plan.table.columns → is_marked_missing (mark_in marks d) ≡ true
+    → is_some (seen_at plan stripe d) ≡ true
+
+-- a block of a level, less the sum of a row
+abbrev pub IsRemainder : ℕ → Row → List ℕ → List ℕ → Type 0
+IsRemainder level row block remainder =
+    (p : ℕ) → p < length block
+    → slice_index remainder p ≡ field_sum (slice_index block p) (parity_byte level row p)
+
+-- the slots of a stripe are as they were, but in the columns of these blocks
+abbrev pub KeepsOtherColumns : ℕ → List Wanted → WindowValue → WindowValue → Type 0
+KeepsOtherColumns i wanteds before after =
+    (d : ℕ) → All (λ (wanted : Wanted). wanted.column ≢ d) wanteds
+    → slot_at after i d ≡ slot_at before i d

@@ -1,0 +1,32 @@
+-- What the mark of one cell says, and what it changes of the window.
+use Rattle.std.specs.Prelude.{◌≡◌, ◌≢◌, ◌⊎◌, ℕ, List, [], length, Option, Some}
+use Rattle.block_hash.specs.Hash.{hash}
+use Rattle.block_hash.specs.declared.Digest16.{Digest16}
+use Rattle.file_table.specs.declared.shape.Shape.{Shape}
+use Rattle.stripe_reader.specs.Slot.{slot_given}
+use Rattle.stripe_reader.specs.SlotValue.{SlotValue}
+use Rattle.stripe_reader.specs.WindowValue.{WindowValue, slot_at}
+use Rattle.stripe_examiner.specs.declared.marking.CellMark.{CellMark}
+use Rattle.stripe_examiner.specs.declared.marking.CellMark.TheVariants.{Right, Given, Missing}
+
+-- the window has the same room, and all slots but that of one column at one stripe are as they were
+pub record ChangesSlot (i d : ℕ) (before after : WindowValue) : Type 0 where
+  pub room : after.room ≡ before.room
+  pub block_size : after.block_size ≡ before.block_size
+  pub count : after.count ≡ before.count
+  pub lanes : length after.lanes ≡ length before.lanes
+  pub others : (k e : ℕ) → (k ≢ i) ⊎ (e ≢ d) → slot_at after k e ≡ slot_at before k e
+
+-- the bytes have the length and the hash that were asked for
+pub record IsAnswer (asked : Option Digest16) (shape : Shape) (long : ℕ) (given : List ℕ)
+    : Type 0 where
+  pub length_is : length given ≡ long
+  pub hash_is : asked ≡ Some (record { 0 = hash shape.kind shape.seed given })
+
+-- what the mark of a damaged cell says, by what was asked of the spare: its slot has the block that was given, or
+-- no bytes
+abbrev pub ShowsAnswer : Option Digest16 → Shape → ℕ → ℕ → SlotValue → CellMark → SlotValue → Type 0
+ShowsAnswer asked shape block_size long before Right after = ⊥
+ShowsAnswer asked shape block_size long before Missing after = after ≡ slot_given block_size [] before
+ShowsAnswer asked shape block_size long before Given after =
+    (given : List ℕ) × IsAnswer asked shape long given × (after ≡ slot_given block_size given before)

@@ -1,0 +1,24 @@
+-- The memory of a run.
+use Rattle.std.specs.Prelude.{◌≡◌, ◌*◌, ◌<◌, ◌≤◌, length, All}
+use Rattle.file_table.specs.Table.{TableValue}
+use Rattle.stripe_reader.specs.WindowValue.{Fits}
+use Rattle.stripe_reader.specs.declared.window.TheConstants.{MOST_STRIPES}
+use Rattle.stripe_examiner.specs.declared.room.Room.{Room}
+use Rattle.stripe_examiner.specs.declared.room.StripeRoom.{StripeRoom}
+
+-- room for one stripe: for what is found in its cells, for their marks, for its levels and for a search
+pub record IsStripeRoomFor (table : TableValue) (own : StripeRoom) : Type 0 where
+  pub found : length own.found.items ≡ length table.columns
+  pub marks : length own.marks.items ≡ length table.columns
+  pub levels : own.levels.block_size ≡ table.shape.block_size
+  pub remainders : length own.remainders.items ≡ 6 * table.shape.block_size
+  pub blocks : length own.blocks.items ≡ 6 * table.shape.block_size
+
+-- room for the windows of a table and for each of their stripes, and for one block
+pub record IsRoomFor (table : TableValue) (room : Room) : Type 0 where
+  pub some : 0 < room.window.room
+  pub few : room.window.room ≤ MOST_STRIPES
+  pub window : Fits table room.window
+  pub block : length room.block.items ≡ table.shape.block_size
+  pub as_many : length room.stripes.items ≡ room.window.room
+  pub each : All (IsStripeRoomFor table) room.stripes.items

@@ -1,0 +1,63 @@
+-- A window of stripes is examined: their cells are read beside their levels, the spare is asked, and what follows is judged.
+use Rattle.std.specs.Prelude.{◌≡◌, ℕ, ◌<◌, ◌≤◌, List, length, slice_index_or, All}
+use Rattle.disk_model.specs.Folder.{FolderView}
+use Rattle.disk_model.specs.Vault.{VaultView}
+use Rattle.stripe_reader.specs.Columns.{ReadsWindow}
+use Rattle.stripe_reader.specs.Starts.{StartsValue, StartsFit}
+use Rattle.stripe_reader.specs.WindowValue.{WindowValue, Fits}
+use Rattle.stripe_examiner.specs.declared.room.Room.{Room}
+use Rattle.stripe_examiner.specs.declared.room.StripeRoom.{StripeRoom}
+use Rattle.stripe_examiner.specs.Asking.{AsksSpare}
+use Rattle.stripe_examiner.specs.Facts.{StripeFacts}
+use Rattle.stripe_examiner.specs.Known.{AreFacts}
+use Rattle.stripe_examiner.specs.Looking.{LevelsAreRead, numbers_of, facts_at}
+use Rattle.stripe_examiner.specs.Marks.{slots_at}
+use Rattle.stripe_examiner.specs.Plan.{FixPlan, EntriesFit}
+use Rattle.stripe_examiner.specs.Room.{IsRoomFor, IsStripeRoomFor}
+use Rattle.stripe_examiner.specs.Shown.{ShowsStripe}
+use Rattle.stripe_examiner.specs.Spare.{SpareView}
+
+-- stripes of these numbers can be examined in a room, with files where they stood
+pub record CanExamineWindow (plan : FixPlan) (starts : StartsValue) (numbers : List ℕ) (room : Room) : Type 0 where
+  pub entries : EntriesFit plan.table plan.entries
+  pub starts_fit : StartsFit plan.table starts
+  pub within : All (λ stripe. stripe < length plan.table.infos) numbers
+  pub room_is : IsRoomFor plan.table room
+  pub enough : length numbers ≤ room.window.room
+
+-- These are the facts of the stripes: their cells were read into the window, and all their levels, stripe after stripe, and the spare was
+-- asked for what is damaged. The room of each of them shows its facts.
+pub record ExaminesWindow (plan : FixPlan) (starts : StartsValue) (numbers : List ℕ) (before after : Room)
+    (folders folders_after : List FolderView) (vault vault_after : VaultView) (spare spare_after : SpareView) : Type 0 where
+  pub stripes : List StripeFacts
+  pub numbers_are : numbers_of stripes ≡ numbers
+  pub window : WindowValue
+  pub read : ReadsWindow plan.table starts numbers before.window window folders folders_after
+  pub slots : (k : ℕ) → k < length stripes → (facts_at stripes k).slots ≡ slots_at window k
+  pub are : All (AreFacts plan) stripes
+  pub each : (k : ℕ) (other : StripeRoom) → k < length stripes
+      → ShowsStripe plan (facts_at stripes k) k after.window (slice_index_or after.stripes.items k other)
+  pub levels : LevelsAreRead plan stripes vault vault_after
+  pub asked : AsksSpare plan stripes spare spare_after
+  pub room : IsRoomFor plan.table after
+  pub as_large : after.window.room ≡ before.window.room
+  pub count : after.window.count ≡ length numbers
+
+-- the same of a window and of as many rooms as there are stripes, or more
+pub record ExaminesRooms (plan : FixPlan) (starts : StartsValue) (numbers : List ℕ) (before after : WindowValue) (rooms : List StripeRoom)
+    (folders folders_after : List FolderView) (vault vault_after : VaultView) (spare spare_after : SpareView) : Type 0 where
+  pub stripes : List StripeFacts
+  pub numbers_are : numbers_of stripes ≡ numbers
+  pub window : WindowValue
+  pub read : ReadsWindow plan.table starts numbers before window folders folders_after
+  pub slots : (k : ℕ) → k < length stripes → (facts_at stripes k).slots ≡ slots_at window k
+  pub are : All (AreFacts plan) stripes
+  pub each : (k : ℕ) (other : StripeRoom) → k < length stripes
+      → ShowsStripe plan (facts_at stripes k) k after (slice_index_or rooms k other)
+  pub levels : LevelsAreRead plan stripes vault vault_after
+  pub asked : AsksSpare plan stripes spare spare_after
+  pub as_many : length numbers ≤ length rooms
+  pub rooms_are : All (IsStripeRoomFor plan.table) rooms
+  pub fits : Fits plan.table after
+  pub as_large : after.room ≡ before.room
+  pub count : after.count ≡ length numbers

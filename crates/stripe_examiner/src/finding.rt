@@ -1,0 +1,134 @@
+// The missing blocks of a stripe, found by its levels, and what is left of these then.
+ghost use Rattle.std.specs.Prelude.{◌≡◌, ◌*◌, ◌<◌, ◌≤◌, ℕ, [], All, length, get_or, slice_set, take, if◌then◌else◌, Some, None, true};
+ghost use Rattle.parity_writer.specs.Parity.{Row};
+ghost use Rattle.parity_writer.specs.WindowRow.{row_at};
+ghost use Rattle.stripe_examiner.specs.Judged.{AreMissingIn};
+ghost use Rattle.stripe_examiner.specs.Known.{AreRemainders, IsKnown};
+ghost use Rattle.stripe_examiner.specs.Restorable.{filled};
+ghost use Rattle.stripe_examiner.specs.Search.{found_in};
+
+use crate::knowing::whole_levels;
+use crate::remainders::{fill_in_turn, is_whole};
+use crate::search::{Wanted, search};
+use cauchy::add_column;
+use file_table::Table;
+use gf256::laws::products;
+use parity_writer::Levels;
+use stripe_reader::Window;
+
+// Takes a block of a column from what is left of the levels that were read whole, of so many.
+fn take_block(
+    levels: &Levels,
+    count: u32,
+    size: usize,
+    column: u32,
+    block: &[u8],
+    remainders: &mut [u8],
+)
+    requires count { count ≡ levels.now.count }
+    requires room { count ≤ length levels.now.levels }
+    requires most { count ≤ 6 }
+    requires column { column < 251 }
+    requires block { length block.now ≤ size }
+    requires most_size { size ≤ 4194304 }
+    requires remainders { length remainders.old ≡ 6 * size }
+    ensures size { length remainders.new ≡ length remainders.old }
+    ensures left { (row : Row) → column < length row → get_or row column [] ≡ [] →
+        AreRemainders size row (take levels.now.count levels.now.levels) remainders.old →
+        AreRemainders size (slice_set row column block.now) (take levels.now.count levels.now.levels) remainders.new }
+{
+    // Behind its bytes a block adds nothing.
+    products();
+    for r in 0..count {
+        if is_whole(levels.state(r)) {
+            let start = r as usize * size;
+            add_column(
+                r,
+                column,
+                block,
+                &mut remainders[start..start + block.len()],
+            );
+        }
+    }
+}
+
+// Takes the blocks that were found from what is left of the levels that were read whole, each at its real length.
+fn take_found(
+    levels: &Levels,
+    count: u32,
+    size: usize,
+    wanted: &[Wanted],
+    blocks: &[u8],
+    remainders: &mut [u8],
+)
+    requires count { count ≡ levels.now.count }
+    requires room { count ≤ length levels.now.levels }
+    requires most { count ≤ 6 }
+    requires columns { All (λ one. one.column < 251) wanted.now }
+    requires lengths { All (λ one. one.length ≤ size) wanted.now }
+    requires blocks { length blocks.now ≡ length wanted.now * size }
+    requires most_size { size ≤ 4194304 }
+    requires remainders { length remainders.old ≡ 6 * size }
+    ensures size { length remainders.new ≡ length remainders.old }
+    ensures left { (row : Row) → AreMissingIn row size wanted.now →
+        AreRemainders size row (take levels.now.count levels.now.levels) remainders.old →
+        AreRemainders size (filled size blocks.now wanted.now row) (take levels.now.count levels.now.levels) remainders.new }
+{
+    for j in 0..wanted.len() {
+        let one = wanted[j];
+        let start = j * size;
+        take_block(
+            levels,
+            count,
+            size,
+            one.column,
+            &blocks[start..start + one.length as usize],
+            remainders,
+        );
+    }
+}
+
+/// Searches for the missing blocks of a stripe of the window by the levels that were read whole, and answers whether its row is known.
+/// What was found stands at the beginning of `blocks` then, and what is left of the levels is less the sums of that row.
+pub(crate) fn find(
+    table: &Table,
+    i: u32,
+    window: &Window,
+    levels: &Levels,
+    wanted: &[Wanted],
+    remainders: &mut [u8],
+    blocks: &mut [u8],
+) -> bool
+    requires stripe { i < window.now.count }
+    requires columns { length window.now.lanes ≡ length table.now.columns }
+    requires window { window.now.block_size ≡ table.now.shape.block_size }
+    requires count { levels.now.count ≡ table.now.shape.levels }
+    requires room { levels.now.count ≤ length levels.now.levels }
+    requires levels { levels.now.block_size ≡ table.now.shape.block_size }
+    requires few { length wanted.now ≤ 6 }
+    requires missing { AreMissingIn (row_at window.now i) table.now.shape.block_size wanted.now }
+    requires remainders { length remainders.old ≡ 6 * table.now.shape.block_size }
+    requires blocks { length blocks.old ≡ 6 * table.now.shape.block_size }
+    ensures remainders { length remainders.new ≡ length remainders.old }
+    ensures blocks { length blocks.new ≡ length blocks.old }
+    ensures known { IsKnown table.now.shape wanted.now (row_at window.now i) (take levels.now.count levels.now.levels)
+        (if result then Some (filled table.now.shape.block_size (found_in table.now.shape wanted.now blocks.new) wanted.now
+        (row_at window.now i)) else None) }
+    ensures left { result ≡ true → AreRemainders table.now.shape.block_size
+        (filled table.now.shape.block_size (found_in table.now.shape wanted.now blocks.new) wanted.now (row_at window.now i))
+        (take levels.now.count levels.now.levels) remainders.new }
+{
+    let shape = table.shape();
+    let size = shape.block_size as usize;
+    fill_in_turn(window, i, levels, shape.levels, size, remainders);
+    if wanted.is_empty() {
+        return true;
+    }
+    let whole = whole_levels(levels, shape.levels);
+    if !search(shape, wanted, &whole, remainders, blocks) {
+        return false;
+    }
+    let found = &blocks[..wanted.len() * size];
+    take_found(levels, shape.levels, size, wanted, found, remainders);
+    true
+}

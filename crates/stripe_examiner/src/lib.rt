@@ -1,0 +1,48 @@
+//! Stripes: which of their cells are damaged, which of their blocks are known, and which of their levels are wrong.
+//!
+//! Start at `surveying.rt`: a window of stripes is examined, and the room of each of them (`room.rt`) shows then what is found in it.
+//! 1. Its cells are read beside the levels of its stripes (`beside.rt`).
+//! 2. Stripe after stripe it is noted what is found in the cells, and they are marked (`marking_window.rt`, `marking.rt`, which asks
+//!    the spare for the blocks of damaged ones).
+//! 3. The stripes are judged side by side (`judging_window.rt`): the missing blocks are searched for by what is left of the levels
+//!    less the sums of the row (`finding.rt`, `remainders.rt`, `search.rt`), and what is left then tells which levels are wrong
+//!    (`judging.rt`).
+//! 4. What was found is put into the window (`putting.rt`).
+//!
+//! Then each stripe is told by its room (`telling/stripe.rt`).
+//! What all this is for is said by `entry.rt` and `scope.rt`: where the files of the table's records stand (`places.rt`), and what of
+//! them is selected (`selecting.rt`).
+#![tactic(auto)]
+
+mod beside;
+mod counts;
+mod entry;
+mod finding;
+mod judging;
+mod judging_window;
+mod knowing;
+mod marking;
+mod marking_window;
+mod places;
+mod putting;
+mod remainders;
+mod room;
+mod scope;
+mod search;
+mod selecting;
+mod spare;
+mod surveying;
+mod telling;
+mod trying;
+
+pub use counts::Counts;
+pub use entry::{Entries, Entry};
+pub use marking::CellMark;
+pub use places::place_all;
+pub use room::{Room, StripeRoom};
+pub use scope::{Mode, Scope};
+pub use selecting::{scope_of, selects_cell, stripes_to_look_at};
+pub use spare::{NoSpare, Spare};
+pub use surveying::examine_window;
+pub use telling::{tell_found, tell_opening, tell_stripe};
+pub use trying::is_searched;

@@ -1,0 +1,203 @@
+// Which cells of a stripe are damaged, and what the spare gives of them.
+ghost use Rattle.std.specs.Prelude.{◌≡◌, ◌<◌, ◌≤◌, List, Some, IsTrue, is_some, length, true};
+ghost use Rattle.block_hash.specs.Hash.{hash as hash_of};
+ghost use Rattle.file_table.specs.Cells.{cell_seen, cell_view};
+ghost use Rattle.file_table.specs.Table.{column_at, record_at};
+ghost use Rattle.parity_writer.specs.Sound.{real_length};
+ghost use Rattle.stripe_reader.specs.WindowValue.{Fits, slot_at};
+ghost use Rattle.stripe_examiner.specs.declared.entry.Entry.{Entry};
+ghost use Rattle.stripe_examiner.specs.AskedCell.{AsksBlock, AsksMarked, asks_for, holds_wanted, is_marked_given};
+ghost use Rattle.stripe_examiner.specs.Facts.{agrees as agrees_with, hash_or_none, wanted_by};
+ghost use Rattle.stripe_examiner.specs.MarkedCell.{ChangesSlot, ShowsAnswer};
+ghost use Rattle.stripe_examiner.specs.Marks.{CanExamine, IsMarked, MarksCells};
+ghost use Rattle.stripe_examiner.specs.Plan.{plan_of, is_searched as is_searched_by};
+ghost use Rattle.stripe_examiner.specs.Spare.{IsSpareFor, holds_block};
+
+use crate::entry::Entries;
+use crate::scope::{Mode, Scope};
+use crate::spare::Spare;
+use block_hash::{Digest16, digest};
+use file_table::{Cell, Mark, Shape, Table};
+use stripe_reader::Window;
+
+/// What became of the cell of a column.
+#[derive(Clone, Copy, Debug, PartialEq, Eq)]
+pub enum CellMark {
+    /// It is not damaged, or the column has none.
+    Right,
+    /// It is damaged, and the spare gave its block.
+    Given,
+    /// It is damaged.
+    Missing,
+}
+
+/// The real length of the block of a cell.
+pub fn cell_length(table: &Table, d: u32, cell: Cell) -> u32
+    requires column { d < length table.now.columns }
+    requires rec { cell.rec < length (column_at table.now.columns d).records }
+    ensures value { result
+        ≡ real_length table.now.shape (cell_seen (column_at table.now.columns d) cell) }
+    ensures most { result ≤ table.now.shape.block_size }
+{
+    let block_size = u64::from(table.shape().block_size);
+    let before = u64::from(cell.index) * block_size;
+    let left = table.meta(d, cell.rec).size.saturating_sub(before);
+    left.min(block_size) as u32
+}
+
+/// The recorded hash of the block of a cell.
+pub fn cell_hash(table: &Table, d: u32, cell: Cell) -> Option<Digest16>
+    requires column { d < length table.now.columns }
+    requires rec { cell.rec < length (column_at table.now.columns d).records }
+    requires block { cell.index < length (record_at table.now.columns d cell.rec).blocks }
+    ensures { result ≡ (cell_seen (column_at table.now.columns d) cell).hash }
+{
+    table.blocks(d, cell.rec)[cell.index as usize].hash
+}
+
+// Whether the recorded hash, where there is one, is that of the block that came.
+fn agrees(recorded: Option<Digest16>, came: Option<Digest16>) -> bool
+    ensures { result ≡ agrees_with recorded came }
+{
+    match (recorded, came) {
+        (None, _) => true,
+        (Some(_), None) => false,
+        (Some(recorded), Some(came)) => recorded == came,
+    }
+}
+
+// Whether the spare gave the block of this hash, which is not taken on its word.
+fn ask<P: Spare>(spare: &mut P, shape: Shape, hash: Digest16, out: &mut [u8]) -> bool
+    requires size { length out.old ≤ 4194304 }
+    requires spare { IsSpareFor shape (P.holding spare.old) }
+    ensures size { length out.new ≡ length out.old }
+    ensures given { IsTrue result → hash ≡ record { 0 = hash_of shape.kind shape.seed out.new } }
+    ensures asks { AsksBlock true (holds_block (P.holding spare.old) hash.0 (length out.old)) result
+        (P.holding spare.old) (P.holding spare.new) }
+{
+    match spare.block(hash, out) {
+        Ok(held) => held && digest(shape.kind, &shape.seed, out) == hash,
+        Err(_) => false,
+    }
+}
+
+// Whether the damaged blocks of a stripe are searched for.
+fn is_searched(scope: Scope, table: &Table, stripe: u32) -> bool
+    requires { stripe < length table.now.infos }
+    ensures { (entries : List (List Entry)) →
+        result ≡ is_searched_by (plan_of scope table.now entries) stripe }
+{
+    table.info(stripe).mark == Mark::Synced && scope.mode != Mode::Audit
+}
+
+// Marks a damaged cell. The spare is asked for its block where that has a hash and is searched for.
+fn mark_damaged<P: Spare>(
+    asked: Option<Digest16>,
+    shape: Shape,
+    i: u32,
+    d: u32,
+    window: &mut Window,
+    spare: &mut P,
+    block: &mut [u8],
+) -> CellMark
+    requires stripe { i < window.old.count }
+    requires column { d < length window.old.lanes }
+    requires size { length block.old ≤ window.old.block_size }
+    requires most { length block.old ≤ 4194304 }
+    requires spare { IsSpareFor shape (P.holding spare.old) }
+    ensures block { length block.new ≡ length block.old }
+    ensures mark { ShowsAnswer asked shape window.old.block_size (length block.old)
+        (slot_at window.old i d) result (slot_at window.new i d) }
+    ensures changes { ChangesSlot i d window.old window.new }
+    ensures asks { AsksBlock (is_some asked)
+        (holds_block (P.holding spare.old) (hash_or_none asked).0 (length block.old))
+        (is_marked_given result) (P.holding spare.old) (P.holding spare.new) }
+{
+    if let Some(hash) = asked {
+        if ask(spare, shape, hash, block) {
+            window.put(i, d, block);
+            return CellMark::Given;
+        }
+    }
+    window.put(i, d, &[]);
+    CellMark::Missing
+}
+
+// Marks the cell of a column.
+fn mark_cell<P: Spare>(
+    searched: bool,
+    table: &Table,
+    stripe: u32,
+    i: u32,
+    d: u32,
+    window: &mut Window,
+    spare: &mut P,
+    block: &mut [u8],
+) -> CellMark
+    requires within { stripe < length table.now.infos }
+    requires column { d < length table.now.columns }
+    requires fits { Fits table.now window.old }
+    requires stripe { i < window.old.count }
+    requires block { length block.old ≡ table.now.shape.block_size }
+    requires spare { IsSpareFor table.now.shape (P.holding spare.old) }
+    ensures block { length block.new ≡ length block.old }
+    ensures mark { IsMarked searched table.now.shape
+        (cell_view (column_at table.now.columns d) stripe)
+        (slot_at window.old i d) result (slot_at window.new i d) }
+    ensures changes { ChangesSlot i d window.old window.new }
+    ensures asks { AsksBlock
+        (asks_for searched (cell_view (column_at table.now.columns d) stripe) (slot_at window.old i d))
+        (holds_wanted (P.holding spare.old)
+        (wanted_by table.now.shape d (cell_view (column_at table.now.columns d) stripe)))
+        (is_marked_given result) (P.holding spare.old) (P.holding spare.new) }
+{
+    let Some(cell) = table.cell(stripe, d) else {
+        return CellMark::Right;
+    };
+    let recorded = cell_hash(table, d, cell);
+    let came = window.digest(i, d);
+    if came.is_some() && agrees(recorded, came) {
+        return CellMark::Right;
+    }
+    let asked = if searched { recorded } else { None };
+    let length = cell_length(table, d, cell) as usize;
+    mark_damaged(
+        asked,
+        table.shape(),
+        i,
+        d,
+        window,
+        spare,
+        &mut block[..length],
+    )
+}
+
+/// Marks the cells of a stripe of a window that was read: a missing one has no bytes then, and one
+/// whose block the spare gave has that. The spare is asked where the stripe's damaged blocks are
+/// searched for.
+pub fn mark_cells<P: Spare>(
+    scope: Scope,
+    table: &Table,
+    entries: &Entries,
+    stripe: u32,
+    i: u32,
+    window: &mut Window,
+    marks: &mut [CellMark],
+    spare: &mut P,
+    block: &mut [u8],
+)
+    requires can { CanExamine (plan_of scope table.now entries.now) stripe i window.old }
+    requires marks { length marks.old ≡ length table.now.columns }
+    requires block { length block.old ≡ table.now.shape.block_size }
+    requires spare { IsSpareFor table.now.shape (P.holding spare.old) }
+    ensures block { length block.new ≡ length block.old }
+    ensures marked { MarksCells (plan_of scope table.now entries.now) stripe i
+        window.old marks.new window.new }
+    ensures asks { AsksMarked (plan_of scope table.now entries.now) stripe i
+        window.old marks.new (P.holding spare.old) (P.holding spare.new) }
+{
+    let searched = is_searched(scope, table, stripe);
+    for d in 0..table.disks() {
+        marks[d as usize] = mark_cell(searched, table, stripe, i, d, window, spare, block);
+    }
+}

@@ -1,0 +1,77 @@
+// What is left of the levels of a stripe, less the sums of its row.
+ghost use Rattle.std.specs.Prelude.{◌≡◌, ℕ, ◌*◌, ◌<◌, ◌≤◌, length, slice_index, take};
+ghost use Rattle.gf256.specs.Field.{field_sum};
+ghost use Rattle.parity_writer.specs.WindowRow.{row_at};
+ghost use Rattle.stripe_examiner.specs.Known.{AreRemainders, is_whole as is_whole_by};
+ghost use Rattle.stripe_examiner.specs.Knowing.{IsRemainder};
+
+use parity_writer::{LevelRead, Levels, sum_row};
+use stripe_reader::Window;
+
+/// Whether a level was read whole.
+pub fn is_whole(state: LevelRead) -> bool
+    ensures { result ≡ is_whole_by state }
+{
+    state == LevelRead::Bytes
+}
+
+// Adds a block to another one, byte by byte.
+fn add_block(block: &[u8], out: &mut [u8])
+    requires { length block.now ≡ length out.old }
+    ensures size { length out.new ≡ length out.old }
+    ensures bytes { (p : ℕ) → p < length block.now →
+        slice_index out.new p ≡ field_sum (slice_index block.now p) (slice_index out.old p) }
+{
+    for p in 0..block.len() {
+        out[p] = block[p] ^ out[p];
+    }
+}
+
+// What is left of a level, less the sum of the row of a stripe of the window.
+fn fill_remainder(window: &Window, i: u32, r: u32, level: &[u8], out: &mut [u8])
+    requires stripe { i < window.now.count }
+    requires columns { length window.now.lanes ≤ 251 }
+    requires level { r < 6 }
+    requires block { length level.now ≡ window.now.block_size }
+    requires size { length out.old ≡ window.now.block_size }
+    ensures size { length out.new ≡ length out.old }
+    ensures value { IsRemainder r (row_at window.now i) level.now out.new }
+{
+    sum_row(window, i, r, out);
+    add_block(level, out);
+}
+
+/// What is left of the levels that were read whole, of so many.
+pub fn fill_in_turn(
+    window: &Window,
+    i: u32,
+    levels: &Levels,
+    count: u32,
+    size: usize,
+    remainders: &mut [u8],
+)
+    requires stripe { i < window.now.count }
+    requires columns { length window.now.lanes ≤ 251 }
+    requires count { count ≡ levels.now.count }
+    requires room { count ≤ length levels.now.levels }
+    requires most { count ≤ 6 }
+    requires window { size ≡ window.now.block_size }
+    requires levels { size ≡ levels.now.block_size }
+    requires most_size { size ≤ 4194304 }
+    requires remainders { length remainders.old ≡ 6 * size }
+    ensures { AreRemainders size (row_at window.now i) (take levels.now.count levels.now.levels)
+        remainders.new }
+{
+    for r in 0..count {
+        if is_whole(levels.state(r)) {
+            let start = r as usize * size;
+            fill_remainder(
+                window,
+                i,
+                r,
+                levels.block(r),
+                &mut remainders[start..start + size],
+            );
+        }
+    }
+}

@@ -1,0 +1,242 @@
+// What is found in the cells of a stripe, told.
+ghost use Rattle.std.specs.Prelude.{◌≡◌, ◌<◌, List, [], length, None, if◌then◌else◌, IfSome};
+ghost use Rattle.std.specs.Option.{option_to_list};
+ghost use Rattle.file_table.specs.Cells.{cell_seen};
+ghost use Rattle.file_table.specs.Table.{Column, column_at, record_at};
+ghost use Rattle.snap_report.specs.EventFits.{Fits as EventFits, IsRecordOf};
+ghost use Rattle.snap_report.specs.Told.{Told};
+ghost use Rattle.stripe_reader.specs.WindowValue.{slot_at};
+ghost use Rattle.stripe_examiner.specs.Counts.{AreCounts};
+ghost use Rattle.stripe_examiner.specs.Findings.{read_event, silent_event, cell_events, lost_events, unsynced_events, all_lost_events};
+ghost use Rattle.stripe_examiner.specs.Marks.{CanExamine, mark_in, is_marked_missing};
+ghost use Rattle.stripe_examiner.specs.Plan.{EntriesFit, plan_of, cell_at, selects_cell as selects_cell_at};
+
+use super::{entry_of, tell_found};
+use crate::counts::Counts;
+use crate::entry::{Entries, Entry};
+use crate::marking::CellMark;
+use crate::scope::Scope;
+use crate::selecting::{has_selected_cell, is_as_recorded, selects_cell};
+use crate::trying::{is_audit, is_synced};
+use block_hash::Digest16;
+use disk_model::Sink;
+use file_table::{Cell, Table};
+use snap_report::events::Event;
+use snap_report::{Lines, Report};
+use stripe_reader::{CellRead, Found, Window};
+
+// The cell of a column at a stripe, if it is selected.
+fn selected_cell(
+    scope: Scope,
+    table: &Table,
+    entries: &Entries,
+    stripe: u32,
+    d: u32,
+) -> Option<Cell>
+    requires entries { EntriesFit table.now entries.now }
+    requires within { stripe < length table.now.infos }
+    requires column { d < length table.now.columns }
+    ensures value { result ≡ (if selects_cell_at (plan_of scope table.now entries.now) stripe d
+        then cell_at (plan_of scope table.now entries.now) stripe d else None) }
+    ensures rec { IfSome result (λ cell. cell.rec < length (column_at table.now.columns d).records) }
+    ensures block { IfSome result (λ cell.
+        cell.index < length (record_at table.now.columns d cell.rec).blocks) }
+{
+    if selects_cell(scope, table, entries, stripe, d) {
+        table.cell(stripe, d)
+    } else {
+        None
+    }
+}
+
+// That a stripe with a selected cell is pending, where parity is looked at.
+fn unsynced(scope: Scope, table: &Table, entries: &Entries, stripe: u32) -> Option<Event>
+    requires entries { EntriesFit table.now entries.now }
+    requires within { stripe < length table.now.infos }
+    ensures value { option_to_list result
+        ≡ unsynced_events (plan_of scope table.now entries.now) stripe }
+    ensures fits { IfSome result (λ event. EventFits table.now.columns event) }
+{
+    let is_pending = !is_audit(scope.mode) && !is_synced(scope, table, entries, stripe);
+    if is_pending && has_selected_cell(scope, table, entries, stripe) {
+        Some(Event::Unsynced { stripe })
+    } else {
+        None
+    }
+}
+
+/// Tells that a stripe with a selected cell is pending.
+pub fn tell_unsynced<W: Sink>(
+    scope: Scope,
+    table: &Table,
+    entries: &Entries,
+    stripe: u32,
+    lines: &mut Lines<'_, W>,
+    reports: &mut Vec<Box<dyn Report>>,
+) -> Counts
+    requires entries { EntriesFit table.now entries.now }
+    requires within { stripe < length table.now.infos }
+    ensures told { Told W.view standing stands table.now.columns (unsynced_events (plan_of scope table.now entries.now) stripe)
+        lines.old lines.new reports.old.items reports.new.items }
+    ensures counts { AreCounts (unsynced_events (plan_of scope table.now entries.now) stripe) result }
+{
+    tell_found(
+        table,
+        unsynced(scope, table, entries, stripe),
+        lines,
+        reports,
+    )
+}
+
+// That the block that came of a cell has another hash than the recorded one.
+fn silent(
+    stripe: u32,
+    d: u32,
+    cell: Cell,
+    recorded: Option<Digest16>,
+    came: Option<Digest16>,
+) -> Option<Event>
+    ensures value { option_to_list result ≡ silent_event stripe d cell recorded came }
+    ensures fits { (columns : List Column) → IsRecordOf columns d cell.rec →
+        IfSome result (λ event. EventFits columns event) }
+{
+    let (Some(recorded), Some(found)) = (recorded, came) else {
+        return None;
+    };
+    if recorded == found {
+        return None;
+    }
+    Some(Event::Silent {
+        stripe,
+        disk: d,
+        rec: cell.rec,
+        index: cell.index,
+        recorded,
+        found,
+    })
+}
+
+// What is found in the reading of a cell.
+fn read_finding(
+    table: &Table,
+    stripe: u32,
+    d: u32,
+    cell: Cell,
+    entry: Entry,
+    read: CellRead,
+    digest: Option<Digest16>,
+) -> Option<Event>
+    requires column { d < length table.now.columns }
+    requires rec { cell.rec < length (column_at table.now.columns d).records }
+    requires block { cell.index < length (record_at table.now.columns d cell.rec).blocks }
+    ensures value { option_to_list result
+        ≡ read_event stripe d cell (cell_seen (column_at table.now.columns d) cell) entry
+        (record { cell = read; digest = digest; block = [] }) }
+    ensures fits { IfSome result (λ event. EventFits table.now.columns event) }
+{
+    let Cell { rec, index } = cell;
+    if read.found == Found::Unread {
+        return Some(Event::Io {
+            stripe,
+            disk: d,
+            rec,
+            index,
+        });
+    }
+    if !is_as_recorded(table.meta(d, rec), entry.listed) {
+        return None;
+    }
+    silent(
+        stripe,
+        d,
+        cell,
+        table.blocks(d, rec)[index as usize].hash,
+        digest,
+    )
+}
+
+/// What is found in the reading of the cell of a column, if it is selected.
+pub fn cell_finding(
+    scope: Scope,
+    table: &Table,
+    entries: &Entries,
+    stripe: u32,
+    i: u32,
+    window: &Window,
+    d: u32,
+) -> Option<Event>
+    requires can { CanExamine (plan_of scope table.now entries.now) stripe i window.now }
+    requires column { d < length table.now.columns }
+    ensures value { option_to_list result
+        ≡ cell_events (plan_of scope table.now entries.now) stripe (slot_at window.now i d) d }
+    ensures fits { IfSome result (λ event. EventFits table.now.columns event) }
+{
+    let cell = selected_cell(scope, table, entries, stripe, d)?;
+    let entry = entry_of(table, entries, d, cell.rec);
+    read_finding(
+        table,
+        stripe,
+        d,
+        cell,
+        entry,
+        window.cell(i, d),
+        window.digest(i, d),
+    )
+}
+
+// That the cell of a column is lost: it is selected and missing, and the row is not known.
+fn lost(
+    scope: Scope,
+    table: &Table,
+    entries: &Entries,
+    stripe: u32,
+    mark: CellMark,
+    known: bool,
+    d: u32,
+) -> Option<Event>
+    requires entries { EntriesFit table.now entries.now }
+    requires within { stripe < length table.now.infos }
+    requires column { d < length table.now.columns }
+    ensures value { option_to_list result
+        ≡ lost_events (plan_of scope table.now entries.now) stripe (is_marked_missing mark) known d }
+    ensures fits { IfSome result (λ event. EventFits table.now.columns event) }
+{
+    if known || is_audit(scope.mode) || mark != CellMark::Missing {
+        return None;
+    }
+    let Cell { rec, index } = selected_cell(scope, table, entries, stripe, d)?;
+    Some(Event::Lost {
+        stripe,
+        disk: d,
+        rec,
+        index,
+    })
+}
+
+/// Tells which of the selected cells are lost, column by column.
+pub fn tell_lost<W: Sink>(
+    scope: Scope,
+    table: &Table,
+    entries: &Entries,
+    stripe: u32,
+    marks: &[CellMark],
+    known: bool,
+    lines: &mut Lines<'_, W>,
+    reports: &mut Vec<Box<dyn Report>>,
+) -> Counts
+    requires entries { EntriesFit table.now entries.now }
+    requires within { stripe < length table.now.infos }
+    requires marks { length marks.now ≡ length table.now.columns }
+    ensures told { Told W.view standing stands table.now.columns
+        (all_lost_events (plan_of scope table.now entries.now) stripe (λ d. is_marked_missing (mark_in marks.now d)) known)
+        lines.old lines.new reports.old.items reports.new.items }
+    ensures counts { AreCounts (all_lost_events (plan_of scope table.now entries.now) stripe
+        (λ d. is_marked_missing (mark_in marks.now d)) known) result }
+{
+    let mut counts = Counts::NONE;
+    for d in 0..table.disks() {
+        let found = lost(scope, table, entries, stripe, marks[d as usize], known, d);
+        counts = counts.and(tell_found(table, found, lines, reports));
+    }
+    counts
+}
