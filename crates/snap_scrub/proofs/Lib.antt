@@ -1,0 +1,14 @@
+mod OrderLemmas
+mod SplitLemmas
+mod PlanLemmas
+mod TakeLemmas
+mod FoundLemmas
+mod TellingLemmas
+mod PlannedLemmas
+mod LevelLemmas
+mod ReadingLemmas
+mod LookingLemmas
+mod MarkLemmas
+mod OverLemmas
+mod SavingLemmas
+mod EndLemmas

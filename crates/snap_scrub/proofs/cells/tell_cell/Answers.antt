@@ -1,0 +1,34 @@
+use Rattle.std.proofs.Common.{[], ◌∷◌, sym, ◌∙◌}
+use Rattle.snap_report.proofs.ToldLemmas.{told_nothing}
+use Rattle.stripe_findings.proofs.FindingLemmas.{events_here}
+use Rattle.snap_scrub.proofs.FoundLemmas.{found_as}
+use Rattle.snap_scrub.proofs.TellingLemmas.{told_as}
+use Rattle.snap_scrub.proofs.cells.tell_cell.Goals as goal
+
+pub returns-in-None-clause-told : goal.returns-in-None-clause-told
+returns-in-None-clause-told g c =
+    told_as _ _ _ _ _ _ _ _ _ _
+    (events_here c.args.table.now c.args.stripes.now c.args.window.now c.args.i c.args.d c.in-Some.cell c.cell-2.result c.digest.result []
+    (sym c.cell.ensures.value ∙ c.in-Some.is) c.cell-2.ensures c.digest.ensures c.in-None.ensures.value)
+    (told_nothing _ _ _ _ _ _)
+
+pub returns-in-None-clause-found : goal.returns-in-None-clause-found
+returns-in-None-clause-found g c =
+    found_as _ [] _
+    (events_here c.args.table.now c.args.stripes.now c.args.window.now c.args.i c.args.d c.in-Some.cell c.cell-2.result c.digest.result []
+    (sym c.cell.ensures.value ∙ c.in-Some.is) c.cell-2.ensures c.digest.ensures c.in-None.ensures.value)
+    c.nothing-in-None.ensures
+
+pub returns-in-Some-finding-clause-told : goal.returns-in-Some-finding-clause-told
+returns-in-Some-finding-clause-told g c =
+    told_as _ _ _ _ _ _ _ _ _ _
+    (events_here c.args.table.now c.args.stripes.now c.args.window.now c.args.i c.args.d c.in-Some.cell c.cell-2.result c.digest.result (c.in-Some-finding.event ∷ [])
+    (sym c.cell.ensures.value ∙ c.in-Some.is) c.cell-2.ensures c.digest.ensures c.in-Some-finding.ensures.value)
+    c.tell.ensures
+
+pub returns-in-Some-finding-clause-found : goal.returns-in-Some-finding-clause-found
+returns-in-Some-finding-clause-found g c =
+    found_as _ (c.in-Some-finding.event ∷ []) _
+    (events_here c.args.table.now c.args.stripes.now c.args.window.now c.args.i c.args.d c.in-Some.cell c.cell-2.result c.digest.result (c.in-Some-finding.event ∷ [])
+    (sym c.cell.ensures.value ∙ c.in-Some.is) c.cell-2.ensures c.digest.ensures c.in-Some-finding.ensures.value)
+    c.one.ensures.found

@@ -1,0 +1,52 @@
+use Rattle.std.proofs.Common.{◌≡◌, ◌++◌, [], List, get_or, refl, sym, ap, ◌∙◌, arith}
+use Rattle.parity_writer.specs.WindowRow.{row_at}
+use Rattle.snap_report.proofs.ToldLemmas.{told_then}
+use Rattle.snap_report.specs.declared.events.Event.{Event}
+use Rattle.stripe_findings.specs.Findings.{stripe_events}
+use Rattle.stripe_findings.specs.Reading.{reading_at}
+use Rattle.snap_scrub.specs.Levels.{kept_events}
+use Rattle.snap_scrub.specs.Reading.{ScrubReading}
+use Rattle.snap_scrub.proofs.FoundLemmas.{found_as}
+use Rattle.snap_scrub.proofs.LevelLemmas.{levels_say, row_of_window}
+use Rattle.snap_scrub.proofs.LookingLemmas.{unread_events, unread_due, read_due, read_events}
+use Rattle.snap_scrub.proofs.ReadingLemmas.{levels_unread, levels_read}
+use Rattle.snap_scrub.proofs.TellingLemmas.{told_as}
+use Rattle.snap_scrub.proofs.looking.look_at.Goals as goal
+
+pub returns-then-found-gt0-clause-looks : goal.returns-then-found-gt0-clause-looks
+returns-then-found-gt0-clause-looks g c =
+    let table = c.args.table.now in
+    let cells = reading_at c.args.stripes.now c.args.room.now.window c.args.i in
+    let found = c.tell_cells-found in
+    record {
+      reading = record { cells = cells; levels = [] };
+      cells_are = refl;
+      due = unread_due table cells found.result.count found.ensures.found.count (omega (arith, c.if-found-gt0.true));
+      found_are = found_as _ _ _ (unread_events table cells) found.ensures.found;
+      told = told_as _ _ _ _ _ _ _ _ _ _ (unread_events table cells) found.ensures.told;
+      levels = levels_unread table cells _;
+    }
+
+pub returns-clause-looks : goal.returns-clause-looks
+returns-clause-looks g c =
+    let table = c.args.table.now in
+    let window = c.args.room.now.window in
+    let stripe = get_or c.args.stripes.now c.args.i 0 in
+    let cells = reading_at c.args.stripes.now window c.args.i in
+    let found = c.tell_cells-found in
+    let levels = c.read_all.new.levels in
+    let reads = c.read_all.ensures.read in
+    let reading : ScrubReading = record { cells = cells; levels = reads.readings } in
+    let row = row_at window c.args.i in
+    let zero : found.result.count ≡ 0 = omega (arith, c.if-found-gt0.false) in
+    let says = levels_say table.shape.block_size stripe table.shape.levels row levels _ _ reads table cells refl refl (sym (row_of_window c.args.stripes.now window c.args.i))
+    ∙ ap (λ n. kept_events n stripe row levels table.shape.levels) (sym c.requires.room.window.block_size) in
+    record {
+      reading = reading;
+      cells_are = refl;
+      due = read_due table reading found.result.count found.ensures.found.count zero reads.as_many;
+      found_are = found_as _ _ _ (read_events table reading found.result.count _ found.ensures.found.count zero says) c.tell_levels.ensures.found;
+      told = told_as _ _ _ _ _ _ _ _ _ _ (ap (λ (events : List Event). stripe_events table cells ++ events) says)
+          (told_then _ _ _ _ _ _ _ _ _ _ _ _ found.ensures.told c.tell_levels.ensures.told);
+      levels = levels_read table cells table.shape.block_size stripe table.shape.levels levels.levels _ _ reads refl refl;
+    }

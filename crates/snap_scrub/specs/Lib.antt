@@ -1,0 +1,11 @@
+pub mod Plan
+pub mod Order
+pub mod Reading
+pub mod Findings
+pub mod Marks
+pub mod Room
+pub mod Looking
+pub mod Course
+pub mod Levels
+pub mod Windows
+pub mod Saving

@@ -1,0 +1,40 @@
+// What comes before anything is read.
+ghost use Rattle.std.specs.Prelude.{◌≡◌, IfOk};
+ghost use Rattle.snap_scrub.specs.Plan.{plan_of};
+ghost use Rattle.snap_scrub.specs.Room.{IsWorkFor};
+
+use crate::planning::plan;
+use crate::room::Room;
+use crate::verdict::Verdict;
+use disk_model::NoMemory;
+use file_table::Table;
+use snap_config::ScrubWay;
+use std::alloc::Global;
+
+/// The stripes that a scrub checks, ascending, what it makes of each, and all memory that it needs.
+#[derive(Drop)]
+pub(crate) struct Work {
+    pub stripes: Vec<u32>,
+    pub verdicts: Vec<Verdict>,
+    pub room: Room,
+}
+
+/// Plans a scrub, and takes all memory.
+pub(crate) fn begin(
+    alloc: Global,
+    table: &Table,
+    way: &ScrubWay,
+    now: u64,
+) -> Result<Work, NoMemory>
+    ensures plan { IfOk result (λ work. work.stripes.items ≡ plan_of table.now way.now now) }
+    ensures work { IfOk result (IsWorkFor table.now) }
+{
+    let stripes = plan(alloc, table, way, now)?;
+    let verdicts = vec![in alloc; Verdict::Changed; stripes.len()]?;
+    let room = Room::make(alloc, table)?;
+    Ok(Work {
+        stripes,
+        verdicts,
+        room,
+    })
+}

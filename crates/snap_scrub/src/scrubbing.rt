@@ -1,0 +1,96 @@
+// A scrub.
+ghost use Rattle.std.specs.Prelude.{◌≡◌, ◌≢◌, [], IfOk, IfErr, IsOk, length, map};
+ghost use Rattle.disk_model.specs.Vault.{SomeCalls};
+ghost use Rattle.snap_scrub.specs.Course.{IsArray, Scrubs, ScrubsNot, outside};
+ghost use Rattle.snap_scrub.specs.Room.{piece_size};
+ghost use Rattle.snap_scrub.specs.Saving.{Saves};
+
+use crate::beginning::begin;
+use crate::marking::mark_all;
+use crate::windows::look_over;
+use content_file::save;
+use disk_model::{Failed, Folder, Sink, Vault};
+use file_table::Table;
+use snap_config::ScrubWay;
+use snap_report::{Lines, Report, RunFault};
+use std::alloc::Global;
+use std::thread::Threads;
+
+/// How a scrub ended.
+#[derive(Drop)]
+pub struct ScrubEnd {
+    /// The table with what the scrub keeps. Every content copy holds it, where a stripe was checked.
+    pub table: Table,
+    /// How many stripes were checked.
+    pub checked: u32,
+    /// How many findings were told; it stays at the greatest u64.
+    pub findings: u64,
+}
+
+// Saves the table to every copy, where stripes were checked.
+fn save_marked<V: Vault>(
+    vault: &mut V,
+    table: &Table,
+    stripes: &[u32],
+    piece: &mut [u8],
+) -> Result<(), Failed>
+    requires { length piece.old ≡ piece_size }
+    ensures rests { stripes.now ≡ [] → IsOk result × (vault.new ≡ vault.old) }
+    ensures saves { stripes.now ≢ [] → Saves table.now result (V.view vault.old) (V.view vault.new) }
+{
+    if stripes.is_empty() {
+        return Ok(());
+    }
+    save(vault, table, piece)
+}
+
+/// Checks the stripes that `way` asks for, ascending: the cells of each are read, by so many readers at most, and where
+/// all are right its levels. What is found is told, and marks the stripe in the table. It is bad where a block could
+/// not be read or is another one, or where a level could not be read or is not the sum; where nothing is found it is
+/// not bad and not fresh, and was checked `now`, in seconds since 1970; a changed file marks nothing. The table is
+/// saved once, at the end, where a stripe was checked. Parity is never written. A folder that fails is a finding. The
+/// scrub breaks off where memory runs out, before anything was read, and where the vault fails in saving.
+pub fn scrub<R: Threads + Sync, F: Folder, V: Vault, W: Sink>(
+    rt: &R,
+    alloc: Global,
+    folders: &mut [F],
+    vault: &mut V,
+    way: &ScrubWay,
+    readers: u32,
+    table: Table,
+    now: u64,
+    reports: &mut Vec<Box<dyn Report>>,
+    lines: &mut Lines<'_, W>,
+) -> Result<ScrubEnd, RunFault>
+    requires { IsArray table (map F.view folders.old) (V.view vault.old) }
+    ensures calls { SomeCalls (V.view vault.old) (V.view vault.new) }
+    ensures done { IfOk result (Scrubs W.view standing stands table way.now now
+        (outside (map F.view folders.old) (V.view vault.old) lines.old reports.old.items)
+        (outside (map F.view folders.new) (V.view vault.new) lines.new reports.new.items)) }
+    ensures failed { IfErr result (ScrubsNot W.view standing stands table way.now now
+        (outside (map F.view folders.old) (V.view vault.old) lines.old reports.old.items)
+        (outside (map F.view folders.new) (V.view vault.new) lines.new reports.new.items)
+        ((folders.new ≡ folders.old) × (vault.new ≡ vault.old) × (lines.new ≡ lines.old) × (reports.new ≡ reports.old))) }
+{
+    // A table has fewer stripes than 2^32.
+    let _count = table.length();
+    let Ok(mut work) = begin(alloc, &table, way, now) else {
+        return Err(RunFault::Memory);
+    };
+    let findings = look_over(
+        rt, &table, &mut work, readers, folders, vault, lines, reports,
+    );
+    let mut table = table;
+    mark_all(&mut table, &work.stripes, &work.verdicts, now);
+    let saved = save_marked(vault, &table, &work.stripes, work.room.piece.as_mut_slice());
+    if saved.is_err() {
+        return Err(RunFault::Vault);
+    }
+    let checked = work.stripes.len() as u32;
+    lines.end_scrub(checked, findings);
+    Ok(ScrubEnd {
+        table,
+        checked,
+        findings,
+    })
+}
