@@ -1,6 +1,7 @@
 // Why a run failed, for whoever has to mend it: behind the lines of the run itself, on standard error.
 use disk_host::{DiskFolder, DiskOpener, DiskVault, Failure, Failures, Request};
 use disk_model::Sink;
+use progress::{MeteredFolder, MeteredVault};
 use snap_report::{Lines, Piece};
 use snap_top::Outcome;
 use std::rt::Files;
@@ -10,10 +11,10 @@ const MANY: usize = 20;
 
 /// Prints the failures of the objects of a run, and others: first what a run ends at, then the files that could not be
 /// read.
-pub fn print_causes<W: Sink, R: Files>(
+pub fn print_causes<W: Sink, R: Files, C, T>(
     err: &mut W,
     opener: &DiskOpener<R>,
-    ended: &Outcome<DiskFolder<R>, DiskVault<R>>,
+    ended: &Outcome<MeteredFolder<'_, DiskFolder<R>, C, T>, MeteredVault<'_, DiskVault<R>, C, T>>,
     others: &Failures,
 ) {
     let mut causes = Causes {
@@ -23,10 +24,10 @@ pub fn print_causes<W: Sink, R: Files>(
     for reading in [false, true] {
         causes.put_all(opener.failures(), reading);
         for folder in &ended.folders {
-            causes.put_all(folder.failures(), reading);
+            causes.put_all(folder.get_ref().failures(), reading);
         }
         if let Some(vault) = &ended.vault {
-            causes.put_all(vault.failures(), reading);
+            causes.put_all(vault.get_ref().failures(), reading);
         }
         causes.put_all(others.as_slice(), reading);
     }

@@ -1,19 +1,22 @@
 //! The program: the words, files and streams of the system, handed to `snap_top::run`.
 //!
 //! Start at `main`. It makes the reports, a tally and the log that the words name, and hands `run` the objects of
-//! `disk_host`. Behind the lines of the run it prints why something failed (`causes.rt`), and how a command is called
-//! where the words were refused (`synopsis.rt`).
+//! `disk_host`, by way of `progress`, which shows on the terminal how far the run has come (`terminal.rt`). Behind the
+//! lines of the run it prints why something failed (`causes.rt`), and how a command is called where the words were refused
+//! (`synopsis.rt`).
 //! Proved: it is safe and ends. What a command does is the contract of `run`.
 #![tactic(auto)]
 
 mod causes;
 mod synopsis;
+mod terminal;
 #[cfg(test)]
 mod tests;
 
 use causes::print_causes;
 use disk_host::{DiskOpener, Failures, LogSink, StreamSink};
 use disk_model::{NoMemory, Sink, Text};
+use progress::{ClearingSink, Meter, MeteredOpener};
 use snap_config::log_name;
 use snap_report::{LogReport, Report, TallyReport};
 use snap_top::run;
@@ -25,6 +28,7 @@ use std::rt::{Env, Files};
 use std::time::{Clock, SystemTime, UNIX_EPOCH};
 use std::{env, io};
 use synopsis::print_synopsis;
+use terminal::open_terminal;
 
 // Why the program ends before its run.
 #[derive(Clone, Copy, Debug, PartialEq, Eq)]
@@ -93,9 +97,11 @@ fn main(rt: HostRuntime) -> ExitCode {
             return ends(&mut err, Unready::Memory);
         }
     }
+    let meter = Meter::new(alloc, rt, open_terminal(&rt, &rt.stderr()));
+    let mut opener = MeteredOpener::new(rt, DiskOpener::new(alloc, rt), &meter);
+    let mut out = ClearingSink::new(StreamSink::new(rt.stdout()), &meter);
+    let mut err = ClearingSink::new(err, &meter);
     let words = ready.words.as_slice();
-    let mut opener = DiskOpener::new(alloc, rt);
-    let mut out = StreamSink::new(rt.stdout());
     let now = seconds_since_1970(&rt);
     let ended = run(
         &rt,
@@ -108,8 +114,9 @@ fn main(rt: HostRuntime) -> ExitCode {
         now,
         ready.seed,
     );
-    out.note(&mut failures, "standard output");
-    print_causes(&mut err, &opener, &ended, &failures);
+    meter.clear();
+    out.get_ref().note(&mut failures, "standard output");
+    print_causes(&mut err, opener.get_ref(), &ended, &failures);
     print_synopsis(alloc, words, &mut err);
     ExitCode::from(ended.status)
 }
