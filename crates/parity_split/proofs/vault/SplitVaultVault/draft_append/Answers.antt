@@ -1,0 +1,27 @@
+use Rattle.disk_model.proofs.VaultLemmas.{on_ok, on_err}
+use Rattle.parity_split.proofs.SplitLemmas.{are_on, in_step_stays, one_seen, draft_seen, stays_seen}
+use Rattle.parity_split.proofs.vault.SplitVaultVault.draft_append.Goals as goal
+
+pub draft_append-requires-clause-copy : goal.draft_append-requires-clause-copy
+draft_append-requires-clause-copy g c = c.requires.copy
+
+pub draft_append-requires-clause-draft : goal.draft_append-requires-clause-draft
+draft_append-requires-clause-draft g c = c.requires.draft
+
+pub invariant_of-self : goal.invariant_of-self
+invariant_of-self g c = record {
+  are = are_on c.args.self.now.parts.items c.args.self.now.capacity _ (g.V.Vault.view c.args.self.now.base) (g.V.Vault.view c.draft_append.new.self) c.draft_append.ensures.call.goes_on c.args.self.now.are;
+  in_step = in_step_stays c.args.self.now.parts.items c.args.self.now.capacity (g.V.Vault.view c.args.self.now.base) (g.V.Vault.view c.draft_append.new.self) (g.V.Vault.well_formed _) c.draft_append.ensures.call.goes_on.tells c.draft_append.ensures.changes c.args.self.now.in_step;
+}
+
+pub returns-clause-call : goal.returns-clause-call
+returns-clause-call g c = one_seen c.args.self.now.parts.items c.args.self.now.capacity _ _ (g.V.Vault.view c.args.self.now.base) (g.V.Vault.view c.draft_append.new.self) c.draft_append.ensures.call
+
+pub returns-clause-appended : goal.returns-clause-appended
+returns-clause-appended g c = on_ok c.draft_append.result (λ is. draft_seen c.args.self.now.parts.items c.args.self.now.capacity c.args.copy _ _ (g.V.Vault.view c.args.self.now.base) (g.V.Vault.view c.draft_append.new.self) is) c.draft_append.ensures.appended
+
+pub returns-clause-gone : goal.returns-clause-gone
+returns-clause-gone g c = on_err c.draft_append.result (λ is. draft_seen c.args.self.now.parts.items c.args.self.now.capacity c.args.copy _ _ (g.V.Vault.view c.args.self.now.base) (g.V.Vault.view c.draft_append.new.self) is) c.draft_append.ensures.gone
+
+pub returns-clause-changes : goal.returns-clause-changes
+returns-clause-changes g c = stays_seen c.args.self.now.parts.items c.args.self.now.capacity (g.V.Vault.view c.args.self.now.base) (g.V.Vault.view c.draft_append.new.self) c.draft_append.ensures.changes

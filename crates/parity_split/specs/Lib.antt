@@ -1,0 +1,6 @@
+pub mod Joined
+pub mod Parts
+pub mod Values
+pub mod Works
+pub mod Split
+pub mod SplitLaws
