@@ -1,5 +1,5 @@
 -- How the calls of a finish break off.
-use Rattle.std.proofs.Common.{◌≡◌, ◌≢◌, List, ℕ, Bool, true, false, None, IsTrue, Result, Ok, Err, IfOk, IfErr, refl, sym, ◌∙◌}
+use Rattle.std.proofs.Common.{◌≡◌, ◌≢◌, List, [], ◌∷◌, ◌++◌, ℕ, Bool, true, false, None, IsTrue, Result, Ok, Err, IfOk, IfErr, refl, sym, ◌∙◌}
 use Rattle.disk_model.specs.Answer.{file_answer}
 use Rattle.disk_model.specs.Folder.{FolderView, FolderCall, IsFolder, MissingExactly}
 use Rattle.disk_model.specs.declared.answer.Answer.{Answer}
@@ -10,20 +10,25 @@ use Rattle.disk_model.specs.declared.fault.FileFault.TheVariants.{Missing, Faile
 use Rattle.snap_report.specs.Answer.{is_reading}
 use Rattle.file_restorer.specs.FinishSteps.{BreaksBy}
 use Rattle.file_restorer.specs.State.{StepMakes}
-use Rattle.file_restorer.proofs.FolderCallLemmas.{step_makes, step_then, step_wider, step_write}
-use Rattle.file_restorer.proofs.FolderFailsLemmas.{fails_one, fails_then, fails_wider}
+use Rattle.file_restorer.proofs.FolderCallLemmas.{step_gone, step_then, step_wider, step_write}
+use Rattle.file_restorer.proofs.FolderFailsLemmas.{fails_one, step_fails_then, step_fails_wider}
 
 -- after calls that went well
-pub breaks_then : (fault : FileFault) (P : FolderCall → Type 0) (old mid new : FolderView) → StepMakes P false old mid → BreaksBy fault P mid new → BreaksBy fault P old new
-breaks_then Failed P old mid new one two = fails_then P old mid new (step_makes P false one) two
-breaks_then Missing P old mid new one two = record { untold = sym one.goes_on.tells ∙ two.untold; makes = step_then P true one two.makes; last = two.last }
+pub breaks_then : (fault : FileFault) (P : FolderCall → Type 0) (calls : List FolderCall) (old mid new : FolderView) → StepMakes P calls false old mid → BreaksBy fault P mid new
+    → BreaksBy fault P old new
+breaks_then Failed P calls old mid new one two = step_fails_then P calls old mid new one two
+breaks_then Missing P calls old mid new one two = record {
+  untold = sym one.goes_on.tells ∙ two.untold;
+  makes = step_gone P (calls ++ []) [] (step_then P true one two.makes);
+  last = two.last;
+}
 
 -- the same calls are of a wider kind
 pub breaks_wider : (fault : FileFault) (P Q : FolderCall → Type 0) (old new : FolderView) → ((call : FolderCall) → P call → Q call) → BreaksBy fault P old new → BreaksBy fault Q old new
-breaks_wider Failed P Q old new wider breaks = fails_wider P Q wider breaks
+breaks_wider Failed P Q old new wider breaks = step_fails_wider P Q wider breaks
 breaks_wider Missing P Q old new wider breaks = record {
   untold = breaks.untold;
-  makes = step_wider P Q true wider breaks.makes;
+  makes = step_wider P Q [] true wider breaks.makes;
   last = (breaks.last.0, wider breaks.last.0 breaks.last.1);
 }
 
@@ -39,7 +44,7 @@ breaks_one gives (Ok _) P call path old new formed wrote missing there writes is
 breaks_one gives (Err Failed) P call path old new formed wrote missing there writes is = fails_one P call old new is writes formed wrote
 breaks_one gives (Err Missing) P call path old new formed wrote missing there writes is = record {
   untold = not_told old.tells (λ told. there told (missing told));
-  makes = step_write P true formed wrote refl refl is;
+  makes = step_gone P (call ∷ []) [] (step_write P true formed wrote refl refl is);
   last = (call, is);
 }
 

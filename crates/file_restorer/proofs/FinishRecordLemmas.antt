@@ -1,5 +1,5 @@
 -- The file of a record of a table: it can be finished, and what was done to it.
-use Rattle.std.proofs.Common.{◌≡◌, ◌≢◌, ◌⊎◌, inl, inr, ℕ, ◌==◌, List, Bool, true, false, not, ◌||◌, cond, Option, IsTrue, refl, sym, ◌∙◌, ap, subst}
+use Rattle.std.proofs.Common.{◌≡◌, ◌≢◌, ◌⊎◌, inl, inr, ℕ, ◌==◌, List, [], Bool, true, false, not, ◌||◌, cond, Option, IsTrue, refl, sym, ◌∙◌, ap, subst}
 use Rattle.disk_model.specs.Folder.{FolderView, FolderCall}
 use Rattle.disk_model.specs.declared.fault.FileFault.{FileFault}
 use Rattle.disk_model.specs.declared.fault.FileFault.TheVariants.{Missing, Failed}
@@ -12,11 +12,12 @@ use Rattle.stripe_reader.specs.declared.starts.Start.{Start}
 use Rattle.file_restorer.specs.declared.finishing.Finish.{Finish}
 use Rattle.file_restorer.specs.declared.finishing.Finish.TheVariants.{Kept, Renamed, Gone}
 use Rattle.file_restorer.specs.declared.state.FileState.{FileState}
-use Rattle.file_restorer.specs.Breaking.{FolderFails}
+use Rattle.file_restorer.specs.Breaking.{StepFails}
 use Rattle.file_restorer.specs.Finishing.{CanFinish, FinishesNot, FinishesRecord, IsFinishCall, IsWholeCall, finish_calls, finish_of, is_changed, is_stamped, lost_finish, same_stamp, stamped_finish, was_gone, whole_finish}
 use Rattle.file_restorer.specs.FinishSteps.{BreaksBy, FinishesBy, IsReady}
 use Rattle.file_restorer.specs.State.{StepMakes, stands, state_in}
 use Rattle.file_restorer.proofs.FinishWholeLemmas.{stands_whole}
+use Rattle.file_restorer.proofs.FolderCallLemmas.{step_gone}
 
 -- ---- where a call is due, the file is not kept as it is
 
@@ -56,7 +57,7 @@ module _ (path : List ℕ) (listed : Option Meta) (meta : Meta) (start : Start) 
   not_kept keeps call due = some_done keeps state.lost call due
 
 -- what is to be done to a file is never that it is gone
-none_gone : (meta : Meta) (listed : Option Meta) (start : Start) (state : FileState) (keeps : Bool) → was_gone (finish_of meta listed start state keeps) ≡ false
+pub none_gone : (meta : Meta) (listed : Option Meta) (start : Start) (state : FileState) (keeps : Bool) → was_gone (finish_of meta listed start state keeps) ≡ false
 none_gone meta listed start state keeps = by state.lost (stands start.place state.touched) (is_stamped meta listed start state) (is_changed meta start state) keeps
   where
     by : (lost standing stamped changed keeps : Bool)
@@ -123,9 +124,9 @@ module _ (table : TableValue) (d i : ℕ) (listed : Option Meta) (starts : Start
     pub is_ready : IsValid table → IsReady path listed meta start state folder
     is_ready valid = here (λ p m s t. IsReady p listed m s t folder) (ready_there valid)
 
-    makes_there : (new : FolderView) → StepMakes (IsFinishCall state.lost listed start state path meta) true folder new
-        → StepMakes (IsFinishCall state_there.lost listed start_there state_there path_there meta_there) true folder new
-    makes_there new makes = there (λ p m s t. StepMakes (IsFinishCall t.lost listed s t p m) true folder new) makes
+    makes_there : (new : FolderView) → StepMakes (IsFinishCall state.lost listed start state path meta) [] true folder new
+        → StepMakes (IsFinishCall state_there.lost listed start_there state_there path_there meta_there) [] true folder new
+    makes_there new makes = there (λ p m s t. StepMakes (IsFinishCall t.lost listed s t p m) [] true folder new) makes
 
     -- it was finished
     pub is_finished : (finish : Finish) (new : FolderView)
@@ -140,12 +141,13 @@ module _ (table : TableValue) (d i : ℕ) (listed : Option Meta) (starts : Start
           states_fit = can.states_fit;
           other_starts = λ k j other. refl;
           other_states = λ k j other. refl;
-          makes = subst (λ (missing : Bool). StepMakes (IsFinishCall state_there.lost listed start_there state_there path_there meta_there) missing folder new)
+          makes = subst (λ (missing : Bool). StepMakes (IsFinishCall state_there.lost listed start_there state_there path_there meta_there)
+              (finish_calls state_there.lost listed start_there state_there path_there meta_there) missing folder new)
               (sym (ap was_gone it.is ∙ none_gone meta_there listed start_there state_there folder.keeps_stamps)) it.makes;
           holds = it.holds;
           whole = λ told kept. stands_whole path_there listed meta_there start_there state_there folder.tree new.tree (can.fits told) folder.keeps_stamps finish kept it.is (it.holds told);
           others = it.others;
-          wrote = λ told. it.wrote;
+          wrote = λ there_is. it.wrote;
         }
 
     -- it was gone
@@ -160,11 +162,12 @@ module _ (table : TableValue) (d i : ℕ) (listed : Option Meta) (starts : Start
           states_fit = can.states_fit;
           other_starts = λ k j other. refl;
           other_states = λ k j other. refl;
-          makes = makes_there new finds.makes;
+          makes = step_gone (IsFinishCall state_there.lost listed start_there state_there path_there meta_there) []
+              (finish_calls state_there.lost listed start_there state_there path_there meta_there) (makes_there new finds.makes);
           holds = λ told. absurd (not_told told);
           whole = λ told kept. absurd (not_told told);
           others = λ told. absurd (not_told told);
-          wrote = λ told. absurd (not_told told);
+          wrote = λ there_is. absurd (let clash : true ≡ false = there_is in cc);
         }
 
     -- a call of it failed
@@ -172,4 +175,4 @@ module _ (table : TableValue) (d i : ℕ) (listed : Option Meta) (starts : Start
         → FinishesNot table d i listed starts states folder new
     is_failed fault new failed broke =
         let fails = subst (λ (f : FileFault). BreaksBy f (IsFinishCall state.lost listed start state path meta) folder new) failed broke in
-        there (λ p m s t. FolderFails (IsFinishCall t.lost listed s t p m) folder new) fails
+        there (λ p m s t. StepFails (IsFinishCall t.lost listed s t p m) folder new) fails

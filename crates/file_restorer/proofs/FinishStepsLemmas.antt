@@ -18,7 +18,7 @@ use Rattle.stripe_reader.specs.declared.starts.Place.TheVariants.{Plain, Lost, N
 use Rattle.file_restorer.specs.declared.finishing.Finish.{Finish}
 use Rattle.file_restorer.specs.declared.finishing.Finish.TheVariants.{Kept, Renamed}
 use Rattle.file_restorer.specs.declared.state.FileState.{FileState}
-use Rattle.file_restorer.specs.Breaking.{FolderFails}
+use Rattle.file_restorer.specs.Breaking.{StepFails}
 use Rattle.file_restorer.specs.Finishing.{HoldsFinished, IsFinishCall, IsWholeCall, bytes_now, finish_calls, finish_of, is_changed, is_stamped, lost_after, lost_calls, lost_finish, same_stamp, size_calls, stamped_finish, whole_calls, whole_finish}
 use Rattle.file_restorer.specs.FinishSteps.{BreaksBy, FinishesBy, FitsSize, IsLostCall, IsPlaced, IsPutCall, IsReady, IsSizeCall, SetsUp, SizesBy, Stands}
 use Rattle.file_restorer.specs.Order.{FolderWrites, put_calls, set_up_calls}
@@ -34,7 +34,8 @@ use Rattle.file_restorer.proofs.FinishTreeLemmas.{holds_stamped, same_names, som
 -- it stands there
 pub sets_up_nothing : (path : List ℕ) (place : Place) (touched : Bool) (old : FolderView) → IsPlaced path place touched old → stands place touched ≡ true → SetsUp path place touched old old
 sets_up_nothing path place touched old placed standing = record {
-  makes = step_none (IsPutCall place touched path) old;
+  makes = subst (λ (b : Bool). StepMakes (IsPutCall place touched path) (if b then [] else set_up_calls place path) false old old) (sym standing)
+      (step_none (IsPutCall place touched path) old);
   stays = λ there told. refl;
   stand = λ told. stands_there path place touched old.tree (placed.tree told) standing;
   wrote = subst (λ (b : Bool). FolderWrites (if b then [] else set_up_calls place path) old old) (sym standing) (writes_none old);
@@ -72,14 +73,15 @@ sets_up_new path place touched old new formed placed absent either wrote =
     let is = nowhere place touched absent either in
     let placed_nowhere : IsPlaced path Nowhere touched old = subst (λ (p : Place). IsPlaced path p touched old) is.0 placed in
     let sets : SetsUp path Nowhere touched old new = record {
-      makes = step_write (IsPutCall Nowhere touched path) false formed wrote refl refl (is.1, inr (refl, refl));
+      makes = subst (λ (b : Bool). StepMakes (IsPutCall Nowhere touched path) (if b then [] else Make path ∷ []) false old new) (sym is.1)
+          (step_write (IsPutCall Nowhere touched path) false formed wrote refl refl (is.1, inr (refl, refl)));
       stays = λ standing. absurd (let clash : true ≡ false = sym standing ∙ is.1 in cc);
       stand = λ told. let made = wrote.does refl told in stands_made path touched made.0 old.tree new.tree (placed_nowhere.tree told) is.1 made.1;
       wrote = subst (λ (b : Bool). FolderWrites (if b then [] else Make path ∷ []) old new) (sym is.1) (writes_one (Make path) refl wrote);
     } in subst (λ (p : Place). SetsUp path p touched old new) (sym is.0) sets
 
 pub breaks_new : (path : List ℕ) (place : Place) (touched : Bool) (old new : FolderView) → IsFolder new → stands place touched ≡ false → (place ≡ Plain) ⊎ (place ≡ Nowhere)
-    → IsFolderWrite (Make path) answers.Failed old new → FolderFails (IsPutCall place touched path) old new
+    → IsFolderWrite (Make path) answers.Failed old new → StepFails (IsPutCall place touched path) old new
 breaks_new path place touched old new formed absent either wrote =
     fails_one (IsPutCall place touched path) (Make path) old new (absent, inr ((nowhere place touched absent either).0, refl)) refl formed wrote
 
@@ -88,7 +90,8 @@ breaks_new path place touched old new formed absent either wrote =
 -- it has it
 pub size_kept : (path : List ℕ) (before size : ℕ) (old : FolderView) → (before == size) ≡ true → FitsSize path before size old old
 size_kept path before size old same = record {
-  makes = step_none (IsSizeCall path before size) old;
+  makes = subst (λ (b : Bool). StepMakes (IsSizeCall path before size) (if b then [] else SetSize path size ∷ []) false old old) (sym same)
+      (step_none (IsSizeCall path before size) old);
   tree = λ told. subst (λ (b : Bool). SizesBy b path size old.tree old.tree) (sym same) refl;
   wrote = subst (λ (b : Bool). FolderWrites (if b then [] else SetSize path size ∷ []) old old) (sym same) (writes_none old);
 }
@@ -98,7 +101,8 @@ pub size_set : {T : Type 0} (path : List ℕ) (before size : ℕ) (result : Resu
     → IsFolderWrite (SetSize path size) (done_answer result) old new → IfOk result (λ _. FitsSize path before size old new)
 size_set path before size result old new formed other wrote = when_ok (λ _. Done) result (SetSize path size) old new (FitsSize path before size old new) wrote (λ given made.
     record {
-      makes = step_write (IsSizeCall path before size) false formed made refl refl (other, refl);
+      makes = subst (λ (b : Bool). StepMakes (IsSizeCall path before size) (if b then [] else SetSize path size ∷ []) false old new) (sym other)
+          (step_write (IsSizeCall path before size) false formed made refl refl (other, refl));
       tree = λ told. subst (λ (b : Bool). SizesBy b path size old.tree new.tree) (sym other) (made.does refl told);
       wrote = subst (λ (b : Bool). FolderWrites (if b then [] else SetSize path size ∷ []) old new) (sym other) (writes_one (SetSize path size) refl made);
     })
@@ -129,13 +133,14 @@ module _ (path : List ℕ) (listed : Option Meta) (meta : Meta) (start : Start) 
   -- its size is not set
   pub whole_not_sized : (fault : FileFault) (old mid new : FolderView) → SetsUp path start.place state.touched old mid → BreaksBy fault Size mid new → BreaksBy fault Whole old new
   whole_not_sized fault old mid new sets broke =
-      breaks_then fault Whole old mid new (step_wider Put Whole false of_put sets.makes) (breaks_wider fault Size Whole mid new of_size broke)
+      breaks_then fault Whole (put_calls start.place state.touched path) old mid new
+      (step_wider Put Whole (put_calls start.place state.touched path) false of_put sets.makes) (breaks_wider fault Size Whole mid new of_size broke)
 
 -- ---- the file stands whole, but for its stamp
 
 -- These calls were made, it stands under its path with its size, and nothing changed where nothing was to be done.
 pub record IsFit (path : List ℕ) (listed : Option Meta) (meta : Meta) (start : Start) (state : FileState) (old new : FolderView) : Type 0 where
-  pub makes : StepMakes (IsWholeCall listed start state path meta) false old new
+  pub makes : StepMakes (IsWholeCall listed start state path meta) (put_calls start.place state.touched path ++ size_calls state.size meta.size path) false old new
   pub stand : IsTrue old.tells
       → Stands path (resized (bytes_now old.tree path) meta.size) (lost_after start.place (file_of old.tree (path_of path true))) old.tree new.tree
   pub stays : is_changed meta start state ≡ false → IsTrue old.tells → new.tree ≡ old.tree
@@ -155,8 +160,8 @@ pub is_fit : (path : List ℕ) (listed : Option Meta) (meta : Meta) (start : Sta
     → SetsUp path start.place state.touched old mid → FitsSize path state.size meta.size mid new → IsFit path listed meta start state old new
 is_fit path listed meta start state old mid new ready sets fits = record {
   makes = step_then (IsWholeCall listed start state path meta) false
-      (step_wider (IsPutCall start.place state.touched path) (IsWholeCall listed start state path meta) false (of_put path listed meta start state) sets.makes)
-      (step_wider (IsSizeCall path state.size meta.size) (IsWholeCall listed start state path meta) false (of_size path listed meta start state) fits.makes);
+      (step_wider (IsPutCall start.place state.touched path) (IsWholeCall listed start state path meta) (put_calls start.place state.touched path) false (of_put path listed meta start state) sets.makes)
+      (step_wider (IsSizeCall path state.size meta.size) (IsWholeCall listed start state path meta) (size_calls state.size meta.size path) false (of_size path listed meta start state) fits.makes);
   stand = λ told.
       stands_sized path (bytes_now old.tree path) (lost_after start.place (file_of old.tree (path_of path true))) meta.size state.size old.tree mid.tree new.tree
       (sets.stand told) (ready.fits told).size (fits.tree (sets.makes.goes_on.tells ∙ told));
@@ -187,7 +192,7 @@ pub whole_not_stamped : (fault : FileFault) (path : List ℕ) (listed : Option M
     → BreaksBy fault (IsWholeCall listed start state path meta) old new
 whole_not_stamped fault path listed meta start state changed old mid new formed fit changed_is needed wrote missing =
     let Whole = IsWholeCall listed start state path meta in
-    breaks_then fault Whole old mid new fit.makes
+    breaks_then fault Whole (put_calls start.place state.touched path ++ size_calls state.size meta.size path) old mid new fit.makes
     (breaks_one {T = Bool} answers.Kept (Err fault) Whole (SetStamp path meta.stamp) path mid new formed wrote missing (fit_there path listed meta start state old mid fit) refl
     (of_stamp path listed meta start state (stamp_due listed meta start state changed changed_is needed)))
 
@@ -212,9 +217,11 @@ whole_kept path listed meta start state changed old new fit changed_is none =
     let same = not (same_stamp meta.stamp listed) in
     let needless : (is_changed meta start state || same) ≡ false = ap (λ (b : Bool). b || same) (sym changed_is) ∙ none in
     let stays = fit.stays (or_left (is_changed meta start state) same needless) in
+    let calls = put_calls start.place state.touched path ++ size_calls state.size meta.size path in
     record {
       is = sym (ap (λ (b : Bool). cond b (stamped_finish (is_changed meta start state) old.keeps_stamps) Kept) needless);
-      makes = fit.makes;
+      makes = subst (λ (b : Bool). StepMakes (IsWholeCall listed start state path meta) (calls ++ (if b then SetStamp path meta.stamp ∷ [] else [])) false old new) (sym needless)
+          (subst (λ (its : List FolderCall). StepMakes (IsWholeCall listed start state path meta) its false old new) (sym (append-nil calls)) fit.makes);
       holds = λ told. same_names path old.tree new.tree (stays told);
       others = λ told. others_same path old.tree new.tree (stays told);
       wrote = stamped_calls path listed meta start state false old new needless
@@ -242,7 +249,8 @@ whole_stamped path listed meta start state changed stamped finish old mid new fo
     (no_stamp_set path meta.stamp mid.tree new.tree (subst (λ (b : Bool). Does b (SetStamp path meta.stamp) mid.tree new.tree) no (does told)) ∙ fit.stays none told) in
     record {
       is = is ∙ sym (ap (λ (b : Bool). cond b (stamped_finish change keeps) Kept) due);
-      makes = step_then Whole false fit.makes (step_write Whole false formed wrote refl refl (of_stamp path listed meta start state due));
+      makes = subst (λ (b : Bool). StepMakes Whole ((put_calls start.place state.touched path ++ size_calls state.size meta.size path) ++ (if b then SetStamp path meta.stamp ∷ [] else [])) false old new)
+          (sym due) (step_then Whole false fit.makes (step_write Whole false formed wrote refl refl (of_stamp path listed meta start state due)));
       holds = λ told.
           subst (λ (f : Finish). HoldsFinished f keeps meta start state (bytes_now old.tree path) path old.tree new.tree) (sym is)
           (holds_stamped change keeps meta start state (bytes_now old.tree path) path old.tree new.tree (both told).0 (unkept told));
@@ -260,7 +268,8 @@ lost_renamed path meta start state old new formed placed standing wrote =
     let both = λ (told : IsTrue old.tells). stands_lost path old.tree new.tree ((placed.tree told).plain standing) (wrote.does refl told) in
     record {
       is = sym (ap (λ (b : Bool). cond b Renamed Kept) standing);
-      makes = step_write (IsLostCall start state path) false formed wrote refl refl (standing, refl);
+      makes = subst (λ (b : Bool). StepMakes (IsLostCall start state path) (if b then Rename path true ∷ [] else []) false old new) (sym standing)
+          (step_write (IsLostCall start state path) false formed wrote refl refl (standing, refl));
       holds = λ told. (both told).0;
       others = λ told. (both told).1;
       wrote = subst (λ (b : Bool). FolderWrites (if b then Rename path true ∷ [] else []) old new) (sym standing) (writes_one (Rename path true) refl wrote);
@@ -271,7 +280,8 @@ pub lost_kept : (path : List ℕ) (meta : Meta) (start : Start) (state : FileSta
     → FinishesBy (lost_finish start state) Kept (IsLostCall start state path) (lost_calls start state path) meta start state path old old
 lost_kept path meta start state old absent = record {
   is = sym (ap (λ (b : Bool). cond b Renamed Kept) absent);
-  makes = step_none (IsLostCall start state path) old;
+  makes = subst (λ (b : Bool). StepMakes (IsLostCall start state path) (if b then Rename path true ∷ [] else []) false old old) (sym absent)
+      (step_none (IsLostCall start state path) old);
   holds = λ told. same_names path old.tree old.tree refl;
   others = λ told. others_same path old.tree old.tree refl;
   wrote = subst (λ (b : Bool). FolderWrites (if b then Rename path true ∷ [] else []) old old) (sym absent) (writes_none old);

@@ -1,6 +1,6 @@
 -- Calls of a folder, one after another, and the two names of a record that they touch.
 use Rattle.std.proofs.Common.{◌≡◌, Bool, true, false, ◌||◌, List, [], ◌∷◌, ◌++◌, All, refl, sym, ap, ap₂, ◌∙◌, subst, arith, Option, None, Some, ℕ, get_or, length, if◌then◌else◌}
-use Rattle.std.proofs.lemmas.List.{append-nil}
+use Rattle.std.proofs.lemmas.List.{append-nil, map-append}
 use Rattle.std.proofs.lemmas.List.Elements.{All-append, All-cons, All-nil}
 use Rattle.std.proofs.lemmas.List.Folds.{list_any-append}
 use Rattle.std.specs.FinMap as map
@@ -124,37 +124,52 @@ makes_by_none P v none = record {
 pub makes_each : (P : List FolderDone → Type 0) (Q : FolderDone → Type 0) {old new : FolderView} → ((done : List FolderDone) → P done → All Q done) → FolderMakesBy P old new → FolderMakes Q old new
 makes_each P Q each one = record { done = one.done; each = each one.done one.are; goes_on = one.goes_on; left = one.left }
 
-pub no_step : (P : FolderCall → Type 0) → AreStepCalls P false []
-no_step P = record { each = All-nil (WellCall P); found = refl }
+pub no_step : (P : FolderCall → Type 0) → AreStepCalls P [] false []
+no_step P = record { each = All-nil (WellCall P); found = refl; just = λ none. refl }
 
-pub step_none : (P : FolderCall → Type 0) (v : FolderView) → StepMakes P false v v
-step_none P v = makes_by_none (AreStepCalls P false) v (no_step P)
+pub step_none : (P : FolderCall → Type 0) (v : FolderView) → StepMakes P [] false v v
+step_none P v = makes_by_none (AreStepCalls P [] false) v (no_step P)
 
 -- after calls of which each found its file
-step_calls_then : (P : FolderCall → Type 0) (missing : Bool) (first more : List FolderDone) → AreStepCalls P false first → AreStepCalls P missing more → AreStepCalls P missing (first ++ more)
-step_calls_then P missing first more one two = record {
+step_calls_then : (P : FolderCall → Type 0) (ones others : List FolderCall) (missing : Bool) (first more : List FolderDone) → AreStepCalls P ones false first
+    → AreStepCalls P others missing more → AreStepCalls P (ones ++ others) missing (first ++ more)
+step_calls_then P ones others missing first more one two = record {
   each = All-append (WellCall P) first more one.each two.each;
   found = list_any-append (λ (done : FolderDone). is_missing done.answer) first more ∙ ap₂ (λ (a b : Bool). a || b) one.found two.found;
+  just = λ none. map-append (λ (done : FolderDone). done.call) first more ∙ ap₂ (λ (a b : List FolderCall). a ++ b) (one.just refl) (two.just none);
 }
 
-pub step_then : (P : FolderCall → Type 0) (missing : Bool) {old mid new : FolderView} → StepMakes P false old mid → StepMakes P missing mid new → StepMakes P missing old new
-step_then P missing one two = makes_by_then (AreStepCalls P false) (AreStepCalls P missing) (AreStepCalls P missing) (step_calls_then P missing) one two
+pub step_then : (P : FolderCall → Type 0) (missing : Bool) {ones others : List FolderCall} {old mid new : FolderView} → StepMakes P ones false old mid → StepMakes P others missing mid new
+    → StepMakes P (ones ++ others) missing old new
+step_then P missing {ones = ones} {others = others} one two =
+    makes_by_then (AreStepCalls P ones false) (AreStepCalls P others missing) (AreStepCalls P (ones ++ others) missing) (step_calls_then P ones others missing) one two
 
-pub step_calls_wider : (P Q : FolderCall → Type 0) (missing : Bool) → ((call : FolderCall) → P call → Q call) → (done : List FolderDone) → AreStepCalls P missing done → AreStepCalls Q missing done
-step_calls_wider P Q missing wider done are = record { each = λ k none within. well_wider P Q wider (get_or done k none) (are.each k none within); found = are.found }
+-- where a file was gone, nothing is said of which calls were to be made
+pub step_gone : (P : FolderCall → Type 0) (ones others : List FolderCall) {old new : FolderView} → StepMakes P ones true old new → StepMakes P others true old new
+step_gone P ones others one = makes_by_wider (AreStepCalls P ones true) (AreStepCalls P others true)
+    (λ done are. record { each = are.each; found = are.found; just = λ none. absurd (let clash : true ≡ false = none in cc) }) one
 
-pub step_wider : (P Q : FolderCall → Type 0) (missing : Bool) {old new : FolderView} → ((call : FolderCall) → P call → Q call) → StepMakes P missing old new → StepMakes Q missing old new
-step_wider P Q missing wider one = makes_by_wider (AreStepCalls P missing) (AreStepCalls Q missing) (step_calls_wider P Q missing wider) one
+pub step_calls_wider : (P Q : FolderCall → Type 0) (calls : List FolderCall) (missing : Bool) → ((call : FolderCall) → P call → Q call) → (done : List FolderDone)
+    → AreStepCalls P calls missing done → AreStepCalls Q calls missing done
+step_calls_wider P Q calls missing wider done are = record {
+  each = λ k none within. well_wider P Q wider (get_or done k none) (are.each k none within);
+  found = are.found;
+  just = are.just;
+}
 
-pub step_makes : (P : FolderCall → Type 0) (missing : Bool) {old new : FolderView} → StepMakes P missing old new → FolderMakes (WellCall P) old new
-step_makes P missing one = makes_each (AreStepCalls P missing) (WellCall P) (λ done are. are.each) one
+pub step_wider : (P Q : FolderCall → Type 0) (calls : List FolderCall) (missing : Bool) {old new : FolderView} → ((call : FolderCall) → P call → Q call) → StepMakes P calls missing old new
+    → StepMakes Q calls missing old new
+step_wider P Q calls missing wider one = makes_by_wider (AreStepCalls P calls missing) (AreStepCalls Q calls missing) (step_calls_wider P Q calls missing wider) one
+
+pub step_makes : (P : FolderCall → Type 0) (calls : List FolderCall) (missing : Bool) {old new : FolderView} → StepMakes P calls missing old new → FolderMakes (WellCall P) old new
+step_makes P calls missing one = makes_each (AreStepCalls P calls missing) (WellCall P) (λ done are. are.each) one
 
 -- one call that writes and did not fail
 pub step_write : (P : FolderCall → Type 0) (missing : Bool) {call : FolderCall} {answer : Answer} {old new : FolderView} → IsFolder new → IsFolderWrite call answer old new
-    → is_failure answer ≡ false → (is_missing answer || false) ≡ missing → P call → StepMakes P missing old new
+    → is_failure answer ≡ false → (is_missing answer || false) ≡ missing → P call → StepMakes P (call ∷ []) missing old new
 step_write P missing {call = call} {answer = answer} {old = old} {new = new} formed wrote well found is = record {
   done = record { call = call; answer = answer } ∷ [];
-  are = record { each = All-cons (WellCall P) _ [] (is, unbroken call answer well) (All-nil (WellCall P)); found = found };
+  are = record { each = All-cons (WellCall P) _ [] (is, unbroken call answer well) (All-nil (WellCall P)); found = found; just = λ none. refl };
   goes_on = wrote.called.goes_on;
   left = λ told tree. write_is_left call answer old new told formed wrote;
 }

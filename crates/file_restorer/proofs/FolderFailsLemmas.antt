@@ -1,8 +1,10 @@
 -- Calls of a folder of which the last one failed: behind others, of a wider kind, and where a fix breaks off at one of several columns.
-use Rattle.std.proofs.Common.{◌≡◌, inl, inr, ℕ, ◌<◌, ◌||◌, cond, List, [], ◌∷◌, ◌++◌, All, Bool, true, false, IsTrue, get_or, refl, sym, ap, ◌∙◌, subst, arith, append_assoc}
+use Rattle.std.proofs.Common.{◌≡◌, inl, inr, ℕ, ◌<◌, ◌||◌, cond, List, [], ◌∷◌, ◌++◌, All, Bool, true, false, IsTrue, get_or, refl, sym, ap, ap₂, ◌∙◌, subst, arith, append_assoc}
 use Rattle.std.specs.List.{list_any}
 use Rattle.std.proofs.lemmas.Bool.{cases_lt}
 use Rattle.std.proofs.lemmas.List.Elements.{All-append, All-cons, All-nil}
+use Rattle.std.proofs.lemmas.List.Folds.{list_any-append}
+use Rattle.disk_model.specs.Answer.{is_missing}
 use Rattle.disk_model.specs.Folder.{FolderView, FolderCall, FolderDone, IsFolder}
 use Rattle.disk_model.specs.declared.answer.Answer.TheVariants.{Failed}
 use Rattle.disk_model.specs.Stopped.{MayBeLeft}
@@ -11,20 +13,23 @@ use Rattle.disk_model.proofs.AnsweredLemmas.{write_is_left, left_then, left_is_t
 use Rattle.snap_report.specs.Answer.{Gained, broke_folder, is_reading}
 use Rattle.stripe_reader.specs.Columns.{folder_at}
 use Rattle.stripe_reader.proofs.FolderLemmas.{goes_on_then}
-use Rattle.file_restorer.specs.Breaking.{FailsInColumn, FolderFails}
-use Rattle.file_restorer.specs.State.{AnyCall, WellCall, FolderMakes}
+use Rattle.file_restorer.specs.Breaking.{FailsInColumn, FolderFails, StepFails}
+use Rattle.file_restorer.specs.State.{AnyCall, WellCall, FolderMakes, StepMakes}
 use Rattle.file_restorer.proofs.FolderCallLemmas.{makes_any, makes_each, makes_none, well_wider}
 
 -- ---- of one folder
 
 -- one call failed
-pub fails_one : (P : FolderCall → Type 0) (call : FolderCall) (old new : FolderView) → P call → is_reading call ≡ false → IsFolder new → IsFolderWrite call Failed old new → FolderFails P old new
+pub fails_one : (P : FolderCall → Type 0) (call : FolderCall) (old new : FolderView) → P call → is_reading call ≡ false → IsFolder new → IsFolderWrite call Failed old new → StepFails P old new
 fails_one P call old new is writes formed wrote = record {
-  rose = wrote.called.cause cc;
-  done = record { call = call; answer = Failed } ∷ [];
-  fails = record { front = []; each = All-nil (WellCall P); call = call; is = is; writes = writes; done_is = refl };
-  goes_on = wrote.called.goes_on;
-  left = λ told tree. write_is_left call Failed old new told formed wrote;
+  fails = record {
+    rose = wrote.called.cause cc;
+    done = record { call = call; answer = Failed } ∷ [];
+    fails = record { front = []; each = All-nil (WellCall P); call = call; is = is; writes = writes; done_is = refl };
+    goes_on = wrote.called.goes_on;
+    left = λ told tree. write_is_left call Failed old new told formed wrote;
+  };
+  found = refl;
 }
 
 -- after others that went well
@@ -49,6 +54,31 @@ fails_then P old mid new one two =
           left_then old.keeps_stamps one.done two.done old.tree mid.tree new.tree first (subst (λ (keeps : Bool). MayBeLeft keeps two.done mid.tree new.tree) one.goes_on.keeps_stamps more);
     }
 
+-- after the calls of a step of which each found its file
+pub step_fails_then : (P : FolderCall → Type 0) (calls : List FolderCall) (old mid new : FolderView) → StepMakes P calls false old mid → StepFails P mid new → StepFails P old new
+step_fails_then P calls old mid new one two =
+    let last = two.fails.fails in
+    record {
+      fails = record {
+        rose = let later = one.goes_on.later in let rose = two.fails.rose in omega (arith, later, rose);
+        done = one.done ++ two.fails.done;
+        fails = record {
+          front = one.done ++ last.front;
+          each = All-append (WellCall P) one.done last.front one.are.each last.each;
+          call = last.call;
+          is = last.is;
+          writes = last.writes;
+          done_is = ap (λ (done : List FolderDone). one.done ++ done) last.done_is ∙ sym (append_assoc one.done last.front (record { call = last.call; answer = Failed } ∷ []));
+        };
+        goes_on = goes_on_then old mid new one.done two.fails.done one.goes_on two.fails.goes_on;
+        left = λ told is.
+            let first : MayBeLeft old.keeps_stamps one.done old.tree mid.tree = one.left told is in
+            let more = two.fails.left (one.goes_on.tells ∙ told) (left_is_tree old.keeps_stamps one.done old.tree mid.tree is first) in
+            left_then old.keeps_stamps one.done two.fails.done old.tree mid.tree new.tree first (subst (λ (keeps : Bool). MayBeLeft keeps two.fails.done mid.tree new.tree) one.goes_on.keeps_stamps more);
+      };
+      found = list_any-append (λ (done : FolderDone). is_missing done.answer) one.done last.front ∙ ap₂ (λ (a b : Bool). a || b) one.are.found two.found;
+    }
+
 -- of a wider kind
 pub fails_wider : (P Q : FolderCall → Type 0) {old new : FolderView} → ((call : FolderCall) → P call → Q call) → FolderFails P old new → FolderFails Q old new
 fails_wider P Q wider one =
@@ -66,6 +96,27 @@ fails_wider P Q wider one =
       };
       goes_on = one.goes_on;
       left = one.left;
+    }
+
+pub step_fails_wider : (P Q : FolderCall → Type 0) {old new : FolderView} → ((call : FolderCall) → P call → Q call) → StepFails P old new → StepFails Q old new
+step_fails_wider P Q wider one =
+    let last = one.fails.fails in
+    record {
+      fails = record {
+        rose = one.fails.rose;
+        done = one.fails.done;
+        fails = record {
+          front = last.front;
+          each = λ k none within. well_wider P Q wider (get_or last.front k none) (last.each k none within);
+          call = last.call;
+          is = wider last.call last.is;
+          writes = last.writes;
+          done_is = last.done_is;
+        };
+        goes_on = one.fails.goes_on;
+        left = one.fails.left;
+      };
+      found = one.found;
     }
 
 -- they are such calls all the same

@@ -1,5 +1,5 @@
 -- What each call of a mended record makes of its folder, and what comes of several.
-use Rattle.std.proofs.Common.{◌≡◌, inl, inr, ℕ, ◌+◌, max, List, [], ◌∷◌, length, Bool, true, false, IsTrue, if◌then◌else◌, Result, Ok, Err, refl, sym, ◌∙◌, ap, subst}
+use Rattle.std.proofs.Common.{◌≡◌, inl, inr, ℕ, ◌+◌, max, List, [], ◌∷◌, ◌++◌, length, Bool, true, false, IsTrue, if◌then◌else◌, Result, Ok, Err, refl, sym, ◌∙◌, ap, subst}
 use Rattle.std.proofs.lemmas.List.{append-nil}
 use Rattle.std.specs.Prelude.{IfErr}
 use Rattle.std.specs.Result.{IsErrAnd}
@@ -19,8 +19,8 @@ use Rattle.file_restorer.specs.declared.state.FileState.{FileState}
 use Rattle.file_restorer.specs.Mending.{IsSetUpCall, IsBlockCall, CanSetUp, GoesOnBy, SetsUp, WritesBytes, EndsBy}
 use Rattle.file_restorer.specs.Order.{FolderWrites, put_calls, set_up_calls}
 use Rattle.file_restorer.specs.State.{Write, HoldsRecord, StaysPlace, StepMakes, stands}
-use Rattle.file_restorer.proofs.FolderCallLemmas.{others_same, others_then, others_changed, others_made, others_renamed, step_makes, step_none, step_then, step_wider, step_write}
-use Rattle.file_restorer.proofs.FolderFailsLemmas.{fails_one, fails_then}
+use Rattle.file_restorer.proofs.FolderCallLemmas.{others_same, others_then, others_changed, others_made, others_renamed, step_gone, step_none, step_then, step_wider, step_write}
+use Rattle.file_restorer.proofs.FolderFailsLemmas.{fails_one, step_fails_then, step_fails_wider}
 use Rattle.file_restorer.proofs.MendedRecordLemmas.{plain_start, touched_state, written_state, lost_there, plain_there, renamed_back, made_anew, written_more}
 use Rattle.file_restorer.proofs.OrderLemmas.{writes_none, writes_one, writes_then}
 
@@ -35,7 +35,7 @@ not_told false none = refl
 
 module _ (path : List ℕ) (start : Start) (state : FileState) (old : FolderView) where
   -- nothing was done
-  pub goes_nowhere : (P : FolderCall → Type 0) → GoesOnBy P false [] path start state old start state old
+  pub goes_nowhere : (P : FolderCall → Type 0) → GoesOnBy P [] false [] path start state old start state old
   goes_nowhere P = record {
     makes = step_none P old;
     same_size = refl;
@@ -49,7 +49,8 @@ module _ (path : List ℕ) (start : Start) (state : FileState) (old : FolderView
 
   pub sets_up_nothing : stands start.place state.touched ≡ true → SetsUp path start state old start state old
   sets_up_nothing stand = record {
-    goes_on = goes_nowhere (IsSetUpCall start.place path);
+    goes_on = subst (λ (standing : Bool). GoesOnBy (IsSetUpCall start.place path) (if standing then [] else set_up_calls start.place path) false [] path start state old start state old) (sym stand)
+        (goes_nowhere (IsSetUpCall start.place path));
     there = λ told. stand;
     wrote = subst (λ (standing : Bool). FolderWrites (if standing then [] else set_up_calls start.place path) old old) (sym stand) (writes_none old);
   }
@@ -59,7 +60,8 @@ module _ (path : List ℕ) (start : Start) (state : FileState) (old : FolderView
       → SetsUp path start state old (plain_start start) (touched_state state) new
   sets_up_renamed new formed lost call = record {
     goes_on = record {
-      makes = step_write (IsSetUpCall start.place path) false formed call refl refl (inl (lost, refl));
+      makes = subst (λ (place : Place). StepMakes (IsSetUpCall start.place path) (put_calls place state.touched path) false old new) (sym lost)
+          (step_write (IsSetUpCall start.place path) false formed call refl refl (inl (lost, refl)));
       same_size = refl;
       stood = inr (lost, refl);
       size = refl;
@@ -78,7 +80,9 @@ module _ (path : List ℕ) (start : Start) (state : FileState) (old : FolderView
       → SetsUp path start state old start (touched_state state) new
   sets_up_made new formed nowhere untouched call = record {
     goes_on = record {
-      makes = step_write (IsSetUpCall start.place path) false formed call refl refl (inr (nowhere, refl));
+      makes = subst (λ (place : Place). StepMakes (IsSetUpCall start.place path) (put_calls place state.touched path) false old new) (sym nowhere)
+          (subst (λ (touched : Bool). StepMakes (IsSetUpCall start.place path) (put_calls Nowhere touched path) false old new) (sym untouched)
+          (step_write (IsSetUpCall start.place path) false formed call refl refl (inr (nowhere, refl))));
       same_size = refl;
       stood = inl refl;
       size = refl;
@@ -94,9 +98,9 @@ module _ (path : List ℕ) (start : Start) (state : FileState) (old : FolderView
   }
 
   -- nothing is known of the files
-  pub goes_untold : (P : FolderCall → Type 0) (start_new : Start) (state_new : FileState) (new : FolderView) → old.tells ≡ false → StepMakes P true old new
+  pub goes_untold : (P : FolderCall → Type 0) (start_new : Start) (state_new : FileState) (new : FolderView) → old.tells ≡ false → StepMakes P [] true old new
       → start_new.size ≡ start.size → StaysPlace start.place start_new.place → state_new.size ≡ state.size → state_new.lost ≡ state.lost → (state.touched ≡ true → state_new.touched ≡ true)
-      → GoesOnBy P true [] path start state old start_new state_new new
+      → GoesOnBy P [] true [] path start state old start_new state_new new
   goes_untold P start_new state_new new untold makes size stood state_size lost stays = record {
     makes = makes;
     same_size = size;
@@ -113,6 +117,26 @@ module _ (path : List ℕ) (start : Start) (state : FileState) (old : FolderView
 
 -- ---- the answers of the two functions
 
+-- the same calls are of a wider kind
+pub ends_wider : (P Q : FolderCall → Type 0) → ((call : FolderCall) → P call → Q call) → (fault : FileFault) (path : List ℕ) (start : Start) (state : FileState) (old : FolderView)
+    (start_new : Start) (state_new : FileState) (new : FolderView) → EndsBy fault P path start state old start_new state_new new → EndsBy fault Q path start state old start_new state_new new
+ends_wider P Q wider Failed path start state old start_new state_new new ends = step_fails_wider P Q wider ends
+ends_wider P Q wider Missing path start state old start_new state_new new ends =
+    let goes_on = ends.goes_on in
+    record {
+      untold = ends.untold;
+      goes_on = record {
+        makes = step_wider P Q [] true wider goes_on.makes;
+        same_size = goes_on.same_size;
+        stood = goes_on.stood;
+        size = goes_on.size;
+        same_lost = goes_on.same_lost;
+        stays_touched = goes_on.stays_touched;
+        holds = goes_on.holds;
+        others = goes_on.others;
+      };
+    }
+
 module _ (path : List ℕ) (start : Start) (state : FileState) (old : FolderView) (can : CanSetUp path start state old) where
   -- the file under the other name was gone, or renaming it failed
   pub rename_ends : (fault : FileFault) (new : FolderView) → IsFolder new → start.place ≡ Lost → IsFolderWrite (Rename path false) (done_answer {T = Unit {0}} (Err fault)) old new
@@ -122,7 +146,8 @@ module _ (path : List ℕ) (start : Start) (state : FileState) (old : FolderView
       let untold = not_told old.tells (λ told. let far = can.so_far told in lost_there start state far.writes path far.first old.tree far.holds lost (missing told)) in
       record {
         untold = untold;
-        goes_on = goes_untold path start state old (IsSetUpCall start.place path) start state new untold (step_write (IsSetUpCall start.place path) true formed call refl refl (inl (lost, refl))) refl (inl refl) refl refl (λ touched. touched);
+        goes_on = goes_untold path start state old (IsSetUpCall start.place path) start state new untold
+            (step_gone (IsSetUpCall start.place path) (Rename path false ∷ []) [] (step_write (IsSetUpCall start.place path) true formed call refl refl (inl (lost, refl)))) refl (inl refl) refl refl (λ touched. touched);
       }
 
   -- making it failed
@@ -133,8 +158,11 @@ module _ (path : List ℕ) (start : Start) (state : FileState) (old : FolderView
     abbrev Block : FolderCall → Type 0
     Block = IsBlockCall start.place path at bytes
 
-    set_makes : StepMakes Block false old mid
-    set_makes = step_wider (IsSetUpCall start.place path) Block false (λ call is. inr is) set.goes_on.makes
+    abbrev puts : List FolderCall
+    puts = put_calls start.place state.touched path
+
+    set_makes : StepMakes Block puts false old mid
+    set_makes = step_wider (IsSetUpCall start.place path) Block puts false (λ call is. inr is) set.goes_on.makes
 
     set_holds : IsTrue old.tells → (first : Tree) (writes : List Write) → HoldsRecord start state writes path first old.tree → HoldsRecord start_mid state_mid writes path first mid.tree
     set_holds told first writes held = subst (λ (ws : List Write). HoldsRecord start_mid state_mid ws path first mid.tree) (append-nil writes) (set.goes_on.holds told first writes held)
@@ -167,10 +195,11 @@ module _ (path : List ℕ) (start : Start) (state : FileState) (old : FolderView
     -- the file was gone, or the write failed
     pub write_ends : (fault : FileFault) (new : FolderView) → IsFolder new → IsFolderWrite (WriteAt path at bytes) (done_answer {T = Unit {0}} (Err fault)) mid new
         → MissingExactly {T = Unit {0}} (Err fault) mid path → EndsBy fault Block path start state old start_mid state_mid new
-    write_ends Failed new formed call missing = fails_then Block old mid new (step_makes Block false set_makes) (fails_one Block (WriteAt path at bytes) mid new (inl refl) refl formed call)
+    write_ends Failed new formed call missing = step_fails_then Block puts old mid new set_makes (fails_one Block (WriteAt path at bytes) mid new (inl refl) refl formed call)
     write_ends Missing new formed call missing = record {
       untold = untold;
-      goes_on = goes_untold path start state old Block start_mid state_mid new untold (step_then Block true set_makes (step_write Block true formed call refl refl (inl refl)))
+      goes_on = goes_untold path start state old Block start_mid state_mid new untold
+          (step_gone Block (puts ++ WriteAt path at bytes ∷ []) [] (step_then Block true set_makes (step_write Block true formed call refl refl (inl refl))))
           set.goes_on.same_size set.goes_on.stood set.goes_on.size set.goes_on.same_lost set.goes_on.stays_touched;
     }
       where

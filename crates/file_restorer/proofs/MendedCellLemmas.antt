@@ -14,9 +14,11 @@ use Rattle.stripe_reader.specs.declared.starts.Start.{Start}
 use Rattle.stripe_reader.specs.declared.starts.Place.{Place}
 use Rattle.stripe_reader.specs.declared.starts.Place.TheVariants.{Plain, Lost, Nowhere}
 use Rattle.file_restorer.specs.declared.state.FileState.{FileState}
-use Rattle.file_restorer.specs.Breaking.{FolderFails}
+use Rattle.file_restorer.specs.Breaking.{StepFails}
 use Rattle.file_restorer.specs.Mending.{IsBlockCall, CanSetUp, CanWrite, WritesBytes, FindsNone, EndsBy, MendsCell, MendsNot, block_start, cell_path, with_write, with_place}
 use Rattle.file_restorer.specs.State.{Write, HoldsBy, HoldsRecord, HoldsColumn, place_by, place_in, place_then, stands, state_in}
+use Rattle.file_restorer.specs.Order.{block_calls}
+use Rattle.file_restorer.proofs.FolderCallLemmas.{step_gone}
 use Rattle.file_restorer.proofs.RecordPathsLemmas.{ArePaths, table_paths}
 use Rattle.file_restorer.proofs.MendedColumnLemmas.{column_goes_on, apart_now}
 
@@ -173,13 +175,13 @@ module _ (table : TableValue) (d : ℕ) (cell : Cell) (bytes : List ℕ) (starts
             stays_touched = finds.goes_on.stays_touched;
             there = λ told. absurd (clash told);
             wrote = λ is. absurd (let none : false ≡ true = is in cc);
-            makes = finds.goes_on.makes;
+            makes = step_gone Block [] (block_calls start.place state.touched path (block_start table cell) bytes) finds.goes_on.makes;
             holds = λ first writes same free tree held told. absurd (clash (subst IsTrue same told));
           }
 
       -- a call failed
-      mends_not : FolderFails BlockGiven folder folder_new → MendsNot table d cell bytes starts folder folder_new
-      mends_not given = of_cell (λ p n s t. FolderFails (IsBlockCall s.place p n bytes) folder folder_new) given
+      mends_not : StepFails BlockGiven folder folder_new → MendsNot table d cell bytes starts folder folder_new
+      mends_not given = of_cell (λ p n s t. StepFails (IsBlockCall s.place p n bytes) folder folder_new) given
 
       pub mends : Mends table d cell bytes starts states folder path_given at_given start_given state_given start_new state_new folder_new starts_new states_new
       mends = record {

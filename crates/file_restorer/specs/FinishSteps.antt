@@ -1,5 +1,5 @@
 -- The steps of a finish, each on the file of one record: it is put under its path, then its size is set, then its stamp.
-use Rattle.std.specs.Prelude.{◌≡◌, ◌≢◌, ℕ, ◌==◌, List, Bool, true, false, Option, None, Some, IsTrue}
+use Rattle.std.specs.Prelude.{◌≡◌, ◌≢◌, ℕ, ◌==◌, List, [], Bool, true, false, Option, None, Some, IsTrue}
 use Rattle.disk_model.specs.Folder.{FolderView, FolderCall, SetSize, Rename, TreeBy, TreeStays}
 use Rattle.disk_model.specs.Path.{IsRecordPath}
 use Rattle.disk_model.specs.Stamp.{IsStamp}
@@ -13,7 +13,7 @@ use Rattle.stripe_reader.specs.declared.starts.Place.{Place}
 use Rattle.stripe_reader.specs.declared.starts.Place.TheVariants.{Lost, Nowhere}
 use Rattle.file_restorer.specs.declared.finishing.Finish.{Finish}
 use Rattle.file_restorer.specs.declared.state.FileState.{FileState}
-use Rattle.file_restorer.specs.Breaking.{FolderFails}
+use Rattle.file_restorer.specs.Breaking.{StepFails}
 use Rattle.file_restorer.specs.Finishing.{FitsTree, HoldsFinished, bytes_now, lost_after, size_calls}
 use Rattle.file_restorer.specs.Mending.{IsFree, IsSetUpCall}
 use Rattle.file_restorer.specs.Order.{FolderWrites, put_calls}
@@ -63,11 +63,11 @@ IsLostCall start state path call = (stands start.place state.touched ≡ true) �
 -- folder tells its files
 pub record FindsNoFile (P : FolderCall → Type 0) (old new : FolderView) : Type 0 where
   pub untold : old.tells ≡ false
-  pub makes : StepMakes P true old new
+  pub makes : StepMakes P [] true old new
   pub last : (call : FolderCall) × P call
 
 abbrev pub BreaksBy : FileFault → (FolderCall → Type 0) → FolderView → FolderView → Type 0
-BreaksBy Failed = FolderFails
+BreaksBy Failed = StepFails
 BreaksBy Missing = FindsNoFile
 
 -- a file with these bytes stands under the path, and this one under its other name
@@ -80,7 +80,7 @@ pub record Stands (path bytes : List ℕ) (lost : Option File) (before later : T
 
 -- the file stands under its path: it did, or it was renamed back, or made
 pub record SetsUp (path : List ℕ) (place : Place) (touched : Bool) (old new : FolderView) : Type 0 where
-  pub makes : StepMakes (IsPutCall place touched path) false old new
+  pub makes : StepMakes (IsPutCall place touched path) (put_calls place touched path) false old new
   pub stays : stands place touched ≡ true → TreeStays old new
   pub stand : IsTrue old.tells
       → Stands path (bytes_now old.tree path) (lost_after place (file_of old.tree (path_of path true))) old.tree new.tree
@@ -92,7 +92,7 @@ SizesBy true path size old new = new ≡ old
 SizesBy false path size old new = ChangesFile path (Resizes size) old new
 
 pub record FitsSize (path : List ℕ) (before size : ℕ) (old new : FolderView) : Type 0 where
-  pub makes : StepMakes (IsSizeCall path before size) false old new
+  pub makes : StepMakes (IsSizeCall path before size) (size_calls before size path) false old new
   pub tree : TreeBy (SizesBy (before == size) path size) old new
   pub wrote : FolderWrites (size_calls before size path) old new
 
@@ -100,7 +100,7 @@ pub record FitsSize (path : List ℕ) (before size : ℕ) (old new : FolderView)
 pub record FinishesBy (wanted finish : Finish) (P : FolderCall → Type 0) (calls : List FolderCall) (meta : Meta) (start : Start) (state : FileState)
     (path : List ℕ) (old new : FolderView) : Type 0 where
   pub is : finish ≡ wanted
-  pub makes : StepMakes P false old new
+  pub makes : StepMakes P calls false old new
   pub holds : IsTrue old.tells
       → HoldsFinished finish old.keeps_stamps meta start state (bytes_now old.tree path) path old.tree new.tree
   pub others : IsTrue old.tells → OthersStay path old.tree new.tree

@@ -14,7 +14,7 @@ use Rattle.stripe_reader.specs.declared.starts.Place.TheVariants.{Plain, Lost, N
 use Rattle.file_restorer.specs.declared.finishing.Finish.{Finish}
 use Rattle.file_restorer.specs.declared.finishing.Finish.TheVariants.{Kept, Restored, Unstamped, Renamed, Gone}
 use Rattle.file_restorer.specs.declared.state.FileState.{FileState}
-use Rattle.file_restorer.specs.Breaking.{FolderFails}
+use Rattle.file_restorer.specs.Breaking.{StepFails}
 use Rattle.file_restorer.specs.Mending.{StatesFit, IsFree}
 use Rattle.file_restorer.specs.Order.{FolderWrites, put_calls}
 pub use Rattle.file_restorer.specs.State.{OthersStay, stands}
@@ -161,17 +161,18 @@ pub record FinishesRecord (table : TableValue) (d i : ℕ) (listed : Option Meta
   pub other_states : (k j : ℕ) → ((k ≢ d) ⊎ (j ≢ i)) → state_in states_new k j ≡ state_in states k j
   pub makes : StepMakes (IsFinishCall (state_in states d i).lost listed (start_in (starts_at starts.columns d) i)
       (state_in states d i) (record_path (records_in table d) i) (record_at table.columns d i).meta)
-      (was_gone finish) folder folder_new
+      (finish_calls (state_in states d i).lost listed (start_in (starts_at starts.columns d) i) (state_in states d i)
+      (record_path (records_in table d) i) (record_at table.columns d i).meta) (was_gone finish) folder folder_new
   pub holds : IsTrue folder.tells → HoldsFinished finish folder.keeps_stamps (record_at table.columns d i).meta (start_in (starts_at starts.columns d) i) (state_in states d i)
       (bytes_now folder.tree (record_path (records_in table d) i)) (record_path (records_in table d) i) folder.tree folder_new.tree
   pub whole : IsTrue folder.tells → (state_in states d i).lost ≡ false → StandsWhole folder.keeps_stamps (record_at table.columns d i).meta (start_in (starts_at starts.columns d) i).place
       (bytes_now folder.tree (record_path (records_in table d) i)) (record_path (records_in table d) i) folder.tree folder_new.tree
   pub others : IsTrue folder.tells → OthersStay (record_path (records_in table d) i) folder.tree folder_new.tree
-  pub wrote : IsTrue folder.tells → FolderWrites (finish_calls (state_in states d i).lost listed (start_in (starts_at starts.columns d) i) (state_in states d i)
+  pub wrote : was_gone finish ≡ false → FolderWrites (finish_calls (state_in states d i).lost listed (start_in (starts_at starts.columns d) i) (state_in states d i)
       (record_path (records_in table d) i) (record_at table.columns d i).meta) folder folder_new
 
--- its calls were made up to one that failed
+-- its calls were made up to one that failed, and each before that found its file
 abbrev pub FinishesNot : TableValue → ℕ → ℕ → Option Meta → StartsValue → List (List FileState) → FolderView → FolderView → Type 0
 FinishesNot table d i listed starts states folder folder_new =
-    FolderFails (IsFinishCall (state_in states d i).lost listed (start_in (starts_at starts.columns d) i) (state_in states d i)
+    StepFails (IsFinishCall (state_in states d i).lost listed (start_in (starts_at starts.columns d) i) (state_in states d i)
     (record_path (records_in table d) i) (record_at table.columns d i).meta) folder folder_new

@@ -12,7 +12,7 @@ use Rattle.stripe_reader.specs.declared.starts.Start.{Start}
 use Rattle.stripe_reader.specs.declared.starts.Place.{Place}
 use Rattle.stripe_reader.specs.declared.starts.Place.TheVariants.{Lost, Nowhere}
 use Rattle.file_restorer.specs.declared.state.FileState.{FileState}
-use Rattle.file_restorer.specs.Breaking.{FolderFails}
+use Rattle.file_restorer.specs.Breaking.{StepFails}
 use Rattle.file_restorer.specs.Order.{FolderWrites, block_calls, put_calls}
 use Rattle.file_restorer.specs.State.{Write, HoldsRecord, HoldsColumn, HoldsTold, OthersStay, StaysPlace, StepMakes, record_path, size_after, state_in, stands}
 
@@ -71,11 +71,11 @@ pub record CanSetUp (path : List ℕ) (start : Start) (state : FileState) (folde
   pub may : stands start.place state.touched ≡ false → MayHold folder path
   pub so_far : IsTrue folder.tells → IsWrittenSoFar path start state folder.tree
 
--- These calls were made, of which one found no file or none did, and what the folder holds of the record goes on by
--- these writes. All other names hold what they held.
-pub record GoesOnBy (P : FolderCall → Type 0) (missing : Bool) (added : List Write) (path : List ℕ) (start : Start)
+-- Such calls were made: one of them found no file, or none did and they are just these. What the folder holds of the record
+-- goes on by these writes. All other names hold what they held.
+pub record GoesOnBy (P : FolderCall → Type 0) (calls : List FolderCall) (missing : Bool) (added : List Write) (path : List ℕ) (start : Start)
     (state : FileState) (folder : FolderView) (start_new : Start) (state_new : FileState) (folder_new : FolderView) : Type 0 where
-  pub makes : StepMakes P missing folder folder_new
+  pub makes : StepMakes P calls missing folder folder_new
   pub same_size : start_new.size ≡ start.size
   pub stood : StaysPlace start.place start_new.place
   pub size : state_new.size ≡ size_after state.size added
@@ -88,15 +88,16 @@ pub record GoesOnBy (P : FolderCall → Type 0) (missing : Bool) (added : List W
 -- Its file stands under PATH, and nothing was written to it.
 pub record SetsUp (path : List ℕ) (start : Start) (state : FileState) (folder : FolderView)
     (start_new : Start) (state_new : FileState) (folder_new : FolderView) : Type 0 where
-  pub goes_on : GoesOnBy (IsSetUpCall start.place path) false [] path start state folder start_new state_new folder_new
+  pub goes_on : GoesOnBy (IsSetUpCall start.place path) (put_calls start.place state.touched path) false [] path start state folder
+      start_new state_new folder_new
   pub there : IsTrue folder.tells → stands start_new.place state_new.touched ≡ true
   pub wrote : FolderWrites (put_calls start.place state.touched path) folder folder_new
 
 -- Bytes were written to its file.
 pub record WritesBytes (path : List ℕ) (at : ℕ) (bytes : List ℕ) (start : Start) (state : FileState) (folder : FolderView)
     (start_new : Start) (state_new : FileState) (folder_new : FolderView) : Type 0 where
-  pub goes_on : GoesOnBy (IsBlockCall start.place path at bytes) false (record { at = at; bytes = bytes } ∷ []) path
-      start state folder start_new state_new folder_new
+  pub goes_on : GoesOnBy (IsBlockCall start.place path at bytes) (block_calls start.place state.touched path at bytes) false
+      (record { at = at; bytes = bytes } ∷ []) path start state folder start_new state_new folder_new
   pub touched : state_new.touched ≡ true
   pub wrote : FolderWrites (block_calls start.place state.touched path at bytes) folder folder_new
 
@@ -104,10 +105,10 @@ pub record WritesBytes (path : List ℕ) (at : ℕ) (bytes : List ℕ) (start : 
 pub record FindsNone (P : FolderCall → Type 0) (path : List ℕ) (start : Start) (state : FileState) (folder : FolderView)
     (start_new : Start) (state_new : FileState) (folder_new : FolderView) : Type 0 where
   pub untold : folder.tells ≡ false
-  pub goes_on : GoesOnBy P true [] path start state folder start_new state_new folder_new
+  pub goes_on : GoesOnBy P [] true [] path start state folder start_new state_new folder_new
 
 abbrev pub EndsBy : FileFault → (FolderCall → Type 0) → List ℕ → Start → FileState → FolderView → Start → FileState → FolderView → Type 0
-EndsBy Failed P path start state folder start_new state_new folder_new = FolderFails P folder folder_new
+EndsBy Failed P path start state folder start_new state_new folder_new = StepFails P folder folder_new
 EndsBy Missing P path start state folder start_new state_new folder_new = FindsNone P path start state folder start_new state_new folder_new
 
 -- ---- of a column
@@ -150,12 +151,13 @@ pub record MendsCell (table : TableValue) (d : ℕ) (cell : Cell) (bytes : List 
   pub there : IsTrue folder.tells → written ≡ true
   pub wrote : written ≡ true → FolderWrites (block_calls (start_in (starts_at starts.columns d) cell.rec).place (state_in states d cell.rec).touched (cell_path table d cell) (block_start table cell) bytes) folder folder_new
   pub makes : StepMakes (IsBlockCall (start_in (starts_at starts.columns d) cell.rec).place (cell_path table d cell)
-      (block_start table cell) bytes) (not written) folder folder_new
+      (block_start table cell) bytes) (block_calls (start_in (starts_at starts.columns d) cell.rec).place (state_in states d cell.rec).touched
+      (cell_path table d cell) (block_start table cell) bytes) (not written) folder folder_new
   pub holds : (first : FolderView) (writes : List (List Write)) → first.tells ≡ folder.tells → (IsTrue first.tells → IsFree first.tree (cell_path table d cell)) → (IsTrue first.tells → IsTree first.tree)
       → HoldsTold (records_in table d) (starts_at starts.columns d) (get_or states d []) writes first folder
       → HoldsTold (records_in table d) (starts_at starts_new.columns d) (get_or states_new d []) (mended_writes table cell bytes written writes) first folder_new
 
--- its calls were made up to one that failed
+-- its calls were made up to one that failed, and each before that found its file
 abbrev pub MendsNot : TableValue → ℕ → Cell → List ℕ → StartsValue → FolderView → FolderView → Type 0
 MendsNot table d cell bytes starts folder folder_new =
-    FolderFails (IsBlockCall (start_in (starts_at starts.columns d) cell.rec).place (cell_path table d cell) (block_start table cell) bytes) folder folder_new
+    StepFails (IsBlockCall (start_in (starts_at starts.columns d) cell.rec).place (cell_path table d cell) (block_start table cell) bytes) folder folder_new

@@ -143,10 +143,15 @@ pub record FolderMakes (P : FolderDone → Type 0) (old new : FolderView) : Type
 abbrev pub has_missing : List FolderDone → Bool
 has_missing done = list_any (λ (one : FolderDone). is_missing one.answer) done
 
--- such calls, of which none failed, and one found no file or none did
-pub record AreStepCalls (P : FolderCall → Type 0) (missing : Bool) (done : List FolderDone) : Type 0 where
+-- which calls were made
+abbrev pub calls_made : List FolderDone → List FolderCall
+calls_made done = map (λ (one : FolderDone). one.call) done
+
+-- Such calls, of which none failed, and one found no file or none did. Where none did, they are just these, in this order.
+pub record AreStepCalls (P : FolderCall → Type 0) (calls : List FolderCall) (missing : Bool) (done : List FolderDone) : Type 0 where
   pub each : All (WellCall P) done
   pub found : has_missing done ≡ missing
+  pub just : missing ≡ false → calls_made done ≡ calls
 
 -- Calls of which this holds were made of a folder. Where it tells its files, what it holds then is among what a stop
 -- within these calls may leave.
@@ -156,9 +161,9 @@ pub record FolderMakesBy (P : List FolderDone → Type 0) (old new : FolderView)
   pub goes_on : FolderGoesOn old new done
   pub left : IsTrue old.tells → IsTree old.tree → MayBeLeft old.keeps_stamps done old.tree new.tree
 
--- a step on a file was made by such calls, of which one found no file or none did
-abbrev pub StepMakes : (FolderCall → Type 0) → Bool → FolderView → FolderView → Type 0
-StepMakes P missing old new = FolderMakesBy (AreStepCalls P missing) old new
+-- a step on a file was made by such calls: one of them found no file, or none did and they are just these
+abbrev pub StepMakes : (FolderCall → Type 0) → List FolderCall → Bool → FolderView → FolderView → Type 0
+StepMakes P calls missing old new = FolderMakesBy (AreStepCalls P calls missing) old new
 
 -- each name but the two of this path holds what it held
 abbrev pub OthersStay : List ℕ → Tree → Tree → Type 0

@@ -31,7 +31,7 @@ use Rattle.snap_fix.proofs.EndingTellLemmas.{events_after, events_split, finish_
 use Rattle.snap_fix.proofs.EndingWantedLemmas.{all_wanted, first_done, first_news, wanted_from}
 use Rattle.snap_fix.proofs.FinishPartsLemmas.{finish_calls_as, finish_calls_more, first_calls_each, no_finish_calls}
 use Rattle.file_restorer.proofs.FolderCallLemmas.{makes_by_none, makes_by_then, makes_by_wider, makes_each, step_calls_wider}
-use Rattle.file_restorer.proofs.FolderFailsLemmas.{fails_then, fails_wider}
+use Rattle.file_restorer.proofs.FolderFailsLemmas.{fails_then, fails_wider, step_fails_wider}
 use Rattle.file_restorer.proofs.OrderLemmas.{writes_none, writes_then}
 use Rattle.file_restorer.proofs.RecordPathsLemmas.{ArePaths, names_distinct}
 use Rattle.stripe_examiner.proofs.TellingLemmas.{Joins, Tells, events_to, tells_as, tells_more, tells_nothing, told_as}
@@ -268,10 +268,13 @@ module _ (plan : FixPlan) (d : ℕ) (first : StartsValue) (firsts : List (List F
             (λ j near. one.other_states k j (inl other)) ∙ so_far.other_states k below other;
         later_starts = λ i from. one.other_starts d i (inr (λ same. omega (arith, same, from))) ∙ so_far.later_starts i (omega (arith, from));
         later_states = λ i from. one.other_states d i (inr (λ same. omega (arith, same, from))) ∙ so_far.later_states i (omega (arith, from));
-        makes = makes_by_then (AreFinishCalls plan d starts_of states_of so_far.done n) (AreStepCalls This (was_gone one.finish)) (AreFinishCalls plan d starts_of states_of all_done (n + 1))
+        makes = makes_by_then (AreFinishCalls plan d starts_of states_of so_far.done n)
+            (AreStepCalls This (record_calls plan d (starts_at starts.columns d) (states_at states d) n) (was_gone one.finish))
+            (AreFinishCalls plan d starts_of states_of all_done (n + 1))
             (λ calls next are step. finish_calls_more plan d starts_of states_of so_far.done all_done n calls next finish_is are
-            (subst (λ (f : Finish). AreStepCalls (FinishesThis plan d n starts_of states_of) (was_gone f) next) (sym finish_here)
-            (step_calls_wider This (FinishesThis plan d n starts_of states_of) (was_gone one.finish) this_next next step)))
+            (subst (λ (f : Finish). AreStepCalls (FinishesThis plan d n starts_of states_of) (record_calls plan d starts_of states_of n) (was_gone f) next) (sym finish_here)
+            (subst (λ (calls_here : List FolderCall). AreStepCalls (FinishesThis plan d n starts_of states_of) calls_here (was_gone one.finish) next) same_calls
+            (step_calls_wider This (FinishesThis plan d n starts_of states_of) (record_calls plan d (starts_at starts.columns d) (states_at states d) n) (was_gone one.finish) this_next next step))))
             so_far.makes one.makes;
         is = is_all;
         holds = holds_all;
@@ -321,7 +324,7 @@ module _ (plan : FixPlan) (d : ℕ) (first : StartsValue) (firsts : List (List F
         record {
           fails = fails_then P folder mid new
               (makes_each (AreFinishCalls plan d starts_of states_of so_far.done n) (WellCall P) (first_calls_each plan d starts_of states_of so_far.done n (omega (arith, within))) so_far.makes)
-              (fails_wider This P call_next broke.fails);
+              (fails_wider This P call_next broke.fails.fails);
           done = done;
           is = all_wanted plan d starts_of states_of folder so_far.done n so_far.long so_far.is;
           first = news;
@@ -332,7 +335,7 @@ module _ (plan : FixPlan) (d : ℕ) (first : StartsValue) (firsts : List (List F
             mid = mid;
             first = makes_by_wider (AreFinishCalls plan d starts_of states_of so_far.done n) (AreFinishCalls plan d starts_of states_of done n)
                 (λ calls. finish_calls_as plan d starts_of states_of so_far.done done n calls (λ i below. first_done plan d starts_of states_of folder so_far.done n i so_far.long below)) so_far.makes;
-            fails = fails_wider This (FinishesThis plan d n starts_of states_of) this_next broke.fails;
+            fails = step_fails_wider This (FinishesThis plan d n starts_of states_of) this_next broke.fails;
           };
           rest = events_after (record_news plan d done) n (length (records_in plan.table d));
           events = events_split (record_news plan d done) n (length (records_in plan.table d)) within;

@@ -1,5 +1,5 @@
 -- The file of one record at the end of a fix: it can be finished, and what was done to it, and told.
-use Rattle.std.proofs.Common.{◌≡◌, ◌≢◌, ◌⊎◌, ℕ, List, [], Bool, true, false, Option, IsTrue, if◌then◌else◌, refl, sym, ap, ◌∙◌, subst}
+use Rattle.std.proofs.Common.{◌≡◌, ◌≢◌, ◌⊎◌, inl, inr, ℕ, List, [], Bool, true, false, Option, IsTrue, if◌then◌else◌, refl, sym, ap, ◌∙◌, subst}
 use Rattle.disk_model.specs.Folder.{FolderView, FolderCall}
 use Rattle.disk_model.specs.Sink.{SinkView}
 use Rattle.disk_model.specs.Tree.{IsTree}
@@ -21,9 +21,10 @@ use Rattle.snap_fix.specs.EndingSteps.{CanEndRecord, EndsNotRecord, EndsRecord, 
 use Rattle.file_restorer.specs.Finishing.{CanFinish, FinishesNot, FinishesRecord, FitsTree, IsFinishCall, finish_calls, finish_of, was_gone}
 use Rattle.file_restorer.specs.Order.{FolderWrites}
 use Rattle.stripe_examiner.specs.Plan.{FixPlan, entry_at}
-use Rattle.file_restorer.specs.State.{record_path, state_in}
+use Rattle.file_restorer.specs.State.{StepMakes, record_path, state_in}
 use Rattle.file_restorer.proofs.FolderCallLemmas.{step_none, step_wider}
-use Rattle.file_restorer.proofs.FolderFailsLemmas.{fails_wider}
+use Rattle.file_restorer.proofs.FolderFailsLemmas.{step_fails_wider}
+use Rattle.file_restorer.proofs.FinishRecordLemmas.{none_gone}
 use Rattle.file_restorer.proofs.OrderLemmas.{writes_none}
 use Rattle.stripe_examiner.proofs.TellingLemmas.{told_as}
 
@@ -71,7 +72,11 @@ module _ (plan : FixPlan) (d i : ℕ) (starts : StartsValue) (states : List (Lis
       states_fit = does.states_fit;
       other_starts = does.other_starts;
       other_states = does.other_states;
-      makes = step_wider (CallBy listed) (FinishesThis plan d i (starts_at starts.columns d) (states_at states d)) (was_gone finish) (call_of listed finished same) does.makes;
+      makes =
+          let This = FinishesThis plan d i (starts_at starts.columns d) (states_at states d) in
+          subst (λ (b : Bool). StepMakes This (if b then calls_by (entry_at plan d i).listed else []) (was_gone finish) folder folder_new) (sym finished)
+          (subst (λ (l : Option Meta). StepMakes This (calls_by l) (was_gone finish) folder folder_new) same
+          (step_wider (CallBy listed) This (calls_by listed) (was_gone finish) (call_of listed finished same) does.makes));
       is = λ is.
           subst (λ (l : Option Meta).
           (finish ≡ finish_of (record_at plan.table.columns d i).meta l (start_in (starts_at starts.columns d) i) (state_in states d i) folder.keeps_stamps)
@@ -82,13 +87,21 @@ module _ (plan : FixPlan) (d i : ℕ) (starts : StartsValue) (states : List (Lis
       others = λ tells name apart. does.others tells name (apart finished);
       wrote = λ tells.
           subst (λ (b : Bool). FolderWrites (if b then calls_by (entry_at plan d i).listed else []) folder folder_new) (sym finished)
-          (subst (λ (l : Option Meta). FolderWrites (calls_by l) folder folder_new) same (does.wrote tells));
+          (subst (λ (l : Option Meta). FolderWrites (calls_by l) folder folder_new) same (does.wrote (there does.is tells)));
       told = told_as view standing stands plan.table.columns (news_of plan d i finish) (finish_news d i finish) lines lines_new reports reports_new news told;
       counts_are = subst (λ (events : List Event). AreCounts events counts) (sym news) counted;
     }
       where
         news : news_of plan d i finish ≡ finish_news d i finish
         news = ap (λ (b : Bool). if b then finish_news d i finish else []) finished
+
+        -- where the folder tells its files, the file was there
+        there : {B : Type 0}
+            → (finish ≡ finish_of (record_at plan.table.columns d i).meta listed (start_in (starts_at starts.columns d) i) (state_in states d i) folder.keeps_stamps)
+            ⊎ ((finish ≡ Gone) × (folder.tells ≡ false) × B) → IsTrue folder.tells → was_gone finish ≡ false
+        there (inl is) tells =
+            ap was_gone is ∙ none_gone (record_at plan.table.columns d i).meta listed (start_in (starts_at starts.columns d) i) (state_in states d i) folder.keeps_stamps
+        there (inr is) tells = absurd (let clash : true ≡ false = sym tells ∙ is.1 in cc)
 
     -- it was not to be
     pub ends_kept : (counts : Counts) → is_finished plan d i ≡ false → CanEndRecord plan d i starts states folder → AreCounts [] counts
@@ -99,7 +112,8 @@ module _ (plan : FixPlan) (d i : ℕ) (starts : StartsValue) (states : List (Lis
       states_fit = can.states_fit;
       other_starts = λ k j other. refl;
       other_states = λ k j other. refl;
-      makes = step_none (FinishesThis plan d i (starts_at starts.columns d) (states_at states d)) folder;
+      makes = subst (λ (b : Bool). StepMakes (FinishesThis plan d i (starts_at starts.columns d) (states_at states d)) (if b then calls_by (entry_at plan d i).listed else []) false folder folder)
+          (sym kept) (step_none (FinishesThis plan d i (starts_at starts.columns d) (states_at states d)) folder);
       is = λ is. absurd (clash is);
       holds = λ tells is. absurd (clash is);
       whole = λ tells is. absurd (clash is);
@@ -120,6 +134,6 @@ module _ (plan : FixPlan) (d i : ℕ) (starts : StartsValue) (states : List (Lis
         → listed ≡ (entry_at plan d i).listed → FinishesNot plan.table d i listed starts states folder folder_new
         → EndsNotRecord view standing stands plan d i (column_outside starts states folder lines reports) (column_outside starts_new states_new folder_new lines reports)
     ends_not listed folder_new starts_new states_new finished same broke = record {
-      fails = fails_wider (CallBy listed) (FinishesThis plan d i (starts_at starts.columns d) (states_at states d)) (call_of listed finished same) broke;
+      fails = step_fails_wider (CallBy listed) (FinishesThis plan d i (starts_at starts.columns d) (states_at states d)) (call_of listed finished same) broke;
       told = told_nothing view standing stands plan.table.columns lines reports;
     }

@@ -13,7 +13,7 @@ use Rattle.stripe_reader.specs.Starts.{StartsValue, start_in, starts_at}
 use Rattle.stripe_reader.specs.declared.starts.Start.{Start}
 use Rattle.file_restorer.specs.declared.finishing.Finish.{Finish}
 use Rattle.file_restorer.specs.declared.state.FileState.{FileState}
-use Rattle.snap_fix.specs.Ending.{AreColumnFinishCalls, AreFinishCalls, FinishesFile, FinishesOne, FinishesThis, finish_at, finishes_at, state_at, states_at}
+use Rattle.snap_fix.specs.Ending.{AreColumnFinishCalls, AreFinishCalls, FinishesFile, FinishesOne, FinishesThis, finish_at, finishes_at, record_calls, state_at, states_at}
 use Rattle.file_restorer.specs.Finishing.{IsFinishCall, was_gone}
 use Rattle.stripe_examiner.specs.Plan.{FixPlan, entry_at}
 use Rattle.snap_fix.specs.Reads.{FolderReads, IsQuiet}
@@ -40,12 +40,12 @@ module _ (plan : FixPlan) (d : ℕ) (starts : List Start) (states : List FileSta
     parts = are.parts;
     as_many = are.as_many;
     calls_are = are.calls_are;
-    each = λ i below. subst (λ (finish : Finish). AreStepCalls (FinishesThis plan d i starts states) (was_gone finish) (get_or are.parts i [])) (sym (same i below)) (are.each i below);
+    each = λ i below. subst (λ (finish : Finish). AreStepCalls (FinishesThis plan d i starts states) (record_calls plan d starts states i) (was_gone finish) (get_or are.parts i [])) (sym (same i below)) (are.each i below);
   }
 
   -- those of one record more
   pub finish_calls_more : (done more : List Finish) (n : ℕ) (first next : List FolderDone) → ((i : ℕ) → i < n → finish_at more i ≡ finish_at done i)
-      → AreFinishCalls plan d starts states done n first → AreStepCalls (FinishesThis plan d n starts states) (was_gone (finish_at more n)) next
+      → AreFinishCalls plan d starts states done n first → AreStepCalls (FinishesThis plan d n starts states) (record_calls plan d starts states n) (was_gone (finish_at more n)) next
       → AreFinishCalls plan d starts states more (n + 1) (first ++ next)
   finish_calls_more done more n first next same are one = record {
     parts = parts;
@@ -58,15 +58,15 @@ module _ (plan : FixPlan) (d : ℕ) (starts : List Start) (states : List FileSta
       parts : List (List FolderDone)
       parts = are.parts ++ next ∷ []
 
-      at : (i : ℕ) → i < n + 1 → (i < n) ⊎ (n ≤ i) → AreStepCalls (FinishesThis plan d i starts states) (was_gone (finish_at more i)) (get_or parts i [])
+      at : (i : ℕ) → i < n + 1 → (i < n) ⊎ (n ≤ i) → AreStepCalls (FinishesThis plan d i starts states) (record_calls plan d starts states i) (was_gone (finish_at more i)) (get_or parts i [])
       at i below (inl near) =
-          subst (λ (part : List FolderDone). AreStepCalls (FinishesThis plan d i starts states) (was_gone (finish_at more i)) part)
+          subst (λ (part : List FolderDone). AreStepCalls (FinishesThis plan d i starts states) (record_calls plan d starts states i) (was_gone (finish_at more i)) part)
           (sym (get_or_append_left are.parts (next ∷ []) [] i (omega (arith, near, are.as_many))))
-          (subst (λ (finish : Finish). AreStepCalls (FinishesThis plan d i starts states) (was_gone finish) (get_or are.parts i [])) (sym (same i near)) (are.each i near))
+          (subst (λ (finish : Finish). AreStepCalls (FinishesThis plan d i starts states) (record_calls plan d starts states i) (was_gone finish) (get_or are.parts i [])) (sym (same i near)) (are.each i near))
       at i below (inr far) =
           let here : n ≡ i = omega (arith, below, far) in
-          subst (λ (k : ℕ). AreStepCalls (FinishesThis plan d k starts states) (was_gone (finish_at more k)) (get_or parts k [])) here
-          (subst (λ (part : List FolderDone). AreStepCalls (FinishesThis plan d n starts states) (was_gone (finish_at more n)) part)
+          subst (λ (k : ℕ). AreStepCalls (FinishesThis plan d k starts states) (record_calls plan d starts states k) (was_gone (finish_at more k)) (get_or parts k [])) here
+          (subst (λ (part : List FolderDone). AreStepCalls (FinishesThis plan d n starts states) (record_calls plan d starts states n) (was_gone (finish_at more n)) part)
           (sym (get_or_push are.parts next [] n are.as_many)) one)
 
   -- each finishes some record

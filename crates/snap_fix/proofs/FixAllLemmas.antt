@@ -32,7 +32,7 @@ use Rattle.snap_fix.specs.Mended.{AnswersFit, Mended, all_mended_events, is_wron
 use Rattle.stripe_examiner.specs.Plan.{FixPlan}
 use Rattle.stripe_examiner.specs.Spare.{SpareView}
 use Rattle.snap_fix.specs.Underway.{AddsZeros, AreStripeCalls, AreUnderway, HoldsWrong, IsMendedLevel, done_well}
-use Rattle.snap_fix.specs.Windows.{AreWindows, FixWindow, IsFixWindow, all_wrong_writes, mend_calls, stripes_in, window_reads}
+use Rattle.snap_fix.specs.Windows.{AreWindows, FixWindow, IsFull, all_wrong_writes, mend_calls, stripes_in, window_reads}
 use Rattle.snap_fix.proofs.AskedLemmas.{asks_none, asks_then}
 use Rattle.snap_fix.proofs.BreakingLemmas.{breaks_then}
 use Rattle.file_restorer.proofs.FolderCallLemmas.{makes_by_none}
@@ -40,7 +40,7 @@ use Rattle.snap_fix.proofs.KeptStartsLemmas.{no_stripe_calls, stripe_makes, well
 use Rattle.stripe_examiner.proofs.LookingLemmas.{vault_goes_on}
 use Rattle.snap_fix.proofs.MendedVaultLemmas.{Precede, all_levels_append, goes_on_none, holds_append, holds_still, levels_before, mends_append, mends_nothing, zeros_append}
 use Rattle.snap_fix.proofs.StartsKeptLemmas.{keeps_starts_same, keeps_starts_then}
-use Rattle.snap_fix.proofs.WindowsLemmas.{calls_append, parity_io_few, stripes_append, windows_append}
+use Rattle.snap_fix.proofs.WindowsLemmas.{calls_append, no_windows, parity_io_few, stripes_append, windows_append}
 
 -- ---- the facts and events of stripes, and then of others
 
@@ -178,10 +178,10 @@ begun_all Memory plan earlier last old new mends = mends_append plan earlier (la
 
 -- the calls for some windows, and then those up to the writes of the stripe that broke off
 pub breaks_in_last : (fault : RunFault) (plan : FixPlan) (level : ℕ) (xs ys : List Mended) (last : Mended) (behind : List StripeFacts) (windows : List FixWindow)
-    (firsts more : List (List LevelReading)) (old mid new : VaultView) → Precede (facts_of xs) (facts_of (ys ++ last ∷ [])) → AreWindows windows (facts_of xs) firsts
+    (firsts more : List (List LevelReading)) (old mid new : VaultView) → Precede (facts_of xs) (facts_of (ys ++ last ∷ [])) → All (IsFull plan) windows → AreWindows plan windows (facts_of xs) firsts
     → GoesOn old mid (mend_calls plan windows) → MendsVault plan (facts_of xs) old mid → HoldAllWrong plan (facts_of xs) mid
     → BreaksInLast plan fault level (facts_of ys) last.facts behind more mid new → BreaksInLast plan fault level (facts_of (xs ++ ys)) last.facts behind (firsts ++ more) old new
-breaks_in_last fault plan level xs ys last behind windows firsts more old mid new before windows_are ran mends holds broke =
+breaks_in_last fault plan level xs ys last behind windows firsts more old mid new before full windows_are ran mends holds broke =
     let one = facts_of xs in
     let two = facts_of ys in
     let facts = facts_append xs ys in
@@ -193,11 +193,11 @@ breaks_in_last fault plan level xs ys last behind windows firsts more old mid ne
     record {
       windows = windows ++ broke.windows;
       window = broke.window;
-      windows_are = subst (λ (stripes : List StripeFacts). AreWindows ((windows ++ broke.windows) ++ broke.window ∷ []) stripes (firsts ++ more))
+      windows_are = subst (λ (stripes : List StripeFacts). AreWindows plan ((windows ++ broke.windows) ++ broke.window ∷ []) stripes (firsts ++ more))
           (sym (ap (λ (stripes : List StripeFacts). stripes ++ last.facts ∷ behind) facts ∙ apart))
-          (subst (λ (its : List FixWindow). AreWindows its (one ++ (two ++ last.facts ∷ behind)) (firsts ++ more))
+          (subst (λ (its : List FixWindow). AreWindows plan its (one ++ (two ++ last.facts ∷ behind)) (firsts ++ more))
           (sym (append_assoc windows broke.windows (broke.window ∷ [])))
-          (windows_append windows (broke.windows ++ broke.window ∷ []) one (two ++ last.facts ∷ behind) firsts more windows_are broke.windows_are));
+          (windows_append plan windows (broke.windows ++ broke.window ∷ []) one (two ++ last.facts ∷ behind) firsts more full windows_are broke.windows_are));
       front = broke.front;
       earlier_are = facts ∙ ap₂ (λ (a b : List StripeFacts). a ++ b) windows_are.stripes_are broke.earlier_are
           ∙ sym (append_assoc (stripes_in windows) (stripes_in broke.windows) broke.front)
@@ -316,7 +316,7 @@ module _ {W R : Type 0} (view : W → SinkView) (standing : R → ReportView) (s
     mends = mend_none totals s fits none;
     windows = [];
     readings = [];
-    windows_are = record { stripes_are = refl; readings_are = refl; each = All-nil IsFixWindow };
+    windows_are = no_windows plan;
     read = tt;
     unread = omega arith;
     ran = goes_on_none s.vault;
@@ -326,16 +326,17 @@ module _ {W R : Type 0} (view : W → SinkView) (standing : R → ReportView) (s
   -- some were, and then others
   pub fixes_then : (xs ys : List Mended) (one two both : Totals) (old mid new : FixScene W R) → Precede (facts_of xs) (facts_of ys)
       → ((stripes others : List Mended) → AreTotals plan stripes one → AreTotals plan others two → AreTotals plan (stripes ++ others) both)
-      → FixesAll view standing stands plan xs old mid one → FixesAll view standing stands plan ys mid new two → FixesAll view standing stands plan (xs ++ ys) old new both
-  fixes_then xs ys one two both old mid new before and first back =
+      → (first : FixesAll view standing stands plan xs old mid one) → All (IsFull plan) first.windows → FixesAll view standing stands plan ys mid new two
+      → FixesAll view standing stands plan (xs ++ ys) old new both
+  fixes_then xs ys one two both old mid new before and first full back =
       let readings = first.readings ++ back.readings in
       record {
         are = facts_then plan xs ys first.are back.are;
         mends = mend_then xs ys one two both old mid new before and first.mends back.mends;
         windows = first.windows ++ back.windows;
         readings = readings;
-        windows_are = subst (λ (stripes : List StripeFacts). AreWindows (first.windows ++ back.windows) stripes readings) (sym (facts_append xs ys))
-            (windows_append first.windows back.windows (facts_of xs) (facts_of ys) first.readings back.readings first.windows_are back.windows_are);
+        windows_are = subst (λ (stripes : List StripeFacts). AreWindows plan (first.windows ++ back.windows) stripes readings) (sym (facts_append xs ys))
+            (windows_append plan first.windows back.windows (facts_of xs) (facts_of ys) first.readings back.readings full first.windows_are back.windows_are);
         read = levels_then plan xs ys old.vault mid.vault first.readings back.readings first.mends.vault before first.read back.read;
         unread = unread_then first.readings back.readings old.vault.faults mid.vault.faults new.vault.faults first.unread back.unread;
         ran = subst (GoesOn old.vault new.vault) (sym (calls_append plan first.windows back.windows))

@@ -73,6 +73,7 @@ use Rattle.snap_fix.proofs.KeptStartsLemmas.{files_any, stripe_makes, stripes_an
 use Rattle.snap_fix.proofs.PresentLemmas.{StartsFitFolders, present_at_first, starts_fit_first}
 use Rattle.snap_fix.proofs.ReadsLemmas.{quiet_in_column, reads_on, reads_wider}
 use Rattle.snap_fix.proofs.StartsKeptLemmas.{keeps_starts_then}
+use Rattle.snap_fix.proofs.WindowsLemmas.{some_room}
 
 -- ---- which events were told
 
@@ -250,8 +251,8 @@ module _ {W R : Type 0} (view : W → SinkView) (standing : R → ReportView) (s
       abbrev nothing_ahead : FixWindow
       nothing_ahead = record { stripes = []; readings = [] }
 
-      looked : LooksAhead plan nothing_ahead [] old.vault
-      looked = record { are = All-nil (AreFacts plan); levels = tt; more = []; behind_is = refl }
+      looked : LooksAhead plan (length stripes) nothing_ahead [] old.vault
+      looked = record { are = All-nil (AreFacts plan); levels = tt; more = []; behind_is = refl; few = some_room plan; to_the_end = inl refl }
 
       all_read : (n : ℕ) → RoseBy (unread_in readings) old.vault.faults n → RoseBy (unread_in (readings ++ [])) old.vault.faults n
       all_read n rose = subst (λ (its : List (List LevelReading)). RoseBy (unread_in its) old.vault.faults n) (sym (append-nil readings)) rose

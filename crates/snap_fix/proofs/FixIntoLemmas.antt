@@ -18,7 +18,6 @@ use Rattle.snap_report.specs.declared.events.Event.{Event}
 use Rattle.snap_report.proofs.ToldLemmas.{told_then}
 use Rattle.stripe_reader.specs.Columns.{folder_at}
 use Rattle.stripe_reader.specs.WindowValue.{WindowValue}
-use Rattle.stripe_reader.specs.declared.window.TheConstants.{MOST_STRIPES}
 use Rattle.snap_fix.specs.declared.fixing.Totals.{Totals}
 use Rattle.stripe_examiner.specs.Asking.{AsksSpare}
 use Rattle.stripe_examiner.specs.Facts.{StripeFacts}
@@ -33,12 +32,12 @@ use Rattle.snap_fix.specs.Mended.{AnswersFit, Mended, all_mended_events}
 use Rattle.stripe_examiner.specs.Plan.{FixPlan}
 use Rattle.file_restorer.specs.State.{AnyCall}
 use Rattle.snap_fix.specs.Underway.{FixUnderway, IsMendCall, done_well, wrong_writes}
-use Rattle.snap_fix.specs.Windows.{AreWindows, FixWindow, IsFixWindow, all_wrong_writes, window_calls, window_reads}
+use Rattle.snap_fix.specs.Windows.{AreWindows, FixWindow, all_wrong_writes, window_calls, window_reads, window_size}
 use Rattle.snap_fix.proofs.BreakingLemmas.{breaks_then}
 use Rattle.snap_fix.proofs.FixAllLemmas.{answered_then, begun_all, begun_one, facts_append, mend_none, mend_one, mend_then, precede, tells_first}
 use Rattle.snap_fix.proofs.FixCountLemmas.{count_append}
 use Rattle.snap_fix.proofs.FixedVaultLemmas.{mends_since, reading_calls, zeros_since}
-use Rattle.snap_fix.proofs.WindowsLemmas.{SplitLevels, ascending_first, many_levels, parity_io_few, split_levels, writes_more}
+use Rattle.snap_fix.proofs.WindowsLemmas.{SplitLevels, ascending_first, many_levels, one_window, parity_io_few, split_levels, writes_more}
 use Rattle.file_restorer.proofs.FolderCallLemmas.{makes_some}
 use Rattle.snap_fix.proofs.KeptStartsLemmas.{cell_quiet, cells_any, cells_quiet, files_one, files_then}
 use Rattle.snap_fix.proofs.MendedVaultLemmas.{Precede, goes_on_none, holds_still, mends_append}
@@ -206,7 +205,7 @@ module _ {W R : Type 0} (view : W → SinkView) (standing : R → ReportView) (s
 
   module _ (numbers : List ℕ) (window : WindowValue) (all : List StripeFacts) (numbers_are : numbers_of all ≡ numbers)
       (slots : (k : ℕ) → k < length all → (facts_at all k).slots ≡ slots_at window k) (are : All (AreFacts plan) all)
-      (few : length all ≤ MOST_STRIPES)
+      (some : 0 < length all) (few : length all ≤ window_size plan)
       (old : FixScene W R) (vault : VaultView) (spare : SpareView) (levels : LevelsAreRead plan all old.vault vault) (asked : AsksSpare plan all old.spare spare) where
     abbrev size : ℕ
     size = plan.table.shape.block_size
@@ -218,12 +217,8 @@ module _ {W R : Type 0} (view : W → SinkView) (standing : R → ReportView) (s
     abbrev whole : FixWindow
     whole = record { stripes = all; readings = levels.readings }
 
-    whole_is : AreWindows (whole ∷ []) all levels.readings
-    whole_is = record {
-      stripes_are = sym (append-nil all);
-      readings_are = sym (append-nil levels.readings);
-      each = All-cons IsFixWindow whole [] (record { as_many = many_levels size old.vault all levels.readings levels.are; few = few }) (All-nil IsFixWindow);
-    }
+    whole_is : AreWindows plan (whole ∷ []) all levels.readings
+    whole_is = one_window plan whole (record { as_many = many_levels size old.vault all levels.readings levels.are; some = some; few = few })
 
     since_examined : (stripes : List Mended) (totals : Totals) (new : FixScene W R) → MendsAll view standing stands plan stripes examined new totals → MendsAll view standing stands plan stripes old new totals
     since_examined stripes totals new mends = record {
@@ -261,7 +256,7 @@ module _ {W R : Type 0} (view : W → SinkView) (standing : R → ReportView) (s
             mends = since_examined into.stripes totals new into.mends;
             windows = whole ∷ [];
             readings = levels.readings;
-            windows_are = subst (λ (its : List StripeFacts). AreWindows (whole ∷ []) its levels.readings) (sym same) whole_is;
+            windows_are = subst (λ (its : List StripeFacts). AreWindows plan (whole ∷ []) its levels.readings) (sym same) whole_is;
             read = subst (λ (its : List StripeFacts). AreAllLevelsOf size old.vault its levels.readings) (sym same) levels.are;
             unread = let later = into.wrote.later in omega (arith, levels.unread, later);
             ran = subst (GoesOn old.vault new.vault) (sym (append-nil (window_calls plan whole)))
@@ -289,8 +284,8 @@ module _ {W R : Type 0} (view : W → SinkView) (standing : R → ReportView) (s
       in_last = record {
         windows = [];
         window = whole;
-        windows_are = subst (λ (its : List StripeFacts). AreWindows (whole ∷ []) its (split.front ++ split.back)) all_apart
-            (subst (AreWindows (whole ∷ []) all) split.whole_is whole_is);
+        windows_are = subst (λ (its : List StripeFacts). AreWindows plan (whole ∷ []) its (split.front ++ split.back)) all_apart
+            (subst (AreWindows plan (whole ∷ []) all) split.whole_is whole_is);
         front = facts_of it.earlier;
         earlier_are = refl;
         window_is = all_apart;

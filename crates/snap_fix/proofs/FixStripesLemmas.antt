@@ -1,10 +1,10 @@
 -- All stripes of a fix, window after window, and how that breaks off.
-use Rattle.std.proofs.Common.{◌≡◌, ◌⊎◌, inl, inr, ℕ, ◌+◌, ◌-◌, ◌<◌, ◌≤◌, List, [], ◌∷◌, ◌++◌, length, take, drop, get_or, refl, sym, ap, ap₂, ◌∙◌, subst, arith, append_assoc}
+use Rattle.std.proofs.Common.{◌≡◌, ◌⊎◌, inl, inr, ℕ, ◌+◌, ◌-◌, ◌<◌, ◌≤◌, List, [], ◌∷◌, ◌++◌, length, take, drop, get_or, All, refl, sym, ap, ap₂, ◌∙◌, subst, arith, append_assoc}
 use Rattle.std.proofs.Math.ListN.{get_or-map as get_or-map-at}
 use Rattle.std.proofs.Math.Seq.{take-add, take-append_seam}
 use Rattle.std.proofs.lemmas.Bool.{cases_lt}
 use Rattle.std.proofs.lemmas.List.Elements.{Contains-append_left}
-use Rattle.std.proofs.lemmas.List.{map-append, append-nil, length-map, length-append, get_or_append_left, get_or-append_right, take-append-le, take-append-drop}
+use Rattle.std.proofs.lemmas.List.{map-append, append-nil, drop_all, length-map, length-append, length-take-le, get_or_append_left, get_or-append_right, take-append-le, take-append-drop}
 use Rattle.file_table.proofs.ListFacts.{AllPairs-take}
 use Rattle.file_table.proofs.PrefixLemmas.{All-left, All-right}
 use Rattle.parity_writer.specs.LevelReading.{LevelReading}
@@ -44,6 +44,8 @@ use Rattle.snap_fix.proofs.KeptStartsLemmas.{files_any, files_then, well_then}
 use Rattle.snap_fix.proofs.MendedVaultLemmas.{Precede, levels_before}
 use Rattle.snap_fix.proofs.ReadsLemmas.{all_looked, read_append, read_until, reads_on, reads_then, reads_wider, stripes_unread}
 use Rattle.snap_fix.proofs.StartsKeptLemmas.{keeps_starts_same}
+use Rattle.snap_fix.proofs.WindowsLemmas.{all_full, fill_more}
+use Rattle.snap_fix.specs.Windows.{FillWindows, IsFull, window_size}
 
 -- the first numbers ascend as all do
 front_ascending : (front back : List ℕ) → AreAscending (front ++ back) → AreAscending front
@@ -215,12 +217,25 @@ module _ {W R : Type 0} (view : W → SinkView) (standing : R → ReportView) (s
           front_ascending (numbers_of (facts_of xs) ++ numbers_of (facts_of ys)) behind
           (subst AreAscending (sym (numbers_both items done count first_is numbers_is)) (AllPairs-take (λ (a b : ℕ). a < b) (done + count) items ascending))
 
+    -- the stripes before the window are so many, and their windows are full
+    many_before : (first : List ℕ) (one : Totals) (old : FixScene W R) (so_far : FixesStripes view standing stands plan first old mid one) (items : List ℕ) (done : ℕ)
+        → done ≤ length items → first ≡ take done items → length so_far.stripes ≡ done
+    many_before first one old so_far items done within first_is =
+        sym (length-map so_far.stripes (λ (it : Mended). it.facts)) ∙ sym (length-map (facts_of so_far.stripes) (λ (it : StripeFacts). it.stripe))
+        ∙ ap (λ (ns : List ℕ). length ns) (so_far.numbers_are ∙ first_is) ∙ length-take-le done items within
+
+    windows_full : (first : List ℕ) (one : Totals) (old : FixScene W R) (so_far : FixesStripes view standing stands plan first old mid one) (items : List ℕ) (done : ℕ)
+        → done ≤ length items → FillWindows plan done → first ≡ take done items → All (IsFull plan) so_far.fixes.windows
+    windows_full first one old so_far items done within fill first_is =
+        all_full plan so_far.fixes.windows (facts_of so_far.stripes) so_far.fixes.readings so_far.fixes.windows_are
+        (subst (FillWindows plan) (sym (length-map so_far.stripes (λ (it : Mended). it.facts) ∙ many_before first one old so_far items done within first_is)) fill)
+
     -- one window more
-    pub stripes_more : (items : List ℕ) (done count : ℕ) → AreAscending items → numbers ≡ take count (drop done items) → (one two both : Totals) (old new : FixScene W R)
-        → FixesStripes view standing stands plan (take done items) old mid one → FixesInto view standing stands plan numbers window (with_folders mid mids) new two
+    pub stripes_more : (items : List ℕ) (done count : ℕ) → done ≤ length items → FillWindows plan done → AreAscending items → numbers ≡ take count (drop done items)
+        → (one two both : Totals) (old new : FixScene W R) → FixesStripes view standing stands plan (take done items) old mid one → FixesInto view standing stands plan numbers window (with_folders mid mids) new two
         → ((stripes others : List Mended) → AreTotals plan stripes one → AreTotals plan others two → AreTotals plan (stripes ++ others) both)
         → FixesStripes view standing stands plan (take (done + count) items) old new both
-    stripes_more items done count ascending numbers_is one two both old new so_far into and =
+    stripes_more items done count within fill ascending numbers_is one two both old new so_far into and =
         let first = take done items in
         let xs = so_far.stripes in
         let ys = into.stripes in
@@ -231,7 +246,7 @@ module _ {W R : Type 0} (view : W → SinkView) (standing : R → ReportView) (s
           numbers_are = numbers_append first one old so_far ys [] all_here into.slots
               ∙ sym (append-nil (numbers_of (facts_of xs) ++ numbers_of (facts_of ys))) ∙ numbers_both first one old so_far ys [] all_here into.slots items done count refl numbers_is;
           fixes = fixes_then view standing stands plan xs ys one two both old mid new
-              (precede (facts_of xs) (facts_of ys) (ascend first one old so_far ys [] all_here into.slots items done count ascending refl numbers_is)) and so_far.fixes (since_read ys two new into.fixes);
+              (precede (facts_of xs) (facts_of ys) (ascend first one old so_far ys [] all_here into.slots items done count ascending refl numbers_is)) and so_far.fixes (windows_full first one old so_far items done within fill refl) (since_read ys two new into.fixes);
           read = read_more first one old so_far ys [] all_here into.slots;
           reads = λ d below.
               reads_wider (AreReadBy plan old.starts mid.starts d (facts_of (xs ++ ys))) (AreReadBy plan old.starts new.starts d (facts_of (xs ++ ys)))
@@ -345,9 +360,36 @@ module _ {W R : Type 0} (view : W → SinkView) (standing : R → ReportView) (s
       }
       broke_then Memory broke = broke
 
-      pub stripes_break : (items : List ℕ) (done count : ℕ) → AreAscending items → first ≡ take done items → numbers ≡ take count (drop done items) → SceneFits plan old
-          → BreaksStripes view standing stands plan items old new fault
-      stripes_break items done count ascending first_is numbers_is fits_old =
+      -- the rest of the window: to its full size, or to the last stripe of all
+      many_here : (count : ℕ) → length numbers ≡ count → length into.stripes + length into.ahead.stripes ≡ count
+      many_here count many =
+          let facts = length-map into.stripes (λ (it : Mended). it.facts) in
+          let ones = length-map (facts_of into.stripes) (λ (it : StripeFacts). it.stripe) in
+          let others = length-map into.ahead.stripes (λ (it : StripeFacts). it.stripe) in
+          let sum = ap (λ (ns : List ℕ). length ns) into.numbers_are ∙ length-append (numbers_of (facts_of into.stripes)) (numbers_of into.ahead.stripes) in
+          omega (arith, facts, ones, others, sum, many)
+
+      few_ahead : (count : ℕ) → length numbers ≡ count → count ≤ window_size plan → length into.ahead.stripes < window_size plan
+      few_ahead count many few =
+          let sum = many_here count many in
+          let last = ap (λ (its : List Mended). length its) into.stripes_are ∙ length-append into.earlier (into.last ∷ []) in
+          omega (arith, sum, last, few)
+
+      ends_at : (items : List ℕ) (done count : ℕ) → done ≤ length items → FillWindows plan done → first ≡ take done items → length numbers ≡ count
+          → (length items ≡ done + count) ⊎ (count ≡ window_size plan)
+          → (drop (done + count) items ≡ []) ⊎ FillWindows plan (length (so_far.stripes ++ into.stripes) + length into.ahead.stripes)
+      ends_at items done count within fill first_is many (inl all) =
+          inl (drop_all (done + count) items (omega (arith, all)))
+      ends_at items done count within fill first_is many (inr full) =
+          let before = many_before first one old so_far items done within first_is in
+          let sum = many_here count many in
+          let both = length-append so_far.stripes into.stripes in
+          inr (subst (FillWindows plan) (omega (arith, before, sum, both)) (fill_more plan done count fill full))
+
+      pub stripes_break : (items : List ℕ) (done count : ℕ) → done ≤ length items → FillWindows plan done → length numbers ≡ count → count ≤ window_size plan
+          → (length items ≡ done + count) ⊎ (count ≡ window_size plan)
+          → AreAscending items → first ≡ take done items → numbers ≡ take count (drop done items) → SceneFits plan old → BreaksStripes view standing stands plan items old new fault
+      stripes_break items done count within fill many few ends ascending first_is numbers_is fits_old =
           let xs = so_far.stripes in
           let ys = into.stripes in
           let front = all_mended_events plan xs in
@@ -386,10 +428,12 @@ module _ {W R : Type 0} (view : W → SinkView) (standing : R → ReportView) (s
               levels = levels_before plan (facts_of xs) ahead old.vault mid.vault so_far.fixes.mends.vault before_ahead into.ahead.readings into.read_ahead;
               more = left;
               behind_is = refl;
+              few = few_ahead count many few;
+              to_the_end = ends_at items done count within fill first_is many ends;
             };
             ran = subst (λ (its : List (List LevelReading)). BreaksInLast plan fault into.level (facts_of (xs ++ into.earlier)) into.last.facts ahead its old.vault new.vault) (sym read_apart)
                 (breaks_in_last fault plan into.level xs into.earlier into.last ahead so_far.fixes.windows so_far.fixes.readings (into.readings ++ into.ahead.readings) old.vault mid.vault new.vault
-                before_last so_far.fixes.windows_are so_far.fixes.ran so_far.fixes.mends.vault so_far.fixes.mends.holds into.ran);
+                before_last (windows_full first one old so_far items done within fill first_is) so_far.fixes.windows_are so_far.fixes.ran so_far.fixes.mends.vault so_far.fixes.mends.holds into.ran);
             unread = subst (λ (its : List (List LevelReading)). RoseBy (unread_in its) old.vault.faults new.vault.faults) (sym read_apart)
                 (unread_then so_far.fixes.readings (into.readings ++ into.ahead.readings) old.vault.faults mid.vault.faults new.vault.faults so_far.fixes.unread into.unread);
             unread_cells_of = λ d below.

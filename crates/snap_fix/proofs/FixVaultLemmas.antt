@@ -92,7 +92,7 @@ calls_on old mid new one two a b = record {
 
 -- ---- all of it
 
-module _ (plan : FixPlan) (stripes : List Mended) (readings : List (List LevelReading)) (windows : List FixWindow) (windows_are : AreWindows windows (facts_of stripes) readings)
+module _ (plan : FixPlan) (stripes : List Mended) (readings : List (List LevelReading)) (windows : List FixWindow) (windows_are : AreWindows plan windows (facts_of stripes) readings)
     (old mid new : VaultView) (levels : List Bool)
     (long : length levels ≡ plan.table.shape.levels) (flags : (r : ℕ) → r < plan.table.shape.levels → get_or levels r false ≡ was_written plan stripes r)
     (synced : SyncsWritten levels mid new) where

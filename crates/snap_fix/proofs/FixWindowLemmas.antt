@@ -11,7 +11,6 @@ use Rattle.snap_report.specs.declared.answer.RunFault.{RunFault}
 use Rattle.snap_report.specs.declared.events.Event.{Event}
 use Rattle.snap_report.specs.declared.pages.Lines.{Lines}
 use Rattle.stripe_reader.specs.Starts.{StartsValue}
-use Rattle.stripe_reader.specs.declared.window.TheConstants.{MOST_STRIPES}
 use Rattle.snap_fix.specs.declared.fixing.Totals.{Totals}
 use Rattle.file_restorer.specs.declared.state.FileState.{FileState}
 use Rattle.stripe_examiner.specs.declared.room.Room.{Room}
@@ -26,6 +25,7 @@ use Rattle.stripe_examiner.specs.WindowExamined.{ExaminesWindow}
 use Rattle.snap_fix.specs.FixRun.{AreAscending, BreaksInto, FixesInto, MendsInto, MendsNotInto, with_folders}
 use Rattle.snap_fix.specs.Fixing.{FixScene, SceneFits, fix_scene}
 use Rattle.snap_fix.specs.WindowShown.{ShowsAll}
+use Rattle.snap_fix.specs.Windows.{window_size}
 use Rattle.snap_fix.proofs.FixIntoLemmas.{into_all, into_breaks}
 
 -- of ascending numbers those of a window ascend
@@ -40,7 +40,7 @@ some_room [] some = absurd (omega (arith, some))
 some_room (room ∷ rooms) some = room
 
 module _ (plan : FixPlan) (starts : StartsValue) (asked : List ℕ) (before after : Room) (olds mids : List FolderView) (vault vault_after : VaultView) (spare spare_after : SpareView)
-    (enough : length asked ≤ before.window.room) (is_room : IsRoomFor plan.table before)
+    (some : 0 < length asked) (enough : length asked ≤ before.window.room) (is_room : IsRoomFor plan.table before)
     (it : ExaminesWindow plan starts asked before after olds mids vault vault_after spare spare_after) where
   many : length it.stripes ≡ length asked
   many = sym (length-map it.stripes (λ (facts : StripeFacts). facts.stripe)) ∙ ap (λ (ns : List ℕ). length ns) it.numbers_are
@@ -62,8 +62,11 @@ module _ (plan : FixPlan) (starts : StartsValue) (asked : List ℕ) (before afte
       subst (AreFacts plan) (get_or_default it.stripes k no_facts none below)
       (it.each k (some_room after.stripes.items (omega (arith, below, many, rooms_enough))) below).are
 
-  few : length it.stripes ≤ MOST_STRIPES
-  few = omega (arith, many, enough, is_room.few)
+  has_some : 0 < length it.stripes
+  has_some = omega (arith, many, some)
+
+  few : length it.stripes ≤ window_size plan
+  few = omega (arith, many, enough, is_room.just)
 
   pub spare_still : IsSpareFor plan.table.shape spare → IsSpareFor plan.table.shape spare_after
   spare_still is = subst (IsSpareFor plan.table.shape) (sym it.asked.same) is
@@ -89,9 +92,9 @@ module _ (plan : FixPlan) (starts : StartsValue) (asked : List ℕ) (before afte
     pub window_mended : (totals : Totals) (new : FixScene W R) → MendsInto view standing stands plan it.stripes then new totals
         → FixesInto view standing stands plan asked it.window (with_folders old mids) new totals
     window_mended totals new mends =
-        into_all view standing stands plan asked it.window it.stripes it.numbers_are it.slots all_are few (with_folders old mids) vault_after spare_after it.levels it.asked totals new mends
+        into_all view standing stands plan asked it.window it.stripes it.numbers_are it.slots all_are has_some few (with_folders old mids) vault_after spare_after it.levels it.asked totals new mends
 
     pub window_not_mended : (fault : RunFault) (new : FixScene W R) → MendsNotInto view standing stands plan it.stripes then new fault
         → BreaksInto view standing stands plan asked it.window (with_folders old mids) new fault
     window_not_mended fault new mends =
-        into_breaks view standing stands plan asked it.window it.stripes it.numbers_are it.slots all_are few (with_folders old mids) vault_after spare_after it.levels it.asked new fault mends
+        into_breaks view standing stands plan asked it.window it.stripes it.numbers_are it.slots all_are has_some few (with_folders old mids) vault_after spare_after it.levels it.asked new fault mends

@@ -171,7 +171,7 @@ module _ {W R : Type 0} (view : W → SinkView) (standing : R → ReportView) (s
       let cells_to : List Event = events_to (cell_news plan (with_answers facts answers)) disk in
       let levels : List Event = all_level_news plan facts in
       let fails = part.3 in
-      let within = fails.within in
+      let within = fails.in_column.within in
       let split = events_split (cell_news plan (with_answers facts answers)) disk
       (length plan.table.columns) (omega (arith, within)) in
       record {
@@ -193,5 +193,5 @@ module _ {W R : Type 0} (view : W → SinkView) (standing : R → ReportView) (s
         vault = subst (MendsVault plan [] old.vault) (sym same) (mends_nothing plan [] old.vault);
         spare = spare;
         makes = fails;
-        broke = (fails.within, record { rose = fails.here.rose; call = fails_gained (IsMendCall plan old.starts disk (with_answers facts answers ∷ [])) fails.here });
+        broke = (fails.in_column.within, record { rose = fails.in_column.here.rose; call = fails_gained (IsMendCall plan old.starts disk (with_answers facts answers ∷ [])) fails.in_column.here });
       }

@@ -96,8 +96,8 @@ one_stripe : (plan : FixPlan) (starts : StartsValue) (d : ℕ) (mended : Mended)
 one_stripe plan starts d mended done are =
     let Call = IsMendCall plan starts d (mended ∷ []) in
     record {
-      each = λ k none within. well_wider Call (IsStripeCall plan starts d (mended ∷ [])) (λ call is. inr is) (get_or done k none) (are.each k none within);
-      writes = (done, [], all_write Call (mend_writes plan starts d (mended ∷ [])) done are.each ∙ sym (append-nil done), are, refl);
+      each = λ k none within. well_wider Call (IsStripeCall plan starts d (mended ∷ [])) (λ call is. inr is) (get_or done k none) (are.are.each k none within);
+      writes = (done, [], all_write Call (mend_writes plan starts d (mended ∷ [])) done are.are.each ∙ sym (append-nil done), are, refl);
     }
 
 pub stripe_makes : (plan : FixPlan) (starts : StartsValue) (d : ℕ) (mended : Mended) {old new : FolderView} → FolderMakesBy (AreMendCalls plan starts d mended) old new
@@ -131,10 +131,10 @@ pub cells_any : (fault : RunFault) (plan : FixPlan) (last : Mended) (starts : St
     → (d : ℕ) → d < length plan.table.columns
     → FolderMakes (AnyCall (IsMendCall plan starts d (last ∷ []))) (folder_at olds d) (folder_at news d)
 cells_any (Folder disk) plan last starts states olds news one d below =
-    in_column_any disk (length plan.table.columns) (λ (k : ℕ). AreMendCalls plan starts k last) (λ (k : ℕ). IsMendCall plan starts k (last ∷ [])) olds news one
-    (λ k done are. are.each) d below
+    in_column_any disk (length plan.table.columns) (λ (k : ℕ). AreMendCalls plan starts k last) (λ (k : ℕ). IsMendCall plan starts k (last ∷ [])) olds news one.in_column
+    (λ k done are. are.are.each) d below
 cells_any Vault plan last starts states olds news one d below =
-    makes_each (AreMendCalls plan starts d last) (AnyCall (IsMendCall plan starts d (last ∷ []))) (λ done are k none within. (are.each k none within).0) (one.makes d below)
+    makes_each (AreMendCalls plan starts d last) (AnyCall (IsMendCall plan starts d (last ∷ []))) (λ done are k none within. (are.are.each k none within).0) (one.makes d below)
 cells_any Memory plan last starts states olds news one d below = absurd one
 
 module _ (plan : FixPlan) (fault : RunFault) where
@@ -188,12 +188,12 @@ module _ (plan : FixPlan) (fault : RunFault) where
 
 pub cell_quiet : (plan : FixPlan) (starts : StartsValue) (d : ℕ) (mended : Mended) {old new : FolderView} → FolderMakesBy (AreMendCalls plan starts d mended) old new → FolderReads IsQuiet old new
 cell_quiet plan starts d mended makes =
-    quiet_makes (AreMendCalls plan starts d mended) (IsMendCall plan starts d (mended ∷ [])) (mend_writes plan starts d (mended ∷ [])) (λ done are. are.each) makes
+    quiet_makes (AreMendCalls plan starts d mended) (IsMendCall plan starts d (mended ∷ [])) (mend_writes plan starts d (mended ∷ [])) (λ done are. are.are.each) makes
 
 pub cells_quiet : (fault : RunFault) (plan : FixPlan) (last : Mended) (starts : StartsValue) (states : List (List FileState)) (olds news : List FolderView)
     → BreaksCells fault plan last starts states olds news → (d : ℕ) → d < length plan.table.columns → FolderReads IsQuiet (folder_at olds d) (folder_at news d)
 cells_quiet (Folder disk) plan last starts states olds news one d below =
     quiet_in_column disk (length plan.table.columns) (λ (k : ℕ). AreMendCalls plan starts k last) (λ (k : ℕ). IsMendCall plan starts k (last ∷ [])) olds news
-    (λ k. mend_writes plan starts k (last ∷ [])) (λ k done are. are.each) one d below
+    (λ k. mend_writes plan starts k (last ∷ [])) (λ k done are. are.are.each) one.in_column d below
 cells_quiet Vault plan last starts states olds news one d below = cell_quiet plan starts d last (one.makes d below)
 cells_quiet Memory plan last starts states olds news one d below = absurd one

@@ -32,6 +32,7 @@ pub mod AskedLemmas
 pub mod KeptStartsLemmas
 pub mod MendedVaultLemmas
 pub mod WindowsLemmas
+pub mod OneCutLemmas
 pub mod WindowShownLemmas
 pub mod FixAllLemmas
 pub mod FixIntoLemmas

@@ -23,17 +23,17 @@ use Rattle.file_restorer.specs.declared.state.FileState.{FileState}
 use Rattle.stripe_examiner.specs.Counts.{AreCounts}
 use Rattle.stripe_examiner.specs.Facts.{StripeFacts, damaged_at}
 use Rattle.stripe_examiner.specs.Marks.{mark_in}
-use Rattle.snap_fix.specs.Mended.{Mended, is_repaired, is_written, is_of, loses, column_writes, writes_in, answer_of, cell_news, mended_event, is_blocked_cell}
+use Rattle.snap_fix.specs.Mended.{Mended, is_gone, is_repaired, is_written, is_of, loses, column_writes, writes_in, answer_of, cell_news, mended_event, is_blocked_cell}
 use Rattle.stripe_examiner.specs.Showing.{known_block, block_or_none, ShowsFacts, is_damaged_mark, is_given_mark}
 use Rattle.file_restorer.specs.Mending.{StatesFit, IsBlockCall, CanWrite, block_start, cell_path, mended_writes, with_state}
 use Rattle.stripe_examiner.specs.Plan.{FixPlan, cell_at, entry_at, selects_cell}
 use Rattle.snap_fix.specs.RepairSteps.{ColumnOutside, IsMendedAs, CanMendColumn, MendsColumn, MendsNotColumn, WritesBlockOf, WritesNotBlockOf, is_repaired_by, is_lost_by}
 use Rattle.file_restorer.specs.Order.{FolderWrites, block_calls}
-use Rattle.file_restorer.specs.State.{Write, HoldsTold, FolderMakesBy, KeepsStarts, StepMakes, has_some, size_after, state_in}
+use Rattle.file_restorer.specs.State.{AreStepCalls, Write, HoldsTold, FolderMakesBy, KeepsStarts, StaysPlace, StepMakes, has_some, size_after, state_in}
 use Rattle.snap_fix.specs.StripeOrder.{stripe_writes}
-use Rattle.snap_fix.specs.Underway.{AreMendCalls, IsMendCall, IsColumnUnderway, SetsUpOneOf}
-use Rattle.file_restorer.proofs.FolderCallLemmas.{some_none, step_none, step_wider}
-use Rattle.file_restorer.proofs.FolderFailsLemmas.{fails_wider}
+use Rattle.snap_fix.specs.Underway.{AreMendCalls, IsMendCall, IsColumnUnderway, SetsUpOneOf, calls_of_cell, written_calls}
+use Rattle.file_restorer.proofs.FolderCallLemmas.{makes_by_none, makes_by_wider, no_step, some_none, well_wider}
+use Rattle.file_restorer.proofs.FolderFailsLemmas.{step_fails_wider}
 use Rattle.snap_fix.proofs.MendedFactsLemmas.{and_parts, block_known, repaired_shown, lost_shown, writes_same, writes_more, loses_by}
 use Rattle.snap_fix.proofs.RepairLemmas.{RecordGoesOn, record_still, column_lost, underway_more, state_same, state_other, row_same, states_fit-with, starts_fit-with}
 use Rattle.snap_fix.proofs.StartsKeptLemmas.{keeps_starts_same, keeps_starts_with}
@@ -75,9 +75,16 @@ module _ {W R : Type 0} (view : W → SinkView) (standing : R → ReportView) (s
     -- no call is made for it
     no_calls : (mended : Mended) → Shown false mended → (folder : FolderView) → FolderMakesBy (AreMendCalls plan old.starts d mended) folder folder
     no_calls mended shown folder =
-        subst (λ (missing : Bool). StepMakes (IsMendCall plan old.starts d (mended ∷ [])) missing folder folder)
-        (sym (ap (λ (b : Bool). b && not (answer_of mended d)) (repaired_not false mended shown)))
-        (step_none (IsMendCall plan old.starts d (mended ∷ [])) folder)
+        let Mend = IsMendCall plan old.starts d (mended ∷ []) in
+        let gone_not : is_gone plan mended d ≡ false = ap (λ (b : Bool). b && not (answer_of mended d)) (repaired_not false mended shown) in
+        makes_by_none (AreMendCalls plan old.starts d mended) folder (record {
+          place = Nowhere;
+          stood = λ is cell cell_is. absurd (let clash : true ≡ false = sym is ∙ not_written mended shown in cc);
+          touched = false;
+          are = subst (λ (b : Bool). AreStepCalls Mend (if b then calls_of_cell plan d mended.facts Nowhere false (cell_at plan mended.facts.stripe d) else []) (is_gone plan mended d) [])
+              (sym (not_written mended shown))
+              (subst (λ (missing : Bool). AreStepCalls Mend [] missing []) (sym gone_not) (no_step Mend));
+        })
 
     -- of a record it loses the block of its cell, if that is lost
     loses_then : (lost : Bool) → is_lost_by plan stripe mark known d ≡ lost → (mended : Mended) → Shown false mended → (k : ℕ)
@@ -279,21 +286,60 @@ module _ {W R : Type 0} (view : W → SinkView) (standing : R → ReportView) (s
             };
           }
 
-      calls_of : (written : Bool) (mended : Mended) → Shown written mended → (new : FolderView)
-          → StepMakes (IsBlockCall place (cell_path plan.table d cell) (block_start plan.table cell) bytes) (not written) old.folder new
+      abbrev Block : FolderCall → Type 0
+      Block = IsBlockCall place (cell_path plan.table d cell) (block_start plan.table cell) bytes
+
+      abbrev touched : Bool
+      touched = (state_in old.states d cell.rec).touched
+
+      abbrev block_here : List FolderCall
+      block_here = block_calls place touched (cell_path plan.table d cell) (block_start plan.table cell) bytes
+
+      written_by : (written : Bool) (mended : Mended) → Shown written mended → is_written plan mended d ≡ written
+      written_by written mended shown = ap₂ (λ (b answer : Bool). b && answer) (repaired_of mended.facts shown.stripe_is shown.shows) shown.answer_is
+
+      gone_by : (written : Bool) (mended : Mended) → Shown written mended → is_gone plan mended d ≡ not written
+      gone_by written mended shown = ap₂ (λ (repaired answer : Bool). repaired && not answer) (repaired_of mended.facts shown.stripe_is shown.shows) shown.answer_is
+
+      -- they are just the calls of the block
+      block_is : (written : Bool) (mended : Mended) → Shown written mended → written ≡ true → written_calls plan d mended place touched ≡ block_here
+      block_is written mended shown did =
+          ap (λ (b : Bool). if b then calls_of_cell plan d mended.facts place touched (cell_at plan mended.facts.stripe d) else []) (written_by written mended shown ∙ did)
+          ∙ ap (calls_of_cell plan d mended.facts place touched) (cell_of mended.facts shown.stripe_is)
+          ∙ ap (λ (bs : List ℕ). block_calls place touched (cell_path plan.table d cell) (block_start plan.table cell) bs) (sym (bytes_are ∙ block_of mended.facts shown.stripe_is shown.shows))
+
+      stood_here : (mended : Mended) → mended.facts.stripe ≡ stripe → (other : Cell) → cell_at plan mended.facts.stripe d ≡ Some other
+          → StaysPlace (start_in (starts_at old.starts.columns d) other.rec).place place
+      stood_here mended is other other_is =
+          let both : Some cell ≡ Some other = sym (cell_of mended.facts is) ∙ other_is in
+          let same : cell ≡ other = cc in
+          subst (λ (c : Cell). StaysPlace (start_in (starts_at old.starts.columns d) c.rec).place place) same (inl refl)
+
+      was_done : (written : Bool) → not written ≡ false → written ≡ true
+      was_done true is = refl
+      was_done false is = absurd (let clash : true ≡ false = is in cc)
+
+      calls_of : (written : Bool) (mended : Mended) → Shown written mended → (new : FolderView) → StepMakes Block block_here (not written) old.folder new
           → FolderMakesBy (AreMendCalls plan old.starts d mended) old.folder new
       calls_of written mended shown new makes =
-          subst (λ (missing : Bool). StepMakes (IsMendCall plan old.starts d (mended ∷ [])) missing old.folder new)
-          (sym (ap₂ (λ (repaired answer : Bool). repaired && not answer) (repaired_of mended.facts shown.stripe_is shown.shows) shown.answer_is))
-          (step_wider (IsBlockCall place (cell_path plan.table d cell) (block_start plan.table cell) bytes) (IsMendCall plan old.starts d (mended ∷ [])) (not written)
-          (call_of mended shown.stripe_is shown.shows) makes)
+          let gone = gone_by written mended shown in
+          makes_by_wider (AreStepCalls Block block_here (not written)) (AreMendCalls plan old.starts d mended) (λ done are. record {
+            place = place;
+            stood = λ is other other_is. stood_here mended shown.stripe_is other other_is;
+            touched = touched;
+            are = record {
+              each = λ k none within. well_wider Block (IsMendCall plan old.starts d (mended ∷ [])) (call_of mended shown.stripe_is shown.shows) (get_or done k none) (are.each k none within);
+              found = are.found ∙ sym gone;
+              just = λ none. are.just (sym gone ∙ none) ∙ sym (block_is written mended shown (was_done written (sym gone ∙ none)));
+            };
+          }) makes
 
       -- a call failed
       pub column_not : (new : ColumnOutside W R) → WritesNotBlockOf view standing stands plan.table d cell bytes old new
           → MendsNotColumn view standing stands plan stripe i d window marks known old new
       column_not new fails = record {
         told = fails.told;
-        fails = λ mended is shows. fails_wider (IsBlockCall place (cell_path plan.table d cell) (block_start plan.table cell) bytes)
+        fails = λ mended is shows. step_fails_wider (IsBlockCall place (cell_path plan.table d cell) (block_start plan.table cell) bytes)
             (IsMendCall plan old.starts d (mended ∷ [])) (call_of mended is shows) fails.fails;
       }
 

@@ -15,7 +15,7 @@ use Rattle.stripe_reader.specs.Starts.{StartsFit, starts_at}
 use Rattle.stripe_reader.specs.WindowValue.{WindowValue}
 use Rattle.stripe_examiner.specs.declared.marking.CellMark.{CellMark}
 use Rattle.snap_fix.specs.declared.repairing.Repaired.{Repaired}
-use Rattle.file_restorer.specs.Breaking.{FolderFails}
+use Rattle.file_restorer.specs.Breaking.{StepFails}
 use Rattle.stripe_examiner.specs.Counts.{AreCounts}
 use Rattle.stripe_examiner.specs.Facts.{StripeFacts}
 use Rattle.snap_fix.specs.Mended.{Mended, answer_of, cell_news, is_repaired, is_written}
@@ -26,7 +26,7 @@ use Rattle.snap_fix.specs.RepairSteps.{column_outside, IsMendedAs, CanMendColumn
 use Rattle.file_restorer.specs.State.{FolderMakesBy, KeepsStarts}
 use Rattle.snap_fix.specs.Underway.{AreMendCalls, IsFixable, IsColumnUnderway, IsMendCall}
 use Rattle.stripe_examiner.specs.Showing.{ShowsFacts}
-use Rattle.file_restorer.proofs.FolderFailsLemmas.{fails_wider}
+use Rattle.file_restorer.proofs.FolderFailsLemmas.{step_fails_wider}
 use Rattle.snap_fix.proofs.MendedCounts.{count_to-more}
 use Rattle.snap_fix.proofs.RepairCellLemmas.{none_written}
 use Rattle.snap_fix.proofs.RepairLemmas.{underway_same}
@@ -228,17 +228,20 @@ module _ {W R : Type 0} (view : W → SinkView) (standing : R → ReportView) (s
                 (sym (append-nil (events_to (cell_news plan mended) d)))
                 (told_then view standing stands plan.table.columns (events_to (cell_news plan mended) d) [] old.lines mid.lines new.lines old.reports mid.reports new.reports
                 (so_far.told mended shown) fails.told),
-            record {
-              within = within;
-              before = λ k near.
-                  subst (FolderMakesBy (AreMendCalls plan old.starts k mended) (folder_at old.folders k)) (sym (other_new k (λ same. omega (arith, same, near))))
-                  ((so_far.done k near).makes mended shown);
-              here =
-                  subst (FolderFails (Call d) (folder_at old.folders d)) (sym here_new)
-                  (subst (λ (v : FolderView). FolderFails (Call d) v folder_new) was
-                  (fails_wider (IsMendCall plan mid.starts d (mended ∷ [])) (Call d) (mend_call_before plan old.starts mid.starts d (mended ∷ []) so_far.stood) (fails.fails mended is shows)));
-              behind = λ k past below. other_new k (λ same. omega (arith, same, past)) ∙ (so_far.left k (omega (arith, past))).same_folder;
-            },
+            let here = subst (StepFails (Call d) (folder_at old.folders d)) (sym here_new)
+                (subst (λ (v : FolderView). StepFails (Call d) v folder_new) was
+                (step_fails_wider (IsMendCall plan mid.starts d (mended ∷ [])) (Call d) (mend_call_before plan old.starts mid.starts d (mended ∷ []) so_far.stood) (fails.fails mended is shows))) in
+                record {
+                  in_column = record {
+                    within = within;
+                    before = λ k near.
+                        subst (FolderMakesBy (AreMendCalls plan old.starts k mended) (folder_at old.folders k)) (sym (other_new k (λ same. omega (arith, same, near))))
+                        ((so_far.done k near).makes mended shown);
+                    here = here.fails;
+                    behind = λ k past below. other_new k (λ same. omega (arith, same, past)) ∙ (so_far.left k (omega (arith, past))).same_folder;
+                  };
+                  found = here.found;
+                },
           );
     }
       where

@@ -13,6 +13,7 @@ use Rattle.stripe_reader.specs.Starts.{StartsValue, start_in, starts_at}
 use Rattle.file_restorer.specs.declared.state.FileState.{FileState}
 use Rattle.snap_fix.specs.Mended.{mended_event}
 use Rattle.file_restorer.specs.Mending.{CanWrite, IsBlockCall, MendsCell, block_start, cell_path, mended_writes, with_state}
+use Rattle.file_restorer.specs.Order.{block_calls}
 use Rattle.snap_fix.specs.RepairSteps.{WritesBlockOf, column_outside}
 use Rattle.file_restorer.specs.State.{HoldsColumn, HoldsTold, StepMakes, size_after, state_in}
 use Rattle.snap_fix.proofs.RepairLemmas.{column_lost, row_same, state_same}
@@ -39,6 +40,9 @@ module _ {W R : Type 0} (view : W → SinkView) (standing : R → ReportView) (s
   abbrev Block : FolderCall → Type 0
   Block = IsBlockCall (start_in (starts_at starts.columns d) cell.rec).place (cell_path table d cell) (block_start table cell) bytes
 
+  abbrev calls : List FolderCall
+  calls = block_calls (start_in (starts_at starts.columns d) cell.rec).place (state_in states d cell.rec).touched (cell_path table d cell) (block_start table cell) bytes
+
   -- it was written
   pub block_written : written ≡ true → Told view standing stands table.columns (mended_event stripe d (Some cell) true) lines lines_new reports reports_new
       → WritesBlockOf view standing stands table stripe d cell bytes (column_outside starts states folder lines reports) (column_outside starts_new states_new folder_new lines_new reports_new)
@@ -59,7 +63,7 @@ module _ {W R : Type 0} (view : W → SinkView) (standing : R → ReportView) (s
     told = told;
     counts = record { found = refl; left = refl };
     blocks = refl;
-    makes = subst (λ (b : Bool). StepMakes Block (not b) folder folder_new) is mends.makes;
+    makes = subst (λ (b : Bool). StepMakes Block calls (not b) folder folder_new) is mends.makes;
     holds = λ first writes same free tree held.
         subst (λ (b : Bool). HoldsTold (records_in table d) (starts_at starts_new.columns d) (get_or states_new d []) (mended_writes table cell bytes b writes) first folder_new) is
         (mends.holds first writes same free tree held);
@@ -90,7 +94,7 @@ module _ {W R : Type 0} (view : W → SinkView) (standing : R → ReportView) (s
     told = told;
     counts = record { found = refl; left = refl };
     blocks = refl;
-    makes = subst (λ (b : Bool). StepMakes Block (not b) folder folder_new) is mends.makes;
+    makes = subst (λ (b : Bool). StepMakes Block calls (not b) folder folder_new) is mends.makes;
     holds = λ first writes same free tree held tells.
         subst (λ (s : List FileState). HoldsColumn (records_in table d) (starts_at starts_new.columns d) s writes first.tree folder_new.tree)
         (sym (ap (λ (s : List (List FileState)). get_or s d []) then_is ∙ row_same states_new d cell.rec _ long_new))

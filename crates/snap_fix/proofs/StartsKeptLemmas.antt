@@ -13,7 +13,7 @@ use Rattle.snap_fix.specs.Mended.{Mended, is_gone}
 use Rattle.file_restorer.specs.Mending.{with_place}
 use Rattle.stripe_examiner.specs.Plan.{FixPlan}
 use Rattle.file_restorer.specs.State.{FolderMakesBy, StaysPlace, KeepsStarts}
-use Rattle.snap_fix.specs.Underway.{AreMendCalls, IsMendCall, SetsUpCell, SetsUpOneOf}
+use Rattle.snap_fix.specs.Underway.{AreMendCalls, IsMendCall, SetsUpCell, SetsUpOneOf, written_calls}
 use Rattle.file_restorer.proofs.FolderCallLemmas.{makes_by_wider, step_calls_wider}
 
 -- ---- places
@@ -112,8 +112,13 @@ module _ (plan : FixPlan) (before after : StartsValue) (d : ℕ) (stripes : List
 -- the calls for a cell by later starts are those by earlier ones
 pub mend_calls_before : (plan : FixPlan) (before after : StartsValue) (d : ℕ) (mended : Mended) → KeepsStarts before after → (done : List FolderDone)
     → AreMendCalls plan after d mended done → AreMendCalls plan before d mended done
-mend_calls_before plan before after d mended stood done are = step_calls_wider (IsMendCall plan after d (mended ∷ [])) (IsMendCall plan before d (mended ∷ []))
-    (is_gone plan mended d) (mend_call_before plan before after d (mended ∷ []) stood) done are
+mend_calls_before plan before after d mended stood done are = record {
+  place = are.place;
+  stood = λ is cell cell_is. stays_then _ _ _ (stood d cell.rec).1 (are.stood is cell cell_is);
+  touched = are.touched;
+  are = step_calls_wider (IsMendCall plan after d (mended ∷ [])) (IsMendCall plan before d (mended ∷ [])) (written_calls plan d mended are.place are.touched)
+      (is_gone plan mended d) (mend_call_before plan before after d (mended ∷ []) stood) done are.are;
+}
 
 pub makes_before : (plan : FixPlan) (before after : StartsValue) (d : ℕ) (mended : Mended) → KeepsStarts before after → {old new : FolderView}
     → FolderMakesBy (AreMendCalls plan after d mended) old new → FolderMakesBy (AreMendCalls plan before d mended) old new

@@ -1,9 +1,11 @@
 -- Stripes cut into windows: what is read of their levels, and what is written, for some of them and then for others.
-use Rattle.std.proofs.Common.{◌≡◌, ℕ, ◌+◌, ◌≤◌, ◌<◌, List, [], ◌∷◌, ◌++◌, length, take, drop, false, refl, sym, ap, ap₂, ◌∙◌, subst, arith}
+use Rattle.std.proofs.Common.{◌≡◌, ◌⊎◌, inl, inr, ℕ, zero, suc, ◌+◌, ◌-◌, ◌*◌, ◌≤◌, ◌<◌, List, [], ◌∷◌, ◌++◌, length, take, drop, min, get_or, All, false, refl, sym, ap, ap₂, ◌∙◌, subst, arith}
 use Rattle.std.specs.List.{count_by, flat_map}
 use Rattle.std.proofs.lemmas.Grind.{flat_map-append}
-use Rattle.std.proofs.lemmas.List.{map-append, append-nil, take-append-drop}
-use Rattle.std.proofs.lemmas.List.Elements.{All-append}
+use Rattle.std.proofs.Math.Nat.{suc-mul}
+use Rattle.std.proofs.lemmas.Bool.{cases_lt}
+use Rattle.std.proofs.lemmas.List.{map-append, append-nil, length-append, get_or_append_left, get_or-append_right, take-append-drop}
+use Rattle.std.proofs.lemmas.List.Elements.{All-nil, All-cons, All-append}
 use Rattle.std.proofs.lemmas.List.Sums.{sum_by-append}
 use Rattle.file_table.proofs.PrefixLemmas.{AllPairs-left}
 use Rattle.disk_model.specs.Vault.{plain_done, VaultView, VaultCall}
@@ -16,7 +18,7 @@ use Rattle.snap_fix.specs.FixRun.{AreAscending}
 use Rattle.snap_fix.specs.Fixing.{facts_of}
 use Rattle.snap_fix.specs.Mended.{Mended, all_mended_events, mended_events}
 use Rattle.snap_fix.specs.Underway.{done_well, wrong_writes}
-use Rattle.snap_fix.specs.Windows.{AreWindows, FixWindow, IsFixWindow, all_wrong_writes, mend_calls, stripes_in, window_calls}
+use Rattle.snap_fix.specs.Windows.{AreWindows, FillWindows, FixWindow, IsFixWindow, IsFull, all_wrong_writes, mend_calls, no_window, stripes_in, window_calls, window_size}
 use Rattle.snap_fix.proofs.FixCountLemmas.{count_append, parity_io_in_stripe}
 
 -- ---- windows, and then others
@@ -24,14 +26,88 @@ use Rattle.snap_fix.proofs.FixCountLemmas.{count_append, parity_io_in_stripe}
 pub stripes_append : (ws vs : List FixWindow) → stripes_in (ws ++ vs) ≡ stripes_in ws ++ stripes_in vs
 stripes_append ws vs = flat_map-append (λ (window : FixWindow). window.stripes) ws vs
 
-pub windows_append : (ws vs : List FixWindow) (xs ys : List StripeFacts) (rs ss : List (List LevelReading))
-    → AreWindows ws xs rs → AreWindows vs ys ss → AreWindows (ws ++ vs) (xs ++ ys) (rs ++ ss)
-windows_append ws vs xs ys rs ss one two = record {
+-- full windows, and then others of which each but the last one is full
+full_after : (plan : FixPlan) (ws vs : List FixWindow) → All (IsFull plan) ws → ((k : ℕ) → k + 1 < length vs → IsFull plan (get_or vs k no_window))
+    → (k : ℕ) → k + 1 < length (ws ++ vs) → IsFull plan (get_or (ws ++ vs) k no_window)
+full_after plan ws vs one two k below = at (cases_lt k (length ws))
+  where
+    at : (k < length ws) ⊎ (length ws ≤ k) → IsFull plan (get_or (ws ++ vs) k no_window)
+    at (inl near) = subst (IsFull plan) (sym (get_or_append_left ws vs no_window k near)) (one k no_window near)
+    at (inr far) = subst (IsFull plan) (sym (get_or-append_right ws vs (length ws) k no_window refl far))
+        (two (k - length ws) (omega (arith, below, far, length-append ws vs)))
+
+pub windows_append : (plan : FixPlan) (ws vs : List FixWindow) (xs ys : List StripeFacts) (rs ss : List (List LevelReading)) → All (IsFull plan) ws
+    → AreWindows plan ws xs rs → AreWindows plan vs ys ss → AreWindows plan (ws ++ vs) (xs ++ ys) (rs ++ ss)
+windows_append plan ws vs xs ys rs ss full one two = record {
   stripes_are = ap₂ (λ (a b : List StripeFacts). a ++ b) one.stripes_are two.stripes_are ∙ sym (stripes_append ws vs);
   readings_are = ap₂ (λ (a b : List (List LevelReading)). a ++ b) one.readings_are two.readings_are
       ∙ sym (flat_map-append (λ (window : FixWindow). window.readings) ws vs);
-  each = All-append IsFixWindow ws vs one.each two.each;
+  each = All-append (IsFixWindow plan) ws vs one.each two.each;
+  full = full_after plan ws vs full two.full;
 }
+
+-- no stripe is in no window
+pub no_windows : (plan : FixPlan) → AreWindows plan [] [] []
+no_windows plan = record {
+  stripes_are = refl;
+  readings_are = refl;
+  each = All-nil (IsFixWindow plan);
+  full = λ k below. absurd (omega (arith, below));
+}
+
+-- one window
+pub one_window : (plan : FixPlan) (window : FixWindow) → IsFixWindow plan window → AreWindows plan (window ∷ []) window.stripes window.readings
+one_window plan window is = record {
+  stripes_are = sym (append-nil window.stripes);
+  readings_are = sym (append-nil window.readings);
+  each = All-cons (IsFixWindow plan) window [] is (All-nil (IsFixWindow plan));
+  full = λ k below. absurd (omega (arith, below));
+}
+
+-- a window has room for a stripe
+pub some_room : (plan : FixPlan) → 0 < window_size plan
+some_room plan = omega arith
+
+-- one window that some windows would fill is full
+fills_one : (size many n : ℕ) → 0 < many → many ≤ size → many ≡ n * size → many ≡ size
+fills_one size many zero some few is = absurd (omega (arith, some, is))
+fills_one size many (suc zero) some few is = omega (arith, is)
+fills_one size many (suc (suc n)) some few is = absurd (omega (arith, some, few, is))
+
+fills_all : (plan : FixPlan) (ws : List FixWindow) (n : ℕ) → All (IsFixWindow plan) ws → ((k : ℕ) → k + 1 < length ws → IsFull plan (get_or ws k no_window))
+    → length (stripes_in ws) ≡ n * window_size plan → All (IsFull plan) ws
+fills_all plan [] n each full long = All-nil (IsFull plan)
+fills_all plan (w ∷ []) n each full long =
+    let is = each 0 w (omega arith) in
+    let sum = length-append w.stripes [] in
+    All-cons (IsFull plan) w [] (fills_one (window_size plan) (length w.stripes) n is.some is.few (omega (arith, sum, long))) (All-nil (IsFull plan))
+fills_all plan (w ∷ v ∷ ws) zero each full long =
+    let is = each 0 w (omega arith) in
+    let sum = length-append w.stripes (stripes_in (v ∷ ws)) in
+    absurd (omega (arith, is.some, sum, long))
+fills_all plan (w ∷ v ∷ ws) (suc n) each full long =
+    let here : IsFull plan w = full 0 (omega arith) in
+    let sum = length-append w.stripes (stripes_in (v ∷ ws)) in
+    All-cons (IsFull plan) w (v ∷ ws) here
+    (fills_all plan (v ∷ ws) n (λ k none below. each (suc k) none (omega (arith, below))) (λ k below. full (suc k) (omega (arith, below))) (omega (arith, here, sum, long)))
+
+-- a full window more fills one more
+pub fill_more : (plan : FixPlan) (done count : ℕ) → FillWindows plan done → count ≡ window_size plan → FillWindows plan (done + count)
+fill_more plan done count (k, is) full = (suc k, omega (arith, is, full, suc-mul k (window_size plan)))
+
+-- a window takes all that is left, or is full
+pub takes_all : (long done room count : ℕ) → done < long → count ≡ min (long - done) room → (long ≡ done + count) ⊎ (count ≡ room)
+takes_all long done room count more is = at (cases_lt room (long - done))
+  where
+    at : (room < long - done) ⊎ (long - done ≤ room) → (long ≡ done + count) ⊎ (count ≡ room)
+    at (inl less) = inr (omega (arith, is, less))
+    at (inr enough) = inl (omega (arith, is, enough, more))
+
+-- where stripes fill windows, each of theirs is full
+pub all_full : (plan : FixPlan) (ws : List FixWindow) (xs : List StripeFacts) (rs : List (List LevelReading)) → AreWindows plan ws xs rs → FillWindows plan (length xs)
+    → All (IsFull plan) ws
+all_full plan ws xs rs are (n, long) =
+    fills_all plan ws n are.each are.full (ap (λ (its : List StripeFacts). length its) (sym are.stripes_are) ∙ long)
 
 pub calls_append : (plan : FixPlan) (ws vs : List FixWindow) → mend_calls plan (ws ++ vs) ≡ mend_calls plan ws ++ mend_calls plan vs
 calls_append plan ws vs = flat_map-append (window_calls plan) ws vs

@@ -9,7 +9,7 @@ use Rattle.disk_model.specs.Tree.{Tree, file_of, path_of}
 use Rattle.disk_model.specs.Vault.{VaultView, VaultCall, ParitySync, GoesOn, SomeCalls, ChangesBy, DraftsStay, Holds}
 use Rattle.file_table.specs.Table.{record_at, records_in}
 use Rattle.snap_report.specs.Answer.{Gained}
-use Rattle.file_restorer.specs.Breaking.{FailsAfter, FailsInColumn, FolderFails, broke_parity}
+use Rattle.file_restorer.specs.Breaking.{FailsAfter, FailsInColumn, StepFails, broke_parity}
 use Rattle.snap_report.specs.Report.{ReportView}
 use Rattle.snap_report.specs.Told.{Told}
 use Rattle.snap_report.specs.declared.events.Event.{Event}
@@ -146,14 +146,14 @@ abbrev pub FinishesThis : FixPlan → ℕ → ℕ → List Start → List FileSt
 FinishesThis plan d i starts states call = (is_finished plan d i ≡ true) × IsCallOf plan d starts states i call
 
 -- The calls that finish the first so many records of a column, a part for each. In each part none failed, and one of
--- them found no file exactly where the file of the record was gone.
+-- them found no file exactly where the file of the record was gone. Where none did, they are just the calls for that record.
 pub record AreFinishCalls (plan : FixPlan) (d : ℕ) (starts : List Start) (states : List FileState) (done : List Finish)
     (records : ℕ) (calls : List FolderDone) : Type 0 where
   pub parts : List (List FolderDone)
   pub as_many : length parts ≡ records
   pub calls_are : calls ≡ flat_map (λ (part : List FolderDone). part) parts
   pub each : (i : ℕ) → i < records
-      → AreStepCalls (FinishesThis plan d i starts states) (was_gone (finish_at done i)) (get_or parts i [])
+      → AreStepCalls (FinishesThis plan d i starts states) (record_calls plan d starts states i) (was_gone (finish_at done i)) (get_or parts i [])
 
 -- those of all its records
 abbrev pub AreColumnFinishCalls : FixPlan → ℕ → List Start → List FileState → List Finish → List FolderDone → Type 0
@@ -236,7 +236,7 @@ FailsInFinish disk plan starts states finishes olds news =
     (λ (d : ℕ). FinishesOne plan d starts states) olds news
 
 -- A column whose folder failed while its files were finished: those of the first so many records were finished, and
--- just that was told, and then calls for the next one were made up to the one that failed.
+-- just that was told, and then calls for the next one were made up to the one that failed; each before that found its file.
 pub record FailsAtRecord (plan : FixPlan) (d : ℕ) (starts : List Start) (states : List FileState) (done : List Finish)
     (told : List Event) (old new : FolderView) : Type 0 where
   pub n : ℕ
@@ -244,7 +244,7 @@ pub record FailsAtRecord (plan : FixPlan) (d : ℕ) (starts : List Start) (state
   pub told_is : told ≡ flat_map (record_news plan d done) (range_with_len 0 n)
   pub mid : FolderView
   pub first : FolderMakesBy (AreFinishCalls plan d starts states done n) old mid
-  pub fails : FolderFails (FinishesThis plan d n starts states) mid new
+  pub fails : StepFails (FinishesThis plan d n starts states) mid new
 
 -- the same by the starts and the states of all columns
 abbrev pub FailsInRecord : ℕ → FixPlan → StartsValue → List (List FileState) → List (List Finish) → List Event

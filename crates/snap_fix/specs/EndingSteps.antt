@@ -14,7 +14,7 @@ use Rattle.stripe_examiner.specs.declared.counts.Counts.{Counts}
 use Rattle.file_restorer.specs.declared.finishing.Finish.{Finish}
 use Rattle.file_restorer.specs.declared.finishing.Finish.TheVariants.{Kept, Restored, Unstamped, Renamed, Gone}
 use Rattle.file_restorer.specs.declared.state.FileState.{FileState}
-use Rattle.file_restorer.specs.Breaking.{FolderFails}
+use Rattle.file_restorer.specs.Breaking.{FolderFails, StepFails}
 use Rattle.stripe_examiner.specs.Counts.{AreCounts}
 use Rattle.snap_fix.specs.Ending.{FailsAtRecord, CanFinishFile, CanFinishColumn, FinishesFiles, FinishesFile, FinishesThis, HoldsEnd, StandsEnd, IsDone, column_news, finish_at, is_finished, news_of, record_calls, stamp_news, states_at}
 use Rattle.file_restorer.specs.Finishing.{was_gone}
@@ -71,7 +71,7 @@ pub record EndsRecord {W R : Type 0} (view : W → SinkView) (standing : R → R
   pub other_starts : (k j : ℕ) → ((k ≢ d) ⊎ (j ≢ i)) → start_in (starts_at new.starts.columns k) j ≡ start_in (starts_at old.starts.columns k) j
   pub other_states : (k j : ℕ) → ((k ≢ d) ⊎ (j ≢ i)) → state_in new.states k j ≡ state_in old.states k j
   pub makes : StepMakes (FinishesThis plan d i (starts_at old.starts.columns d) (states_at old.states d))
-      (was_gone finish) old.folder new.folder
+      (record_calls plan d (starts_at old.starts.columns d) (states_at old.states d) i) (was_gone finish) old.folder new.folder
   pub is : is_finished plan d i ≡ true → IsDone plan d (starts_at old.starts.columns d) (states_at old.states d) old.folder i finish
   pub holds : IsTrue old.folder.tells → is_finished plan d i ≡ true
       → HoldsEnd plan d (starts_at old.starts.columns d) (states_at old.states d) old.folder.keeps_stamps i finish old.folder.tree new.folder.tree
@@ -87,7 +87,7 @@ pub record EndsRecord {W R : Type 0} (view : W → SinkView) (standing : R → R
 -- its calls were made up to one that failed, and nothing was told
 pub record EndsNotRecord {W R : Type 0} (view : W → SinkView) (standing : R → ReportView) (stands : R → List Event → Type 0)
     (plan : FixPlan) (d i : ℕ) (old new : ColumnOutside W R) : Type 0 where
-  pub fails : FolderFails (FinishesThis plan d i (starts_at old.starts.columns d) (states_at old.states d)) old.folder new.folder
+  pub fails : StepFails (FinishesThis plan d i (starts_at old.starts.columns d) (states_at old.states d)) old.folder new.folder
   pub told : Told view standing stands plan.table.columns [] old.lines new.lines old.reports new.reports
 
 -- ---- one column

@@ -95,7 +95,7 @@ pub record BreaksSyncing (plan : FixPlan) (stripes : List Mended) (readings : Li
     (first : List Event) (written : Written) (news : List FolderView) (old new : VaultView) : Type 0 where
   pub events : first ≡ written_events plan stripes
   pub windows : List FixWindow
-  pub windows_are : AreWindows windows (facts_of stripes) readings
+  pub windows_are : AreWindows plan windows (facts_of stripes) readings
   pub ran : FailsAfter (mend_calls plan windows) (done_well (mend_syncs plan stripes)) old new
   pub holds : HoldAllWrong plan (facts_of stripes) new
   pub folders : news ≡ written.folders
@@ -162,7 +162,7 @@ pub record FixBreaks {W R : Type 0} (view : W → SinkView) (standing : R → Re
   pub readings : List (List LevelReading)
   pub finds : FixFinds plan (starts_of table lists) mids old.vault stripes readings
   pub ahead : FixWindow
-  pub looked : LooksAhead plan ahead behind old.vault
+  pub looked : LooksAhead plan (length stripes) ahead behind old.vault
   pub cells_ahead : ArePresent plan (starts_of table lists) mids ahead.stripes
   pub unread : RoseBy (unread_in (readings ++ ahead.readings)) old.vault.faults new.vault.faults
   pub unread_cells_of : (d : ℕ) → d < length plan.table.columns

@@ -78,11 +78,11 @@ mend_syncs plan stripes = flat_map (λ (r : ℕ). sync_if (was_written plan stri
 abbrev pub fix_calls : FixPlan → List Mended → List FixWindow → List VaultDone
 fix_calls plan stripes windows = mend_calls plan windows ++ done_well (mend_syncs plan stripes)
 
--- What a fix did to the vault: its stripes are cut into windows, and just these calls were made; the wrong levels of its stripes were written and nothing else changed, and a
--- level grew by zeros and such blocks alone; each that was written is synced.
+-- What a fix did to the vault: its stripes are cut into windows, and just these calls were made; the wrong levels of its stripes were
+-- written and nothing else changed, and a level grew by zeros and such blocks alone; each that was written is synced.
 pub record FixesVault (plan : FixPlan) (stripes : List Mended) (readings : List (List LevelReading)) (old new : VaultView) : Type 0 where
   pub windows : List FixWindow
-  pub windows_are : AreWindows windows (facts_of stripes) readings
+  pub windows_are : AreWindows plan windows (facts_of stripes) readings
   pub ran : GoesOn old new (fix_calls plan stripes windows)
   pub unread : RoseBy (unread_in readings) old.faults new.faults
   pub mends : MendsVault plan (facts_of stripes) old new
@@ -156,9 +156,9 @@ pub record FixesFiles (plan : FixPlan) (starts : StartsValue) (stripes : List Me
   pub ordered : (d : ℕ) → d < length plan.table.columns → IsTrue (folder_at firsts d).tells
       → FolderWrites (fix_folder_calls plan d (folder_at firsts d).tree stripes written) (folder_at firsts d) (folder_at news d)
 
--- A fix: each folder was listed once; then, stripe by stripe, the cells and levels with something selected were read, and what is
--- damaged and known was written; then the levels that were written were synced, and the files of the selected records finished. Just
--- what follows of that was told, and the last line counts it.
+-- A fix: each folder was listed once; then, window by window, the cells and levels of stripes with something selected were read, and
+-- what is damaged and known was written; then the levels that were written were synced, and the files of the selected records finished.
+-- Just what follows of that was told, and the last line counts it.
 pub record Fixes {W R : Type 0} (view : W → SinkView) (standing : R → ReportView) (stands : R → List Event → Type 0)
     (mode : Mode) (selection : Selection) (names : List (List ℕ)) (table : TableValue) (old new : Outside W R) (end : FixEnd) : Type 0 where
   pub lists : List (List ListedFile)

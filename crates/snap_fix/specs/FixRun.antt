@@ -1,5 +1,5 @@
 -- All stripes of a fix.
-use Rattle.std.specs.Prelude.{◌≡◌, ℕ, ◌+◌, ◌<◌, List, [], ◌∷◌, ◌++◌, length, count_by, IsTrue, All, AllPairs}
+use Rattle.std.specs.Prelude.{◌≡◌, ◌⊎◌, ℕ, ◌+◌, ◌<◌, List, [], ◌∷◌, ◌++◌, length, count_by, IsTrue, All, AllPairs}
 use Rattle.disk_model.specs.Cause.{RoseBy}
 use Rattle.disk_model.specs.Folder.{FolderView}
 use Rattle.disk_model.specs.Sink.{SinkView}
@@ -33,7 +33,7 @@ use Rattle.snap_fix.specs.Reads.{AreAllRead, AreReadBy, FolderReads, IsQuiet}
 use Rattle.stripe_examiner.specs.Room.{IsRoomFor}
 use Rattle.file_restorer.specs.State.{FolderMakesBy, KeepsStarts}
 use Rattle.snap_fix.specs.Underway.{AddsZeros, AreFixable, AreStripeCalls, AreUnderway, HoldsWrong, IsMendedLevel, done_well}
-use Rattle.snap_fix.specs.Windows.{AreWindows, FixWindow, all_wrong_writes, mend_calls, stripes_in, window_reads}
+use Rattle.snap_fix.specs.Windows.{AreWindows, FillWindows, FixWindow, all_wrong_writes, mend_calls, stripes_in, window_reads, window_size}
 
 -- the stripes are looked at in ascending order, none twice
 abbrev pub AreAscending : List ℕ → Type 0
@@ -83,7 +83,7 @@ pub record FixesAll {W R : Type 0} (view : W → SinkView) (standing : R → Rep
   pub mends : MendsAll view standing stands plan stripes old new totals
   pub windows : List FixWindow
   pub readings : List (List LevelReading)
-  pub windows_are : AreWindows windows (facts_of stripes) readings
+  pub windows_are : AreWindows plan windows (facts_of stripes) readings
   pub read : AreAllLevelsOf plan.table.shape.block_size old.vault (facts_of stripes) readings
   pub unread : RoseBy (unread_in readings) old.vault.faults new.vault.faults
   pub ran : GoesOn old.vault new.vault (mend_calls plan windows)
@@ -162,7 +162,7 @@ pub record BreaksInLast (plan : FixPlan) (fault : RunFault) (level : ℕ) (earli
     (behind : List StripeFacts) (readings : List (List LevelReading)) (old new : VaultView) : Type 0 where
   pub windows : List FixWindow
   pub window : FixWindow
-  pub windows_are : AreWindows (windows ++ window ∷ []) (earlier ++ last ∷ behind) readings
+  pub windows_are : AreWindows plan (windows ++ window ∷ []) (earlier ++ last ∷ behind) readings
   pub front : List StripeFacts
   pub earlier_are : earlier ≡ stripes_in windows ++ front
   pub window_is : window.stripes ≡ front ++ last ∷ behind
@@ -171,13 +171,15 @@ pub record BreaksInLast (plan : FixPlan) (fault : RunFault) (level : ℕ) (earli
   pub vault : MendsVault plan (levels_begun fault earlier last) old new
   pub holds : HoldAllWrong plan earlier new
 
--- Of the next stripes behind the last one that was looked at, as many as its window has, cells and levels were read beside
--- it, too: these are their facts.
-pub record LooksAhead (plan : FixPlan) (ahead : FixWindow) (behind : List ℕ) (vault : VaultView) : Type 0 where
+-- Of the next stripes behind those that were looked at, so many, cells and levels were read beside the last one of them, too: just
+-- the rest of its window, to its full size or to the last stripe of all. These are their facts.
+pub record LooksAhead (plan : FixPlan) (looked : ℕ) (ahead : FixWindow) (behind : List ℕ) (vault : VaultView) : Type 0 where
   pub are : All (AreFacts plan) ahead.stripes
   pub levels : AreAllLevelsOf plan.table.shape.block_size vault ahead.stripes ahead.readings
   pub more : List ℕ
   pub behind_is : behind ≡ numbers_of ahead.stripes ++ more
+  pub few : length ahead.stripes < window_size plan
+  pub to_the_end : (more ≡ []) ⊎ FillWindows plan (looked + length ahead.stripes)
 
 -- Of the folders only calls that went well were made for the stripes before the last one, and whatever the fix did
 -- before, it went on with them. Then calls were made for the last one, by where files stood then: where a folder
@@ -239,7 +241,7 @@ pub record BreaksStripes {W R : Type 0} (view : W → SinkView) (standing : R �
   pub behind : List ℕ
   pub numbers_are : numbers ≡ numbers_of (facts_of stripes) ++ behind
   pub ahead : FixWindow
-  pub looked : LooksAhead plan ahead behind old.vault
+  pub looked : LooksAhead plan (length stripes) ahead behind old.vault
   pub are : All (AreFacts plan) (facts_of stripes)
   pub level : ℕ
   pub first : List Event

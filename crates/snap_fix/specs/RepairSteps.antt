@@ -12,7 +12,7 @@ use Rattle.file_table.specs.Table.{Column, TableValue, records_in}
 use Rattle.file_table.specs.declared.block.Cell.{Cell}
 use Rattle.parity_writer.specs.Parity.{Row, HasLevel}
 use Rattle.snap_report.specs.Answer.{Gained}
-use Rattle.file_restorer.specs.Breaking.{FolderFails, broke_parity}
+use Rattle.file_restorer.specs.Breaking.{StepFails, broke_parity}
 use Rattle.snap_report.specs.Report.{ReportView}
 use Rattle.snap_report.specs.Told.{Told}
 use Rattle.snap_report.specs.declared.events.Event.{Event}
@@ -117,7 +117,7 @@ pub record MendsNotColumn {W R : Type 0} (view : W → SinkView) (standing : R �
     (old new : ColumnOutside W R) : Type 0 where
   pub told : Told view standing stands plan.table.columns [] old.lines new.lines old.reports new.reports
   pub fails : (mended : Mended) → mended.facts.stripe ≡ stripe → ShowsFacts plan mended.facts i marks known window
-      → FolderFails (IsMendCall plan old.starts d (mended ∷ [])) old.folder new.folder
+      → StepFails (IsMendCall plan old.starts d (mended ∷ [])) old.folder new.folder
 
 -- The block of a cell was written, and that told; or its file was gone, and that it is lost was.
 pub record WritesBlockOf {W R : Type 0} (view : W → SinkView) (standing : R → ReportView) (stands : R → List Event → Type 0)
@@ -139,6 +139,8 @@ pub record WritesBlockOf {W R : Type 0} (view : W → SinkView) (standing : R �
   pub counts : AreCounts (mended_event stripe d (Some cell) written) repaired.counts
   pub blocks : repaired.blocks ≡ (if written then 1 else 0)
   pub makes : StepMakes (IsBlockCall (start_in (starts_at old.starts.columns d) cell.rec).place
+      (cell_path table d cell) (block_start table cell) bytes)
+      (block_calls (start_in (starts_at old.starts.columns d) cell.rec).place (state_in old.states d cell.rec).touched
       (cell_path table d cell) (block_start table cell) bytes) (not written) old.folder new.folder
   pub holds : (first : FolderView) (writes : List (List Write)) → first.tells ≡ old.folder.tells
       → (IsTrue first.tells → IsFree first.tree (cell_path table d cell)) → (IsTrue first.tells → IsTree first.tree)
@@ -149,7 +151,7 @@ pub record WritesBlockOf {W R : Type 0} (view : W → SinkView) (standing : R �
 pub record WritesNotBlockOf {W R : Type 0} (view : W → SinkView) (standing : R → ReportView) (stands : R → List Event → Type 0)
     (table : TableValue) (d : ℕ) (cell : Cell) (bytes : List ℕ) (old new : ColumnOutside W R) : Type 0 where
   pub told : Told view standing stands table.columns [] old.lines new.lines old.reports new.reports
-  pub fails : FolderFails (IsBlockCall (start_in (starts_at old.starts.columns d) cell.rec).place (cell_path table d cell) (block_start table cell) bytes)
+  pub fails : StepFails (IsBlockCall (start_in (starts_at old.starts.columns d) cell.rec).place (cell_path table d cell) (block_start table cell) bytes)
       old.folder new.folder
 
 -- ---- one level

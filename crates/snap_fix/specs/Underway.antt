@@ -1,5 +1,5 @@
 -- How far a fix is with the files of its columns.
-use Rattle.std.specs.Prelude.{◌≡◌, ◌⊎◌, ℕ, ◌*◌, ◌<◌, ◌≤◌, List, [], ◌∷◌, ◌++◌, length, map, filter, get_or, All, true, false, if◌then◌else◌, Option, None, Some, IsTrue, Contains}
+use Rattle.std.specs.Prelude.{◌≡◌, ◌⊎◌, ℕ, ◌*◌, ◌<◌, ◌≤◌, List, [], ◌∷◌, ◌++◌, length, map, filter, get_or, All, Bool, true, false, if◌then◌else◌, Option, None, Some, IsTrue, Contains}
 use Rattle.std.specs.List.{range_with_len, flat_map}
 use Rattle.disk_model.specs.Files.{Files, parity_of}
 use Rattle.disk_model.specs.Folder.{FolderView, FolderCall, FolderDone, SomeFolderCalls, ListFiles, Look, ReadAt, Make, WriteAt, SetSize, SetStamp, Rename}
@@ -17,12 +17,12 @@ use Rattle.stripe_reader.specs.declared.starts.Place.{Place}
 use Rattle.stripe_reader.specs.declared.starts.Place.TheVariants.{Lost, Nowhere}
 use Rattle.file_restorer.specs.declared.state.FileState.{FileState}
 use Rattle.stripe_examiner.specs.Facts.{StripeFacts}
-use Rattle.snap_fix.specs.Mended.{Mended, is_gone, is_repaired, is_wrong_level, has_lost, column_writes, writes_of}
+use Rattle.snap_fix.specs.Mended.{Mended, is_gone, is_repaired, is_written, is_wrong_level, has_lost, column_writes, writes_of}
 use Rattle.stripe_examiner.specs.Showing.{known_block, block_or_none}
-use Rattle.file_restorer.specs.Mending.{IsFree, block_start}
-use Rattle.file_restorer.specs.Order.{FolderWrites, is_writing}
+use Rattle.file_restorer.specs.Mending.{IsFree, block_start, cell_path}
+use Rattle.file_restorer.specs.Order.{FolderWrites, block_calls, is_writing}
 use Rattle.stripe_examiner.specs.Plan.{FixPlan, cell_at, entry_at}
-use Rattle.file_restorer.specs.State.{AreStepCalls, HoldsTold, WellCall, has_some, record_path, size_after, state_in}
+use Rattle.file_restorer.specs.State.{AreStepCalls, HoldsTold, StaysPlace, WellCall, has_some, record_path, size_after, state_in}
 use Rattle.snap_fix.specs.StripeOrder.{writes_after}
 
 -- ---- what a fix stands on
@@ -86,11 +86,25 @@ IsMendCall plan starts d stripes (SetStamp path stamp) = ⊥
 IsMendCall plan starts d stripes (Rename path true) = ⊥
 IsMendCall plan starts d stripes (Rename path false) = SetsUpOneOf plan starts d stripes Lost path
 
--- The calls that write the cell of a column in a stripe anew. One of them found no file exactly where the cell was to
--- be written and its file was gone.
-abbrev pub AreMendCalls : FixPlan → StartsValue → ℕ → Mended → List FolderDone → Type 0
-AreMendCalls plan starts d mended done =
-    AreStepCalls (IsMendCall plan starts d (mended ∷ [])) (is_gone plan mended d) done
+-- the calls that write the block of a cell, by the place of its file, and by whether a call of this run put that under PATH before
+abbrev pub calls_of_cell : FixPlan → ℕ → StripeFacts → Place → Bool → Option Cell → List FolderCall
+calls_of_cell plan d facts place touched None = []
+calls_of_cell plan d facts place touched (Some cell) =
+    block_calls place touched (cell_path plan.table d cell) (block_start plan.table cell) (block_or_none (known_block facts d))
+
+-- those of a stripe, where the block is written
+abbrev pub written_calls : FixPlan → ℕ → Mended → Place → Bool → List FolderCall
+written_calls plan d mended place touched =
+    if is_written plan mended d then calls_of_cell plan d mended.facts place touched (cell_at plan mended.facts.stripe d) else []
+
+-- The calls that write the cell of a column in a stripe anew. Where it is written, they are just its calls, and each found its file,
+-- which stood in this place then. One of them found no file exactly where the cell was to be written and its file was gone.
+pub record AreMendCalls (plan : FixPlan) (starts : StartsValue) (d : ℕ) (mended : Mended) (done : List FolderDone) : Type 0 where
+  pub place : Place
+  pub stood : is_written plan mended d ≡ true → (cell : Cell) → cell_at plan mended.facts.stripe d ≡ Some cell
+      → StaysPlace (start_in (starts_at starts.columns d) cell.rec).place place
+  pub touched : Bool
+  pub are : AreStepCalls (IsMendCall plan starts d (mended ∷ [])) (written_calls plan d mended place touched) (is_gone plan mended d) done
 
 -- those of stripes, one after another
 abbrev pub AreAllMendCalls : FixPlan → StartsValue → ℕ → List Mended → List FolderDone → Type 0

@@ -1,9 +1,9 @@
 -- The windows of a fix: of the stripes of one all levels are read first, and then the wrong ones written.
-use Rattle.std.specs.Prelude.{◌≡◌, ◌≤◌, List, ◌++◌, length, All}
+use Rattle.std.specs.Prelude.{◌≡◌, ℕ, ◌+◌, ◌*◌, ◌<◌, ◌≤◌, List, [], ◌++◌, length, get_or, All}
 use Rattle.std.specs.List.{flat_map}
 use Rattle.disk_model.specs.Vault.{VaultCall, VaultDone}
 use Rattle.parity_writer.specs.LevelReading.{LevelReading}
-use Rattle.stripe_reader.specs.declared.window.TheConstants.{MOST_STRIPES}
+use Rattle.stripe_reader.specs.WindowValue.{stripe_count}
 use Rattle.stripe_examiner.specs.Facts.{StripeFacts}
 use Rattle.stripe_examiner.specs.Looking.{level_reads}
 use Rattle.stripe_examiner.specs.Plan.{FixPlan}
@@ -20,16 +20,34 @@ stripes_in windows = flat_map (λ (window : FixWindow). window.stripes) windows
 abbrev pub readings_in : List FixWindow → List (List LevelReading)
 readings_in windows = flat_map (λ (window : FixWindow). window.readings) windows
 
--- the readings are one list for each stripe, and there are no more stripes than a window has at most
-pub record IsFixWindow (window : FixWindow) : Type 0 where
-  pub as_many : length window.readings ≡ length window.stripes
-  pub few : length window.stripes ≤ MOST_STRIPES
+-- how many stripes a window of a fix has: as many as one of any run over its table
+abbrev pub window_size : FixPlan → ℕ
+window_size plan = stripe_count (length plan.table.columns) plan.table.shape.block_size
 
--- stripes, and what was read of their levels, cut into windows
-pub record AreWindows (windows : List FixWindow) (stripes : List StripeFacts) (readings : List (List LevelReading)) : Type 0 where
+-- the readings are one list for each stripe, and there is a stripe, and no more of them than a window has
+pub record IsFixWindow (plan : FixPlan) (window : FixWindow) : Type 0 where
+  pub as_many : length window.readings ≡ length window.stripes
+  pub some : 0 < length window.stripes
+  pub few : length window.stripes ≤ window_size plan
+
+-- it has just so many
+abbrev pub IsFull : FixPlan → FixWindow → Type 0
+IsFull plan window = length window.stripes ≡ window_size plan
+
+-- what stands for a window that is not there
+abbrev pub no_window : FixWindow
+no_window = record { stripes = []; readings = [] }
+
+-- Stripes, and what was read of their levels, cut into windows: each but the last one is full. So there is one such cut.
+pub record AreWindows (plan : FixPlan) (windows : List FixWindow) (stripes : List StripeFacts) (readings : List (List LevelReading)) : Type 0 where
   pub stripes_are : stripes ≡ stripes_in windows
   pub readings_are : readings ≡ readings_in windows
-  pub each : All IsFixWindow windows
+  pub each : All (IsFixWindow plan) windows
+  pub full : (k : ℕ) → k + 1 < length windows → IsFull plan (get_or windows k no_window)
+
+-- so many stripes fill some windows
+abbrev pub FillWindows : FixPlan → ℕ → Type 0
+FillWindows plan count = (k : ℕ) × (count ≡ k * window_size plan)
 
 -- ---- the calls of the vault
 

@@ -1,5 +1,5 @@
 // The stripes of a fix, window by window.
-ghost use Rattle.std.specs.Prelude.{◌≡◌, ◌+◌, ◌++◌, ◌≤◌, IfOk, IfErr, List, length, map, take, drop};
+ghost use Rattle.std.specs.Prelude.{◌≡◌, ◌+◌, ◌++◌, ◌<◌, ◌≤◌, IfOk, IfErr, List, length, map, take, drop};
 ghost use Rattle.snap_fix.specs.Checking.{IsWorkFor, plan_for};
 ghost use Rattle.snap_fix.specs.Fixing.{AreTotals, SceneFits, fix_scene};
 ghost use Rattle.snap_fix.specs.FixRun.{AreAscending, BreaksStripes, BreaksWindow, FixesStripes, FixesWindow, KeepsFixWork, MendsInto, MendsNotInto};
@@ -118,6 +118,7 @@ fn fix_window<R: Threads + Sync, F: Folder, V: Vault, P: Spare, W: Sink>(
 ) -> Result<Totals, RunFault>
     requires work { IsWorkFor table.now work.old }
     requires within { done + count ≤ length work.old.stripes.items }
+    requires some { 0 < count }
     requires enough { count ≤ work.old.room.window.room }
     requires ascending { AreAscending work.old.stripes.items }
     requires fits { SceneFits (plan_for table.now work.old) (fix_scene work.old.starts states.old written.old

@@ -40,6 +40,8 @@ ghost use Rattle.stripe_examiner.specs.Search.{IsRightBlock, wanted_at};
 ghost use Rattle.file_restorer.specs.State.{IsNameOf, bytes_placed, has_some, place_in, record_path};
 ghost use Rattle.snap_fix.specs.Stopped.{FixStop, IsNoneOf, IsStop, StandInPlace, StandsSpared, file_placed, path_at, records_of};
 ghost use Rattle.snap_fix.specs.Underway.{HoldsWrong, IsMendedLevel, KeepsLevels};
+ghost use Rattle.snap_fix.specs.Windows.{AreWindows, FixWindow};
+ghost use Rattle.parity_writer.specs.LevelReading.{LevelReading};
 
 use cauchy::laws::one_solution;
 use disk_model::laws::{a_file_that_no_call_names_stays, bytes_that_no_call_touches_stay};
@@ -296,6 +298,13 @@ pub fn a_fix_leaves_the_rest()
         place_in (folder_at firsts d).tree (record_path (records_in plan.table d) i) ≡ place.Nowhere →
         has_some (writes_of plan stripes d i) ≡ false →
         file_of (folder_at news d).tree (path_of (record_path (records_in plan.table d) i) lost) ≡ None }
+{}
+
+/// The stripes of a fix, and what was read of their levels, are cut into windows in one way. So the calls of the vault are one
+/// list, for any number of readers.
+pub fn a_fix_cuts_its_stripes_in_one_way()
+    ensures { (plan : FixPlan) (windows others : List FixWindow) (stripes : List StripeFacts) (readings : List (List LevelReading)) →
+        AreWindows plan windows stripes readings → AreWindows plan others stripes readings → windows ≡ others }
 {}
 
 /// A fix finds just what a check finds of the same stripes, and tells besides what it did: where each cell that was to be

@@ -53,12 +53,15 @@ vault_of plan stripes readings old new vault = record {
   synced = λ level below was. holds_of (λ files. parity_of files level ≡ parity_of new.files level) new (vault.synced level below was);
 }
 
-pub looked_of : (plan : FixPlan) (ahead : FixWindow) (behind : List ℕ) (v : VaultView) → LooksAhead plan ahead behind v → LooksAhead plan ahead behind (view_of (state_of v))
-looked_of plan ahead behind v looked = record {
+pub looked_of : (plan : FixPlan) (count : ℕ) (ahead : FixWindow) (behind : List ℕ) (v : VaultView) → LooksAhead plan count ahead behind v
+    → LooksAhead plan count ahead behind (view_of (state_of v))
+looked_of plan count ahead behind v looked = record {
   are = looked.are;
   levels = all_levels_of plan.table.shape.block_size v ahead.stripes ahead.readings looked.levels;
   more = looked.more;
   behind_is = looked.behind_is;
+  few = looked.few;
+  to_the_end = looked.to_the_end;
 }
 
 pub broken_of : (plan : FixPlan) (fault : RunFault) (told : List Event) (olds news : List FolderView) (old new : VaultView) → HasBroken plan fault told olds news old new

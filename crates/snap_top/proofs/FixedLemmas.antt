@@ -334,7 +334,7 @@ module _ {W R : Type 0} (standing : R → ReportView) (stands : R → List Event
           ahead = is.ahead;
           cells_ahead = is.cells_ahead;
           unread_ahead = is.unread_cells_of;
-          looked = looked_of is.plan is.ahead is.behind vault is.looked;
+          looked = looked_of is.plan (length is.stripes) is.ahead is.behind vault is.looked;
           unread = is.unread;
           off = off_of is.plan (starts_of table is.lists) fault is.stripes is.behind is.readings is.ahead is.first is.mids folders_new vault vault_new is.off;
           calls = is.calls;

@@ -95,7 +95,7 @@ pub record FixBroke (fault : RunFault) (selection : Selection) (task : Task) (ta
   pub numbers : stripes_of course.plan ≡ numbers_of (facts_of course.stripes) ++ behind
   pub vault : MendsVault course.plan (facts_of course.stripes) (view_of before.vault) (view_of after.vault)
   pub ahead : FixWindow
-  pub looked : LooksAhead course.plan ahead behind (view_of before.vault)
+  pub looked : LooksAhead course.plan (length course.stripes) ahead behind (view_of before.vault)
   pub cells_ahead : ArePresent course.plan (starts_of table course.lists) course.listed ahead.stripes
   pub unread_ahead : (d : ℕ) → d < length course.plan.table.columns
       → RoseBy (unread_cells d (facts_of course.stripes ++ ahead.stripes)) (folder_at before.folders d).faults (folder_at after.folders d).faults

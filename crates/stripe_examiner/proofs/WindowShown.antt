@@ -257,7 +257,7 @@ pub room_after : (table : TableValue) (before after : Room) → IsRoomFor table 
     → length after.block.items ≡ length before.block.items → IsRoomFor table after
 room_after table before after is many all fits large block = record {
   some = omega (arith, large, is.some);
-  few = omega (arith, large, is.few);
+  just = large ∙ is.just;
   window = fits;
   block = block ∙ is.block;
   as_many = many ∙ is.as_many ∙ sym large;

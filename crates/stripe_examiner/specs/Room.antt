@@ -1,8 +1,7 @@
 -- The memory of a run.
-use Rattle.std.specs.Prelude.{◌≡◌, ◌*◌, ◌<◌, ◌≤◌, length, All}
+use Rattle.std.specs.Prelude.{◌≡◌, ◌*◌, ◌<◌, length, All}
 use Rattle.file_table.specs.Table.{TableValue}
-use Rattle.stripe_reader.specs.WindowValue.{Fits}
-use Rattle.stripe_reader.specs.declared.window.TheConstants.{MOST_STRIPES}
+use Rattle.stripe_reader.specs.WindowValue.{Fits, stripe_count}
 use Rattle.stripe_examiner.specs.declared.room.Room.{Room}
 use Rattle.stripe_examiner.specs.declared.room.StripeRoom.{StripeRoom}
 
@@ -14,10 +13,10 @@ pub record IsStripeRoomFor (table : TableValue) (own : StripeRoom) : Type 0 wher
   pub remainders : length own.remainders.items ≡ 6 * table.shape.block_size
   pub blocks : length own.blocks.items ≡ 6 * table.shape.block_size
 
--- room for the windows of a table and for each of their stripes, and for one block
+-- room for a window of a run, with just so many stripes as one has, for each of them, and for one block
 pub record IsRoomFor (table : TableValue) (room : Room) : Type 0 where
   pub some : 0 < room.window.room
-  pub few : room.window.room ≤ MOST_STRIPES
+  pub just : room.window.room ≡ stripe_count (length table.columns) table.shape.block_size
   pub window : Fits table room.window
   pub block : length room.block.items ≡ table.shape.block_size
   pub as_many : length room.stripes.items ≡ room.window.room

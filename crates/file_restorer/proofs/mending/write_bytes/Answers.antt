@@ -1,8 +1,19 @@
-use Rattle.std.proofs.Common.{ℕ, true, subst, sym}
+use Rattle.std.proofs.Common.{ℕ, inr, true, subst, sym}
 use Rattle.disk_model.specs.declared.fault.FileFault.{FileFault}
-use Rattle.file_restorer.specs.Mending.{EndsBy, IsBlockCall, WritesBytes}
-use Rattle.file_restorer.proofs.GoesOnLemmas.{handed_on, writes_bytes, write_ends}
+use Rattle.file_restorer.specs.Mending.{EndsBy, IsBlockCall, IsSetUpCall, WritesBytes}
+use Rattle.file_restorer.proofs.GoesOnLemmas.{ends_wider, handed_on, writes_bytes, write_ends}
 use Rattle.file_restorer.proofs.mending.write_bytes.Goals as goal
+
+pub returns-in_err-set_up-clause-fault : goal.returns-in_err-set_up-clause-fault
+returns-in_err-set_up-clause-fault g c =
+    let old = g.F.Folder.view c.args.folder.now in
+    let new = g.F.Folder.view c.set_up.new.folder in
+    let Up = IsSetUpCall c.args.start.now.place c.args.path.now in
+    let Block = IsBlockCall c.args.start.now.place c.args.path.now c.args.at c.args.bytes.now in
+    handed_on c.from_residual.result
+    (λ (fault : FileFault). EndsBy fault Block c.args.path.now c.args.start.now c.args.state.now old c.set_up.new.start c.set_up.new.state new)
+    c.in_err-set_up.field-0.0 c.from_residual.ensures.1
+    (ends_wider Up Block (λ call is. inr is) c.in_err-set_up.field-0.0 c.args.path.now c.args.start.now c.args.state.now old c.set_up.new.start c.set_up.new.state new c.in_err-set_up.ensures.fault)
 
 pub returns-in_err-write_at-clause-fault : goal.returns-in_err-write_at-clause-fault
 returns-in_err-write_at-clause-fault g c =

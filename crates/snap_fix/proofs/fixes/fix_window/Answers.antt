@@ -1,5 +1,5 @@
-use Rattle.std.proofs.Common.{◌≡◌, ◌≤◌, ℕ, ◌+◌, ◌-◌, List, length, map, take, drop, ap₂, subst, sym, arith}
-use Rattle.std.proofs.lemmas.List.{length-take}
+use Rattle.std.proofs.Common.{◌≡◌, ◌≤◌, ◌<◌, ℕ, ◌+◌, ◌-◌, List, length, map, take, drop, ap, ap₂, subst, sym, arith}
+use Rattle.std.proofs.lemmas.List.{length-drop, length-take, length-take-le}
 use Rattle.disk_model.specs.Folder.{FolderView}
 use Rattle.snap_fix.specs.Checking.{plan_for}
 use Rattle.snap_fix.specs.Fixing.{fix_scene}
@@ -34,12 +34,18 @@ returns-clause-fixed g c =
     let new = fix_scene it.starts it.states it.written (map g.F.Folder.view it.folders) (g.V.Vault.view it.vault) spare it.lines it.reports.items in
     let asked = take ((c.args.done + c.args.count) - c.args.done) (drop c.args.done c.deref.result.now) in
     let same : asked ≡ numbers = ap₂ (λ (n : ℕ) (items : List ℕ). take n (drop c.args.done items)) (omega arith) c.deref.ensures.value in
+    let some : 0 < length asked = omega (
+      arith,
+      length-take-le ((c.args.done + c.args.count) - c.args.done) (drop c.args.done c.deref.result.now)
+          (omega (arith, length-drop c.args.done c.deref.result.now, ap (λ (items : List ℕ). length items) c.deref.ensures.value, c.requires.within)),
+      c.requires.some,
+    ) in
     let few : length asked ≤ work.room.window.room = omega (arith, length-take ((c.args.done + c.args.count) - c.args.done) (drop c.args.done c.deref.result.now), c.requires.enough) in
     if_ok c.fix_into.result _ (FixesWindow _ _ _ c.args.table.now work numbers old new)
     (λ totals mends. window_fixes _ _ _ c.args.table.now work asked numbers same seen.ensures.window mids old new totals seen.ensures.read
-    (window_mended plan work.starts asked work.room seen.new.room olds mids _ _ _ spare few c.requires.work.room seen.ensures _ _ _ c.args.states.now c.args.written.now c.args.lines.now c.args.reports.now.items totals new
-    (mends seen.ensures.stripes spare (shows_all plan work.starts asked work.room seen.new.room olds mids _ _ _ spare few c.requires.work.room seen.ensures _ c.deref-2.ensures.value)
-    (spare_still plan work.starts asked work.room seen.new.room olds mids _ _ _ spare few c.requires.work.room seen.ensures c.requires.fits.spare))))
+    (window_mended plan work.starts asked work.room seen.new.room olds mids _ _ _ spare some few c.requires.work.room seen.ensures _ _ _ c.args.states.now c.args.written.now c.args.lines.now c.args.reports.now.items totals new
+    (mends seen.ensures.stripes spare (shows_all plan work.starts asked work.room seen.new.room olds mids _ _ _ spare some few c.requires.work.room seen.ensures _ c.deref-2.ensures.value)
+    (spare_still plan work.starts asked work.room seen.new.room olds mids _ _ _ spare some few c.requires.work.room seen.ensures c.requires.fits.spare))))
     c.fix_into.ensures.fixed
 
 pub returns-clause-broke : goal.returns-clause-broke
@@ -56,10 +62,16 @@ returns-clause-broke g c =
     let new = fix_scene it.starts it.states it.written (map g.F.Folder.view it.folders) (g.V.Vault.view it.vault) spare it.lines it.reports.items in
     let asked = take ((c.args.done + c.args.count) - c.args.done) (drop c.args.done c.deref.result.now) in
     let same : asked ≡ numbers = ap₂ (λ (n : ℕ) (items : List ℕ). take n (drop c.args.done items)) (omega arith) c.deref.ensures.value in
+    let some : 0 < length asked = omega (
+      arith,
+      length-take-le ((c.args.done + c.args.count) - c.args.done) (drop c.args.done c.deref.result.now)
+          (omega (arith, length-drop c.args.done c.deref.result.now, ap (λ (items : List ℕ). length items) c.deref.ensures.value, c.requires.within)),
+      c.requires.some,
+    ) in
     let few : length asked ≤ work.room.window.room = omega (arith, length-take ((c.args.done + c.args.count) - c.args.done) (drop c.args.done c.deref.result.now), c.requires.enough) in
     if_err c.fix_into.result _ (BreaksWindow _ _ _ c.args.table.now work numbers old new)
     (λ fault mends. window_breaks _ _ _ c.args.table.now work asked numbers same seen.ensures.window mids old new fault seen.ensures.read
-    (window_not_mended plan work.starts asked work.room seen.new.room olds mids _ _ _ spare few c.requires.work.room seen.ensures _ _ _ c.args.states.now c.args.written.now c.args.lines.now c.args.reports.now.items fault new
-    (mends seen.ensures.stripes spare (shows_all plan work.starts asked work.room seen.new.room olds mids _ _ _ spare few c.requires.work.room seen.ensures _ c.deref-2.ensures.value)
-    (spare_still plan work.starts asked work.room seen.new.room olds mids _ _ _ spare few c.requires.work.room seen.ensures c.requires.fits.spare))))
+    (window_not_mended plan work.starts asked work.room seen.new.room olds mids _ _ _ spare some few c.requires.work.room seen.ensures _ _ _ c.args.states.now c.args.written.now c.args.lines.now c.args.reports.now.items fault new
+    (mends seen.ensures.stripes spare (shows_all plan work.starts asked work.room seen.new.room olds mids _ _ _ spare some few c.requires.work.room seen.ensures _ c.deref-2.ensures.value)
+    (spare_still plan work.starts asked work.room seen.new.room olds mids _ _ _ spare some few c.requires.work.room seen.ensures c.requires.fits.spare))))
     c.fix_into.ensures.broke
