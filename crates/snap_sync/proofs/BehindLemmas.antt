@@ -6,7 +6,7 @@ use Rattle.file_table.specs.Table.{TableValue}
 use Rattle.snap_sync.specs.Calls.{SyncPlan, piece_size, saves_after}
 use Rattle.snap_sync.specs.Closing.{closed}
 use Rattle.snap_sync.specs.Course.{Outside}
-use Rattle.snap_sync.specs.Reading.{StripeReading}
+use Rattle.stripe_findings.specs.Reading.{StripeReading}
 use Rattle.snap_sync.specs.Run.{Saves, saves_behind}
 use Rattle.snap_sync.specs.Work.{IsUnderway}
 use Rattle.snap_sync.proofs.StandLemmas.{IsStopped, IsWritten}

@@ -12,7 +12,7 @@ use Rattle.parity_writer.specs.WindowRow.{row_at}
 use Rattle.stripe_reader.specs.WindowValue.{WindowValue}
 use Rattle.snap_sync.specs.Calls.{SyncPlan, writes_of, checkpoint_calls, saves_after, no_reading, calls_at, stripe_calls}
 use Rattle.snap_sync.specs.Closing.{closed}
-use Rattle.snap_sync.specs.Reading.{StripeReading, is_verified}
+use Rattle.stripe_findings.specs.Reading.{StripeReading, is_verified}
 use Rattle.snap_sync.proofs.RowsLemmas.{IsWindowOf}
 
 flat_more : (calls : ℕ → List VaultCall) (k : ℕ) → flat_map calls (range_with_len 0 (k + 1)) ≡ flat_map calls (range_with_len 0 k) ++ calls k

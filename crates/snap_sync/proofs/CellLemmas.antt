@@ -21,7 +21,7 @@ use Rattle.stripe_reader.specs.WindowValue.{no_slot}
 use Rattle.stripe_reader.specs.declared.starts.Start.{Start}
 use Rattle.stripe_reader.specs.declared.starts.Place.TheVariants.{Plain}
 use Rattle.snap_sync.specs.Calls.{no_reading}
-use Rattle.snap_sync.specs.Reading.{StripeReading, AreRead, slot_of, stripes_of, is_seen, is_recorded, is_right, agrees}
+use Rattle.stripe_findings.specs.Reading.{StripeReading, AreRead, slot_of, stripes_of, is_seen, is_recorded, is_right, agrees}
 use Rattle.snap_sync.proofs.ListFacts.{count_some}
 
 -- what file_table says of a cell

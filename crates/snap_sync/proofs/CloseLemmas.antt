@@ -7,8 +7,8 @@ use Rattle.file_table.specs.Closing.{DiffersInHashesAndInfos}
 use Rattle.file_table.specs.Table.{TableValue}
 use Rattle.stripe_reader.specs.WindowValue.{WindowValue}
 use Rattle.snap_sync.specs.Closing.{HasDigests, with_closed, closed_by, closed}
-use Rattle.snap_sync.specs.Reading.{StripeReading, is_verified, reading_at, readings_in}
-use Rattle.snap_sync.proofs.SlotLemmas.{readings_to, readings_more}
+use Rattle.stripe_findings.specs.Reading.{StripeReading, is_verified, reading_at, readings_in}
+use Rattle.stripe_findings.proofs.SlotLemmas.{readings_to, readings_more}
 use Rattle.snap_sync.proofs.StaysLemmas.{differs-closed, digests_of_verified, digests_stay}
 
 -- some stripes, and then others

@@ -13,10 +13,10 @@ use Rattle.parity_writer.specs.Parity.{Rows, no_rows, with_row}
 use Rattle.snap_report.specs.declared.events.Event.{Event}
 use Rattle.stripe_reader.specs.SlotValue.{SlotValue}
 use Rattle.snap_sync.specs.Closing.{with_closed, closed_by, closed, rows_with, rows_of, verified_in}
-use Rattle.snap_sync.specs.Findings.{block_events, cell_events, events_at, stripe_events, events_of}
-use Rattle.snap_sync.specs.Reading.{StripeReading, stripes_of, slot_of, is_verified, row_of}
+use Rattle.stripe_findings.specs.Findings.{block_events, cell_events, events_at, stripe_events, events_of}
+use Rattle.stripe_findings.specs.Reading.{StripeReading, stripes_of, slot_of, is_verified, row_of}
 use Rattle.snap_sync.proofs.CloseLemmas.{closed_by-append}
-use Rattle.snap_sync.proofs.FindingLemmas.{verified_where_nothing}
+use Rattle.stripe_findings.proofs.FindingLemmas.{verified_where_nothing}
 use Rattle.snap_sync.proofs.LookingLemmas.{counted, counted_is}
 use Rattle.snap_sync.proofs.StaysLemmas.{IsNoneOf, differs-closed, seen-closed}
 

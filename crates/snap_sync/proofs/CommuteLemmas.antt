@@ -10,7 +10,7 @@ use Rattle.file_table.specs.declared.block.Block.{Block}
 use Rattle.file_table.specs.declared.block.Cell.{Cell}
 use Rattle.file_table.specs.declared.info.Info.{Info}
 use Rattle.snap_sync.specs.Closing.{synced_now, with_closed}
-use Rattle.snap_sync.specs.Reading.{StripeReading, digests_of}
+use Rattle.stripe_findings.specs.Reading.{StripeReading, digests_of}
 use Rattle.snap_sync.proofs.CellLemmas.{FindsCells}
 use Rattle.snap_sync.proofs.ListFacts.{kept_pass}
 

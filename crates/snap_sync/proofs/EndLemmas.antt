@@ -27,8 +27,9 @@ use Rattle.snap_sync.specs.declared.stripes.Pace.{Pace}
 use Rattle.snap_config.specs.Setup.{SetupValue}
 use Rattle.snap_config.specs.declared.options.SyncWay.{SyncWay}
 use Rattle.disk_model.specs.Folder.{FolderView}
-use Rattle.snap_sync.specs.Findings.{events_of}
-use Rattle.snap_sync.specs.Reading.{StripeReading, readings_in, is_verified, ReadsFirst}
+use Rattle.stripe_findings.specs.Findings.{events_of}
+use Rattle.stripe_findings.specs.Reading.{StripeReading, readings_in, is_verified}
+use Rattle.snap_sync.specs.Reading.{ReadsFirst}
 use Rattle.snap_sync.specs.Run.{readings_near, plan_for, HasSynced}
 use Rattle.snap_sync.proofs.RunLemmas.{IsSetting, breaks_with}
 use Rattle.snap_sync.proofs.UnderwayLemmas.{IsSaved, SavesNot, underway_ended, underway_stopped_ending}

@@ -11,8 +11,8 @@ use Rattle.snap_report.specs.declared.events.Event.{Event}
 use Rattle.snap_report.specs.declared.events.Event.TheVariants.{ChangedBlock, Silent, Io}
 use Rattle.stripe_reader.specs.SlotValue.{SlotValue}
 use Rattle.snap_sync.specs.Ended.{IsFindingOf, IsFoundIn}
-use Rattle.snap_sync.specs.Findings.{silent_event, wrong_event, block_events, cell_events, events_at, stripe_events, events_of}
-use Rattle.snap_sync.specs.Reading.{StripeReading, slot_of, is_unread, is_recorded, is_right, is_right_in, is_verified, agrees}
+use Rattle.stripe_findings.specs.Findings.{silent_event, wrong_event, block_events, cell_events, events_at, stripe_events, events_of}
+use Rattle.stripe_findings.specs.Reading.{StripeReading, slot_of, is_unread, is_recorded, is_right, is_right_in, is_verified, agrees}
 use Rattle.snap_sync.proofs.ListFacts.{contains_left, contains_right, none_joined, all_where_none, contains_joined}
 
 module _ (stripe d : ℕ) where

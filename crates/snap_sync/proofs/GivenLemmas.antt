@@ -14,7 +14,7 @@ use Rattle.stripe_reader.specs.SlotValue.{SlotValue}
 use Rattle.stripe_reader.specs.Starts.{recorded_starts}
 use Rattle.stripe_reader.specs.WindowValue.{no_slot}
 use Rattle.snap_sync.specs.Part.{tree_at, slot_by, reading_by}
-use Rattle.snap_sync.specs.Reading.{StripeReading, slot_of, is_right, is_right_in, is_verified}
+use Rattle.stripe_findings.specs.Reading.{StripeReading, slot_of, is_right, is_right_in, is_verified}
 use Rattle.snap_sync.proofs.CellLemmas.{FindsCells, task_seen, read_where_right, IsCellRead, IsStripeRead}
 
 -- what holds of each of a list, and what holds of one of them

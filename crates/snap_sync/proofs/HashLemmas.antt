@@ -19,8 +19,8 @@ use Rattle.file_table.proofs.ViewLemmas.{view-hashed}
 use Rattle.stripe_reader.specs.SlotValue.{SlotValue}
 use Rattle.stripe_reader.specs.WindowValue.{WindowValue, slot_at, no_slot}
 use Rattle.snap_sync.specs.Closing.{HasDigests, with_hashes}
-use Rattle.snap_sync.specs.Reading.{StripeReading, slot_of, digests_of, reading_at}
-use Rattle.snap_sync.proofs.SlotLemmas.{slot_of-reading_at}
+use Rattle.stripe_findings.specs.Reading.{StripeReading, slot_of, digests_of, reading_at}
+use Rattle.stripe_findings.proofs.SlotLemmas.{slot_of-reading_at}
 
 -- a column uses each position once
 abbrev pub IsOnce : Column → Type 0

@@ -26,19 +26,20 @@ use Rattle.snap_sync.specs.declared.stripes.Progress.{Progress}
 use Rattle.snap_sync.specs.Calls.{SyncPlan}
 use Rattle.snap_sync.specs.Closing.{closed, verified_in}
 use Rattle.snap_sync.specs.Course.{Outside, Breaks, outside}
-use Rattle.snap_sync.specs.Findings.{events_of}
-use Rattle.snap_sync.specs.Reading.{StripeReading, AreRead, stripes_of, readings_in, is_verified, ReadsFirst}
+use Rattle.stripe_findings.specs.Findings.{events_of}
+use Rattle.stripe_findings.specs.Reading.{StripeReading, AreRead, stripes_of, readings_in, is_verified}
+use Rattle.snap_sync.specs.Reading.{ReadsFirst}
 use Rattle.snap_sync.specs.Run.{all_of, count_after, stripes_near, stripes_next, readings_near, choice_near, AreCounts, IsReady, Judges, ReadsFar, KeepsWork, HasSynced}
 use Rattle.snap_sync.specs.Schedule.{window_count}
 use Rattle.snap_sync.specs.Work.{IsUnderway, more_findings}
 use Rattle.snap_sync.proofs.ClosedLemmas.{AreApart, apart-from_distinct, is_verified-closed, events_of-closed, verified_in-closed, closed-append}
-use Rattle.snap_sync.proofs.FindingLemmas.{events_of-append}
+use Rattle.stripe_findings.proofs.FindingLemmas.{events_of-append}
 use Rattle.snap_sync.proofs.LookingLemmas.{verified_in-append}
 use Rattle.snap_sync.proofs.NamesLemmas.{lines_of-closed}
 use Rattle.snap_sync.proofs.StaysLemmas.{IsNoneOf, differs-closed}
 use Rattle.snap_sync.proofs.TasksLemmas.{recorded_starts-closed, tasks_at-closed}
 use Rattle.snap_sync.proofs.PendingLemmas.{none_within}
-use Rattle.snap_sync.proofs.ReadLemmas.{are_read_by, window_are_read, stripes_of_window, length_of_window, length_after}
+use Rattle.stripe_findings.proofs.ReadLemmas.{are_read_by, window_are_read, stripes_of_window, length_of_window, length_after}
 use Rattle.snap_sync.proofs.StandLemmas.{IsStopped, IsWritten}
 use Rattle.snap_sync.proofs.UnderwayLemmas.{ComesNext, underway_written, underway_stopped_writing, writing_broke}
 use Rattle.snap_sync.proofs.WorkLemmas.{judged_ready, window_within, window_some, swapped_of, turned_is, near_is, turn_ready}

@@ -21,7 +21,7 @@ use Rattle.stripe_reader.specs.WindowValue.{no_slot}
 use Rattle.snap_sync.specs.Calls.{no_reading}
 use Rattle.snap_sync.specs.Closing.{closed, closed_by, with_closed}
 use Rattle.snap_sync.specs.Part.{tree_at, slot_by, reading_by, verified_stripes}
-use Rattle.snap_sync.specs.Reading.{StripeReading, slot_of, is_right, is_verified, digests_of, stripes_of}
+use Rattle.stripe_findings.specs.Reading.{StripeReading, slot_of, is_right, is_verified, digests_of, stripes_of}
 use Rattle.snap_sync.proofs.CellLemmas.{FindsCells, seen_task, task_seen}
 use Rattle.snap_sync.proofs.GivenLemmas.{right_in, verified_from}
 use Rattle.snap_sync.proofs.ListFacts.{filter-map, filter_none, filter_same, filter_within}

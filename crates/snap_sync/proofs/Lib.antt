@@ -1,6 +1,4 @@
-pub mod SlotLemmas
 pub mod TellingLemmas
-pub mod FindingLemmas
 pub mod LookingLemmas
 pub mod StaysLemmas
 pub mod HashLemmas
@@ -20,7 +18,6 @@ pub mod SavedLemmas
 pub mod UnderwayLemmas
 pub mod BeginLemmas
 pub mod SliceLemmas
-pub mod ReadLemmas
 pub mod WorkLemmas
 pub mod NextLemmas
 pub mod RunLemmas

@@ -6,11 +6,11 @@ use Rattle.std.proofs.lemmas.List.{length-append, map-append, take_more_set}
 use Rattle.file_table.specs.Table.{TableValue}
 use Rattle.stripe_reader.specs.WindowValue.{WindowValue}
 use Rattle.snap_sync.specs.Closing.{verified_in}
-use Rattle.snap_sync.specs.Findings.{stripe_events, events_of}
-use Rattle.snap_sync.specs.Reading.{StripeReading, is_verified, reading_at}
+use Rattle.stripe_findings.specs.Findings.{stripe_events, events_of}
+use Rattle.stripe_findings.specs.Reading.{StripeReading, is_verified, reading_at}
 use Rattle.snap_sync.specs.Work.{more_findings}
-use Rattle.snap_sync.proofs.FindingLemmas.{verified_where_nothing, events_of-more}
-use Rattle.snap_sync.proofs.SlotLemmas.{readings_to, readings_more}
+use Rattle.stripe_findings.proofs.FindingLemmas.{verified_where_nothing, events_of-more}
+use Rattle.stripe_findings.proofs.SlotLemmas.{readings_to, readings_more}
 
 -- one for a test that is passed
 abbrev one_if : Bool → ℕ

@@ -17,7 +17,7 @@ use Rattle.snap_report.specs.declared.events.Event.{Event}
 use Rattle.snap_report.specs.declared.events.Event.TheVariants.{Changed, ChangedBlock, Silent, Io, ParityIo, Parity, Unsynced, Lost, Blocked, Fixed, FixedParity, Restored, Renamed, NoStamp}
 use Rattle.snap_report.specs.declared.pages.Lines.{Lines}
 use Rattle.snap_sync.specs.Closing.{closed}
-use Rattle.snap_sync.specs.Reading.{StripeReading}
+use Rattle.stripe_findings.specs.Reading.{StripeReading}
 use Rattle.snap_sync.proofs.StaysLemmas.{differs-closed}
 
 module _ (old new : TableValue) (differs : DiffersInHashesAndInfos old new) where

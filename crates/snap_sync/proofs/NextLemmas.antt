@@ -8,8 +8,9 @@ use Rattle.array_scan.specs.Layout.{pending_stripes, is_pending}
 use Rattle.disk_model.specs.Folder.{FolderView}
 use Rattle.file_table.specs.Table.{TableValue, info_at}
 use Rattle.file_table.proofs.ListFacts.{AllPairs-take}
-use Rattle.snap_sync.specs.Reading.{StripeReading, AreRead, stripes_of, ReadsFirst}
-use Rattle.snap_sync.proofs.ReadLemmas.{are_read_then, take_then}
+use Rattle.stripe_findings.specs.Reading.{StripeReading, AreRead, stripes_of}
+use Rattle.snap_sync.specs.Reading.{ReadsFirst}
+use Rattle.stripe_findings.proofs.ReadLemmas.{are_read_then, take_then}
 
 range_apart : (n : ℕ) → AllPairs (λ a b. a ≢ b) (range_with_len 0 n)
 range_apart n i j d before within =

@@ -22,7 +22,7 @@ use Rattle.snap_sync.specs.Calls.{SyncPlan, level_bytes}
 use Rattle.snap_sync.specs.Closing.{closed, closed_by, with_closed, rows_with, rows_of}
 use Rattle.snap_sync.specs.Images.{HasParity, MayStand, Opening, AtWork, table_after}
 use Rattle.snap_sync.specs.Part.{AreOfPartSyncs, IsFullSync, IsPartSync, IsPartTable, IsVerifiedBy, NoneRose, SyncsTold, layout_by, reading_by, readings_by, trees_of, tree_at, verified_stripes}
-use Rattle.snap_sync.specs.Reading.{StripeReading, is_verified, row_of, stripes_of}
+use Rattle.stripe_findings.specs.Reading.{StripeReading, is_verified, row_of, stripes_of}
 use Rattle.snap_sync.proofs.CellLemmas.{FindsCells, IsStripeRead, stripes_read}
 use Rattle.snap_sync.proofs.GivenLemmas.{AreTrees, given_stripe, verified_is_given}
 use Rattle.snap_sync.proofs.ListFacts.{filter_all, kept_made, kept_among, kept_pass, All-left, All-through, All-take, All-first, contains_first}

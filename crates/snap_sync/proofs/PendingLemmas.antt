@@ -16,7 +16,7 @@ use Rattle.parity_writer.specs.Sound.{IsSynced}
 use Rattle.parity_writer.specs.WindowRow.{bytes_of}
 use Rattle.stripe_reader.specs.WindowValue.{WindowValue, Fits}
 use Rattle.snap_sync.specs.Calls.{SyncPlan, no_reading, saves_after}
-use Rattle.snap_sync.specs.Reading.{StripeReading, stripes_of, slot_in, reading_at, readings_in, is_verified}
+use Rattle.stripe_findings.specs.Reading.{StripeReading, stripes_of, slot_in, reading_at, readings_in, is_verified}
 use Rattle.snap_sync.specs.Schedule.{is_checkpoint, window_count}
 use Rattle.snap_sync.proofs.RowsLemmas.{IsWindowOf}
 

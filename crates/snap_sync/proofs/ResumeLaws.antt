@@ -24,7 +24,7 @@ use Rattle.snap_sync.specs.Calls.{SyncPlan, level_bytes}
 use Rattle.snap_sync.specs.Closing.{closed, rows_of}
 use Rattle.snap_sync.specs.Images.{HasParity, KeepsSynced, MayStand, Opening, AtWork, rows_after, table_after}
 use Rattle.snap_sync.specs.Part.{IsFullSync, IsPartSync, IsVerifiedBy, SyncsTold, layout_by, reading_by, readings_by, trees_of, verified_stripes, without_checks}
-use Rattle.snap_sync.specs.Reading.{StripeReading, is_verified, row_of, stripes_of}
+use Rattle.stripe_findings.specs.Reading.{StripeReading, is_verified, row_of, stripes_of}
 use Rattle.snap_sync.specs.Resumed.{EndsAs, IsFoundAt}
 use Rattle.snap_sync.specs.Soundness.{AreSound, StandsOn}
 use Rattle.snap_sync.proofs.CellLemmas.{FindsCells}

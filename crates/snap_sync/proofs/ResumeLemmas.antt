@@ -8,7 +8,7 @@ use Rattle.file_table.specs.Table.{TableValue}
 use Rattle.file_table.specs.declared.info.Info.{Info}
 use Rattle.snap_sync.specs.Closing.{closed, closed_by, with_closed, synced_now}
 use Rattle.snap_sync.specs.Part.{IsVerifiedBy, reading_by, readings_by, verified_stripes, without_check, without_checks}
-use Rattle.snap_sync.specs.Reading.{StripeReading, is_verified, stripes_of}
+use Rattle.stripe_findings.specs.Reading.{StripeReading, is_verified, stripes_of}
 use Rattle.snap_sync.proofs.CellLemmas.{FindsCells}
 use Rattle.snap_sync.proofs.CommuteLemmas.{closed_comm, steps, steps-append, steps_apart}
 use Rattle.snap_sync.proofs.LeftLemmas.{columns_closed_by, is_left, left_was, pending_left, reading_same, verified_left, verified_same}

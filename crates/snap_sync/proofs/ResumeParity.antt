@@ -22,7 +22,7 @@ use Rattle.snap_sync.specs.Calls.{level_bytes}
 use Rattle.snap_sync.specs.Closing.{closed, rows_of}
 use Rattle.snap_sync.specs.Images.{HasParity, IsOutsideRows, KeepsSynced}
 use Rattle.snap_sync.specs.Part.{IsVerifiedBy, reading_by, readings_by, verified_stripes}
-use Rattle.snap_sync.specs.Reading.{StripeReading, is_verified, row_of, stripes_of}
+use Rattle.stripe_findings.specs.Reading.{StripeReading, is_verified, row_of, stripes_of}
 use Rattle.snap_sync.specs.Resumed.{SameParityBut}
 use Rattle.snap_sync.proofs.CellLemmas.{FindsCells}
 use Rattle.snap_sync.proofs.LeftLemmas.{is_left, left_was, pending_left}

@@ -17,7 +17,7 @@ use Rattle.stripe_reader.specs.Slot.{kept, slot_with}
 use Rattle.stripe_reader.specs.SlotValue.{SlotValue}
 use Rattle.stripe_reader.specs.WindowValue.{no_slot}
 use Rattle.stripe_reader.specs.Columns.{folder_at}
-use Rattle.snap_sync.specs.Reading.{StripeReading, slot_of, is_seen, is_recorded, is_right, is_verified, agrees, digests_of, row_of}
+use Rattle.stripe_findings.specs.Reading.{StripeReading, slot_of, is_seen, is_recorded, is_right, is_verified, agrees, digests_of, row_of}
 use Rattle.snap_sync.proofs.CellLemmas.{FindsCells, IsCellRead, IsStripeRead, IsWhole, seen_task, task_seen, whole_of, whole_length}
 use Rattle.snap_sync.proofs.GivenLemmas.{right_in}
 use Rattle.snap_sync.proofs.SeenLemmas.{view_with, views_with, views_at, view_closed, view_in, length-views_with}

@@ -16,7 +16,7 @@ use Rattle.stripe_reader.specs.WindowValue.{WindowValue}
 use Rattle.snap_sync.specs.Calls.{no_reading}
 use Rattle.snap_sync.specs.Closing.{rows_with}
 use Rattle.snap_sync.specs.Images.{IsInSynced, KeepsSynced, IsOutsideRows, HasParity}
-use Rattle.snap_sync.specs.Reading.{StripeReading, is_verified, row_of}
+use Rattle.stripe_findings.specs.Reading.{StripeReading, is_verified, row_of}
 
 -- a stripe has a row
 pub record HasRow (rows : Rows) (stripe : ℕ) : Type 0 where

@@ -20,11 +20,12 @@ use Rattle.snap_sync.specs.declared.stripes.Pace.{Pace}
 use Rattle.snap_sync.specs.declared.stripes.Progress.{Progress}
 use Rattle.snap_sync.specs.Calls.{SyncPlan, piece_size}
 use Rattle.snap_sync.specs.Course.{Outside, TouchesVault, TellsThese, Breaks, outside}
-use Rattle.snap_sync.specs.Findings.{events_of}
-use Rattle.snap_sync.specs.Reading.{StripeReading, AreRead, ReadsFirst}
+use Rattle.stripe_findings.specs.Findings.{events_of}
+use Rattle.stripe_findings.specs.Reading.{StripeReading, AreRead}
+use Rattle.snap_sync.specs.Reading.{ReadsFirst}
 use Rattle.snap_sync.specs.Run.{all_of, stripes_near, readings_near, IsReady, HasSynced, plan_for}
 use Rattle.snap_sync.specs.Work.{IsPlanFor, IsUnderway}
-use Rattle.snap_sync.proofs.ReadLemmas.{are_read_start, window_are_read, stripes_of_window, length_of_window, length_after}
+use Rattle.stripe_findings.proofs.ReadLemmas.{are_read_start, window_are_read, stripes_of_window, length_of_window, length_after}
 use Rattle.snap_sync.proofs.StandLemmas.{IsStopped}
 use Rattle.snap_sync.proofs.WorkLemmas.{window_within}
 

@@ -12,7 +12,7 @@ use Rattle.parity_writer.specs.Keeps.{SameParities}
 use Rattle.snap_sync.specs.Calls.{SyncPlan, level_bytes, checkpoint_calls}
 use Rattle.snap_sync.specs.Closing.{closed}
 use Rattle.snap_sync.specs.Images.{MayStand, AtWork, HasParityAfter, table_after, rows_after}
-use Rattle.snap_sync.specs.Reading.{StripeReading}
+use Rattle.stripe_findings.specs.Reading.{StripeReading}
 use Rattle.snap_sync.specs.Work.{IsPlanFor, MaySettle}
 use Rattle.snap_sync.proofs.StepLemmas.{changes_by}
 use Rattle.snap_sync.proofs.OpeningLemmas.{kept_by_save, kept_then}

@@ -12,7 +12,7 @@ use Rattle.file_table.specs.declared.info.Info.{Info}
 use Rattle.parity_writer.specs.Parity.{Rows, with_row}
 use Rattle.snap_sync.specs.Calls.{no_reading}
 use Rattle.snap_sync.specs.Closing.{synced_now, with_closed, closed_by, rows_with}
-use Rattle.snap_sync.specs.Reading.{StripeReading, is_verified, digests_of, row_of}
+use Rattle.stripe_findings.specs.Reading.{StripeReading, is_verified, digests_of, row_of}
 
 -- what file_table says of closing a stripe
 abbrev pub LeavesTheOthers : Type 0

@@ -22,7 +22,8 @@ use Rattle.parity_writer.specs.Sound.{IsSynced, IsBlockAt, IsBlockOf, IsRowOf, S
 use Rattle.array_scan.specs.Keeping.{KeepsStripes, SameBlock, IsMarkedSynced}
 use Rattle.snap_sync.specs.Calls.{SyncPlan, no_reading}
 use Rattle.snap_sync.specs.Images.{IsAtWork, KeepsSynced, MayStand, Opening, AtWork, rows_after, table_after}
-use Rattle.snap_sync.specs.Reading.{StripeReading, is_verified, row_of, ReadsFirst}
+use Rattle.stripe_findings.specs.Reading.{StripeReading, is_verified, row_of}
+use Rattle.snap_sync.specs.Reading.{ReadsFirst}
 use Rattle.snap_sync.specs.Soundness.{AreSound, AreSoundAfter, IsLoadedFrom, StandsOn, changed_without, row_or, snapshot_with}
 use Rattle.snap_sync.proofs.CellLemmas.{FindsCells, IsStripeRead, stripes_read}
 use Rattle.snap_sync.proofs.ListFacts.{All-first}

@@ -11,7 +11,7 @@ use Rattle.parity_writer.specs.Parity.{HoldsRows}
 use Rattle.snap_sync.specs.Calls.{SyncPlan, opening_calls, stripe_calls, ending_calls, sync_vault_calls}
 use Rattle.snap_sync.specs.Closing.{closed, rows_of}
 use Rattle.snap_sync.specs.Images.{KeepsSynced, SpellsEither, MayStand, Opening, AtWork, HasParityAfter, table_after, rows_after}
-use Rattle.snap_sync.specs.Reading.{StripeReading}
+use Rattle.stripe_findings.specs.Reading.{StripeReading}
 use Rattle.snap_sync.specs.Work.{IsUnderway, VaultBroke}
 use Rattle.snap_sync.proofs.OpeningLemmas.{kept_by_save}
 use Rattle.snap_sync.proofs.CallsLemmas.{behind}

@@ -15,7 +15,7 @@ use Rattle.file_table.specs.declared.shape.Shape.{Shape}
 use Rattle.stripe_reader.specs.SlotValue.{SlotValue}
 use Rattle.stripe_reader.specs.WindowValue.{WindowValue, Fits}
 use Rattle.snap_sync.specs.Closing.{HasDigests, synced_now, with_closed, closed_by, closed}
-use Rattle.snap_sync.specs.Reading.{StripeReading, slot_of, digests_of, is_seen, agrees, is_right, is_right_in, is_recorded, is_verified}
+use Rattle.stripe_findings.specs.Reading.{StripeReading, slot_of, digests_of, is_seen, agrees, is_right, is_right_in, is_recorded, is_verified}
 
 -- ---- what changes
 

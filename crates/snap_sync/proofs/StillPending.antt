@@ -7,7 +7,7 @@ use Rattle.std.proofs.lemmas.List.Kept.{AllPairs-filter}
 use Rattle.array_scan.specs.Layout.{is_pending, pending_stripes}
 use Rattle.file_table.specs.Table.{TableValue, info_at}
 use Rattle.file_table.specs.declared.info.Info.{Info}
-use Rattle.snap_sync.specs.Reading.{StripeReading, stripes_of}
+use Rattle.stripe_findings.specs.Reading.{StripeReading, stripes_of}
 use Rattle.snap_sync.proofs.ListFacts.{kept_pass}
 
 -- the first so many of what was read are of the first so many pending stripes

@@ -17,7 +17,7 @@ use Rattle.stripe_reader.specs.Starts.{StartsValue, StartsFit, starts_at, start_
 use Rattle.stripe_reader.specs.WindowValue.{WindowValue}
 use Rattle.stripe_reader.specs.declared.starts.Start.{Start}
 use Rattle.snap_sync.specs.Closing.{closed}
-use Rattle.snap_sync.specs.Reading.{StripeReading}
+use Rattle.stripe_findings.specs.Reading.{StripeReading}
 use Rattle.snap_sync.proofs.StaysLemmas.{differs-closed}
 
 -- ---- where each file was recorded

@@ -8,10 +8,10 @@ use Rattle.snap_report.specs.declared.pages.Lines.{Lines}
 use Rattle.snap_report.specs.Report.{ReportView}
 use Rattle.snap_report.specs.Told.{Told}
 use Rattle.stripe_reader.specs.WindowValue.{WindowValue}
-use Rattle.snap_sync.specs.Findings.{events_at, stripe_events, events_of}
-use Rattle.snap_sync.specs.Reading.{StripeReading, reading_at}
-use Rattle.snap_sync.proofs.SlotLemmas.{readings_to}
-use Rattle.snap_sync.proofs.FindingLemmas.{events_to, events_to-more, events_of-more}
+use Rattle.stripe_findings.specs.Findings.{events_at, stripe_events, events_of}
+use Rattle.stripe_findings.specs.Reading.{StripeReading, reading_at}
+use Rattle.stripe_findings.proofs.SlotLemmas.{readings_to}
+use Rattle.stripe_findings.proofs.FindingLemmas.{events_to, events_to-more, events_of-more}
 
 module _ {W R : Type 0} (view : W → SinkView) (standing : R → ReportView) (stands : R → List Event → Type 0) where
   -- the same events

@@ -23,9 +23,9 @@ use Rattle.stripe_reader.specs.Slot.{kept}
 use Rattle.stripe_reader.specs.SlotValue.{SlotValue}
 use Rattle.stripe_reader.specs.Starts.{recorded_starts}
 use Rattle.snap_sync.specs.Ended.{NotAChangedBlock}
-use Rattle.snap_sync.specs.Findings.{cell_events, events_at, stripe_events, events_of}
+use Rattle.stripe_findings.specs.Findings.{cell_events, events_at, stripe_events, events_of}
 use Rattle.snap_sync.specs.Part.{SyncsListed}
-use Rattle.snap_sync.specs.Reading.{StripeReading, slot_of, is_unread, is_recorded}
+use Rattle.stripe_findings.specs.Reading.{StripeReading, slot_of, is_unread, is_recorded}
 use Rattle.snap_sync.proofs.CellLemmas.{FindsCells, IsCellRead, IsStripeRead, seen_task, stripes_read, task_seen}
 use Rattle.snap_sync.proofs.ListFacts.{All-left}
 use Rattle.snap_sync.proofs.PartLemmas.{length-layout}

@@ -29,8 +29,8 @@ use Rattle.stripe_reader.specs.Reading.{CellReading, NoBlock, Nowhere, Beyond, G
 use Rattle.stripe_reader.specs.Slot.{kept}
 use Rattle.stripe_reader.specs.SlotValue.{SlotValue}
 use Rattle.snap_sync.specs.Ended.{NotAChangedBlock}
-use Rattle.snap_sync.specs.Findings.{silent_event, wrong_event, block_events}
-use Rattle.snap_sync.specs.Reading.{is_unread, is_recorded, is_right}
+use Rattle.stripe_findings.specs.Findings.{silent_event, wrong_event, block_events}
+use Rattle.stripe_findings.specs.Reading.{is_unread, is_recorded, is_right}
 use Rattle.snap_sync.proofs.CellLemmas.{seen_task}
 
 abbrev path_cmp : List ℕ → List ℕ → Ordering

@@ -19,7 +19,7 @@ use Rattle.stripe_reader.specs.WindowValue.{WindowValue, Fits}
 use Rattle.snap_sync.specs.Calls.{SyncPlan, opening_calls, checkpoint_calls, saves_after, stripe_calls, ending_calls, sync_vault_calls}
 use Rattle.snap_sync.specs.Closing.{closed}
 use Rattle.snap_sync.specs.Images.{MayStand}
-use Rattle.snap_sync.specs.Reading.{StripeReading, stripes_of, readings_in, is_verified}
+use Rattle.stripe_findings.specs.Reading.{StripeReading, stripes_of, readings_in, is_verified}
 use Rattle.snap_sync.specs.Work.{IsPlanFor, IsUnderway, MaySettle, VaultBroke}
 use Rattle.snap_sync.proofs.BrokeLemmas.{broke_after, broke_among, window_changes}
 use Rattle.snap_sync.proofs.RowsLemmas.{IsWindowOf}

@@ -15,8 +15,8 @@ use Rattle.stripe_reader.specs.Columns.{folder_at}
 use Rattle.stripe_reader.specs.Reading.{CellReading, Whole, is_unread as failed}
 use Rattle.stripe_reader.specs.Slot.{kept}
 use Rattle.stripe_reader.specs.SlotValue.{SlotValue}
-use Rattle.snap_sync.specs.Findings.{block_events, cell_events, events_at, events_of, stripe_events, wrong_event}
-use Rattle.snap_sync.specs.Reading.{StripeReading, AreRead, agrees, is_recorded, is_right, is_seen, is_unread, slot_of}
+use Rattle.stripe_findings.specs.Findings.{block_events, cell_events, events_at, events_of, stripe_events, wrong_event}
+use Rattle.stripe_findings.specs.Reading.{StripeReading, AreRead, agrees, is_recorded, is_right, is_seen, is_unread, slot_of}
 use Rattle.snap_sync.proofs.CellLemmas.{IsCellRead, IsStripeRead, stripes_read}
 use Rattle.snap_sync.proofs.ListFacts.{All-left, contains_joined}
 use Rattle.snap_sync.proofs.ToldLemmas.{unread_kept}

@@ -22,7 +22,7 @@ use Rattle.stripe_reader.specs.Slot.{kept}
 use Rattle.stripe_reader.specs.SlotValue.{SlotValue}
 use Rattle.stripe_reader.specs.WindowValue.{no_slot}
 use Rattle.snap_sync.specs.Closing.{synced_now, with_closed, closed_by}
-use Rattle.snap_sync.specs.Reading.{StripeReading, slot_of, is_seen, is_recorded, is_right, is_verified, agrees, digests_of}
+use Rattle.stripe_findings.specs.Reading.{StripeReading, slot_of, is_seen, is_recorded, is_right, is_verified, agrees, digests_of}
 use Rattle.snap_sync.proofs.CellLemmas.{FindsCells, IsCellRead, IsStripeRead}
 use Rattle.snap_sync.proofs.DigestLemmas.{digest_sixteen}
 use Rattle.snap_sync.proofs.GivenLemmas.{right_in}

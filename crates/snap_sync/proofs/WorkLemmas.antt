@@ -13,13 +13,13 @@ use Rattle.stripe_reader.specs.WindowValue.{WindowValue, Fits}
 use Rattle.snap_sync.specs.declared.beginning.Work.{Work}
 use Rattle.snap_sync.specs.declared.room.Room.{Room}
 use Rattle.snap_sync.specs.Closing.{closed}
-use Rattle.snap_sync.specs.Reading.{StripeReading, readings_in}
+use Rattle.stripe_findings.specs.Reading.{StripeReading, readings_in}
 use Rattle.snap_sync.specs.Run.{all_of, count_after, stripes_next, readings_near, IsWork, IsReady, Judges, ReadsFar, KeepsWork}
 use Rattle.snap_sync.specs.Schedule.{window_count}
 use Rattle.snap_sync.specs.Work.{IsRoomFor}
 use Rattle.snap_sync.proofs.StaysLemmas.{differs-closed}
 use Rattle.snap_sync.proofs.TasksLemmas.{recorded_starts-closed}
-use Rattle.snap_sync.proofs.ReadLemmas.{length_after}
+use Rattle.stripe_findings.proofs.ReadLemmas.{length_after}
 
 -- a window takes no more than there are
 pub window_within : (every : Option ℕ) (room all count : ℕ) → count ≤ all → count + window_count every room all count ≤ all

@@ -18,7 +18,7 @@ use Rattle.stripe_reader.specs.WindowValue.{WindowValue}
 use Rattle.snap_sync.specs.Calls.{SyncPlan, opening_calls, level_bytes, no_reading, stripe_calls}
 use Rattle.snap_sync.specs.Closing.{closed, rows_of, rows_with}
 use Rattle.snap_sync.specs.Images.{IsInSynced, MayStand, AtWork, HasParityAfter, HasParity, table_after, rows_after}
-use Rattle.snap_sync.specs.Reading.{StripeReading}
+use Rattle.stripe_findings.specs.Reading.{StripeReading}
 use Rattle.snap_sync.specs.Work.{IsPlanFor, VaultBroke}
 use Rattle.snap_sync.proofs.BrokeLemmas.{broke_after}
 use Rattle.snap_sync.proofs.StepLemmas.{changes_by, holds_on}

@@ -8,7 +8,7 @@ use Rattle.disk_model.specs.Vault.{VaultCall}
 use Rattle.file_table.specs.Table.{TableValue}
 use Rattle.parity_writer.specs.Calls.{length_calls, sum_calls, sync_calls}
 use Rattle.snap_sync.specs.Closing.{closed}
-use Rattle.snap_sync.specs.Reading.{StripeReading, is_verified, row_of}
+use Rattle.stripe_findings.specs.Reading.{StripeReading, is_verified, row_of}
 use Rattle.snap_sync.specs.Schedule.{is_checkpoint}
 
 -- what the calls of a sync depend on, beside what it reads: the laid out table, how many pending stripes that has, after how many of

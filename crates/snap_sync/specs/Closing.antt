@@ -5,7 +5,7 @@ use Rattle.file_table.specs.Table.{TableValue, column_at}
 use Rattle.file_table.specs.declared.info.Info.{Info}
 use Rattle.file_table.specs.declared.info.Mark.TheVariants.{Synced}
 use Rattle.parity_writer.specs.Parity.{Rows, no_rows, with_row}
-use Rattle.snap_sync.specs.Reading.{StripeReading, slot_of, is_verified, digests_of, row_of}
+use Rattle.stripe_findings.specs.Reading.{StripeReading, slot_of, is_verified, digests_of, row_of}
 
 -- a stripe that is synced now: fresh, and not bad
 abbrev pub synced_now : ℕ → Info

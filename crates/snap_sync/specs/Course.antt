@@ -24,9 +24,10 @@ use Rattle.snap_sync.specs.declared.syncing.SyncEnd.{SyncEnd}
 use Rattle.snap_sync.specs.Beginning.{LaysOut, BeginsNot}
 use Rattle.snap_sync.specs.Calls.{SyncPlan, sync_vault_calls, piece_size}
 use Rattle.snap_sync.specs.Closing.{closed, verified_in}
-use Rattle.snap_sync.specs.Findings.{events_of}
+use Rattle.stripe_findings.specs.Findings.{events_of}
 use Rattle.snap_sync.specs.Images.{MayStand, HasParityAfter}
-use Rattle.snap_sync.specs.Reading.{StripeReading, ReadsFirst}
+use Rattle.stripe_findings.specs.Reading.{StripeReading}
+use Rattle.snap_sync.specs.Reading.{ReadsFirst}
 use Rattle.snap_sync.specs.Schedule.{save_after}
 use Rattle.snap_sync.specs.Work.{VaultBroke, more_findings}
 

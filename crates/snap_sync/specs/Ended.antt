@@ -5,8 +5,8 @@ use Rattle.snap_report.specs.declared.events.Event.{Event}
 use Rattle.snap_report.specs.declared.events.Event.TheVariants.{ChangedBlock, Silent, Io}
 use Rattle.snap_sync.specs.declared.syncing.SyncEnd.{SyncEnd}
 use Rattle.snap_sync.specs.Closing.{closed, verified_in}
-use Rattle.snap_sync.specs.Findings.{events_of}
-use Rattle.snap_sync.specs.Reading.{StripeReading}
+use Rattle.stripe_findings.specs.Findings.{events_of}
+use Rattle.stripe_findings.specs.Reading.{StripeReading}
 use Rattle.snap_sync.specs.Work.{more_findings}
 
 -- the end of a sync that read these: its table, how many stripes are verified and how many are not, and how many findings

@@ -10,7 +10,7 @@ use Rattle.parity_writer.specs.Parity.{Rows, HoldsRows, Row}
 use Rattle.parity_writer.specs.Sound.{IsSynced}
 use Rattle.snap_sync.specs.Calls.{SyncPlan, level_bytes}
 use Rattle.snap_sync.specs.Closing.{closed, rows_of}
-use Rattle.snap_sync.specs.Reading.{StripeReading}
+use Rattle.stripe_findings.specs.Reading.{StripeReading}
 
 -- a place in the block of a stripe that a table calls synced
 pub record IsInSynced (table : TableValue) (i : ℕ) : Type 0 where

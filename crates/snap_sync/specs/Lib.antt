@@ -1,6 +1,5 @@
 pub mod Fault
 pub mod Reading
-pub mod Findings
 pub mod Closing
 pub mod Schedule
 pub mod Calls

@@ -22,7 +22,8 @@ use Rattle.stripe_reader.specs.Starts.{recorded_starts}
 use Rattle.snap_sync.specs.Calls.{SyncPlan, level_bytes}
 use Rattle.snap_sync.specs.Closing.{closed, rows_of}
 use Rattle.snap_sync.specs.Images.{HasParity, table_after}
-use Rattle.snap_sync.specs.Reading.{StripeReading, is_verified, stripes_of, ReadsFirst}
+use Rattle.stripe_findings.specs.Reading.{StripeReading, is_verified, stripes_of}
+use Rattle.snap_sync.specs.Reading.{ReadsFirst}
 
 -- the trees of folders, and the tree of a column's folder
 abbrev pub trees_of : List FolderView → List Tree

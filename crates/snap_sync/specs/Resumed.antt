@@ -7,7 +7,7 @@ use Rattle.file_table.specs.Valid.{IsValid}
 use Rattle.snap_sync.specs.Calls.{SyncPlan}
 use Rattle.snap_sync.specs.Images.{MayStand}
 use Rattle.snap_sync.specs.Part.{without_checks}
-use Rattle.snap_sync.specs.Reading.{StripeReading}
+use Rattle.stripe_findings.specs.Reading.{StripeReading}
 
 -- parity of two files is the same in the stripes of a table, but for the blocks that were changed from outside
 pub record SameParityBut (table : TableValue) (is_changed : ℕ → ℕ → Bool) (one other : Files) : Type 0 where

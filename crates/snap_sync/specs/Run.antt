@@ -21,8 +21,9 @@ use Rattle.snap_sync.specs.declared.stripes.Progress.{Progress}
 use Rattle.snap_sync.specs.Calls.{SyncPlan, piece_size}
 use Rattle.snap_sync.specs.Closing.{closed, verified_in}
 use Rattle.snap_sync.specs.Course.{Outside}
-use Rattle.snap_sync.specs.Findings.{events_of}
-use Rattle.snap_sync.specs.Reading.{StripeReading, readings_in, is_verified, ReadsFirst}
+use Rattle.stripe_findings.specs.Findings.{events_of}
+use Rattle.stripe_findings.specs.Reading.{StripeReading, readings_in, is_verified}
+use Rattle.snap_sync.specs.Reading.{ReadsFirst}
 use Rattle.snap_sync.specs.Schedule.{window_count, is_checkpoint}
 use Rattle.snap_sync.specs.Work.{IsRoomFor, IsUnderway, VaultBroke, MaySettle, more_findings}
 

@@ -10,7 +10,7 @@ use Rattle.parity_writer.specs.Parity.{Row, Rows}
 use Rattle.parity_writer.specs.Sound.{Snapshot, Sound, IsSynced}
 use Rattle.snap_sync.specs.Calls.{SyncPlan}
 use Rattle.snap_sync.specs.Images.{rows_after}
-use Rattle.snap_sync.specs.Reading.{StripeReading}
+use Rattle.stripe_findings.specs.Reading.{StripeReading}
 
 -- each copy that spells a table is sound
 abbrev pub AreSound : ℕ → Files → Snapshot → (ℕ → ℕ → Bool) → Type 0

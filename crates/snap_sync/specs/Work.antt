@@ -16,7 +16,7 @@ use Rattle.stripe_reader.specs.WindowValue.{Fits}
 use Rattle.snap_sync.specs.declared.room.Room.{Room}
 use Rattle.snap_sync.specs.Calls.{SyncPlan, piece_size, opening_calls, stripe_calls}
 use Rattle.snap_sync.specs.Images.{MayStand, HasParityAfter, table_after, rows_after}
-use Rattle.snap_sync.specs.Reading.{StripeReading}
+use Rattle.stripe_findings.specs.Reading.{StripeReading}
 
 -- room for the windows of a table: each has room for as many stripes, and a piece for the drafts
 pub record IsRoomFor (table : TableValue) (room : Room) : Type 0 where

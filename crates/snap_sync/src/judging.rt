@@ -3,12 +3,11 @@ ghost use Rattle.std.specs.Prelude.{◌≡◌, ◌<◌, ◌+◌, ◌^◌, ◌==�
 ghost use Rattle.snap_report.specs.Told.{Told};
 ghost use Rattle.stripe_reader.specs.WindowValue.{Fits};
 ghost use Rattle.snap_sync.specs.Closing.{closed, verified_in};
-ghost use Rattle.snap_sync.specs.Findings.{events_of};
-ghost use Rattle.snap_sync.specs.Reading.{readings_in, is_verified};
+ghost use Rattle.stripe_findings.specs.Findings.{events_of};
+ghost use Rattle.stripe_findings.specs.Reading.{readings_in, is_verified};
 ghost use Rattle.snap_sync.specs.Work.{more_findings};
 
 mod closing;
-mod finding;
 mod telling;
 
 use closing::close_chosen;

@@ -17,12 +17,13 @@ ghost use Rattle.stripe_reader.specs.Columns.{folder_at};
 ghost use Rattle.snap_sync.specs.Calls.{SyncPlan};
 ghost use Rattle.snap_sync.specs.Closing.{closed};
 ghost use Rattle.snap_sync.specs.Ended.{IsEndOf, IsFoundIn, NotAChangedBlock};
-ghost use Rattle.snap_sync.specs.Findings.{stripe_events, events_of};
+ghost use Rattle.stripe_findings.specs.Findings.{stripe_events, events_of};
 ghost use Rattle.snap_sync.specs.Images.{HasParityAfter, MayStand, table_after};
 ghost use Rattle.snap_sync.specs.Part.{AllVerified, AreOfPartSyncs, IsFullSync, IsPartSync, IsVerifiedBy};
 ghost use Rattle.snap_sync.specs.Part.{IsListedRun, IsToldRun, NoneRose};
 ghost use Rattle.snap_sync.specs.Part.{SyncRun, TreesVerifyAll, layout_by, readings_by, run_kept, run_table, run_trees, run_verified};
-ghost use Rattle.snap_sync.specs.Reading.{AreRead, StripeReading, is_unread, is_verified, slot_of, stripes_of, ReadsFirst};
+ghost use Rattle.stripe_findings.specs.Reading.{AreRead, StripeReading, is_unread, is_verified, slot_of, stripes_of};
+ghost use Rattle.snap_sync.specs.Reading.{ReadsFirst};
 ghost use Rattle.snap_sync.specs.Resumed.{EndsAs, IsFoundAt};
 ghost use Rattle.snap_sync.specs.Soundness.{AreSound, AreSoundAfter, StandsOn};
 

@@ -10,8 +10,8 @@ ghost use Rattle.stripe_reader.specs.WindowValue.{Fits};
 ghost use Rattle.array_scan.specs.Layout.{pending_stripes};
 ghost use Rattle.snap_sync.specs.Closing.{closed};
 ghost use Rattle.snap_sync.specs.Course.{outside, Breaks};
-ghost use Rattle.snap_sync.specs.Findings.{events_of};
-ghost use Rattle.snap_sync.specs.Reading.{readings_in, is_verified};
+ghost use Rattle.stripe_findings.specs.Findings.{events_of};
+ghost use Rattle.stripe_findings.specs.Reading.{readings_in, is_verified};
 ghost use Rattle.snap_sync.specs.Run.{all_of, stripes_near, stripes_next, readings_near, choice_near, plan_for, AreCounts, IsWork, IsReady, Judges, ReadsFar, KeepsWork, Saves, HasSynced, saves_behind};
 ghost use Rattle.snap_sync.specs.Work.{IsRoomFor, more_findings};
 

@@ -23,7 +23,7 @@ use Rattle.stripe_reader.specs.declared.starts.Place.TheVariants as place
 use Rattle.stripe_reader.specs.declared.starts.Start.{Start}
 use Rattle.snap_sync.specs.Calls.{no_reading}
 use Rattle.snap_sync.specs.Part.{AllTell, IsListedRun, SyncRun}
-use Rattle.snap_sync.specs.Reading.{AreRead, StripeReading, row_of, slot_of, stripes_of}
+use Rattle.stripe_findings.specs.Reading.{AreRead, StripeReading, row_of, slot_of, stripes_of}
 use Rattle.snap_top.specs.Run.{Exit}
 
 -- ---- lists of bytes, by what is read of them: 0 behind their ends

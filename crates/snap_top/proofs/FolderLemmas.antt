@@ -10,7 +10,8 @@ use Rattle.file_table.specs.Table.{TableValue}
 use Rattle.snap_config.specs.declared.options.SyncWay.{SyncWay}
 use Rattle.snap_report.specs.declared.answer.RunFault.TheVariants as runs
 use Rattle.snap_sync.specs.Beginning.{BeginsNot}
-use Rattle.snap_sync.specs.Reading.{StripeReading, ReadsFirst}
+use Rattle.stripe_findings.specs.Reading.{StripeReading}
+use Rattle.snap_sync.specs.Reading.{ReadsFirst}
 use Rattle.snap_sync.specs.declared.fault.SyncFault.{SyncFault}
 use Rattle.snap_sync.specs.declared.fault.SyncFault.TheVariants.{Scan, Run}
 use Rattle.snap_top.specs.Task.{Task}

@@ -15,7 +15,7 @@ use Rattle.parity_writer.specs.Sound.{Snapshot, Sound}
 use Rattle.snap_sync.specs.Closing.{rows_with}
 use Rattle.snap_sync.specs.Images.{rows_after}
 use Rattle.snap_sync.specs.Part.{AllTell}
-use Rattle.snap_sync.specs.Reading.{StripeReading, is_verified, row_of}
+use Rattle.stripe_findings.specs.Reading.{StripeReading, is_verified, row_of}
 use Rattle.snap_sync.specs.Soundness.{AreSound, row_or}
 use Rattle.snap_top.specs.History.{AreSoundBy, Changes, IsChange, IsHistory, IsOfBytes, LastSynced, Runs, StaysSound, Step, synced_by}
 use Rattle.snap_top.specs.Moment.{IsDidOf, IsSoundAlways, IsSoundAtEnd, IsSupposed}

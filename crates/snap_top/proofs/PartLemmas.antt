@@ -10,10 +10,10 @@ use Rattle.file_table.specs.Table.{TableValue}
 use Rattle.snap_report.specs.declared.events.Event.{Event}
 use Rattle.snap_sync.specs.Closing.{closed}
 use Rattle.snap_sync.specs.Ended.{IsFoundIn}
-use Rattle.snap_sync.specs.Findings.{events_of}
+use Rattle.stripe_findings.specs.Findings.{events_of}
 use Rattle.snap_sync.specs.Images.{HasParityAfter}
 use Rattle.snap_sync.specs.Part.{AllTell, AllVerified, IsFullSync, IsPartSync, IsToldRun, NoneRose, SyncRun, readings_by, run_table, run_trees, run_verified, verified_stripes}
-use Rattle.snap_sync.specs.Reading.{StripeReading, is_verified, stripes_of}
+use Rattle.stripe_findings.specs.Reading.{StripeReading, is_verified, stripes_of}
 use Rattle.snap_top.specs.End.{status_of}
 use Rattle.snap_top.specs.Moment.{EndsInPart, IsSyncOf, SyncsEndInPart, TellsAll}
 use Rattle.snap_top.specs.Run.{Entry, Exit, Ran}

@@ -18,7 +18,8 @@ use Rattle.snap_config.specs.Setup.{SetupValue}
 use Rattle.snap_sync.specs.Calls.{SyncPlan}
 use Rattle.snap_sync.specs.Images.{MayStand, Opening, AtWork, rows_after, table_after}
 use Rattle.snap_sync.specs.Part.{AllTell, IsFullSync, IsToldRun, IsVerifiedBy, SyncRun, TreesVerifyAll, layout_by, run_trees, without_check}
-use Rattle.snap_sync.specs.Reading.{StripeReading, ReadsFirst}
+use Rattle.stripe_findings.specs.Reading.{StripeReading}
+use Rattle.snap_sync.specs.Reading.{ReadsFirst}
 use Rattle.snap_sync.specs.Resumed.{EndsAs, IsFoundAt}
 use Rattle.snap_sync.specs.Soundness.{AreSound, AreSoundAfter, StandsOn, changed_without, snapshot_with}
 use Rattle.snap_top.specs.Array.{empty_table}

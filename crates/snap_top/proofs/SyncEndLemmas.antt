@@ -22,7 +22,7 @@ use Rattle.snap_report.specs.declared.events.Event.{Event}
 use Rattle.snap_sync.specs.Ended.{IsEndOf}
 use Rattle.snap_sync.specs.Images.{rows_after}
 use Rattle.snap_sync.specs.Part.{AllVerified, SyncRun}
-use Rattle.snap_sync.specs.Reading.{StripeReading, stripes_of}
+use Rattle.stripe_findings.specs.Reading.{StripeReading, stripes_of}
 use Rattle.snap_sync.specs.Soundness.{AreSound, changed_without, snapshot_with}
 use Rattle.snap_sync.specs.declared.syncing.SyncEnd.{SyncEnd}
 use Rattle.snap_top.specs.Does.{DoesCommand}

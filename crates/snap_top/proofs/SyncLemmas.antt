@@ -37,10 +37,10 @@ use Rattle.stripe_reader.specs.SlotValue.{SlotValue}
 use Rattle.snap_sync.specs.Beginning.{BeginsNot}
 use Rattle.snap_sync.specs.Calls.{SyncPlan}
 use Rattle.snap_sync.specs.Course.{TouchesVault, Syncs, SyncsNot, BreaksOff, outside}
-use Rattle.snap_sync.specs.Findings.{silent_event, wrong_event, block_events, cell_events, events_at, stripe_events, events_of}
+use Rattle.stripe_findings.specs.Findings.{silent_event, wrong_event, block_events, cell_events, events_at, stripe_events, events_of}
 use Rattle.snap_sync.specs.Images.{MayStand, HasParityAfter}
 use Rattle.snap_sync.specs.Part.{SyncRun}
-use Rattle.snap_sync.specs.Reading.{StripeReading, is_right, is_unread, is_recorded, slot_of}
+use Rattle.stripe_findings.specs.Reading.{StripeReading, is_right, is_unread, is_recorded, slot_of}
 use Rattle.snap_sync.specs.Work.{broke_sync}
 use Rattle.snap_sync.specs.declared.fault.SyncFault.{SyncFault}
 use Rattle.snap_sync.specs.declared.fault.SyncFault.TheVariants.{Scan, Run}

@@ -28,7 +28,8 @@ use Rattle.snap_sync.specs.Calls.{SyncPlan, level_bytes, no_reading}
 use Rattle.snap_sync.specs.Closing.{closed, rows_of, rows_with}
 use Rattle.snap_sync.specs.Images.{AtWork, IsInSynced, IsOutsideRows, KeepsSynced, MayStand, Opening, rows_after}
 use Rattle.snap_sync.specs.Part.{SyncRun}
-use Rattle.snap_sync.specs.Reading.{ReadsFirst, StripeReading, is_verified, row_of, stripes_of}
+use Rattle.stripe_findings.specs.Reading.{StripeReading, is_verified, row_of, stripes_of}
+use Rattle.snap_sync.specs.Reading.{ReadsFirst}
 use Rattle.snap_sync.specs.Soundness.{AreSound, AreSoundAfter, StandsOn, changed_without, row_or, snapshot_with}
 use Rattle.snap_top.specs.Sync.{SyncsOver}
 use Rattle.snap_top.specs.Task.{LeavesSynced}

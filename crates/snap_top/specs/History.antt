@@ -16,7 +16,7 @@ use Rattle.parity_writer.specs.Sound.{Snapshot}
 use Rattle.snap_fix.specs.Fixing.{facts_of}
 use Rattle.snap_fix.specs.Genuine.{AreGenuine}
 use Rattle.snap_sync.specs.Part.{AllTell, AllVerified, SyncRun}
-use Rattle.snap_sync.specs.Reading.{stripes_of}
+use Rattle.stripe_findings.specs.Reading.{stripes_of}
 use Rattle.snap_sync.specs.Soundness.{AreSound, changed_without, snapshot_with}
 use Rattle.snap_top.specs.Moment.{EveryMomentIsSound, HoldsFresh, IsDidOf, IsSupposed, IsSyncOf, StandsAfter, StandsIn, SyncsToItsEnd}
 use Rattle.snap_top.specs.Moment.{rows_closed, stripes_read}

@@ -16,10 +16,10 @@ use Rattle.snap_config.specs.declared.options.Command.TheVariants as commands
 use Rattle.snap_config.specs.declared.options.Options.{Options}
 use Rattle.snap_config.specs.declared.options.SyncWay.{SyncWay}
 use Rattle.snap_sync.specs.Ended.{IsFoundIn}
-use Rattle.snap_sync.specs.Findings.{events_of}
+use Rattle.stripe_findings.specs.Findings.{events_of}
 use Rattle.snap_sync.specs.Images.{rows_after}
 use Rattle.snap_sync.specs.Part.{AllTell, AllVerified, AreOfPartSyncs, IsFullSync, IsPartSync, NoneRose, SyncRun, layout_by, readings_by, run_trees, verified_stripes}
-use Rattle.snap_sync.specs.Reading.{StripeReading, is_verified, row_of, stripes_of}
+use Rattle.stripe_findings.specs.Reading.{StripeReading, is_verified, row_of, stripes_of}
 use Rattle.snap_sync.specs.Soundness.{AreSound, changed_without, snapshot_with}
 use Rattle.snap_top.specs.Ended.{IsEndStatus, WentToItsEnd}
 use Rattle.snap_top.specs.Opening.{IsConfigured, asked_by}

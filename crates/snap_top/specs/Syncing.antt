@@ -18,10 +18,11 @@ use Rattle.snap_sync.specs.Beginning.{LaysOut, BeginsNot}
 use Rattle.snap_sync.specs.Calls.{SyncPlan}
 use Rattle.snap_sync.specs.Closing.{closed, verified_in}
 use Rattle.snap_sync.specs.Course.{TouchesVault, plan_of}
-use Rattle.snap_sync.specs.Findings.{events_of}
+use Rattle.stripe_findings.specs.Findings.{events_of}
 use Rattle.snap_sync.specs.Images.{HasParityAfter}
 use Rattle.snap_sync.specs.Part.{SyncRun}
-use Rattle.snap_sync.specs.Reading.{StripeReading, ReadsFirst}
+use Rattle.stripe_findings.specs.Reading.{StripeReading}
+use Rattle.snap_sync.specs.Reading.{ReadsFirst}
 use Rattle.snap_sync.specs.Work.{more_findings}
 use Rattle.snap_sync.specs.declared.fault.SyncFault.{SyncFault}
 use Rattle.snap_sync.specs.declared.fault.SyncFault.TheVariants.{Scan, Run}

@@ -5,7 +5,7 @@ ghost use Rattle.file_table.specs.Table.{column_at};
 ghost use Rattle.file_table.specs.Valid.{IsHashedAt};
 ghost use Rattle.stripe_reader.specs.WindowValue.{Fits};
 ghost use Rattle.snap_sync.specs.Closing.{HasDigests, closed, with_closed, with_hashes};
-ghost use Rattle.snap_sync.specs.Reading.{is_verified, reading_at, readings_in};
+ghost use Rattle.stripe_findings.specs.Reading.{is_verified, reading_at, readings_in};
 
 use block_hash::Digest16;
 use file_table::{Info, Mark, Table};

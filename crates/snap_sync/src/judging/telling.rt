@@ -2,13 +2,13 @@
 ghost use Rattle.std.specs.Prelude.{◌≡◌, ◌<◌, All, length};
 ghost use Rattle.stripe_reader.specs.WindowValue.{Fits};
 ghost use Rattle.snap_report.specs.Told.{Told};
-ghost use Rattle.snap_sync.specs.Findings.{events_at, stripe_events};
-ghost use Rattle.snap_sync.specs.Reading.{reading_at};
+ghost use Rattle.stripe_findings.specs.Findings.{events_at, stripe_events};
+ghost use Rattle.stripe_findings.specs.Reading.{reading_at};
 
-use super::finding::finding;
 use disk_model::Sink;
 use file_table::Table;
 use snap_report::{Lines, Report, tell};
+use stripe_findings::finding;
 use stripe_reader::Window;
 
 // Tells what is found in the cell of a column, and how many findings that are.

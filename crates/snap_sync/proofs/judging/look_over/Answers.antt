@@ -1,6 +1,6 @@
 use Rattle.std.proofs.Common.{◌≡◌, ℕ, ◌<◌, eqb, length, ap, arith}
-use Rattle.snap_sync.specs.Findings.{events_of}
-use Rattle.snap_sync.proofs.SlotLemmas.{readings_to}
+use Rattle.stripe_findings.specs.Findings.{events_of}
+use Rattle.stripe_findings.proofs.SlotLemmas.{readings_to}
 use Rattle.snap_sync.proofs.TellingLemmas.{told_as, told_stripe_more}
 use Rattle.snap_sync.proofs.LookingLemmas.{one_at_most, chosen_more, synced_more, findings_more}
 use Rattle.snap_sync.proofs.judging.look_over.Goals as goal

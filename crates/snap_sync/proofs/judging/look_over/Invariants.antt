@@ -1,10 +1,10 @@
 use Rattle.std.proofs.Common.{◌≡◌, ◌≤◌, length, map, take}
 use Rattle.snap_report.specs.Told.{Told}
 use Rattle.snap_sync.specs.Closing.{verified_in}
-use Rattle.snap_sync.specs.Findings.{events_of}
-use Rattle.snap_sync.specs.Reading.{is_verified}
+use Rattle.stripe_findings.specs.Findings.{events_of}
+use Rattle.stripe_findings.specs.Reading.{is_verified}
 use Rattle.snap_sync.specs.Work.{more_findings}
-use Rattle.snap_sync.proofs.SlotLemmas.{readings_to}
+use Rattle.stripe_findings.proofs.SlotLemmas.{readings_to}
 use Rattle.snap_sync.proofs.judging.look_over.Given as goal
 
 abbrev pub invariant-loop-i : goal.invariant-loop-i

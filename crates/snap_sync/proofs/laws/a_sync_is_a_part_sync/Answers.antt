@@ -3,7 +3,7 @@ use Rattle.std.proofs.lemmas.List.{take_all}
 use Rattle.file_table.specs.Table.{TableValue}
 use Rattle.snap_sync.specs.Closing.{closed}
 use Rattle.snap_sync.specs.Part.{IsFullSync, trees_of}
-use Rattle.snap_sync.specs.Reading.{StripeReading, is_verified}
+use Rattle.stripe_findings.specs.Reading.{StripeReading, is_verified}
 use Rattle.snap_sync.proofs.ListFacts.{All-left, All-take}
 use Rattle.snap_sync.proofs.PartLemmas.{laid_by_trees, part_copies, part_sync, full_sync, read_as_given, unfailed}
 use Rattle.snap_sync.proofs.laws.a_sync_is_a_part_sync.Goals as goal

@@ -2,8 +2,8 @@ use Rattle.std.proofs.Common.{◌++◌, refl, ◌≡◌, ◌+◌, length, not, a
 use Rattle.std.specs.List.{count_by}
 use Rattle.std.proofs.lemmas.List.{nil_from_length}
 use Rattle.snap_sync.specs.Closing.{verified_in}
-use Rattle.snap_sync.specs.Findings.{events_of}
-use Rattle.snap_sync.specs.Reading.{StripeReading, is_verified}
+use Rattle.stripe_findings.specs.Findings.{events_of}
+use Rattle.stripe_findings.specs.Reading.{StripeReading, is_verified}
 use Rattle.snap_sync.proofs.FoundLemmas.{none_where_verified, verified_where_none, each_found, none_of, all_of}
 use Rattle.snap_sync.proofs.ListFacts.{count_others}
 use Rattle.snap_sync.proofs.ToldEvents.{told_not}

@@ -1,7 +1,7 @@
 use Rattle.std.proofs.Common.{◌<◌, false, length, sym, ap, ◌∙◌, arith}
 use Rattle.std.proofs.lemmas.List.{length-map}
 use Rattle.std.proofs.lemmas.List.FromFn.{length-map-range_with_len}
-use Rattle.snap_sync.specs.Reading.{is_verified, reading_at, readings_in}
+use Rattle.stripe_findings.specs.Reading.{is_verified, reading_at, readings_in}
 use Rattle.snap_sync.proofs.CloseLemmas.{in_hand, digests_in_hand, chosen_at, closed-chosen, closed-passed}
 use Rattle.snap_sync.proofs.StaysLemmas.{fits-differs}
 use Rattle.snap_sync.proofs.judging.closing.close_chosen.Goals as goal

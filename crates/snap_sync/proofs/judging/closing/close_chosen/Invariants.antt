@@ -1,6 +1,6 @@
 use Rattle.std.proofs.Common.{◌≡◌}
 use Rattle.snap_sync.specs.Closing.{closed}
-use Rattle.snap_sync.proofs.SlotLemmas.{readings_to}
+use Rattle.stripe_findings.proofs.SlotLemmas.{readings_to}
 use Rattle.snap_sync.proofs.judging.closing.close_chosen.Given as goal
 
 abbrev pub invariant-loop-i : goal.invariant-loop-i

@@ -2,7 +2,7 @@ use Rattle.std.proofs.Common.{◌<◌, ◌≤◌, length, sym, ◌∙◌, subst,
 use Rattle.std.proofs.lemmas.List.{length-map}
 use Rattle.file_table.specs.Table.{TableValue}
 use Rattle.file_table.specs.Valid.{IsHashedAt}
-use Rattle.snap_sync.specs.Reading.{reading_at, slot_in}
+use Rattle.stripe_findings.specs.Reading.{reading_at, slot_in}
 use Rattle.snap_sync.proofs.HashLemmas.{hashed_none, hashed_more, hashed_all, columns_of-hashed_to, digest_here, hashed_stripe, positions_once}
 use Rattle.snap_sync.proofs.judging.closing.hash_stripe.Goals as goal
 

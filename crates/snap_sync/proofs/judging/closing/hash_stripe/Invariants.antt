@@ -1,5 +1,5 @@
 use Rattle.std.proofs.Common.{◌≡◌}
-use Rattle.snap_sync.specs.Reading.{reading_at}
+use Rattle.stripe_findings.specs.Reading.{reading_at}
 use Rattle.snap_sync.proofs.HashLemmas.{hashed_to}
 use Rattle.snap_sync.proofs.judging.closing.hash_stripe.Given as goal
 

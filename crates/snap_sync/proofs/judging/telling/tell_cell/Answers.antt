@@ -1,6 +1,6 @@
 use Rattle.std.proofs.Common.{[], ◌∷◌, sym, ◌∙◌}
 use Rattle.snap_report.proofs.ToldLemmas.{told_nothing}
-use Rattle.snap_sync.proofs.FindingLemmas.{events_here}
+use Rattle.stripe_findings.proofs.FindingLemmas.{events_here}
 use Rattle.snap_sync.proofs.TellingLemmas.{told_as}
 use Rattle.snap_sync.proofs.judging.telling.tell_cell.Goals as goal
 

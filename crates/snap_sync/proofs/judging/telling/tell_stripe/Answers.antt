@@ -1,9 +1,9 @@
 use Rattle.std.proofs.Common.{rules, ◌≡◌, length, ap, ◌∙◌, arith}
 use Rattle.std.proofs.lemmas.List.{length-append}
 use Rattle.snap_report.proofs.ToldLemmas.{told_nothing}
-use Rattle.snap_sync.specs.Findings.{events_at}
-use Rattle.snap_sync.specs.Reading.{reading_at}
-use Rattle.snap_sync.proofs.FindingLemmas.{events_to, events_to-more}
+use Rattle.stripe_findings.specs.Findings.{events_at}
+use Rattle.stripe_findings.specs.Reading.{reading_at}
+use Rattle.stripe_findings.proofs.FindingLemmas.{events_to, events_to-more}
 use Rattle.snap_sync.proofs.TellingLemmas.{told_as, told_cell_more}
 use Rattle.snap_sync.proofs.judging.telling.tell_stripe.Goals as goal
 

@@ -1,7 +1,7 @@
 use Rattle.std.proofs.Common.{◌≡◌, ◌≤◌, length}
 use Rattle.snap_report.specs.Told.{Told}
-use Rattle.snap_sync.specs.Reading.{reading_at}
-use Rattle.snap_sync.proofs.FindingLemmas.{events_to}
+use Rattle.stripe_findings.specs.Reading.{reading_at}
+use Rattle.stripe_findings.proofs.FindingLemmas.{events_to}
 use Rattle.snap_sync.proofs.judging.telling.tell_stripe.Given as goal
 
 abbrev pub invariant-loop-d : goal.invariant-loop-d
