@@ -1,12 +1,13 @@
 -- What is kept of the levels of a stripe tells what was read of them.
-use Rattle.std.proofs.Common.{◌≡◌, ◌≢◌, ℕ, suc, ◌+◌, ◌-◌, ◌<◌, List, [], ◌∷◌, ◌++◌, length, get_or, replicate, Bool, true, false, None, Some, refl, sym, ap, ap₂, ◌∙◌, arith}
-use Rattle.std.specs.Prelude.{◌==◌, bytes_eq, if◌then◌else◌}
+use Rattle.std.proofs.Common.{◌≡◌, ◌≢◌, ℕ, suc, ◌+◌, ◌-◌, ◌*◌, ◌/◌, ◌<◌, List, [], ◌∷◌, ◌++◌, length, get_or, replicate, Bool, true, false, None, Some, refl, sym, ap, ap₂, ◌∙◌, subst, arith}
+use Rattle.std.specs.Prelude.{◌==◌, bytes_eq, slice_range, if◌then◌else◌}
 use Rattle.std.specs.List.{range_with_len, flat_map}
 use Rattle.std.specs.Cmp.Lexicographic.{bytes_decides}
 use Rattle.std.proofs.lemmas.Bool.{eqb-true, eqb-false}
 use Rattle.std.proofs.lemmas.List.{append-nil, length-map, take_all}
 use Rattle.std.proofs.lemmas.List.FromFn.{length-range_with_len, get_or-range_with_len}
 use Rattle.std.proofs.lemmas.Simd.{map-map}
+use Rattle.cauchy.specs.Levels.{HoldsLevel}
 use Rattle.cauchy.specs.Matrix.{parity_of as level_of, parity_byte}
 use Rattle.disk_model.specs.Bytes.{resized}
 use Rattle.disk_model.specs.Vault.{VaultView}
@@ -27,6 +28,13 @@ use Rattle.snap_scrub.specs.Reading.{ScrubReading}
 -- the row of a stripe of a window
 pub row_of_window : (stripes : List ℕ) (window : WindowValue) (i : ℕ) → row_of (reading_at stripes window i) ≡ row_at window i
 row_of_window stripes window i = map-map bytes_of (slot_in i) window.lanes
+
+-- the sum of a level, as it is cut out of those of its stripe
+pub sum_in : (sums : List ℕ) (size level : ℕ) (row : Row) → length sums ≡ 6 * size → HoldsLevel size row level sums
+    → slice_range sums (level * (length sums / 6)) (level * (length sums / 6) + length sums / 6) ≡ level_of level size row
+sum_in sums size level row room holds =
+    let one : length sums / 6 ≡ size = omega (arith, room) in
+    subst (λ (n : ℕ). slice_range sums (level * n) (level * n + n) ≡ level_of level size row) (sym one) holds
 
 length-level_of : (level size : ℕ) (row : Row) → length (level_of level size row) ≡ size
 unfolding level_of

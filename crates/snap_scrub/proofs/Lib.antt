@@ -12,3 +12,5 @@ mod MarkLemmas
 mod OverLemmas
 mod SavingLemmas
 mod EndLemmas
+mod LawLemmas
+mod UnreadLemmas

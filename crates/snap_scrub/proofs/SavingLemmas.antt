@@ -8,13 +8,13 @@ use Rattle.content_file.specs.Spelling.{spelling}
 use Rattle.disk_model.specs.Cause.{RoseBy}
 use Rattle.disk_model.specs.Files.{Files}
 use Rattle.disk_model.specs.Ran.{RanLog, log_of}
-use Rattle.disk_model.specs.Vault.{VaultView, VaultCall, SomeCalls, copies_of, state_of}
+use Rattle.disk_model.specs.Vault.{VaultView, state_of}
 use Rattle.disk_model.specs.declared.draft.Draft.{Draft}
 use Rattle.disk_model.specs.declared.draft.Draft.TheVariants.{Absent}
 use Rattle.disk_model.specs.declared.fault.Failed.{Failed}
-use Rattle.disk_model.proofs.VaultLemmas.{changes_start, stays_then}
+use Rattle.disk_model.proofs.VaultLemmas.{stays_then}
 use Rattle.file_table.specs.Table.{TableValue}
-use Rattle.snap_scrub.specs.Course.{TouchesVault, save_calls}
+use Rattle.snap_scrub.specs.Course.{TouchesVault}
 use Rattle.stripe_findings.specs.Reading.{stripes_of}
 use Rattle.snap_scrub.specs.Reading.{ScrubReading, LevelsAreRead, cells_of, level_calls, unread_levels}
 use Rattle.snap_scrub.specs.Room.{piece_size}
@@ -28,27 +28,23 @@ may_same bytes files = record { parities = refl; contents = λ copy. inl refl }
 no_draft_still : (old mid : VaultView) → mid.drafts ≡ old.drafts → HasNoDraft old → HasNoDraft mid
 no_draft_still old mid same none copy = ap (λ (drafts : List Draft). get_or drafts copy Absent) same ∙ none copy
 
-saves_some : (copies : ℕ) (after : TableValue) (readings : List ScrubReading) → readings ≢ [] → save_calls copies after readings ≡ piecewise_calls piece_size copies (spelling after)
-saves_some copies after [] some = absurd (some refl)
-saves_some copies after (reading ∷ readings) some = refl
-
-module _ (table after : TableValue) (readings : List ScrubReading) (old mid new : VaultView) (levels : LevelsAreRead table readings old mid) where
-  calls_after : SomeCalls mid new → SomeCalls old new
-  calls_after more = record { done = flat_map (level_calls table.shape.block_size) readings ++ more.done; goes_on = vault_goes_on old mid new _ more.done levels.goes_on more.goes_on }
-
-  -- the table was saved, up to the first call that failed
-  pub touches_saved : {T : Type 0} (result : Result T Failed) → readings ≢ [] → Saves after result mid new → TouchesVault table after readings (is_err result) old new
-  touches_saved result some saves = record {
-    calls = calls_after saves.calls;
-    are = levels.are;
-    read = log_of (state_of mid);
-    unread = levels.unread;
-    made = levels.goes_on.calls;
-    ran = subst (λ (calls : List VaultCall). RanLog calls (is_err result) (log_of (state_of mid)) (log_of (state_of new))) (sym (saves_some (copies_of old) after readings some))
-        (subst (λ (n : ℕ). RanLog (piecewise_calls piece_size n (spelling after)) (is_err result) (log_of (state_of mid)) (log_of (state_of new))) levels.goes_on.copies saves.ran);
-    changes = stays_then (MaySave (spelling after)) old mid new levels.goes_on.tells levels.changes saves.changes (may_same (spelling after));
-    drafts = λ none. saves.drafts (no_draft_still old mid levels.drafts.state none);
-  }
+-- the table was saved, up to the first call that failed
+touches_saved : {T : Type 0} (table after : TableValue) (reading : ScrubReading) (readings : List ScrubReading) (old mid new : VaultView) (result : Result T Failed)
+    → LevelsAreRead table (reading ∷ readings) old mid → Saves after result mid new → TouchesVault table after (reading ∷ readings) (is_err result) old new
+touches_saved table after reading readings old mid new result levels saves = record {
+  calls = record {
+    done = flat_map (level_calls table.shape.block_size) (reading ∷ readings) ++ saves.calls.done;
+    goes_on = vault_goes_on old mid new _ saves.calls.done levels.goes_on saves.calls.goes_on;
+  };
+  are = levels.are;
+  read = log_of (state_of mid);
+  unread = levels.unread;
+  made = levels.goes_on.calls;
+  ran = subst (λ (n : ℕ). RanLog (piecewise_calls piece_size n (spelling after)) (is_err result) (log_of (state_of mid)) (log_of (state_of new))) levels.goes_on.copies saves.ran;
+  changes = stays_then (MaySave (spelling after)) old mid new levels.goes_on.tells levels.changes saves.changes (may_same (spelling after));
+  drafts = λ none. saves.drafts (no_draft_still old mid levels.drafts.state none);
+  rests = λ same. let clash : reading ∷ readings ≡ [] = same in cc;
+}
 
 -- no stripe was read, and nothing was saved
 touches_rested : (table after : TableValue) (old mid : VaultView) → LevelsAreRead table [] old mid → TouchesVault table after [] false old mid
@@ -59,8 +55,9 @@ touches_rested table after old mid levels = record {
   unread = levels.unread;
   made = levels.goes_on.calls;
   ran = record { later = omega arith; done = []; are = refl; grown = record { told = λ t. t; more = λ t. sym (append-nil mid.calls) } };
-  changes = stays_then (MaySave (spelling after)) old mid mid levels.goes_on.tells levels.changes (changes_start (MaySave (spelling after)) mid (may_same (spelling after))) (may_same (spelling after));
+  changes = levels.changes;
   drafts = λ none. no_draft_still old mid levels.drafts.state none;
+  rests = λ same. levels.drafts;
 }
 
 not_err : {T E : Type 0} (result : Result T E) → IsOk result → is_err result ≡ false
@@ -80,7 +77,7 @@ touch_by {V} view table after [] stripes saved old mid new is levels rests saves
     subst (λ (v : V). TouchesVault table after [] (is_err saved) old (view v)) (sym rest.1)
     (subst (λ (b : Bool). TouchesVault table after [] b old (view mid)) (sym (not_err saved rest.0)) (touches_rested table after old (view mid) levels))
 touch_by view table after (reading ∷ readings) stripes saved old mid new is levels rests saves =
-    touches_saved table after (reading ∷ readings) old (view mid) (view new) levels saved (λ same. let clash : reading ∷ readings ≡ [] = same in cc)
+    touches_saved table after reading readings old (view mid) (view new) saved levels
     (saves (λ none. let clash : stripes_of (cells_of (reading ∷ readings)) ≡ [] = sym is ∙ none in cc))
 
 -- stripes were read where readings are there

@@ -4,10 +4,11 @@ use Rattle.std.specs.List.{flat_map}
 use Rattle.content_file.specs.Save.{MaySave, HasSaved, HasNoDraft, piecewise_calls}
 use Rattle.content_file.specs.Spelling.{spelling}
 use Rattle.disk_model.specs.Cause.{RoseBy, Grows}
+use Rattle.disk_model.specs.Files.{Files, Stays}
 use Rattle.disk_model.specs.Folder.{FolderView}
 use Rattle.disk_model.specs.Ran.{Log, RanLog, log_of}
 use Rattle.disk_model.specs.Sink.{SinkView}
-use Rattle.disk_model.specs.Vault.{VaultView, VaultCall, SomeCalls, ChangesBy, Holds, copies_of, state_of}
+use Rattle.disk_model.specs.Vault.{VaultView, VaultCall, SomeCalls, ChangesBy, DraftsStay, Holds, copies_of, state_of}
 use Rattle.file_table.specs.Table.{TableValue}
 use Rattle.snap_config.specs.declared.options.ScrubWay.{ScrubWay}
 use Rattle.snap_report.specs.EndLines.{scrub_text}
@@ -47,8 +48,13 @@ abbrev pub save_calls : ℕ → TableValue → List ScrubReading → List VaultC
 save_calls copies after [] = []
 save_calls copies after (reading ∷ readings) = piecewise_calls piece_size copies (spelling after)
 
+-- what may stand of the files at any moment: what stood where no stripe was read; else each copy may spell the table, and parity stays
+abbrev pub MayStandScrubbed : TableValue → List ScrubReading → Files → Files → Type 0
+MayStandScrubbed after [] = Stays
+MayStandScrubbed after (reading ∷ readings) = MaySave (spelling after)
+
 -- What was done to the vault by a scrub that read these stripes: the levels of those whose cells are all right were read, and then the
--- table was saved, up to the first call that failed. Parity stays, and each copy of each image is as before or spells the table.
+-- table was saved, up to the first call that failed. Where no stripe was read nothing is changed.
 pub record TouchesVault (table after : TableValue) (readings : List ScrubReading) (failed : Bool) (old new : VaultView) : Type 0 where
   pub calls : SomeCalls old new
   pub are : All (AreLevelsOf old table.shape.block_size) readings
@@ -56,8 +62,9 @@ pub record TouchesVault (table after : TableValue) (readings : List ScrubReading
   pub unread : RoseBy (sum_by unread_levels readings) old.faults read.faults
   pub made : Grows old.tells_calls old.calls read.tells read.calls (flat_map (level_calls table.shape.block_size) readings)
   pub ran : RanLog (save_calls (copies_of old) after readings) failed read (log_of (state_of new))
-  pub changes : ChangesBy (MaySave (spelling after)) old new
+  pub changes : ChangesBy (MayStandScrubbed after readings) old new
   pub drafts : HasNoDraft old → HasNoDraft new
+  pub rests : readings ≡ [] → DraftsStay old new
 
 -- The stripes of the plan were read, in order, and just what was found in them was told, with a last line behind it.
 pub record Course {W R : Type 0} (view : W → SinkView) (standing : R → ReportView) (stands : R → List Event → Type 0)
@@ -88,6 +95,7 @@ pub record Breaks {W R : Type 0} (view : W → SinkView) (standing : R → Repor
     (table : TableValue) (way : ScrubWay) (now : ℕ) (old new : Outside W R) : Type 0 where
   pub readings : List ScrubReading
   pub course : Course view standing stands table way now readings true [] old new
+  pub settled : Settled (told_of view old.lines) → Settled (told_of view new.lines)
   pub rose : RoseBy (sum_by unread_levels readings + 1) old.vault.faults new.vault.faults
 
 -- Why a scrub did not end: memory ran out before anything was touched, or a call of the vault that saves the table failed. A folder that

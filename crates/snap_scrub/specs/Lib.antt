@@ -7,5 +7,6 @@ pub mod Room
 pub mod Looking
 pub mod Course
 pub mod Levels
+pub mod Summing
 pub mod Windows
 pub mod Saving

@@ -13,6 +13,7 @@
 mod beginning;
 mod cells;
 mod found;
+pub mod laws;
 mod levels;
 mod looking;
 mod marking;
@@ -20,6 +21,7 @@ mod order;
 mod planning;
 mod room;
 mod scrubbing;
+mod summing;
 mod verdict;
 mod windows;
 

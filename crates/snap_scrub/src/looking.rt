@@ -1,12 +1,14 @@
 // A stripe of a window that was read: what is found in it.
-ghost use Rattle.std.specs.Prelude.{◌≡◌, ◌<◌, ◌≤◌, All, length};
+ghost use Rattle.std.specs.Prelude.{◌≡◌, ◌<◌, ◌≤◌, All, length, slice_index_or};
 ghost use Rattle.parity_writer.specs.LevelReading.{ReadsLevels};
+ghost use Rattle.snap_scrub.specs.declared.room.Sums.{Sums};
 ghost use Rattle.snap_scrub.specs.Looking.{LooksAtOne, scene};
 ghost use Rattle.snap_scrub.specs.Room.{IsRoomFor};
+ghost use Rattle.snap_scrub.specs.Summing.{HasSums};
 
 use crate::cells::tell_cells;
 use crate::levels::tell_levels;
-use crate::room::Room;
+use crate::room::{Room, Sums};
 use crate::verdict::Found;
 use disk_model::{Sink, Vault};
 use file_table::Table;
@@ -27,6 +29,14 @@ fn read_all<V: Vault>(table: &Table, stripe: u32, vault: &mut V, levels: &mut Le
     read_levels(vault, stripe, levels);
 }
 
+// The sums of the stripe of a number.
+fn sums_of(sums: &[Sums], i: u32) -> &[u8]
+    requires { i < length sums.now }
+    ensures { (other : Sums) → result.now ≡ (slice_index_or sums.now i other).blocks.items }
+{
+    sums[i as usize].blocks.as_slice()
+}
+
 /// Tells what is found in a stripe of the window. Its levels are read where nothing is found in its cells.
 pub(crate) fn look_at<V: Vault, W: Sink>(
     table: &Table,
@@ -41,9 +51,11 @@ pub(crate) fn look_at<V: Vault, W: Sink>(
     requires count { length stripes.now ≡ room.old.window.count }
     requires within { All (λ stripe. stripe < length table.now.infos) stripes.now }
     requires stripe { i < length stripes.now }
+    requires sums { HasSums table.now room.old i }
     requires levels { (V.view vault.old).levels ≡ table.now.shape.levels }
     ensures room { IsRoomFor table.now room.new }
     ensures window { room.new.window ≡ room.old.window }
+    ensures sums { room.new.sums ≡ room.old.sums }
     ensures looks { LooksAtOne W.view standing stands table.now stripes.now room.old.window i result
         (scene (V.view vault.old) lines.old reports.old.items) (scene (V.view vault.new) lines.new reports.new.items) }
 {
@@ -53,14 +65,6 @@ pub(crate) fn look_at<V: Vault, W: Sink>(
     }
     let stripe = stripes[i as usize];
     read_all(table, stripe, vault, &mut room.levels);
-    tell_levels(
-        table,
-        &room.window,
-        i,
-        &room.levels,
-        stripe,
-        room.block.as_mut_slice(),
-        lines,
-        reports,
-    )
+    let sums = sums_of(room.sums.as_slice(), i);
+    tell_levels(table, &room.levels, stripe, sums, lines, reports)
 }

@@ -1,6 +1,6 @@
 // The memory of a scrub.
-ghost use Rattle.std.specs.Prelude.{IfOk};
-ghost use Rattle.snap_scrub.specs.Room.{IsRoomFor};
+ghost use Rattle.std.specs.Prelude.{◌≡◌, All, IfOk, length};
+ghost use Rattle.snap_scrub.specs.Room.{HaveSize, IsRoomFor};
 
 use disk_model::NoMemory;
 use file_table::Table;
@@ -11,6 +11,27 @@ use stripe_reader::{Starts, Window, stripe_count};
 // How many bytes are written to a draft at once.
 const PIECE: usize = 65_536;
 
+/// Room for the sums of a stripe.
+#[derive(Drop)]
+pub(crate) struct Sums {
+    /// Six blocks, one after another.
+    pub blocks: Vec<u8>,
+}
+
+// Room for the sums of so many stripes.
+fn make_sums(alloc: Global, stripes: u32, block_size: u32) -> Result<Vec<Sums>, NoMemory>
+    ensures count { IfOk result (λ sums. length sums.items ≡ stripes) }
+    ensures each { IfOk result (λ sums. All (HaveSize block_size) sums.items) }
+{
+    let mut sums = Vec::with_capacity(alloc, stripes as usize)?;
+    for _ in 0..stripes {
+        sums.push(Sums {
+            blocks: vec![in alloc; 0u8; 6 * block_size as usize]?,
+        })?;
+    }
+    Ok(sums)
+}
+
 /// All that a scrub needs besides its table, its plan and its verdicts.
 #[derive(Drop)]
 pub(crate) struct Room {
@@ -18,8 +39,8 @@ pub(crate) struct Room {
     pub window: Window,
     /// The levels of a stripe.
     pub levels: Levels,
-    /// A block for a sum.
-    pub block: Vec<u8>,
+    /// The sums of each stripe of the window.
+    pub sums: Vec<Sums>,
     /// A piece of the table's spelling.
     pub piece: Vec<u8>,
 }
@@ -35,7 +56,7 @@ impl Room {
             starts: Starts::recorded(alloc, table)?,
             window: Window::make(alloc, table.disks(), stripes, block_size)?,
             levels: Levels::make(alloc, block_size)?,
-            block: vec![in alloc; 0u8; block_size as usize]?,
+            sums: make_sums(alloc, stripes, block_size)?,
             piece: vec![in alloc; 0u8; PIECE]?,
         })
     }

@@ -1,13 +1,15 @@
 // The stripes of a scrub, window by window.
-ghost use Rattle.std.specs.Prelude.{◌≡◌, ◌+◌, ◌<◌, ◌≤◌, All, length, map, take, drop};
+ghost use Rattle.std.specs.Prelude.{ℕ, ◌≡◌, ◌+◌, ◌<◌, ◌≤◌, All, length, map, take, drop};
 ghost use Rattle.snap_scrub.specs.Looking.{LooksInto, LooksOver, scene};
 ghost use Rattle.snap_scrub.specs.Room.{IsRoomFor, IsWorkFor};
+ghost use Rattle.snap_scrub.specs.Summing.{HasSums};
 ghost use Rattle.snap_scrub.specs.Windows.{KeepsWork, LooksWindow};
 
 use crate::beginning::Work;
 use crate::found::verdict;
 use crate::looking::look_at;
 use crate::room::Room;
+use crate::summing::sum_stripes;
 use crate::verdict::Verdict;
 use disk_model::{Folder, Sink, Vault};
 use file_table::Table;
@@ -31,6 +33,7 @@ fn look_into<V: Vault, W: Sink>(
     requires count { room.old.window.count ≡ length stripes.now }
     requires within { All (λ stripe. stripe < length table.now.infos) stripes.now }
     requires verdicts { done + length stripes.now ≤ length verdicts.old }
+    requires sums { (i : ℕ) → i < length stripes.now → HasSums table.now room.old i }
     requires levels { (V.view vault.old).levels ≡ table.now.shape.levels }
     ensures room { IsRoomFor table.now room.new }
     ensures window { room.new.window ≡ room.old.window }
@@ -47,7 +50,8 @@ fn look_into<V: Vault, W: Sink>(
     findings
 }
 
-// Reads so many stripes after some into the window, by so many readers at most, and looks at them.
+// Reads so many stripes after some into the window, by so many readers at most, makes their sums by as many threads, and looks
+// at them.
 fn look_window<R: Threads + Sync, F: Folder, V: Vault, W: Sink>(
     rt: &R,
     table: &Table,
@@ -81,6 +85,13 @@ fn look_window<R: Threads + Sync, F: Folder, V: Vault, W: Sink>(
         stripes,
         readers,
         &mut room.window,
+    );
+    sum_stripes(
+        rt,
+        &room.window,
+        table.shape().levels,
+        readers,
+        room.sums.as_mut_slice(),
     );
     look_into(
         table,

@@ -1,10 +1,12 @@
-use Rattle.std.proofs.Common.{◌≡◌, ◌++◌, [], List, get_or, refl, sym, ap, ◌∙◌, arith}
+use Rattle.std.specs.Prelude.{slice_index_or}
+use Rattle.snap_scrub.specs.declared.room.Sums.{Sums}
+use Rattle.std.proofs.Common.{ℕ, ◌≡◌, ◌*◌, ◌++◌, length, [], List, get_or, refl, sym, ap, ◌∙◌, subst, arith}
 use Rattle.parity_writer.specs.WindowRow.{row_at}
 use Rattle.snap_report.proofs.ToldLemmas.{told_then}
 use Rattle.snap_report.specs.declared.events.Event.{Event}
 use Rattle.stripe_findings.specs.Findings.{stripe_events}
 use Rattle.stripe_findings.specs.Reading.{reading_at}
-use Rattle.snap_scrub.specs.Levels.{kept_events}
+use Rattle.snap_scrub.specs.Levels.{HoldSums, kept_events}
 use Rattle.snap_scrub.specs.Reading.{ScrubReading}
 use Rattle.snap_scrub.proofs.FoundLemmas.{found_as}
 use Rattle.snap_scrub.proofs.LevelLemmas.{levels_say, row_of_window}
@@ -27,6 +29,15 @@ returns-then-found-gt0-clause-looks g c =
       levels = levels_unread table cells _;
     }
 
+pub sums_of-sums-requires : goal.sums_of-sums-requires
+sums_of-sums-requires g c = omega (arith, c.requires.sums.there, ap length c.as_slice.ensures.value)
+
+pub tell_levels-requires-clause-sums : goal.tell_levels-requires-clause-sums
+tell_levels-requires-clause-sums g c =
+    let other : Sums = record { blocks = c.args.room.now.piece } in
+    let own = c.sums_of-sums.ensures other ∙ ap (λ (all : List Sums). (slice_index_or all c.args.i other).blocks.items) c.as_slice.ensures.value in
+    ap length own ∙ c.requires.room.sums c.args.i other c.requires.sums.there ∙ ap (λ (n : ℕ). 6 * n) (sym c.read_all.ensures.size)
+
 pub returns-clause-looks : goal.returns-clause-looks
 returns-clause-looks g c =
     let table = c.args.table.now in
@@ -39,14 +50,20 @@ returns-clause-looks g c =
     let reading : ScrubReading = record { cells = cells; levels = reads.readings } in
     let row = row_at window c.args.i in
     let zero : found.result.count ≡ 0 = omega (arith, c.if-found-gt0.false) in
+    let size = c.read_all.ensures.size in
     let says = levels_say table.shape.block_size stripe table.shape.levels row levels _ _ reads table cells refl refl (sym (row_of_window c.args.stripes.now window c.args.i))
-    ∙ ap (λ n. kept_events n stripe row levels table.shape.levels) (sym c.requires.room.window.block_size) in
+    ∙ ap (λ n. kept_events n stripe row levels table.shape.levels) (sym size) in
+    let other : Sums = record { blocks = c.args.room.now.piece } in
+    let own = c.sums_of-sums.ensures other ∙ ap (λ (all : List Sums). (slice_index_or all c.args.i other).blocks.items) c.as_slice.ensures.value in
+    let sums : HoldSums levels.block_size row table.shape.levels c.sums_of-sums.result.now
+    = subst (λ (n : ℕ). HoldSums n row table.shape.levels c.sums_of-sums.result.now) (sym size)
+    (subst (λ (bytes : List ℕ). HoldSums table.shape.block_size row table.shape.levels bytes) (sym own) (c.requires.sums.hold other)) in
     record {
       reading = reading;
       cells_are = refl;
       due = read_due table reading found.result.count found.ensures.found.count zero reads.as_many;
-      found_are = found_as _ _ _ (read_events table reading found.result.count _ found.ensures.found.count zero says) c.tell_levels.ensures.found;
+      found_are = found_as _ _ _ (read_events table reading found.result.count _ found.ensures.found.count zero says) (c.tell_levels.ensures.found row sums);
       told = told_as _ _ _ _ _ _ _ _ _ _ (ap (λ (events : List Event). stripe_events table cells ++ events) says)
-          (told_then _ _ _ _ _ _ _ _ _ _ _ _ found.ensures.told c.tell_levels.ensures.told);
+          (told_then _ _ _ _ _ _ _ _ _ _ _ _ found.ensures.told (c.tell_levels.ensures.told row sums));
       levels = levels_read table cells table.shape.block_size stripe table.shape.levels levels.levels _ _ reads refl refl;
     }

@@ -54,6 +54,7 @@ returns-then-is_err-clause-failed g c =
     record {
       readings = over.readings;
       course = course_of _ _ _ _ _ _ _ _ _ _ _ over c.args.way.now c.args.now true [] after vault c.look_over-findings.new.lines c.in-Ok.ensures.plan after_is broke (puts_nothing _ _);
+      settled = over.looks.told.settled;
       rose = rose_once_more table after over.readings first vault broke;
     }
 

@@ -11,6 +11,7 @@ invariant-loop-i g l =
           (scene (g.V.Vault.view l.fn.vault) l.fn.lines l.fn.reports.items) (scene (g.V.Vault.view l.vault) l.lines l.reports.items);
       room : IsRoomFor l.table l.room;
       window : l.room.window ≡ l.fn.room.window;
+      sums : l.room.sums ≡ l.fn.room.sums;
       many : length l.verdicts ≡ length l.fn.verdicts;
       levels : (g.V.Vault.view l.vault).levels ≡ l.table.shape.levels;
     }
