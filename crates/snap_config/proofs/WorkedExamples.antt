@@ -34,14 +34,15 @@ unknown_option : line (codes "sync" ∷ codes "--frob" ∷ []) ≡ Err Usage
 unfolding clap_on_literals reading_among usage_faults matches_in first_option
 unknown_option = refl
 
--- a word that is no command, and a command that is not built
+-- a word that is no command
 unknown_word : line (codes "frob" ∷ []) ≡ Err (Command (codes "frob"))
 unfolding clap_on_literals reading_among usage_faults matches_in first_option
 unknown_word = refl
 
-scrub_is_not_built : reading (codes "snapraid" ∷ codes "scrub" ∷ []) ≡ Err (Command (codes "scrub"))
+-- each command is built
+scrub_is_built : reading (codes "snapraid" ∷ codes "scrub" ∷ []) ≡ line (codes "scrub" ∷ [])
 unfolding clap_on_literals reading_among usage_faults matches_in first_option
-scrub_is_not_built = refl
+scrub_is_built = refl
 
 -- what holds where nothing is said
 plain_scrub : line (codes "scrub" ∷ []) ≡ Ok (record {

@@ -16,8 +16,9 @@ pub enum CommandName {
 }
 
 /// The commands that are built. The word of any other is an unknown command.
-pub const BUILT_COMMANDS: [CommandName; 5] = [
+pub const BUILT_COMMANDS: [CommandName; 6] = [
     CommandName::Sync,
+    CommandName::Scrub,
     CommandName::Check,
     CommandName::Fix,
     CommandName::Status,

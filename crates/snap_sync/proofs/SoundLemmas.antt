@@ -21,7 +21,7 @@ use Rattle.parity_writer.specs.Parity.{Row, Rows, HasLevel, HoldsRows, no_rows}
 use Rattle.parity_writer.specs.Sound.{IsSynced, IsBlockAt, IsBlockOf, IsRowOf, Snapshot, Sound, real_length}
 use Rattle.array_scan.specs.Keeping.{KeepsStripes, SameBlock, IsMarkedSynced}
 use Rattle.snap_sync.specs.Calls.{SyncPlan, no_reading}
-use Rattle.snap_sync.specs.Images.{IsAtWork, KeepsSynced, MayStand, Opening, AtWork, rows_after, table_after}
+use Rattle.snap_sync.specs.Images.{IsAtWork, KeepsSynced, MayStand, Opening, AtWork, StandsBy, rows_after, table_after}
 use Rattle.stripe_findings.specs.Reading.{StripeReading, is_verified, row_of}
 use Rattle.snap_sync.specs.Reading.{ReadsFirst}
 use Rattle.snap_sync.specs.Soundness.{AreSound, AreSoundAfter, IsLoadedFrom, StandsOn, changed_without, row_or, snapshot_with}
@@ -257,3 +257,12 @@ module _ (finds : FindsCells) (leaves : LeavesTheOthers) (gives : GivesItsHashes
     pub moment_sound : MayStand plan readings old new → AreSoundAfter plan readings new snapshot is_changed
     moment_sound (Opening saves) = opening_sound saves
     moment_sound (AtWork c k work) = working_sound c k work
+
+    -- by the number of its rows
+    pub moment_by : (count : ℕ) → StandsBy plan readings count old new
+        → (count ≤ length readings) × AreSound plan.copies new (snapshot_with (rows_after plan readings count) snapshot) (changed_without (rows_after plan readings count) is_changed)
+    unfolding opening_sound working_sound
+    moment_by count (inl (none, saves)) =
+        subst (λ (n : ℕ). (n ≤ length readings) × AreSound plan.copies new (snapshot_with (rows_after plan readings n) snapshot) (changed_without (rows_after plan readings n) is_changed)) (sym none)
+        (omega arith, (opening_sound saves).sound)
+    moment_by count (inr (c, work)) = (work.within, (working_sound c count work).sound)

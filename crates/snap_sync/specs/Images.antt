@@ -49,6 +49,11 @@ pub data MayStand (plan : SyncPlan) (readings : List StripeReading) (old new : F
   Opening : MaySave (spelling plan.start) old new → MayStand plan readings old new
   AtWork : (c k : ℕ) → IsAtWork plan readings c k old new → MayStand plan readings old new
 
+-- The same by how many of the stripes that were read have their rows in parity: none while the laid out table is being saved.
+abbrev pub StandsBy : SyncPlan → List StripeReading → ℕ → Files → Files → Type 0
+StandsBy plan readings count old new =
+    ((count ≡ 0) × MaySave (spelling plan.start) old new) ⊎ ((c : ℕ) × IsAtWork plan readings c count old new)
+
 -- a place outside of the blocks of the stripes that have a row
 abbrev pub IsOutsideRows : ℕ → Rows → ℕ → Type 0
 IsOutsideRows block_size rows i = (stripe : ℕ) (row : Row) → rows stripe ≡ Some row → IsOutside block_size stripe i

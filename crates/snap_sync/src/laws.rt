@@ -18,14 +18,14 @@ ghost use Rattle.snap_sync.specs.Calls.{SyncPlan};
 ghost use Rattle.snap_sync.specs.Closing.{closed};
 ghost use Rattle.snap_sync.specs.Ended.{IsEndOf, IsFoundIn, NotAChangedBlock};
 ghost use Rattle.stripe_findings.specs.Findings.{stripe_events, events_of};
-ghost use Rattle.snap_sync.specs.Images.{HasParityAfter, MayStand, table_after};
+ghost use Rattle.snap_sync.specs.Images.{HasParityAfter, MayStand, StandsBy, rows_after, table_after};
 ghost use Rattle.snap_sync.specs.Part.{AllVerified, AreOfPartSyncs, IsFullSync, IsPartSync, IsVerifiedBy};
 ghost use Rattle.snap_sync.specs.Part.{IsListedRun, IsToldRun, NoneRose};
 ghost use Rattle.snap_sync.specs.Part.{SyncRun, TreesVerifyAll, layout_by, readings_by, run_kept, run_table, run_trees, run_verified};
 ghost use Rattle.stripe_findings.specs.Reading.{AreRead, StripeReading, is_unread, is_verified, slot_of, stripes_of};
 ghost use Rattle.snap_sync.specs.Reading.{ReadsFirst};
 ghost use Rattle.snap_sync.specs.Resumed.{EndsAs, IsFoundAt};
-ghost use Rattle.snap_sync.specs.Soundness.{AreSound, AreSoundAfter, StandsOn};
+ghost use Rattle.snap_sync.specs.Soundness.{AreSound, AreSoundAfter, StandsOn, changed_without, snapshot_with};
 
 use crate::SyncEnd;
 use array_scan::laws::{
@@ -122,6 +122,22 @@ pub fn every_moment_is_sound()
         length olds ≡ length plan.start.columns → ReadsFirst plan.start (readings ++ ahead) olds news →
         StandsOn plan loaded old → AreSound plan.copies old snapshot is_changed →
         MayStand plan readings old new → AreSoundAfter plan readings new snapshot is_changed }
+{
+    a_cell_stands_at_its_position();
+    closing_a_stripe_leaves_the_others();
+    closing_a_stripe_gives_its_hashes();
+    one_table_has_a_spelling();
+}
+
+/// Which number that is: of so many stripes parity has the rows at that moment.
+pub fn a_moment_is_sound_with_its_rows()
+    ensures { (plan : SyncPlan) (loaded : TableValue) (readings ahead : List StripeReading) (olds news : List FolderView)
+        (old new : Files) (snapshot : Snapshot) (is_changed : ℕ → ℕ → Bool) (count : ℕ) →
+        length olds ≡ length plan.start.columns → ReadsFirst plan.start (readings ++ ahead) olds news →
+        StandsOn plan loaded old → AreSound plan.copies old snapshot is_changed →
+        StandsBy plan readings count old new → (count ≤ length readings)
+        × AreSound plan.copies new (snapshot_with (rows_after plan readings count) snapshot)
+        (changed_without (rows_after plan readings count) is_changed) }
 {
     a_cell_stands_at_its_position();
     closing_a_stripe_leaves_the_others();

@@ -18,7 +18,7 @@ use Rattle.disk_model.specs.declared.fault.OpenFault.{OpenFault}
 use Rattle.disk_model.specs.declared.fault.OpenFault.TheVariants as opens
 use Rattle.content_file.specs.declared.fault.Damage.{Damage}
 use Rattle.content_file.specs.Load.{LoadsTable, LoadFails, LoadIsDamaged, IsUseless, IsReadOf}
-use Rattle.content_file.specs.Spelling.{IsContent, spelling}
+use Rattle.content_file.specs.Spelling.{IsContent}
 use Rattle.content_file.specs.declared.loading.LoadFault.TheVariants as loads
 use Rattle.file_table.specs.Table.{TableValue}
 use Rattle.snap_config.specs.Config.{read_setup}
@@ -43,6 +43,8 @@ use Rattle.snap_top.specs.Array.{Matches, DiffersIn}
 use Rattle.snap_top.specs.Complete.{BreaksVault, BreaksFolder, HasContentOrNone, MayBegin, AreHeld, IsSmooth, held_vault, left_vault, SmoothRunsAreDone}
 use Rattle.snap_top.specs.Does.{DoesCommand}
 use Rattle.snap_config.specs.declared.options.SyncWay.{SyncWay}
+use Rattle.snap_scrub.specs.Marks.{scrubbed}
+use Rattle.snap_top.specs.Scrubbing.{ScrubBreaks, ScrubsBy}
 use Rattle.snap_top.specs.Syncing.{SyncsBy, SyncBreaks, SyncRefuses, answer_of}
 use Rattle.snap_top.specs.Task.{Task, Did, Left}
 use Rattle.snap_top.specs.End.{status_of, ending_status, refusal_status, words_status, config_status, open_status}
@@ -50,8 +52,9 @@ use Rattle.snap_top.specs.Known.{unknown_in}
 use Rattle.snap_top.specs.Opening.{SaysNot, asked_by, IsConfigured, IsWordsFault, is_failure, IsUnknown}
 use Rattle.snap_top.specs.Run.{Entry, Exit, Goes, IsRun, IsRefused, Ran, IsAnswered, ReadsCopies, LoadsFrom, BeginsWith}
 use Rattle.snap_top.specs.Views.{World, world_of, view_of, folder_at}
-use Rattle.snap_top.proofs.RefusalLemmas.{done_is_no_refusal, check_not_refused, fix_not_refused}
+use Rattle.snap_top.proofs.RefusalLemmas.{done_is_no_refusal, check_not_refused, fix_not_refused, scrub_not_refused}
 use Rattle.snap_top.proofs.RunLemmas.{any_later}
+use Rattle.snap_top.proofs.ScrubLemmas.{scrub_broke}
 use Rattle.snap_top.specs.declared.end.Difference.{Difference}
 use Rattle.snap_top.specs.declared.end.Difference.TheVariants.{BlockSize, Levels, DiskName}
 use Rattle.snap_top.specs.declared.end.End.{End}
@@ -181,7 +184,7 @@ refused_is_sync (commands.Sync way) task table start after left did does two = (
     by (Broken (Folder disk)) is does' = absurd (omega (arith, is))
     by (Broken Vault) is does' = absurd (omega (arith, is))
     by (Broken Memory) is does' = absurd (omega (arith, is))
-refused_is_sync (commands.Scrub way) task table start after left did does two = absurd does
+refused_is_sync (commands.Scrub way) task table start after left did does two = absurd (scrub_not_refused left.answer way task table start after left did does (inl two))
 refused_is_sync (commands.Check selection) task table start after left did does two = absurd (check_not_refused left.answer modes.Check selection task table start after left did does (inl two))
 refused_is_sync (commands.Audit selection) task table start after left did does two = absurd (check_not_refused left.answer modes.Audit selection task table start after left did does (inl two))
 refused_is_sync (commands.Fix selection) task table start after left did does two = absurd (fix_not_refused left.answer selection task table start after left did does (inl two))
@@ -197,7 +200,7 @@ fault_of_layout setup way table olds news (Run (Folder disk)) two why = absurd (
 fault_of_layout setup way table olds news (Run Vault) two why = absurd (omega (arith, two))
 fault_of_layout setup way table olds news (Run Memory) two why = absurd (omega (arith, two))
 
--- only a sync and a fix end by the vault once it is loaded
+-- only a sync, a scrub and a fix end by the vault once it is loaded
 done_is_no_break : (counted : ℕ) (failed : Bool) → done_answer counted failed ≡ Broken Vault → ⊥
 done_is_no_break counted true is = let clash : OutputFailed ≡ Broken Vault = is in cc
 done_is_no_break counted false is = by (counted == 0) is
@@ -239,7 +242,10 @@ vault_broke commands.Status task table start after left did does broken = absurd
 vault_broke (commands.Sync way) task table start after left did does broken =
     let breaks : SyncBreaks task way table start after left did = subst (λ a. SyncsBy a task way table start after left did) broken does in
     (breaks.course.vault.broke refl, breaks.course.vault.calls)
-vault_broke (commands.Scrub way) task table start after left did does broken = absurd does
+vault_broke (commands.Scrub way) task table start after left did does broken =
+    let breaks : ScrubBreaks way task table start after left did = subst (λ a. ScrubsBy a way task table start after left did) broken does in
+    let course = breaks.course in
+    (scrub_broke table (scrubbed task.moment table course.readings) course.readings (view_of start.vault) (view_of after.vault) course.vault, course.vault.calls)
 vault_broke (commands.Check selection) task table start after left did does broken = absurd (subst (λ a. ChecksBy a modes.Check selection task table start after left did) broken does)
 vault_broke (commands.Audit selection) task table start after left did does broken = absurd (subst (λ a. ChecksBy a modes.Audit selection task table start after left did) broken does)
 vault_broke (commands.Fix selection) task table start after left did does broken =

@@ -154,6 +154,37 @@ by_faults before exit (Worked setup (Answered answer named)) told status tells i
           (no_vault before exit unbroken tells (setup_value setup) (Answered answer named) told ran left one));
     }
 
+-- ---- so the end is that of an engine that is done
+
+abbrev pub IsDoneEnd : End → Type 0
+IsDoneEnd (Worked setup (Answered answer named)) = IsDoneAnswer answer
+IsDoneEnd _ = ⊥
+
+done_low : (before : Entry) (exit : Exit) (end : End) (told : List Event) (status : ℕ) → status ≡ status_of end → Ran before exit end told → status ≤ 1 → IsDoneEnd end
+done_low before exit (Refused why) told status is ran low = absurd (too_high _ status (refusal_high why) is low)
+done_low before exit (Worked setup (NotLoaded fault)) told status is ran low = absurd (too_high _ status (load_high fault) is low)
+done_low before exit (Worked setup NoTable) told status is ran low = absurd (omega (arith, is, low))
+done_low before exit (Worked setup (OtherArray difference content)) told status is ran low = absurd (omega (arith, is, low))
+done_low before exit (Worked setup (Answered answer named)) told status is ran low = done_by_status answer (subst (λ (n : ℕ). n ≤ 1) is low)
+
+done_well : (before : Entry) (exit : Exit) (end : End) (told : List Event) (status : ℕ) → IsTrue before.opener.tells → status ≡ status_of end → Ran before exit end told → status ≡ 3 → NothingBroke before exit → IsDoneEnd end
+done_well before exit (Refused why) told status tells is ran three unbroken = absurd (no_refusal before exit unbroken tells why told ran (sym is ∙ three))
+done_well before exit (Worked setup (NotLoaded loads.Failed)) told status tells is ran three unbroken = absurd (loaded_well before exit unbroken tells (setup_value setup) told ran)
+done_well before exit (Worked setup (NotLoaded (loads.Damaged damages))) told status tells is ran three unbroken = absurd (omega (arith, is, three))
+done_well before exit (Worked setup (NotLoaded loads.Memory)) told status tells is ran three unbroken = absurd (omega (arith, is, three))
+done_well before exit (Worked setup NoTable) told status tells is ran three unbroken = absurd (omega (arith, is, three))
+done_well before exit (Worked setup (OtherArray difference content)) told status tells is ran three unbroken = absurd (omega (arith, is, three))
+done_well before exit (Worked setup (Answered answer named)) told status tells is ran three unbroken =
+    let left : Left = record { answer = answer; named = named; counted = ran.goes.0; told = told } in
+    let one : IsAnswered ran.task ran.given (world_of exit.after) left ran.did = ran.goes.1 in
+    done_by_faults answer (sym is ∙ three) (no_folder before exit unbroken tells (setup_value setup) (Answered answer named) told ran left one)
+    (no_vault before exit unbroken tells (setup_value setup) (Answered answer named) told ran left one)
+
+pub done_end : (before : Entry) (exit : Exit) (end : End) (told : List Event) (status : ℕ) → IsTrue before.opener.tells → status ≡ status_of end → Ran before exit end told
+    → (status ≤ 1) ⊎ ((status ≡ 3) × NothingBroke before exit) → IsDoneEnd end
+done_end before exit end told status tells is ran (inl low) = done_low before exit end told status is ran low
+done_end before exit end told status tells is ran (inr well) = done_well before exit end told status tells is ran well.0 well.1
+
 -- ---- by what it did, or by its answer
 
 pub only_read : (did : Did) → did ≡ reads_only → has_ended did ≡ true → ⊥

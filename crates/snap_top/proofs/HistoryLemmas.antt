@@ -21,11 +21,11 @@ use Rattle.snap_top.specs.History.{AreSoundBy, Changes, IsChange, IsHistory, IsO
 use Rattle.snap_top.specs.Moment.{IsDidOf, IsSoundAlways, IsSoundAtEnd, IsSupposed}
 use Rattle.snap_top.specs.Resumed.{end_of, entry_of}
 use Rattle.snap_top.specs.Run.{Entry, Exit}
-use Rattle.snap_top.specs.Task.{Did, end_table, fixes, reads_only, syncs}
+use Rattle.snap_top.specs.Task.{Did, end_table, fixes, reads_only, scrubs, syncs}
 use Rattle.snap_top.proofs.OfFixLemmas.{loaded_sound}
 
 -- a change from outside keeps what it doesn't count as changed
-change_sound : (copies copies_then : ℕ) (is_changed is_changed_then : ℕ → ℕ → Bool) (old new : Files) (snapshot : Snapshot) → IsChange copies copies_then is_changed is_changed_then old new → AreSound copies old snapshot is_changed
+pub change_sound : (copies copies_then : ℕ) (is_changed is_changed_then : ℕ → ℕ → Bool) (old new : Files) (snapshot : Snapshot) → IsChange copies copies_then is_changed is_changed_then old new → AreSound copies old snapshot is_changed
     → AreSound copies_then new snapshot is_changed_then
 change_sound copies copies_then is_changed is_changed_then old new snapshot change are copy table below valid spells =
     ⊎_elim
@@ -65,9 +65,10 @@ snapshot_bytes None row has bytes = bytes
 snapshot_bytes (Some read) row has bytes = has
 
 -- a snapshot stays of bytes over a run
-stays_of_bytes : (before : Entry) (exit : Exit) (did : Did) (count : ℕ) (last : LastSynced) → IsDidOf before exit did → AllTell before.opener.folders → IsOfBytes last.snapshot → IsOfBytes (synced_by did count last).snapshot
+pub stays_of_bytes : (before : Entry) (exit : Exit) (did : Did) (count : ℕ) (last : LastSynced) → IsDidOf before exit did → AllTell before.opener.folders → IsOfBytes last.snapshot → IsOfBytes (synced_by did count last).snapshot
 stays_of_bytes before exit reads_only count last is tell bytes stripe = bytes stripe
 stays_of_bytes before exit (fixes failed run) count last is tell bytes stripe = bytes stripe
+stays_of_bytes before exit (scrubs failed run) count last is tell bytes stripe = bytes stripe
 stays_of_bytes before exit (syncs failed run) count last is tell bytes stripe =
     snapshot_bytes (rows_after run.plan run.readings count stripe) (last.snapshot stripe)
     (rows_bytes run.plan.start (take count run.readings) no_rows

@@ -21,16 +21,18 @@ use Rattle.snap_sync.specs.Part.{AreOfPartSyncs, IsToldRun, SyncRun, layout_by, 
 use Rattle.snap_sync.specs.Soundness.{AreSound, changed_without, snapshot_with}
 use Rattle.snap_top.specs.Fix.{FixRun, MayStandFixed}
 use Rattle.snap_top.specs.End.{status_of}
-use Rattle.snap_top.specs.Moment.{EveryMomentIsSound, HoldsFresh, ChangesNothing, IsFixOf, IsSoundAlways, IsSoundAtEnd, IsSyncOf, StandsIn, SyncsToItsEnd}
+use Rattle.snap_top.specs.Moment.{EveryMomentIsSound, HoldsFresh, ChangesNothing, IsFixOf, IsScrubOf, IsSoundAlways, IsSoundAtEnd, IsSyncOf, StandsIn, SyncsToItsEnd}
 use Rattle.snap_top.specs.Opening.{asked_by}
 use Rattle.snap_top.specs.Run.{Entry, Exit, Ran}
-use Rattle.snap_top.specs.Task.{Did, fixes, reads_only, syncs, may_stand}
+use Rattle.snap_top.specs.Scrub.{MayStandMarked, ScrubRun}
+use Rattle.snap_top.specs.Task.{Did, fixes, reads_only, scrubs, syncs, may_stand}
 use Rattle.snap_top.specs.declared.end.End.{End}
 use Rattle.snap_top.specs.declared.end.End.TheVariants.{Refused, Worked}
 use Rattle.snap_config.specs.Setup.{setup_value}
 use Rattle.snap_config.specs.declared.options.Options.{Options}
 use Rattle.snap_top.proofs.CompleteLemmas.{same_ok}
-use Rattle.snap_top.proofs.OfFixLemmas.{HasFix, HasSync, genuine_of, run_did}
+use Rattle.snap_top.proofs.OfFixLemmas.{HasFix, HasScrub, HasSync, genuine_of, loaded_sound, run_did}
+use Rattle.snap_top.proofs.OfScrubLemmas.{ScrubKeepsSound, ScrubKeepsValid, scrub_sound}
 use Rattle.snap_top.proofs.OfSyncLemmas.{KeepsItsStripes}
 use Rattle.snap_top.proofs.BytesLemmas.{AreFormed}
 use Rattle.snap_top.proofs.RunLemmas.{stands_still}
@@ -60,7 +62,7 @@ module _ (before : Entry) (exit : Exit) (status : ℕ) (fresh : HoldsFresh befor
   old = before.opener.vault.files
 
   -- by what the run did
-  stands_by : (did : Did) → ChangesBy (may_stand did) before.opener.vault exit.after.vault → (files : Files) → StandsIn before exit files → may_stand did old files
+  pub stands_by : (did : Did) → ChangesBy (may_stand did) before.opener.vault exit.after.vault → (files : Files) → StandsIn before exit files → may_stand did old files
   stands_by did changes files (inl same) = subst (may_stand did old) (sym same) (changes.reads fresh.tells_vault)
   stands_by did changes files (inr at) =
       let told : IsTrue before.opener.vault.images.told = changes.leaves.told at.0 in
@@ -70,7 +72,7 @@ module _ (before : Entry) (exit : Exit) (status : ℕ) (fresh : HoldsFresh befor
       (changes.leaves.within at.0 before.opener.vault.images.moment files (omega arith) at.1)
 
   -- nothing was opened
-  stands_same : SameVault before.opener.tells before.opener.vault exit.after.vault → (files : Files) → StandsIn before exit files → files ≡ old
+  pub stands_same : SameVault before.opener.tells before.opener.vault exit.after.vault → (files : Files) → StandsIn before exit files → files ≡ old
   stands_same same files (inl at_end) = at_end ∙ same.files fresh.tells
   stands_same same files (inr at) =
       fresh.settled (sym (same.tells_images fresh.tells) ∙ at.0) files ((same.since fresh.tells before.opener.vault.images.moment files).0 at.1)
@@ -90,6 +92,10 @@ module _ (before : Entry) (exit : Exit) (status : ℕ) (fresh : HoldsFresh befor
     };
     synced = synced;
   }
+
+  pub reading_did : (still : (files : Files) → StandsIn before exit files → files ≡ old) → (sound_reading still).did ≡ reads_only
+  unfolding sound_reading
+  reading_did still = refl
 
   -- a fix
   sound_fixing : FixKeepsSound → (failed : Bool) (run : FixRun) → IsFixOf before exit run → ((files : Files) → StandsIn before exit files → MayStandFixed run old files) → IsSoundAlways before exit status
@@ -118,7 +124,29 @@ module _ (before : Entry) (exit : Exit) (status : ℕ) (fresh : HoldsFresh befor
         synced = synced;
       }
 
-  module _ (laid : LayoutIsOfTrees) (of_parts : CopiesAreOfPartSyncs) (sound : MomentsAreSound) (keeps_sound : FixKeepsSound) where
+  -- a scrub
+  sound_scrubbing : OneTable → ScrubKeepsValid → ScrubKeepsSound → (failed : Bool) (run : ScrubRun) → IsScrubOf before exit run → ((files : Files) → StandsIn before exit files → MayStandMarked run old files)
+      → IsSoundAlways before exit status
+  sound_scrubbing one_table keeps_valid keeps_sound failed run is moments =
+      let over = is.over in
+      record {
+        did = scrubs failed run;
+        is_did = is;
+        reads = λ asked words none.
+            let same = same_ok (asked_by before.texts) is.configured.asked asked is.configured.read words in
+            absurd (subst ChangesNothing (sym (is.configured.command_is ∙ ap (λ (a : Options). a.command) same)) none);
+        moments = moments;
+        copies = moments;
+        sound = λ files snapshot is_changed at are supposed. record {
+          count = 0;
+          within = omega arith;
+          sound = scrub_sound one_table keeps_valid keeps_sound run (copies_of before.opener.vault) old files snapshot is_changed over.in_time over.valid over.stripes
+              (loaded_sound (copies_of before.opener.vault) run.loaded old snapshot is_changed over.valid over.is_loaded are) are (moments files at);
+        };
+        synced = synced;
+      }
+
+  module _ (laid : LayoutIsOfTrees) (of_parts : CopiesAreOfPartSyncs) (sound : MomentsAreSound) (keeps_sound : FixKeepsSound) (one_table : OneTable) (marks_valid : ScrubKeepsValid) (marks_sound : ScrubKeepsSound) where
     -- a sync
     sound_syncing : (failed : Bool) (run : SyncRun) → IsSyncOf before exit run → ((files : Files) → StandsIn before exit files → MayStand run.plan run.readings old files) → IsSoundAlways before exit status
     sound_syncing failed run is moments =
@@ -148,17 +176,28 @@ module _ (before : Entry) (exit : Exit) (status : ℕ) (fresh : HoldsFresh befor
         }
 
     -- a run that opened its array
-    sound_run : (did : Did) → ChangesBy (may_stand did) before.opener.vault exit.after.vault → (did ≡ reads_only) ⊎ (HasSync before exit did ⊎ HasFix before exit did) → IsSoundAlways before exit status
+    pub sound_run : (did : Did) → ChangesBy (may_stand did) before.opener.vault exit.after.vault → (did ≡ reads_only) ⊎ (HasSync before exit did ⊎ (HasFix before exit did ⊎ HasScrub before exit did)) → IsSoundAlways before exit status
     sound_run did changes (inl read) = sound_reading (stands_by reads_only (subst (λ d. ChangesBy (may_stand d) before.opener.vault exit.after.vault) read changes))
     sound_run did changes (inr (inl sync)) =
         sound_syncing sync.failed sync.run sync.is_sync (stands_by (syncs sync.failed sync.run) (subst (λ d. ChangesBy (may_stand d) before.opener.vault exit.after.vault) sync.did_is changes))
-    sound_run did changes (inr (inr fix)) =
+    sound_run did changes (inr (inr (inl fix))) =
         sound_fixing keeps_sound fix.failed fix.run fix.is_fix (stands_by (fixes fix.failed fix.run) (subst (λ d. ChangesBy (may_stand d) before.opener.vault exit.after.vault) fix.did_is changes))
+    sound_run did changes (inr (inr (inr scrub))) =
+        sound_scrubbing one_table marks_valid marks_sound scrub.failed scrub.run scrub.is_scrub
+        (stands_by (scrubs scrub.failed scrub.run) (subst (λ d. ChangesBy (may_stand d) before.opener.vault exit.after.vault) scrub.did_is changes))
+
+    -- it is by what the run did
+    pub run_did_is : (did : Did) (changes : ChangesBy (may_stand did) before.opener.vault exit.after.vault) (how : (did ≡ reads_only) ⊎ (HasSync before exit did ⊎ (HasFix before exit did ⊎ HasScrub before exit did))) → (sound_run did changes how).did ≡ did
+    unfolding sound_run sound_reading sound_syncing sound_fixing sound_scrubbing
+    run_did_is did changes (inl read) = sym read
+    run_did_is did changes (inr (inl sync)) = sym sync.did_is
+    run_did_is did changes (inr (inr (inl fix))) = sym fix.did_is
+    run_did_is did changes (inr (inr (inr scrub))) = sym scrub.did_is
 
 -- of each run
-pub every_moment : LayoutIsOfTrees → CopiesAreOfPartSyncs → MomentsAreSound → FixKeepsSound → KeepsItsStripes → OneTable → FindsWhatIsPending → (before : Entry) (exit : Exit) (end : End) (told : List Event) (status : ℕ)
+pub every_moment : LayoutIsOfTrees → CopiesAreOfPartSyncs → MomentsAreSound → FixKeepsSound → ScrubKeepsValid → ScrubKeepsSound → KeepsItsStripes → OneTable → FindsWhatIsPending → (before : Entry) (exit : Exit) (end : End) (told : List Event) (status : ℕ)
     → before.moment < 2 ^ 64 → AreFormed exit → status ≡ status_of end → Ran before exit end told → EveryMomentIsSound before exit status
-every_moment laid of_parts sound keeps_sound keeps one_table finds before exit end told status in_time formed is ran fresh = by end ran at_end
+every_moment laid of_parts sound keeps_sound marks_valid marks_sound keeps one_table finds before exit end told status in_time formed is ran fresh = by end ran at_end
   where
     at_end : SyncsToItsEnd before exit status → IsSoundAtEnd before exit status
     at_end asked =
@@ -167,5 +206,5 @@ every_moment laid of_parts sound keeps_sound keeps one_table finds before exit e
     by : (end : End) → Ran before exit end told → (SyncsToItsEnd before exit status → IsSoundAtEnd before exit status) → IsSoundAlways before exit status
     by (Refused why) ran synced = sound_reading before exit status fresh synced (stands_same before exit status fresh synced ran.vault)
     by (Worked setup ending) ran synced =
-        sound_run before exit status fresh synced laid of_parts sound keeps_sound ran.did (ran.changes fresh.tells)
+        sound_run before exit status fresh synced laid of_parts sound keeps_sound one_table marks_valid marks_sound ran.did (ran.changes fresh.tells)
         (run_did before exit fresh.tells fresh.tells_vault keeps in_time formed (setup_value setup) ending told ran)

@@ -1,4 +1,4 @@
--- What a run did, from its end: of which fix it is, if it is none of a sync.
+-- What a run did, from its end: of which fix it is, if it is none of a sync or a scrub.
 use Rattle.std.proofs.Common.{◌≡◌, ◌⊎◌, inl, inr, ⊎_elim, ℕ, ◌*◌, ◌^◌, ◌<◌, List, [], ◌∷◌, ◌++◌, length, get_or, append-nil, Bool, true, false, IsTrue, IfSome, None, Some, refl, sym, ap, ◌∙◌, subst, arith}
 use Rattle.std.proofs.lemmas.List.Elements.{All-cons}
 use Rattle.disk_model.specs.Bytes.{read_from}
@@ -32,16 +32,18 @@ use Rattle.snap_top.specs.Checking.{ChecksBy}
 use Rattle.snap_top.specs.Does.{DoesCommand}
 use Rattle.snap_top.specs.Fix.{AllFixed, FixRun, FixesOver, IsGenuineFix}
 use Rattle.snap_top.specs.Fixing.{FixBroke, FixCourse, FixEnds, FixesBy, fix_of as run_fixed}
-use Rattle.snap_top.specs.Moment.{IsFixOf, IsSyncOf}
+use Rattle.snap_top.specs.Moment.{IsFixOf, IsScrubOf, IsSyncOf}
 use Rattle.snap_top.specs.Run.{Entry, Exit, IsAnswered, IsRun}
-use Rattle.snap_top.specs.Task.{Task, Did, fixes, folders_after, reads_only, syncs, Left}
+use Rattle.snap_top.specs.Scrub.{ScrubRun}
+use Rattle.snap_top.specs.Task.{Task, Did, fixes, folders_after, reads_only, scrubs, syncs, Left}
 use Rattle.snap_top.specs.Views.{World, view_of, world_of}
 use Rattle.snap_top.specs.declared.end.Ending.{Ending}
 use Rattle.snap_top.specs.declared.end.Ending.TheVariants.{NotLoaded, NoTable, OtherArray, Answered}
 use Rattle.snap_top.proofs.BytesLemmas.{AreFormed}
-use Rattle.snap_top.proofs.OfSyncLemmas.{KeepsItsStripes, HasCourse, configured_for, given_files, given_folders, given_is, start_folders, sync_did, sync_of, table_begins, table_loaded}
+use Rattle.snap_top.proofs.OfScrubLemmas.{HasScrubCourse, reading_held, scrub_did, scrub_is}
+use Rattle.snap_top.proofs.OfSyncLemmas.{KeepsItsStripes, HasCourse, configured_for, given_files, given_folders, given_is, start_folders, sync_did, sync_of, table_among, table_begins, table_loaded}
 
--- ---- what a command did: it only read, it synced, or it fixed
+-- ---- what a command did: it only read, it synced, it fixed, or it scrubbed
 
 -- where all were looked at, none is behind them
 pub all_looked_at : (numbers all : List ℕ) → numbers ≡ all → all ≡ numbers ++ []
@@ -106,7 +108,8 @@ check_did (answers.Broken runs.Vault) mode selection task table before after lef
 check_did (answers.Broken runs.Memory) mode selection task table before after left did does = does.did_is
 
 abbrev WentOn : Command → Task → TableValue → World → World → Left → Did → Type 0
-WentOn command task table before after left did = HasCourse command task table before after left did ⊎ HasFixCourse command task table before after did
+WentOn command task table before after left did =
+    HasCourse command task table before after left did ⊎ (HasFixCourse command task table before after did ⊎ HasScrubCourse command task table before after left did)
 
 command_did : (command : Command) (task : Task) (table : TableValue) (before after : World) (left : Left) (did : Did) → DoesCommand command task table before after left did
     → (did ≡ reads_only) ⊎ WentOn command task table before after left did
@@ -116,33 +119,31 @@ command_did (commands.Sync way) task table before after left did does = ⊎_elim
     (λ read. inl read)
     (λ course. inr (inl (record { way = way; command_is = refl; failed = course.0; course = course.1 })))
     (sync_did left.answer task way table before after left did does)
-command_did (commands.Scrub way) task table before after left did does = absurd does
+command_did (commands.Scrub way) task table before after left did does = ⊎_elim
+    (λ read. inl read)
+    (λ course. inr (inr (inr (record { way = way; command_is = refl; failed = course.0; course = course.1 }))))
+    (scrub_did left.answer way task table before after left did does)
 command_did (commands.Check selection) task table before after left did does = inl (check_did left.answer modes.Check selection task table before after left did does)
 command_did (commands.Audit selection) task table before after left did does = inl (check_did left.answer modes.Audit selection task table before after left did does)
 command_did (commands.Fix selection) task table before after left did does = ⊎_elim
     (λ read. inl read)
-    (λ course. inr (inr course))
+    (λ course. inr (inr (inl course)))
     (fix_did left.answer selection task table before after left did does)
 
 -- ---- the fix of a run
 
 -- what was read of levels, by a vault that holds the same
 module _ (block_size : ℕ) (held read : VaultView) (tells : IsTrue held.tells → IsTrue read.tells) (files : IsTrue held.tells → read.files ≡ held.files) where
-  reading_held : (stripe r : ℕ) (reading : LevelReading) → IsReadingOf read block_size stripe r reading → IsReadingOf held block_size stripe r reading
-  reading_held stripe r None is = tt
-  reading_held stripe r (Some bytes) is =
-      (is.0, λ told. is.1 (tells told) ∙ ap (λ (fs : Files). read_from (parity_of fs r) (stripe * block_size) block_size) (files told))
-
   pub levels_held : (stripes : List StripeFacts) (readings : List (List LevelReading)) → AreAllLevelsOf block_size read stripes readings → AreAllLevelsOf block_size held stripes readings
   levels_held [] [] are = tt
   levels_held [] (of ∷ readings) are = absurd are
   levels_held (facts ∷ stripes) [] are = absurd are
   levels_held (facts ∷ stripes) (of ∷ readings) (first, rest) = (
-    record { as_many = first.as_many; are_kept = first.are_kept; are_of = λ r below. reading_held facts.stripe r (get_or of r None) (first.are_of r below) },
+    record { as_many = first.as_many; are_kept = first.are_kept; are_of = λ r below. reading_held block_size held read tells files facts.stripe r (get_or of r None) (first.are_of r below) },
     levels_held stripes readings rest,
   )
 
--- what a run did is to read, to sync, or to fix
+-- what a run did is to read, to sync, to fix, or to scrub
 pub record HasSync (before : Entry) (exit : Exit) (did : Did) : Type 0 where
   pub failed : Bool
   pub run : SyncRun
@@ -154,6 +155,12 @@ pub record HasFix (before : Entry) (exit : Exit) (did : Did) : Type 0 where
   pub run : FixRun
   pub did_is : did ≡ fixes failed run
   pub is_fix : IsFixOf before exit run
+
+pub record HasScrub (before : Entry) (exit : Exit) (did : Did) : Type 0 where
+  pub failed : Bool
+  pub run : ScrubRun
+  pub did_is : did ≡ scrubs failed run
+  pub is_scrub : IsScrubOf before exit run
 
 module _ (before : Entry) (exit : Exit) (tells : IsTrue before.opener.tells) (tells_vault : IsTrue before.opener.vault.tells) where
   -- it is that which its command ran from the table that was loaded
@@ -171,6 +178,7 @@ module _ (before : Entry) (exit : Exit) (tells : IsTrue before.opener.tells) (te
           configured = configured_for before exit tells tells_vault setup ending told ran (commands.Fix course_of.selection) course_of.command_is;
           folders_are = start_folders before exit tells tells_vault setup ending told ran left one;
           ended_is = refl;
+          begins = table_among before exit tells tells_vault setup ending told ran left one;
           over = record {
             valid = one.valid;
             is_loaded = table_loaded before exit tells tells_vault setup ending told ran left one;
@@ -196,7 +204,7 @@ module _ (before : Entry) (exit : Exit) (tells : IsTrue before.opener.tells) (te
           from = table_begins before exit tells tells_vault setup ending told ran left one course_of.calls;
         }
 
-  pub run_did : KeepsItsStripes → before.moment < 2 ^ 64 → AreFormed exit → (setup : SetupValue) (ending : Ending) (told : List Event) (ran : IsRun before exit setup ending told) → (ran.did ≡ reads_only) ⊎ (HasSync before exit ran.did ⊎ HasFix before exit ran.did)
+  pub run_did : KeepsItsStripes → before.moment < 2 ^ 64 → AreFormed exit → (setup : SetupValue) (ending : Ending) (told : List Event) (ran : IsRun before exit setup ending told) → (ran.did ≡ reads_only) ⊎ (HasSync before exit ran.did ⊎ (HasFix before exit ran.did ⊎ HasScrub before exit ran.did))
   run_did keeps in_time formed setup (NotLoaded fault) told ran = inl ran.goes.0.1
   run_did keeps in_time formed setup NoTable told ran = inl ran.goes.0.1
   run_did keeps in_time formed setup (OtherArray difference content) told ran = inl ran.goes.0.1
@@ -210,12 +218,20 @@ module _ (before : Entry) (exit : Exit) (tells : IsTrue before.opener.tells) (te
         did_is = course_of.course.did_is;
         is_sync = sync_of before exit tells tells_vault setup (Answered answer named) told ran left one keeps in_time formed course_of;
       }))
-      (λ course_of. inr (record {
+      (λ went. inr (⊎_elim
+      (λ course_of. inl (record {
         failed = course_of.failed;
         run = _;
         did_is = course_of.course.did_is;
         is_fix = fix_of setup (Answered answer named) told ran left one course_of;
       }))
+      (λ course_of. inr (record {
+        failed = course_of.failed;
+        run = _;
+        did_is = course_of.course.did_is;
+        is_scrub = scrub_is before exit tells tells_vault setup (Answered answer named) told ran left one in_time course_of;
+      }))
+      went))
       went)) (command_did ran.task.command ran.task one.table one.start (world_of exit.after) left ran.did one.does)
 
 -- ---- what it met is genuine

@@ -28,7 +28,7 @@ use Rattle.snap_top.specs.Array.{empty_table}
 use Rattle.snap_top.specs.Moment.{IsSyncOf}
 use Rattle.snap_top.specs.Opening.{IsConfigured}
 use Rattle.snap_top.specs.Run.{Entry, Exit, BeginsWith, IsAnswered, IsRun, LoadsFrom}
-use Rattle.snap_top.specs.Sync.{BeginsFrom, HoldsNoContent, SyncsOver}
+use Rattle.snap_top.specs.Sync.{BeginsAmong, BeginsFrom, HoldsNoContent, SyncsOver}
 use Rattle.snap_top.specs.Syncing.{SyncCourse, SyncsBy, run_of}
 use Rattle.snap_top.specs.Task.{Task, Did, reads_only, Left}
 use Rattle.snap_top.specs.Views.{World, world_of, view_of}
@@ -75,6 +75,12 @@ module _ (files : Files) (given mid : VaultState) (files_are : given.files ≡ f
       → IsLoadedFrom (copies_of (view_of given)) table files
   loaded_from setup seed None table loads begins = inr (λ stripe synced. none_synced setup seed stripe (subst (λ (t : TableValue). IsSynced t stripe) begins synced))
   loaded_from setup seed (Some of) table loads begins =
+      inl (loads.copy, loads.within, held_by loads.copy of (loads.held tells) ∙ ap (λ t. Some (spelling t)) (sym begins.0))
+
+  begins_among : (setup : SetupValue) (seed : List ℕ) (loaded : Option TableValue) (table : TableValue) → LoadsFrom given mid loaded → BeginsWith setup seed loaded table
+      → BeginsAmong setup seed (copies_of (view_of given)) files table
+  begins_among setup seed None table loads begins = inr (λ copy below. sym (ap (λ (fs : Files). content_of fs copy) files_are) ∙ loads.none tells copy below, begins)
+  begins_among setup seed (Some of) table loads begins =
       inl (loads.copy, loads.within, held_by loads.copy of (loads.held tells) ∙ ap (λ t. Some (spelling t)) (sym begins.0))
 
   useless_copy : (copy : ℕ) → IsUseless (view_of given) copy → HoldsNoContent files copy
@@ -159,6 +165,11 @@ module _ (before : Entry) (exit : Exit) (tells : IsTrue before.opener.tells) (te
     table_loaded = subst (λ (n : ℕ). IsLoadedFrom n one.table before.opener.vault.files) given_copies
         (loaded_from before.opener.vault.files ran.given.vault one.start.vault given_files given_tells ran.task.setup ran.task.seed one.loaded one.table one.loads one.begins)
 
+    pub table_among : BeginsAmong ran.task.setup before.seed (copies_of before.opener.vault) before.opener.vault.files one.table
+    table_among = subst (λ (n : ℕ). BeginsAmong ran.task.setup before.seed n before.opener.vault.files one.table) given_copies
+        (subst (λ (seed : List ℕ). BeginsAmong ran.task.setup seed (copies_of (view_of ran.given.vault)) before.opener.vault.files one.table) ran.seed_is
+        (begins_among before.opener.vault.files ran.given.vault one.start.vault given_files given_tells ran.task.setup ran.task.seed one.loaded one.table one.loads one.begins))
+
     pub table_begins : SomeCalls (view_of one.start.vault) (view_of (state_of exit.after.vault)) → ((copy : ℕ) → ¬ (HasFailed before.opener.vault exit.after.vault copy))
         → BeginsFrom ran.task.setup before.seed (copies_of before.opener.vault) before.opener.vault.files one.table
     table_begins calls none = subst (λ (n : ℕ). BeginsFrom ran.task.setup before.seed n before.opener.vault.files one.table) given_copies
@@ -204,6 +215,7 @@ module _ (before : Entry) (exit : Exit) (tells : IsTrue before.opener.tells) (te
             moment_is = ran.moment_is;
             copies_are = sym given_copies ∙ ap length ran.is_given.state.drafts ∙ length-replicate (length setup.contents) Absent ∙ ap (λ (s : SetupValue). length s.contents) (sym ran.setup_is);
             over = over;
+            begins = table_among;
             bytes = sync_bytes run over.listed over.stands.keeps.columns formed;
             from = λ none. record { over = over; begins = table_begins course.vault.calls none };
           }

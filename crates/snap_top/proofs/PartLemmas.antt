@@ -1,14 +1,18 @@
 -- A sync that is done is the part sync of its layout, and every copy spells its table.
-use Rattle.std.proofs.Common.{◌≡◌, All, ℕ, ◌^◌, ◌<◌, ◌≤◌, List, length, take, false, sym, ap, ◌∙◌, subst, arith}
+use Rattle.std.proofs.Common.{◌≡◌, All, ℕ, ◌-◌, ◌^◌, ◌<◌, ◌≤◌, List, ◌++◌, length, take, false, refl, sym, ap, ◌∙◌, subst, arith}
 use Rattle.std.proofs.lemmas.List.{take_all}
 use Rattle.array_scan.specs.Layout.{pending_stripes}
 use Rattle.content_file.specs.Save.{HasSaved}
 use Rattle.content_file.specs.Spelling.{spelling}
 use Rattle.disk_model.specs.Files.{Files}
+use Rattle.disk_model.specs.Sink.{SinkView}
 use Rattle.disk_model.specs.Vault.{VaultView, Holds}
 use Rattle.file_table.specs.Table.{TableValue}
+use Rattle.snap_report.specs.EventLines.{lines_of}
+use Rattle.snap_report.specs.Telling.{Tells, between}
+use Rattle.snap_report.specs.Text.{sync_text}
 use Rattle.snap_report.specs.declared.events.Event.{Event}
-use Rattle.snap_sync.specs.Closing.{closed}
+use Rattle.snap_sync.specs.Closing.{closed, verified_in}
 use Rattle.snap_sync.specs.Ended.{IsFoundIn}
 use Rattle.stripe_findings.specs.Findings.{events_of}
 use Rattle.snap_sync.specs.Images.{HasParityAfter}
@@ -23,7 +27,7 @@ use Rattle.snap_top.specs.declared.end.Ending.TheVariants.{Answered}
 use Rattle.snap_top.proofs.BytesLemmas.{AreFormed}
 use Rattle.snap_top.proofs.EndedLemmas.{output_rose}
 use Rattle.snap_top.proofs.MomentLemmas.{LayoutIsOfTrees}
-use Rattle.snap_top.proofs.OfSyncLemmas.{KeepsItsStripes}
+use Rattle.snap_top.proofs.OfSyncLemmas.{KeepsItsStripes, start_out}
 use Rattle.snap_top.proofs.SyncEndLemmas.{FindsWhatIsPending, HasEndedSync, all_of, is_sync as sync_is, run as run_ended, stands, status_well, still_tells, sync_ended}
 
 -- ---- what snap_sync says of a sync that ended
@@ -45,7 +49,7 @@ PendingIsFound = (start : TableValue) (readings : List StripeReading) → All (�
 
 -- ---- what follows of files that hold in a vault, holds in it
 
-holds_on : (P Q : Files → Type 0) (v : VaultView) → ((files : Files) → P files → Q files) → Holds P v → Holds Q v
+pub holds_on : (P Q : Files → Type 0) (v : VaultView) → ((files : Files) → P files → Q files) → Holds P v → Holds Q v
 holds_on P Q v on has = record { reads = λ told. on v.files (has.reads told); leaves = λ told files left. on files (has.leaves told files left) }
 
 -- ---- a sync that went to its end
@@ -76,7 +80,22 @@ module _ (laid : LayoutIsOfTrees) (part : ReadIsPartSync) (full : VerifiedIsFull
   abbrev whole : take (length run.readings) run.readings ≡ run.readings
   whole = take_all (length run.readings) run.readings (omega arith)
 
-  ended_in_part : EndsInPart before exit status
+  left_over : sync.ends.pending ≡ length run.readings - verified_in run.plan.start run.readings
+  left_over = omega (arith, sync.ends.pending_is, sync.ends.synced_is, sync.ends.all)
+
+  held_out : sync.one.start.out ≡ before.out
+  held_out = start_out before exit tells.tells tells.tells_vault sync.setup (Answered sync.answer sync.named) sync.told sync.ran sync.left sync.one
+
+  abbrev lines : List ℕ
+  lines = lines_of run.plan.start.columns (events_of run.plan.start run.readings)
+
+  printed : Tells (lines ++ sync_text (verified_in run.plan.start run.readings) (length run.readings - verified_in run.plan.start run.readings)) (between false before.out) (between sync.ends.prints.failed exit.after.out)
+  printed =
+      subst (λ (text : List ℕ). Tells (lines ++ text) (between false before.out) (between sync.ends.prints.failed exit.after.out))
+      (ap (λ (n : ℕ). sync_text n sync.ends.pending) sync.ends.synced_is ∙ ap (sync_text (verified_in run.plan.start run.readings)) left_over)
+      (subst (λ (out : SinkView). Tells (lines ++ sync_text sync.ends.synced sync.ends.pending) (between false out) (between sync.ends.prints.failed exit.after.out)) held_out sync.ends.prints.told)
+
+  pub ended_in_part : EndsInPart before exit status
   ended_in_part = record {
     run = run;
     is_sync = is_sync;
@@ -92,9 +111,14 @@ module _ (laid : LayoutIsOfTrees) (part : ReadIsPartSync) (full : VerifiedIsFull
     found = found run.plan.start run.readings;
     full = λ all_verified. holds_on (LeavesSynced run old) _ exit.after.vault (λ new synced. full run old new told_run sync.ends.all all_verified synced.parity) leaves;
     output_failed = sync.ends.prints.failed;
+    printed = printed;
     status_is = status_well keeps before exit tells.tells tells.tells_vault in_time formed status sync finds;
     output = output_rose before exit sync.setup (Answered sync.answer sync.named) sync.told sync.ran sync.left sync.one sync.ends.prints.failed sync.ends.prints.answer_is;
   }
+
+  pub ended_run : ended_in_part.run ≡ run
+  unfolding ended_in_part
+  ended_run = refl
 
 -- of each run
 pub syncs_end_in_part : LayoutIsOfTrees → ReadIsPartSync → VerifiedIsFullSync → ReadIsGiven → FindsWhatIsPending → PendingIsFound → KeepsItsStripes → (before : Entry) (exit : Exit) (end : End) (told : List Event) (status : ℕ)

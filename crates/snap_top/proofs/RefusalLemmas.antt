@@ -16,7 +16,9 @@ use Rattle.snap_top.specs.Checking.{ChecksBy}
 use Rattle.snap_top.specs.Complete.{RefusalsTouchNothing}
 use Rattle.snap_top.specs.Does.{DoesCommand}
 use Rattle.snap_top.specs.Fixing.{FixesBy}
+use Rattle.snap_config.specs.declared.options.ScrubWay.{ScrubWay}
 use Rattle.snap_config.specs.declared.options.SyncWay.{SyncWay}
+use Rattle.snap_top.specs.Scrubbing.{ScrubsBy}
 use Rattle.snap_top.specs.Syncing.{SyncsBy, SyncRefuses}
 use Rattle.snap_top.specs.Task.{Task, Did, reads_only, may_stand, Left}
 use Rattle.snap_top.specs.End.{status_of, ending_status}
@@ -41,9 +43,9 @@ done_is_no_refusal counted false refused = by (counted == 0) refused
     by false is = no_refusal 1 (omega arith) (omega arith) is
 
 -- what is not touched
-record Untouched (given after : World) (did : Did) : Type 0 where
-  out : after.out ≡ given.out
-  did_is : did ≡ reads_only
+pub record Untouched (given after : World) (did : Did) : Type 0 where
+  pub out : after.out ≡ given.out
+  pub did_is : did ≡ reads_only
 
 only_loads_out : (given after : World) → OnlyLoads given after → after.out ≡ given.out
 only_loads_out given after only = ap (λ (w : World). w.out) only.others
@@ -89,6 +91,19 @@ fix_not_refused (Broken (Folder disk)) selection task table start after left did
 fix_not_refused (Broken Vault) selection task table start after left did does refused = no_refusal 3 (omega arith) (omega arith) refused
 fix_not_refused (Broken Memory) selection task table start after left did does refused = no_refusal 4 (omega arith) (omega arith) refused
 
+-- nor is a scrub
+pub scrub_not_refused : (answer : Answer) (way : ScrubWay) (task : Task) (table : TableValue) (start after : World) (left : Left) (did : Did) → ScrubsBy answer way task table start after left did
+    → (answer_status answer ≡ 2) ⊎ (answer_status answer ≡ 5) → ⊥
+scrub_not_refused Clean way task table start after left did does refused = no_refusal 0 (omega arith) (omega arith) refused
+scrub_not_refused Found way task table start after left did does refused = no_refusal 1 (omega arith) (omega arith) refused
+scrub_not_refused OutputFailed way task table start after left did does refused = no_refusal 3 (omega arith) (omega arith) refused
+scrub_not_refused (Zeroed disk rec) way task table start after left did does refused = does
+scrub_not_refused (Emptied disk) way task table start after left did does refused = does
+scrub_not_refused (Full blocks files) way task table start after left did does refused = does
+scrub_not_refused (Broken (Folder disk)) way task table start after left did does refused = does
+scrub_not_refused (Broken Vault) way task table start after left did does refused = no_refusal 3 (omega arith) (omega arith) refused
+scrub_not_refused (Broken Memory) way task table start after left did does refused = no_refusal 4 (omega arith) (omega arith) refused
+
 command_untouched : (command : Command) (task : Task) (table : TableValue) (start after : World) (left : Left) (did : Did) → DoesCommand command task table start after left did
     → (answer_status left.answer ≡ 2) ⊎ (answer_status left.answer ≡ 5) → Untouched start after did
 command_untouched commands.List task table start after left did does refused =
@@ -96,12 +111,12 @@ command_untouched commands.List task table start after left did does refused =
 command_untouched commands.Status task table start after left did does refused =
     absurd (done_is_no_refusal _ does.prints.failed (subst (λ a. (answer_status a ≡ 2) ⊎ (answer_status a ≡ 5)) does.prints.answer_is refused))
 command_untouched (commands.Sync way) task table start after left did does refused = sync_untouched left.answer task way table start after left did does refused
-command_untouched (commands.Scrub way) task table start after left did does refused = absurd does
+command_untouched (commands.Scrub way) task table start after left did does refused = absurd (scrub_not_refused left.answer way task table start after left did does refused)
 command_untouched (commands.Check selection) task table start after left did does refused = absurd (check_not_refused left.answer modes.Check selection task table start after left did does refused)
 command_untouched (commands.Audit selection) task table start after left did does refused = absurd (check_not_refused left.answer modes.Audit selection task table start after left did does refused)
 command_untouched (commands.Fix selection) task table start after left did does refused = absurd (fix_not_refused left.answer selection task table start after left did does refused)
 
-ending_untouched : (ending : Ending) (task : Task) (given after : World) (told : List Event) (did : Did) → Goes task given after ending told did
+pub ending_untouched : (ending : Ending) (task : Task) (given after : World) (told : List Event) (did : Did) → Goes task given after ending told did
     → (ending_status ending ≡ 2) ⊎ (ending_status ending ≡ 5) → Untouched given after did
 ending_untouched (NotLoaded fault) task given after told did goes refused = record { out = only_loads_out given after goes.1; did_is = goes.0.1 }
 ending_untouched NoTable task given after told did goes refused = record { out = only_loads_out given after goes.1.reads; did_is = goes.0.1 }

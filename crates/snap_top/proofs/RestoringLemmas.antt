@@ -1,5 +1,5 @@
 -- A fix that is done restores what can be had of the snapshot, and tells what can't.
-use Rattle.std.proofs.Common.{◌≡◌, ◌↔◌, inr, ⊎_elim, ℕ, ◌<◌, ◌≤◌, List, [], ◌++◌, length, count_by, Bool, true, false, IsTrue, Option, None, is_some, sym, ap, ◌∙◌, subst, arith}
+use Rattle.std.proofs.Common.{◌≡◌, ◌↔◌, inr, ⊎_elim, ℕ, ◌<◌, ◌≤◌, List, [], ◌++◌, length, count_by, Bool, true, false, IsTrue, Option, None, is_some, refl, sym, ap, ◌∙◌, subst, arith}
 use Rattle.std.specs.Prelude.{sum_by, not}
 use Rattle.std.specs.List.{Contains}
 use Rattle.std.proofs.lemmas.Bool.{and_left}
@@ -126,7 +126,7 @@ rose_from n held given start last same later rose = omega (arith, same, later, r
 
 -- ---- a fix that went to its end, by what it did
 
-done_by_did : (answer : Answer) (selection : Selection) (task : Task) (table : TableValue) (before after : World) (left : Left) (did : Did) → FixesBy answer selection task table before after left did → has_ended did ≡ true → IsDoneAnswer answer
+pub done_by_did : (answer : Answer) (selection : Selection) (task : Task) (table : TableValue) (before after : World) (left : Left) (did : Did) → FixesBy answer selection task table before after left did → has_ended did ≡ true → IsDoneAnswer answer
 done_by_did answers.Clean selection task table before after left did does ended = tt
 done_by_did answers.Found selection task table before after left did does ended = tt
 done_by_did answers.OutputFailed selection task table before after left did does ended = tt
@@ -279,7 +279,7 @@ module _ (restored : CellsAreRestored) (lost : CellsAreLost) (unknown_lost : Unk
         (unknown_lost run.plan run.stripes ends.finishes facts d cell it (ap is_audit ends.course.plan_is.scope.mode_is)
         (none_known run.plan facts d are unsynced)).1
 
-    ended_fixed : EndsFixed before exit status
+    pub ended_fixed : EndsFixed before exit status
     ended_fixed = record {
       run = run;
       is_fix = is_fix;
@@ -297,6 +297,10 @@ module _ (restored : CellsAreRestored) (lost : CellsAreLost) (unknown_lost : Unk
       pending = pending;
       restores = restores;
     }
+
+    pub ended_fixed_run : ended_fixed.run ≡ run
+    unfolding ended_fixed
+    ended_fixed_run = refl
 
   -- by the answer
   by_answer : (setup : SetupValue) (answer : Answer) (named : Option TableValue) (told : List Event) (ran : IsRun before exit setup (Answered answer named) told) (left_answer : Answer) (left_named : Option TableValue) (counted : ℕ)

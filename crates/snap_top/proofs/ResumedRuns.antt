@@ -25,7 +25,7 @@ use Rattle.snap_top.specs.Opening.{asked_by}
 use Rattle.snap_top.specs.Resumed.{AreStoppedRuns, AsksForSync, EndAlike, EndsClean, IsBetween, IsStopped, RunOf, StoppedRun, end_of, entry_of}
 use Rattle.snap_top.specs.Run.{Entry, Exit}
 use Rattle.snap_top.specs.Sync.{AreStopped, IsOfArray, Stop, SyncsFrom}
-use Rattle.snap_top.specs.Task.{Did, fixes, reads_only, syncs, may_stand, end_table}
+use Rattle.snap_top.specs.Task.{Did, fixes, reads_only, scrubs, syncs, may_stand, end_table}
 use Rattle.snap_top.proofs.CompleteLemmas.{same_ok}
 use Rattle.snap_top.proofs.ResumeLemmas.{FullKeepsShape, by_shape}
 use Rattle.snap_top.proofs.SyncEndLemmas.{stands_then}
@@ -51,7 +51,7 @@ module _ (setup : SetupValue) (trees : List Tree) (seed : List ℕ) (files : Fil
       ∙ ap (λ (bytes : List ℕ). read_setup bytes configured.asked.log) (sym (configured.says.held asks.tells.tells)) ∙ configured.says.says in
       same_ok (read_setup (take 1048577 before.opener.config) asks.asked.log) run.setup setup read asks.says
 
-  same_copies : copies_of before.opener.vault ≡ copies
+  pub same_copies : copies_of before.opener.vault ≡ copies
   same_copies = is.copies_are ∙ ap (λ (s : SetupValue). length s.contents) same_setup
 
   pub of_array : IsOfArray setup trees run
@@ -85,6 +85,10 @@ by_did setup trees seed files before exit asks old left (syncs failed run) is mo
 by_did setup trees seed files before exit asks old left (fixes failed run) is moment =
     let same : is.configured.asked ≡ asks.asked = same_ok (asked_by before.texts) is.configured.asked asks.asked is.configured.read asks.words in
     let clash : commands.Fix run.selection ≡ commands.Sync asks.way = is.configured.command_is ∙ ap (λ (a : Options). a.command) same ∙ asks.command_is in
+    absurd cc
+by_did setup trees seed files before exit asks old left (scrubs failed run) is moment =
+    let same : is.configured.asked ≡ asks.asked = same_ok (asked_by before.texts) is.configured.asked asks.asked is.configured.read asks.words in
+    let clash : commands.Scrub run.way ≡ commands.Sync asks.way = is.configured.command_is ∙ ap (λ (a : Options). a.command) same ∙ asks.command_is in
     absurd cc
 
 module _ {O F V W : Type 0} (opener_view : O → OpenerView) (folder_view : F → FolderView) (vault_view : V → VaultView) (sink_view : W → SinkView) (setup : SetupValue) (trees : List Tree) (seed : List ℕ) where
@@ -126,7 +130,7 @@ module _ {O F V W : Type 0} (opener_view : O → OpenerView) (folder_view : F �
       = subst (λ (did : Did). may_stand did before.opener.vault.files stop.left) (always.reads between.asked between.words between.command_is) (always.moments stop.left between.stands) in
       (rest.0, subst (λ (fs : Files). AreStopped setup trees seed copies_here rest.0 fs left) (still ∙ between.files_are) rest.1)
 
-  stops_are : (stops : List (StoppedRun O F V W)) (files left : Files) → AreStoppedRuns opener_view folder_view vault_view sink_view setup trees seed stops files left → StopsTo files left
+  pub stops_are : (stops : List (StoppedRun O F V W)) (files left : Files) → AreStoppedRuns opener_view folder_view vault_view sink_view setup trees seed stops files left → StopsTo files left
   stops_are [] files left are = ([], are)
   stops_are (stop ∷ stops) files left are = ⊎_elim
       (λ stopped. stopped_before stop files left stopped (stops_are stops stop.left left are.1))
@@ -134,16 +138,16 @@ module _ {O F V W : Type 0} (opener_view : O → OpenerView) (folder_view : F �
       are.0
 
   -- a run that ended with status 0
-  ends_in_part : (files : Files) (run : RunOf O F V W) (left : Files) → EndsClean opener_view folder_view vault_view sink_view setup trees seed files run left
+  pub ends_in_part : (files : Files) (run : RunOf O F V W) (left : Files) → EndsClean opener_view folder_view vault_view sink_view setup trees seed files run left
       → EndsInPart (entry_of opener_view sink_view run) (end_of opener_view folder_view vault_view sink_view run) run.status
   ends_in_part files run left clean = let zero = clean.clean in clean.ends clean.asks.tells (ByStatus (omega (arith, zero))) clean.asks.asked clean.asks.way clean.asks.words clean.asks.command_is
 
   -- so all is verified
-  all_verified : (files : Files) (run : RunOf O F V W) (left : Files) (clean : EndsClean opener_view folder_view vault_view sink_view setup trees seed files run left)
+  pub all_verified : (files : Files) (run : RunOf O F V W) (left : Files) (clean : EndsClean opener_view folder_view vault_view sink_view setup trees seed files run left)
       → (let sync = (ends_in_part files run left clean).run in AllVerified sync.plan.start sync.readings)
   all_verified files run left clean = ((ends_in_part files run left clean).status_is.clean.0 clean.clean).1
 
-  full_of : (files : Files) (run : RunOf O F V W) (left : Files) (clean : EndsClean opener_view folder_view vault_view sink_view setup trees seed files run left)
+  pub full_of : (files : Files) (run : RunOf O F V W) (left : Files) (clean : EndsClean opener_view folder_view vault_view sink_view setup trees seed files run left)
       → (let sync = (ends_in_part files run left clean).run in IsFullSync setup sync.loaded trees sync.plan.now files (end_table sync) left)
   full_of files run left clean =
       let before : Entry = entry_of opener_view sink_view run in
@@ -157,7 +161,7 @@ module _ {O F V W : Type 0} (opener_view : O → OpenerView) (folder_view : F �
       (subst (λ (ts : List Tree). IsFullSync setup sync.loaded ts sync.plan.now before.opener.vault.files (end_table sync) left) of.trees_are
       (subst (λ (s : SetupValue). IsFullSync s sync.loaded (run_trees sync) sync.plan.now before.opener.vault.files (end_table sync) left) of.setup_is full))
 
-  saved_by : (files : Files) (run : RunOf O F V W) (left : Files) (clean : EndsClean opener_view folder_view vault_view sink_view setup trees seed files run left)
+  pub saved_by : (files : Files) (run : RunOf O F V W) (left : Files) (clean : EndsClean opener_view folder_view vault_view sink_view setup trees seed files run left)
       → HasSaved copies_here (spelling (end_table (ends_in_part files run left clean).run)) left
   saved_by files run left clean =
       let before : Entry = entry_of opener_view sink_view run in

@@ -23,10 +23,13 @@ use Rattle.snap_report.specs.declared.answer.RunFault.TheVariants.{Folder, Vault
 use Rattle.snap_report.specs.declared.events.Event.{Event}
 use Rattle.snap_report.proofs.ReportLemmas.{all_given_nothing}
 use Rattle.snap_top.specs.Does.{IsDone}
-use Rattle.snap_top.specs.Task.{Task, Did, fixes, reads_only, syncs, may_stand, stands_after, Left}
+use Rattle.snap_top.specs.Task.{Task, Did, fixes, reads_only, scrubs, syncs, may_stand, stands_after, Left}
 use Rattle.content_file.specs.Spelling.{spelling}
 use Rattle.content_file.proofs.SaveLemmas.{saves_nothing}
 use Rattle.snap_sync.specs.Images.{Opening}
+use Rattle.snap_scrub.specs.Course.{MayStandScrubbed}
+use Rattle.snap_scrub.specs.Reading.{ScrubReading}
+use Rattle.snap_top.specs.Scrub.{marked_table}
 use Rattle.snap_top.specs.Opening.{IsGiven}
 use Rattle.snap_top.specs.Run.{Works, IsAnswered, OnlyLoads, ReadsCopies, LoadsFrom, LoadsInOrder, LoadsNot, BeginsWith, BeginsNot, IsRun, RanWith, at_entry, at_exit}
 use Rattle.snap_top.specs.Views.{WorldView, world_view, world_of, view_of, outside_of}
@@ -43,6 +46,11 @@ pub stands_still : (did : Did) (files : Files) → may_stand did files files
 stands_still reads_only files = refl
 stands_still (syncs failed run) files = Opening (saves_nothing (spelling run.plan.start) files)
 stands_still (fixes failed run) files = record { contents = refl; bytes = λ level at x outside has. has; grown = λ level at x outside has. inl has }
+stands_still (scrubs failed run) files = marks_nothing run.readings
+  where
+    marks_nothing : (readings : List ScrubReading) → MayStandScrubbed (marked_table run) readings files files
+    marks_nothing [] = refl
+    marks_nothing (reading ∷ readings) = saves_nothing (spelling (marked_table run)) files
 
 only_loads : (folders : List FolderView) (given mid : VaultView) (out : SinkView) → ReadsCopies (state_of given) (state_of mid) → OnlyLoads (world_of (world_view folders given out)) (world_of (world_view folders mid out))
 only_loads folders given mid out reads = record { vault = reads; others = refl }

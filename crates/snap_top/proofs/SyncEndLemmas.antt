@@ -64,7 +64,7 @@ all_read readings ahead pending first many =
 
 -- ---- by what it did
 
-done_by_did : (answer : Answer) (task : Task) (way : SyncWay) (table : TableValue) (before after : World) (left : Left) (did : Did) → SyncsBy answer task way table before after left did → has_ended did ≡ true → IsDoneAnswer answer
+pub done_by_did : (answer : Answer) (task : Task) (way : SyncWay) (table : TableValue) (before after : World) (left : Left) (did : Did) → SyncsBy answer task way table before after left did → has_ended did ≡ true → IsDoneAnswer answer
 done_by_did answers.Clean task way table before after left did does ended = tt
 done_by_did answers.Found task way table before after left did does ended = tt
 done_by_did answers.OutputFailed task way table before after left did does ended = tt
@@ -90,7 +90,7 @@ pub record HasEndedSync (before : Entry) (exit : Exit) (status : ℕ) : Type 0 w
   pub ends : SyncEnds ran.task way one.table one.start (world_of exit.after) left ran.did
 
 -- by the answer
-ends_by_answer : (answer : Answer) (task : Task) (way : SyncWay) (table : TableValue) (before after : World) (left : Left) (did : Did) → IsDoneAnswer answer → SyncsBy answer task way table before after left did → SyncEnds task way table before after left did
+pub ends_by_answer : (answer : Answer) (task : Task) (way : SyncWay) (table : TableValue) (before after : World) (left : Left) (did : Did) → IsDoneAnswer answer → SyncsBy answer task way table before after left did → SyncEnds task way table before after left did
 ends_by_answer answers.Clean task way table before after left did done does = does
 ends_by_answer answers.Found task way table before after left did done does = does
 ends_by_answer answers.OutputFailed task way table before after left did done does = does

@@ -13,6 +13,7 @@ use Rattle.snap_report.specs.declared.events.Event.{Event}
 use Rattle.stripe_examiner.specs.declared.scope.Mode.TheVariants as modes
 use Rattle.snap_top.specs.Checking.{ChecksBy}
 use Rattle.snap_top.specs.Fixing.{FixesBy}
+use Rattle.snap_top.specs.Scrubbing.{ScrubsBy}
 use Rattle.snap_top.specs.Syncing.{SyncsBy}
 use Rattle.snap_top.specs.Task.{Task, Did, reads_only, may_stand, stands_after, Keeps, Left, Prints}
 use Rattle.snap_top.specs.Views.{World, WorldView, world_of, outside_of}
@@ -32,8 +33,7 @@ DoesCommand (commands.Sync way) task table before after left did = SyncsBy left.
 DoesCommand (commands.Check selection) task table before after left did = ChecksBy left.answer modes.Check selection task table before after left did
 DoesCommand (commands.Audit selection) task table before after left did = ChecksBy left.answer modes.Audit selection task table before after left did
 DoesCommand (commands.Fix selection) task table before after left did = FixesBy left.answer selection task table before after left did
--- the others are not built
-DoesCommand _ task table before after left did = ⊥
+DoesCommand (commands.Scrub way) task table before after left did = ScrubsBy left.answer way task table before after left did
 
 abbrev pub Does : Task → TableValue → World → World → Left → Did → Type 0
 Does task table before after left did = DoesCommand task.command task table before after left did

@@ -1,4 +1,4 @@
--- When a sync, a check or a fix went to its end, and the status that it has then.
+-- When a sync, a scrub, a check or a fix went to its end, and the status that it has then.
 use Rattle.std.specs.Prelude.{◌≡◌, ◌↔◌, ◌⊎◌, ℕ, ◌≤◌, List, Bool, true, false, IsTrue, not}
 use Rattle.snap_config.specs.Setup.{SetupValue}
 use Rattle.snap_report.specs.declared.answer.Answer.TheVariants as answers
@@ -6,15 +6,16 @@ use Rattle.snap_report.specs.declared.events.Event.{Event}
 use Rattle.snap_top.specs.Complete.{NothingBroke}
 use Rattle.snap_top.specs.End.{ending_status}
 use Rattle.snap_top.specs.Run.{Entry, Exit, IsRun}
-use Rattle.snap_top.specs.Task.{Did, fixes, reads_only, syncs}
+use Rattle.snap_top.specs.Task.{Did, fixes, reads_only, scrubs, syncs}
 use Rattle.snap_top.specs.declared.end.Ending.{Ending}
 use Rattle.snap_top.specs.declared.end.Ending.TheVariants.{Answered}
 
--- the run synced or fixed, and did not break off
+-- the run synced, fixed or scrubbed, and did not break off
 abbrev pub has_ended : Did → Bool
 has_ended reads_only = false
 has_ended (syncs failed run) = not failed
 has_ended (fixes failed run) = not failed
+has_ended (scrubs failed run) = not failed
 
 -- its answer is that the output failed, which no command gives that broke off
 abbrev pub has_failed_output : Ending → Bool
@@ -31,9 +32,9 @@ pub record HasEnded (before : Entry) (exit : Exit) (status : ℕ) : Type 0 where
   pub status_is : status ≡ ending_status ending
   pub ended : (has_ended ran.did ≡ true) ⊎ (has_failed_output ending ≡ true)
 
--- How it shows that a sync, a check or a fix went to its end. Its status is 0 or 1. Or it is 3, and neither the opener
+-- How it shows that a sync, a scrub, a check or a fix went to its end. Its status is 0 or 1. Or it is 3, and neither the opener
 -- nor a folder nor the vault failed so that a run ends: then the output failed, and besides at most readings did. Or
--- the run says so itself, by what a sync or a fix did, or by the answer that the output failed.
+-- the run says so itself, by what a sync, a fix or a scrub did, or by the answer that the output failed.
 pub data WentToItsEnd (before : Entry) (exit : Exit) (status : ℕ) : Type 0 where
   ByStatus : status ≤ 1 → WentToItsEnd before exit status
   ByFaults : status ≡ 3 → NothingBroke before exit → WentToItsEnd before exit status

@@ -101,7 +101,7 @@ module _ {O F V W : Type 0} (opener_view : O â†’ OpenerView) (folder_view : F â†
     pub sound : EveryMomentIsSound (entry_of opener_view sink_view stop.run) (end_of opener_view folder_view vault_view sink_view stop.run) stop.run.status
     pub stands : StandsIn (entry_of opener_view sink_view stop.run) (end_of opener_view folder_view vault_view sink_view stop.run) stop.left
 
-  -- Sound after a run. What it did is to read, to sync or to fix. Unless a fix met a hash by chance, or a content file has blocks of another size, the
+  -- Sound after a run. What it did is to read, to sync, to fix or to scrub. Unless a fix met a hash by chance, or a content file has blocks of another size, the
   -- copies that it left are sound with the rows that it had closed by then, and so it goes on from there. Where it was asked for a sync and went to its
   -- end, and this is what stands then, these are the rows of all that it closed, and each copy spells its table. A fix that went to its end, and met no
   -- hash by chance, restores the blocks of the snapshot.

@@ -7,6 +7,7 @@ pub mod End
 pub mod Ended
 pub mod Fix
 pub mod Fixing
+pub mod Headline
 pub mod History
 pub mod Known
 pub mod Lost
@@ -16,6 +17,11 @@ pub mod Opening
 pub mod Restoring
 pub mod Resumed
 pub mod Run
+pub mod Scrub
+pub mod Scrubbed
+pub mod Scrubbing
+pub mod Standing
+pub mod Step
 pub mod Stopping
 pub mod Sync
 pub mod Syncing

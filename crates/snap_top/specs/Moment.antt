@@ -1,5 +1,5 @@
 -- What stands at each moment of a run, wherever it is stopped, and what a sync leaves at its end.
-use Rattle.std.specs.Prelude.{◌≡◌, ◌⊎◌, ℕ, ◌≤◌, length, All, Bool, false, IsTrue, Ok}
+use Rattle.std.specs.Prelude.{◌≡◌, ◌⊎◌, ℕ, ◌≤◌, ◌++◌, ◌-◌, length, All, Bool, false, IsTrue, Ok}
 use Rattle.array_scan.specs.Layout.{pending_stripes}
 use Rattle.cauchy.specs.Recovery.{AreBytes}
 use Rattle.content_file.specs.Load.{HasFailed}
@@ -15,6 +15,10 @@ use Rattle.snap_config.specs.declared.options.Command.{Command}
 use Rattle.snap_config.specs.declared.options.Command.TheVariants as commands
 use Rattle.snap_config.specs.declared.options.Options.{Options}
 use Rattle.snap_config.specs.declared.options.SyncWay.{SyncWay}
+use Rattle.snap_report.specs.EventLines.{lines_of}
+use Rattle.snap_report.specs.Telling.{Tells, between}
+use Rattle.snap_report.specs.Text.{sync_text}
+use Rattle.snap_sync.specs.Closing.{verified_in}
 use Rattle.snap_sync.specs.Ended.{IsFoundIn}
 use Rattle.stripe_findings.specs.Findings.{events_of}
 use Rattle.snap_sync.specs.Images.{rows_after}
@@ -25,8 +29,9 @@ use Rattle.snap_top.specs.Ended.{IsEndStatus, WentToItsEnd}
 use Rattle.snap_top.specs.Opening.{IsConfigured, asked_by}
 use Rattle.snap_top.specs.Run.{Entry, Exit}
 use Rattle.snap_top.specs.Fix.{AllFixed, FixRun, FixesOver, IsGenuineFix}
-use Rattle.snap_top.specs.Sync.{BeginsFrom, SyncsFrom, SyncsOver}
-use Rattle.snap_top.specs.Task.{Did, fixes, reads_only, syncs, may_stand, end_table}
+use Rattle.snap_top.specs.Scrub.{MayStandMarked, ScrubRun, ScrubsOver}
+use Rattle.snap_top.specs.Sync.{BeginsAmong, BeginsFrom, SyncsFrom, SyncsOver}
+use Rattle.snap_top.specs.Task.{Did, fixes, reads_only, scrubs, syncs, may_stand, end_table}
 
 -- ---- what a run did
 
@@ -42,6 +47,7 @@ pub record IsSyncOf (before : Entry) (exit : Exit) (run : SyncRun) : Type 0 wher
   pub moment_is : run.plan.now ≡ before.moment
   pub copies_are : copies_of before.opener.vault ≡ length run.setup.contents
   pub over : SyncsOver (copies_of before.opener.vault) before.opener.vault.files run
+  pub begins : BeginsAmong run.setup before.seed (copies_of before.opener.vault) before.opener.vault.files run.loaded
   pub bytes : AllTell run.folders → All (λ (reading : StripeReading). AreBytes (row_of reading)) run.readings
   pub from : ((copy : ℕ) → ¬ (HasFailed before.opener.vault exit.after.vault copy))
       → SyncsFrom before.seed (copies_of before.opener.vault) before.opener.vault.files run
@@ -54,16 +60,31 @@ pub record IsFixOf (before : Entry) (exit : Exit) (run : FixRun) : Type 0 where
   pub folders_are : run.folders ≡ before.opener.folders
   pub ended_is : run.ended ≡ exit.after.folders
   pub over : FixesOver (copies_of before.opener.vault) before.opener.vault run
+  pub begins : BeginsAmong run.setup before.seed (copies_of before.opener.vault) before.opener.vault.files run.loaded
   -- only its calls were made of the folders
   pub makes : AllFixed run before.opener.folders exit.after.folders
   pub from : ((copy : ℕ) → ¬ (HasFailed before.opener.vault exit.after.vault copy))
       → BeginsFrom run.setup before.seed (copies_of before.opener.vault) before.opener.vault.files run.loaded
 
--- a run that did more than to read is one that synced or fixed, and this is its sync or its fix
+-- The scrub of a run, by the configuration that was asked for, over the folders and the vault that the opener held. Where no copy's reading
+-- failed, the table that it loaded is that of the first copy that is a content file.
+pub record IsScrubOf (before : Entry) (exit : Exit) (run : ScrubRun) : Type 0 where
+  pub readers : ℕ
+  pub configured : IsConfigured before.texts before.opener (commands.Scrub run.way) readers run.setup
+  pub folders_are : run.folders ≡ before.opener.folders
+  pub ended_is : run.ended ≡ exit.after.folders
+  pub moment_is : run.now ≡ before.moment
+  pub over : ScrubsOver (copies_of before.opener.vault) before.opener.vault run
+  pub begins : BeginsAmong run.setup before.seed (copies_of before.opener.vault) before.opener.vault.files run.loaded
+  pub from : ((copy : ℕ) → ¬ (HasFailed before.opener.vault exit.after.vault copy))
+      → BeginsFrom run.setup before.seed (copies_of before.opener.vault) before.opener.vault.files run.loaded
+
+-- a run that did more than to read is one that synced, fixed or scrubbed, and this is its sync, its fix or its scrub
 abbrev pub IsDidOf : Entry → Exit → Did → Type 0
 IsDidOf before exit reads_only = Unit {0}
 IsDidOf before exit (syncs failed run) = IsSyncOf before exit run
 IsDidOf before exit (fixes failed run) = IsFixOf before exit run
+IsDidOf before exit (scrubs failed run) = IsScrubOf before exit run
 
 -- the commands that change nothing
 abbrev pub ChangesNothing : Command → Type 0
@@ -95,12 +116,14 @@ abbrev pub stripes_read : Did → ℕ
 stripes_read reads_only = 0
 stripes_read (syncs failed run) = length run.readings
 stripes_read (fixes failed run) = 0
+stripes_read (scrubs failed run) = 0
 
 -- the rows of the stripes that a run has closed once it read so many
 abbrev pub rows_closed : Did → ℕ → Rows
 rows_closed reads_only count = no_rows
 rows_closed (syncs failed run) count = rows_after run.plan run.readings count
 rows_closed (fixes failed run) count = no_rows
+rows_closed (scrubs failed run) count = no_rows
 
 -- Sound once a run read so many stripes: with the rows of those that it has closed by then in the snapshot, and nothing of these stripes changed from
 -- outside.
@@ -115,18 +138,20 @@ pub record IsSoundIn (did : Did) (copies : ℕ) (files : Files) (snapshot : Snap
   pub sound : IsSoundWith did count copies files snapshot is_changed
 
 -- What the copies hold at a moment of a run: what they held at its beginning or, where the folders tell their trees, the table of a part sync of
--- what was laid out of them.
+-- what was laid out of them. A scrub leaves each as it was, or with the table of its marks.
 abbrev pub AreOfRun : Did → ℕ → Files → Files → Type 0
 AreOfRun reads_only copies old new = new ≡ old
 AreOfRun (syncs failed run) copies old new = AllTell run.folders →
     AreOfPartSyncs (layout_by run.setup run.loaded (run_trees run)) (run_trees run) run.plan.now copies old new
 AreOfRun (fixes failed run) copies old new = new.contents ≡ old.contents
+AreOfRun (scrubs failed run) copies old new = MayStandMarked run old new
 
 -- What soundness rests on besides: of a fix, that no hash was met by chance, and that all content files have blocks of its size.
 abbrev pub IsSupposed : Did → ℕ → Files → Snapshot → Type 0
 IsSupposed reads_only copies files snapshot = Unit {0}
 IsSupposed (syncs failed run) copies files snapshot = Unit {0}
 IsSupposed (fixes failed run) copies files snapshot = IsGenuineFix run copies files snapshot
+IsSupposed (scrubs failed run) copies files snapshot = Unit {0}
 
 -- A run was asked for a sync, and went to its end.
 pub record SyncsToItsEnd (before : Entry) (exit : Exit) (status : ℕ) : Type 0 where
@@ -149,9 +174,9 @@ pub record IsSoundAtEnd (before : Entry) (exit : Exit) (status : ℕ) : Type 0 w
       → AreSound (copies_of before.opener.vault) before.opener.vault.files snapshot is_changed
       → IsSoundWith (syncs false run) (length run.readings) (copies_of before.opener.vault) files snapshot is_changed
 
--- Where all copies are sound at the beginning of a run, they are at each moment of it, whatever it answers. What a run did is to read, to sync, or to fix;
--- of a fix this rests on that no hash was met by chance, and that all content files have blocks of its size. How many of its stripes a sync has read at
--- a moment is open; at its end it has read all.
+-- Where all copies are sound at the beginning of a run, they are at each moment of it, whatever it answers. What a run did is to read, to sync, to fix
+-- or to scrub; of a fix this rests on that no hash was met by chance, and that all content files have blocks of its size. How many of its stripes a
+-- sync has read at a moment is open; at its end it has read all.
 pub record IsSoundAlways (before : Entry) (exit : Exit) (status : ℕ) : Type 0 where
   pub did : Did
   pub is_did : IsDidOf before exit did
@@ -178,8 +203,8 @@ pub record TellsAll (before : Entry) : Type 0 where
 
 -- A sync that went to its end: all pending stripes of the layout were read, and where no folder's count of faults rose this gave what the trees
 -- hold. It is the part sync of those that are verified, and every copy spells its table; in each that is not something was found. Where all are
--- verified, it is the full sync. So it stands as the vault reads, and in each image. Its status is 0 exactly where all are verified and the output
--- did not fail. A failure of the output is counted, and changes nothing else of this.
+-- verified, it is the full sync. So it stands as the vault reads, and in each image. It printed the lines of what was found and its last line, or a
+-- prefix where the output failed. Its status is 0 exactly where all are verified and the output did not fail. A failure of the output is counted, and changes nothing else of this.
 pub record EndsInPart (before : Entry) (exit : Exit) (status : ℕ) : Type 0 where
   pub run : SyncRun
   pub is_sync : IsSyncOf before exit run
@@ -196,6 +221,9 @@ pub record EndsInPart (before : Entry) (exit : Exit) (status : ℕ) : Type 0 whe
   pub full : AllVerified run.plan.start run.readings
       → Holds (IsFullSync run.setup run.loaded (run_trees run) run.plan.now before.opener.vault.files (end_table run)) exit.after.vault
   pub output_failed : Bool
+  pub printed : Tells (lines_of run.plan.start.columns (events_of run.plan.start run.readings)
+      ++ sync_text (verified_in run.plan.start run.readings) (length run.readings - verified_in run.plan.start run.readings))
+      (between false before.out) (between output_failed exit.after.out)
   pub status_is : IsEndStatus status output_failed (AllVerified run.plan.start run.readings)
   pub output : IsTrue output_failed → Rose before.out.faults exit.after.out.faults
 

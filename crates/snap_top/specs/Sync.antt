@@ -33,6 +33,11 @@ abbrev pub BeginsFrom : SetupValue → List ℕ → ℕ → Files → TableValue
 BeginsFrom setup seed copies files table =
     IsFirstContent copies files table ⊎ (HasNoCopy copies files × (table ≡ empty_table setup seed))
 
+-- The same, whichever readings failed: the table of some copy, or where there is no copy that of an array without content.
+abbrev pub BeginsAmong : SetupValue → List ℕ → ℕ → Files → TableValue → Type 0
+BeginsAmong setup seed copies files table =
+    ((copy : ℕ) × (copy < copies) × (content_of files copy ≡ Some (spelling table))) ⊎ (HasNoCopy copies files × (table ≡ empty_table setup seed))
+
 -- ---- a sync over the files of a vault
 
 -- Its folders were listed and their pending stripes read, from a table that was loaded of so many copies of these files.

@@ -17,6 +17,7 @@ use Rattle.snap_sync.specs.Closing.{closed}
 use Rattle.snap_sync.specs.Images.{MayStand, HasParityAfter}
 use Rattle.snap_sync.specs.Part.{SyncRun}
 use Rattle.snap_top.specs.Fix.{FixRun, AllFixed, LeavesFixed, MayStandFixed}
+use Rattle.snap_top.specs.Scrub.{ScrubRun, LeavesMarked, MayStandMarked}
 use Rattle.snap_top.specs.Views.{World, AllReadOnly, KeepsBy}
 use Rattle.snap_top.specs.declared.job.Job.{Job}
 
@@ -39,20 +40,22 @@ IsBuilt (commands.Sync way) = Unit {0}
 IsBuilt (commands.Check selection) = Unit {0}
 IsBuilt (commands.Audit selection) = Unit {0}
 IsBuilt (commands.Fix selection) = Unit {0}
-IsBuilt _ = ⊥
+IsBuilt (commands.Scrub way) = Unit {0}
 
--- what a run did to the files of the vault and of the folders: it only read them, or it synced or fixed them, and broke off in that
--- (`failed`) or did not
+-- what a run did to the files of the vault and of the folders: it only read them, or it synced, fixed or scrubbed them, and broke off in
+-- that (`failed`) or did not
 pub data Did : Type 0 where
   reads_only : Did
   syncs : (failed : Bool) → SyncRun → Did
   fixes : (failed : Bool) → FixRun → Did
+  scrubs : (failed : Bool) → ScrubRun → Did
 
 -- whatever the run did and whenever it is stopped, each image comes by this from one that there was before it
 abbrev pub may_stand : Did → Files → Files → Type 0
 may_stand reads_only = Stays
 may_stand (syncs failed run) = MayStand run.plan run.readings
 may_stand (fixes failed run) = MayStandFixed run
+may_stand (scrubs failed run) = MayStandMarked run
 
 -- the table of a sync that read all its stripes
 abbrev pub end_table : SyncRun → TableValue
@@ -70,12 +73,15 @@ stands_after (syncs true run) old new = Unit {0}
 stands_after (syncs false run) old new = LeavesSynced run old new
 stands_after (fixes true run) old new = Unit {0}
 stands_after (fixes false run) old new = LeavesFixed run new
+stands_after (scrubs true run) old new = Unit {0}
+stands_after (scrubs false run) old new = LeavesMarked run new
 
--- what it did to the folders: a sync only reads them
+-- what it did to the folders: a sync and a scrub only read them
 abbrev pub folders_after : Did → List FolderView → List FolderView → Type 0
 folders_after reads_only = AllReadOnly
 folders_after (syncs failed run) = AllReadOnly
 folders_after (fixes failed run) = AllFixed run
+folders_after (scrubs failed run) = AllReadOnly
 
 -- what stays whatever was done, and what only grows
 abbrev pub Keeps : Did → World → World → Type 0

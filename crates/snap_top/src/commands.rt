@@ -13,6 +13,7 @@ ghost use Rattle.snap_top.specs.Views.{world_view};
 use crate::checking::check_array;
 use crate::fixing::fix_array;
 use crate::job::{Done, Job};
+use crate::scrubbing::scrub_array;
 use crate::syncing::sync_array;
 use disk_model::{Folder, Sink, Vault};
 use file_table::Table;
@@ -23,7 +24,7 @@ use std::alloc::Global;
 use std::thread::Threads;
 
 /// The commands that are built.
-pub const COMMANDS: [CommandName; 5] = BUILT_COMMANDS;
+pub const COMMANDS: [CommandName; 6] = BUILT_COMMANDS;
 
 // Prints the files of a table, and answers whether a write failed.
 fn print_list<W: Sink>(table: &Table, out: &mut W) -> bool
@@ -102,6 +103,9 @@ pub(crate) fn carry_out<R: Threads + Sync, F: Folder, V: Vault, W: Sink>(
         Command::Sync(way) => {
             sync_array(rt, alloc, job, way, table, folders, vault, reports, out)
         }
+        Command::Scrub(way) => {
+            scrub_array(rt, alloc, job, way, table, folders, vault, reports, out)
+        }
         Command::Check(selection) => check_array(
             rt,
             alloc,
@@ -129,6 +133,5 @@ pub(crate) fn carry_out<R: Threads + Sync, F: Folder, V: Vault, W: Sink>(
         Command::Fix(selection) => fix_array(
             rt, alloc, job, selection, &table, folders, vault, reports, out,
         ),
-        _ => unreachable!(),
     }
 }

@@ -18,10 +18,12 @@ ghost use Rattle.snap_sync.specs.Part.{IsFullSync, SyncRun};
 ghost use Rattle.snap_sync.specs.Resumed.{EndsAs};
 ghost use Rattle.snap_sync.specs.Soundness.{AreSound};
 ghost use Rattle.snap_top.specs.Fix.{FixRun};
-ghost use Rattle.snap_top.specs.History.{AreSoundBy, IsHistory, LastSynced, StaysSound, Step};
+ghost use Rattle.snap_top.specs.Headline.{Headline};
+ghost use Rattle.snap_top.specs.History.{AreSoundBy, IsHistory as IsHistoryOfRuns, LastSynced, StaysSound, Step};
 ghost use Rattle.snap_top.specs.Moment.{IsFixOf};
 ghost use Rattle.snap_top.specs.Restoring.{Restores};
 ghost use Rattle.snap_top.specs.Resumed.{AreStoppedRuns, EndAlike, EndsClean, RunOf, StoppedRun, end_of, entry_of};
+ghost use Rattle.snap_top.specs.Standing.{IsHistory, IsOrigin, Stage, Standing};
 ghost use Rattle.snap_top.specs.Stopping.{FindsNoLess, FolderStandsIn, SparesFiles, stop_of};
 ghost use Rattle.snap_top.specs.Sync.{AreStopped, IsOfArray, Stop, SyncsFrom};
 ghost use Rattle.snap_top.specs.Undamaged.{HasEnough, IsRecoverable, IsUndamaged};
@@ -31,9 +33,10 @@ use content_file::laws::one_table_has_a_spelling;
 use disk_model::{Folder, Opener, Sink, Vault};
 use parity_writer::laws::a_whole_level_is_what_the_file_holds;
 use snap_fix::laws::a_stop_within_a_fix_changes_written_blocks_alone;
+use snap_scrub::laws::a_scrub_keeps_what_is_synced;
 use snap_sync::laws::{
-    a_stopped_sync_is_resumed, a_sync_is_a_part_sync, every_moment_is_sound, there_is_a_full_sync,
-    what_a_sync_saves_is_valid,
+    a_moment_is_sound_with_its_rows, a_stopped_sync_is_resumed, a_sync_is_a_part_sync,
+    every_moment_is_sound, there_is_a_full_sync, what_a_sync_saves_is_valid,
 };
 
 /// Syncs by one configuration and over the same trees are stopped one after another, each at any moment; the copies of
@@ -90,7 +93,7 @@ pub fn stopped_runs_are_resumed<O: Opener, F: Folder, V: Vault, W: Sink>()
 /// clause `sound`, of a fix in its clause `fixed`.
 pub fn copies_stay_sound<O: Opener, F: Folder, V: Vault, W: Sink>()
     ensures { (copies : ℕ) (steps : List (Step O F V W)) (files : Files) (last : LastSynced) →
-        IsHistory O.view F.view V.view W.view copies steps files → AreSoundBy copies files last →
+        IsHistoryOfRuns O.view F.view V.view W.view copies steps files → AreSoundBy copies files last →
         StaysSound O.view F.view V.view W.view copies steps files last }
 {}
 
@@ -135,5 +138,25 @@ pub fn undamaged_levels_restore<O: Opener, F: Folder, V: Vault, W: Sink>()
         HoldsCell fix.plan.table d cell (has_lost fix.plan fix.stripes d cell.rec)
         (byte_of (snapshot facts.stripe) d) (folder_at fix.ended d).tree }
 {
+    a_whole_level_is_what_the_file_holds();
+}
+
+/// The headline. Whatever happened to an array since it had no content, by runs of any commands, each of which ended or was
+/// stopped at some moment, by edits, by damage to the vault and by other configurations: what stands then is sound; a sync
+/// that ends with status 0 after stopped ones leaves what one leaves that was never stopped; and a fix that goes to its end
+/// restores the blocks that were last synced of each stripe in which no more are missing than levels are intact, unless their
+/// record is blocked, and names those of stripes in which more are missing. Of each fix this supposes that it met no block
+/// that has a recorded hash by chance.
+pub fn headline<O: Opener, F: Folder, V: Vault, W: Sink>()
+    ensures { (first standing : Standing) (stages : List (Stage O F V W)) → IsOrigin first →
+        IsHistory O.view F.view V.view W.view first stages standing → Headline O.view F.view V.view W.view standing }
+{
+    stopped_syncs_are_resumed();
+    there_is_a_full_sync();
+    a_moment_is_sound_with_its_rows();
+    one_table_has_a_spelling();
+    a_sync_is_a_part_sync();
+    what_a_sync_saves_is_valid();
+    a_scrub_keeps_what_is_synced();
     a_whole_level_is_what_the_file_holds();
 }

@@ -7,8 +7,10 @@ ghost use Rattle.snap_top.specs.Complete.{IsSilent, RefusalsTouchNothing, Smooth
 ghost use Rattle.snap_top.specs.Moment.{EveryMomentIsSound, SyncsEndInPart};
 ghost use Rattle.snap_top.specs.Naming.{ChecksEnd};
 ghost use Rattle.snap_top.specs.Restoring.{FixesEnd};
+ghost use Rattle.snap_top.specs.Scrubbed.{ScrubsEnd};
 ghost use Rattle.snap_top.specs.Task.{IsBuilt, task_of};
 ghost use Rattle.snap_top.specs.Run.{BeginsWith, BeginsNot, Works, Ran, RanWith, EndsWith, at_entry, exit_of};
+ghost use Rattle.snap_top.specs.Step.{EveryRunSteps};
 ghost use Rattle.snap_top.specs.Views.{AreAllOpen, world_view};
 
 use crate::commands::carry_out;
@@ -25,6 +27,7 @@ use disk_model::{Folder, Opener, Sink, Vault};
 use file_table::Table;
 use snap_fix::laws::{a_fix_keeps_what_is_sound, a_fix_restores, a_known_row_is_the_snapshots};
 use snap_report::Report;
+use snap_scrub::laws::a_scrub_keeps_what_is_synced;
 use snap_sync::laws::{a_sync_is_a_part_sync, every_moment_is_sound, what_is_pending_is_found};
 use std::alloc::Global;
 use std::thread::Threads;
@@ -188,6 +191,12 @@ pub fn run<R: Threads + Sync, O: Opener, W: Sink, E: Sink>(
     ensures fixed { FixesEnd (at_entry (map string_bytes words.now) (O.view opener.old) (W.view out.old) now seed)
         (exit_of O.Folder.view O.Vault.view (O.view opener.new) result.folders.items result.vault (W.view out.new))
         result.status }
+    ensures scrubbed { ScrubsEnd (at_entry (map string_bytes words.now) (O.view opener.old) (W.view out.old) now seed)
+        (exit_of O.Folder.view O.Vault.view (O.view opener.new) result.folders.items result.vault (W.view out.new))
+        result.status }
+    ensures step { EveryRunSteps (at_entry (map string_bytes words.now) (O.view opener.old) (W.view out.old) now seed)
+        (exit_of O.Folder.view O.Vault.view (O.view opener.new) result.folders.items result.vault (W.view out.new))
+        result.status }
     ensures complete { SmoothRunsAreDone (at_entry (map string_bytes words.now) (O.view opener.old) (W.view out.old) now seed)
         (exit_of O.Folder.view O.Vault.view (O.view opener.new) result.folders.items result.vault (W.view out.new))
         result.status }
@@ -200,6 +209,7 @@ pub fn run<R: Threads + Sync, O: Opener, W: Sink, E: Sink>(
     a_fix_keeps_what_is_sound();
     a_fix_restores();
     a_known_row_is_the_snapshots();
+    a_scrub_keeps_what_is_synced();
     let Ended {
         end,
         folders,

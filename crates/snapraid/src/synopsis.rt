@@ -5,7 +5,7 @@ use snap_top::COMMANDS;
 use std::alloc::Global;
 
 const ANY: &str =
-    "snapraid: usage: snapraid [OPTION].. sync|check|fix|list|status, see 'man snapraid'\n";
+    "snapraid: usage: snapraid sync|scrub|check|fix|list|status [OPTION].., see 'man snapraid'\n";
 
 /// Prints how the command among the words is called, or which commands there are, where the words are refused.
 pub fn print_synopsis<W: Sink>(alloc: Global, words: &[String], err: &mut W) {
@@ -34,16 +34,19 @@ fn command_among(words: &[String]) -> Option<CommandName> {
 fn synopsis(command: Option<CommandName>) -> &'static str {
     match command {
         Some(CommandName::Sync) => {
-            "snapraid: usage: snapraid [-EZ] [-c FILE] [-l FILE] [--readers NUMBER] [--save-every STRIPES] sync\n"
+            "snapraid: usage: snapraid sync [-EZ] [-c FILE] [-l FILE] [--readers NUMBER] [--save-every STRIPES]\n"
+        }
+        Some(CommandName::Scrub) => {
+            "snapraid: usage: snapraid scrub [-c FILE] [-l FILE] [-o DAYS] [-p PLAN] [--readers NUMBER]\n"
         }
         Some(CommandName::Check) => {
-            "snapraid: usage: snapraid [-aem] [-c FILE] [-d NAME].. [-f PATTERN].. [-l FILE] [--readers NUMBER] check\n"
+            "snapraid: usage: snapraid check [-aem] [-c FILE] [-d NAME].. [-f PATTERN].. [-l FILE] [--readers NUMBER]\n"
         }
         Some(CommandName::Fix) => {
-            "snapraid: usage: snapraid [-em] [-c FILE] [-d NAME].. [-f PATTERN].. [-l FILE] [--readers NUMBER] fix\n"
+            "snapraid: usage: snapraid fix [-em] [-c FILE] [-d NAME].. [-f PATTERN].. [-l FILE] [--readers NUMBER]\n"
         }
-        Some(CommandName::List) => "snapraid: usage: snapraid [-c FILE] [-l FILE] list\n",
-        Some(CommandName::Status) => "snapraid: usage: snapraid [-c FILE] [-l FILE] status\n",
-        Some(CommandName::Scrub) | None => ANY,
+        Some(CommandName::List) => "snapraid: usage: snapraid list [-c FILE] [-l FILE]\n",
+        Some(CommandName::Status) => "snapraid: usage: snapraid status [-c FILE] [-l FILE]\n",
+        None => ANY,
     }
 }

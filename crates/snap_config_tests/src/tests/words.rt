@@ -159,7 +159,7 @@ static LOGS: [(&str, Option<&str>); 7] = [
     ("sync|-l|x", Some("x")),
     ("list", None),
     ("list|-l|", Some("")),
-    ("scrub|-l|x", None),
+    ("scrub|-l|x", Some("x")),
     ("frob|-l|x", None),
     ("list|-l|x|--frob", None),
     ("sync|-p|5|-l|x", None),

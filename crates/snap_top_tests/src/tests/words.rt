@@ -28,8 +28,8 @@ fn refused_words(rt: HostRuntime) -> Result<(), Fail> {
             ..USAGE
         },
         Case {
-            words: &["snapraid", "scrub", "-c", "FILE"],
-            err: "snapraid: unknown command 'scrub'\n",
+            words: &["snapraid", "frob", "-c", "FILE"],
+            err: "snapraid: unknown command 'frob'\n",
             ..REFUSED
         },
         Case {

@@ -62,10 +62,10 @@ fn lists_a_synced_file(rt: HostRuntime) -> Result<(), Fail> {
             err: "",
         },
         Case {
-            command: "scrub",
+            command: "frob",
             status: 2,
             out: "",
-            err: "snapraid: unknown command 'scrub'\n",
+            err: "snapraid: unknown command 'frob'\n",
         },
     ];
     let process = process::id(rt.process());

@@ -6,7 +6,9 @@ use Rattle.snap_top.proofs.NamingLemmas.{checks_end}
 use Rattle.snap_top.proofs.PartLemmas.{syncs_end_in_part}
 use Rattle.snap_top.proofs.RefusalLemmas.{refusal_touches_nothing}
 use Rattle.snap_top.proofs.RestoringLemmas.{fixes_end}
+use Rattle.snap_top.proofs.ScrubbedLemmas.{scrubs_end}
 use Rattle.snap_top.proofs.SilentLemmas.{done_is_silent}
+use Rattle.snap_top.proofs.StepLemmas.{every_run_steps}
 use Rattle.snap_top.proofs.running.run.Goals as goal
 
 pub returns-clause-refused : goal.returns-clause-refused
@@ -22,7 +24,7 @@ pub returns-clause-sound : goal.returns-clause-sound
 returns-clause-sound g c =
     let ran = c.work-end.ensures in
     let parts = c.a_sync_is_a_part_sync.ensures in
-    every_moment parts.laid parts.copies c.every_moment_is_sound.ensures c.a_fix_keeps_what_is_sound.ensures.sound c.a_layout_keeps_its_stripes.ensures c.one_table_has_a_spelling.ensures c.what_is_pending_is_found.ensures.findings _ _ c.work-end.result.end ran.told _ (omega arith)
+    every_moment parts.laid parts.copies c.every_moment_is_sound.ensures c.a_fix_keeps_what_is_sound.ensures.sound c.a_scrub_keeps_what_is_synced.ensures.valid c.a_scrub_keeps_what_is_synced.ensures.sound c.a_layout_keeps_its_stripes.ensures c.one_table_has_a_spelling.ensures c.what_is_pending_is_found.ensures.findings _ _ c.work-end.result.end ran.told _ (omega arith)
     (folders_formed g.O.Folder.Folder.view g.O.Folder.Folder.well_formed c.work-end.result.folders.items) c.status.ensures ran.ran
 
 pub returns-clause-synced : goal.returns-clause-synced
@@ -42,3 +44,37 @@ pub returns-clause-checked : goal.returns-clause-checked
 returns-clause-checked g c =
     let ran = c.work-end.ensures in
     checks_end c.a_known_row_is_the_snapshots.ensures.restorable c.a_fix_keeps_what_is_sound.ensures.facts _ _ c.work-end.result.end ran.told _ c.status.ensures ran.ran
+
+pub returns-clause-scrubbed : goal.returns-clause-scrubbed
+returns-clause-scrubbed g c = let ran = c.work-end.ensures in scrubs_end _ _ c.work-end.result.end ran.told _ (omega arith) c.status.ensures ran.ran
+
+pub returns-clause-step : goal.returns-clause-step
+returns-clause-step g c =
+    let ran = c.work-end.ensures in
+    let parts = c.a_sync_is_a_part_sync.ensures in
+    let finds = c.what_is_pending_is_found.ensures in
+    let restores = c.a_fix_restores.ensures in
+    let keeps = c.a_fix_keeps_what_is_sound.ensures in
+    every_run_steps (record {
+      laid = parts.laid;
+      of_parts = parts.copies;
+      part = parts.part;
+      full = parts.full;
+      given = parts.given;
+      finds = finds.findings;
+      found = finds.found;
+      moments = c.every_moment_is_sound.ensures;
+      keeps = c.a_layout_keeps_its_stripes.ensures;
+      one_table = c.one_table_has_a_spelling.ensures;
+      keeps_sound = keeps.sound;
+      restored = restores.restored;
+      lost = restores.unrestored;
+      unknown_lost = restores.lost;
+      lost_unknown = restores.told;
+      known = restores.known;
+      genuine = keeps.facts;
+      restorable = c.a_known_row_is_the_snapshots.ensures.restorable;
+      marks_valid = c.a_scrub_keeps_what_is_synced.ensures.valid;
+      marks_sound = c.a_scrub_keeps_what_is_synced.ensures.sound;
+    }) _ _ c.work-end.result.end ran.told _ (omega arith)
+    (folders_formed g.O.Folder.Folder.view g.O.Folder.Folder.well_formed c.work-end.result.folders.items) c.status.ensures ran.ran

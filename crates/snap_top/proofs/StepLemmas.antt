@@ -1,0 +1,251 @@
+-- A run is one step: what it did says what stands at each moment of it, and what it leaves at its end.
+use Rattle.std.proofs.Common.{◌≡◌, ◌⊎◌, ℕ, ◌^◌, ◌<◌, List, true, false, Option, Ok, refl, sym, ap, ◌∙◌, subst}
+use Rattle.disk_model.specs.Files.{Files}
+use Rattle.disk_model.specs.Folder.{FolderView}
+use Rattle.disk_model.specs.Vault.{IsSettled}
+use Rattle.file_table.specs.Table.{TableValue}
+use Rattle.snap_config.specs.Setup.{SetupValue, setup_value}
+use Rattle.snap_config.specs.declared.options.Command.{Command}
+use Rattle.snap_config.specs.declared.options.Command.TheVariants as commands
+use Rattle.snap_config.specs.declared.options.Options.{Options}
+use Rattle.snap_config.specs.declared.options.Selection.{Selection}
+use Rattle.snap_config.specs.declared.options.ScrubWay.{ScrubWay}
+use Rattle.snap_config.specs.declared.options.SyncWay.{SyncWay}
+use Rattle.snap_report.specs.Answer.{status_of as answer_status}
+use Rattle.snap_report.specs.declared.answer.Answer.{Answer}
+use Rattle.snap_report.specs.declared.answer.Answer.TheVariants as answers
+use Rattle.snap_report.specs.declared.answer.RunFault.TheVariants as runs
+use Rattle.snap_report.specs.declared.events.Event.{Event}
+use Rattle.stripe_examiner.specs.declared.scope.Mode.TheVariants as modes
+use Rattle.snap_sync.specs.Part.{SyncRun}
+use Rattle.snap_top.specs.Does.{DoesCommand}
+use Rattle.snap_top.specs.End.{ending_status, status_of}
+use Rattle.snap_top.specs.Ended.{has_ended}
+use Rattle.snap_top.specs.Fix.{FixRun}
+use Rattle.snap_top.specs.Fixing.{FixEnds, FixesBy}
+use Rattle.snap_top.specs.Moment.{EndsInPart, HoldsFresh, IsSoundAlways, IsSoundAtEnd, StandsIn, SyncsToItsEnd, TellsAll}
+use Rattle.snap_top.specs.Naming.{ChecksEnd}
+use Rattle.snap_top.specs.Opening.{asked_by}
+use Rattle.snap_top.specs.Restoring.{EndsFixed}
+use Rattle.snap_top.specs.Run.{Entry, Exit, IsAnswered, IsRun, Ran}
+use Rattle.snap_top.specs.Scrub.{ScrubRun}
+use Rattle.snap_top.specs.Scrubbed.{EndsScrubbed}
+use Rattle.snap_top.specs.Scrubbing.{ScrubEnds, ScrubsBy}
+use Rattle.snap_top.specs.Step.{ChangesFiles, EndsBy, EveryRunSteps, RunStep}
+use Rattle.snap_top.specs.Syncing.{SyncsBy}
+use Rattle.snap_top.specs.Task.{Did, Left, Task, fixes, folders_after, reads_only, scrubs, syncs}
+use Rattle.snap_top.specs.Views.{World, world_of}
+use Rattle.snap_top.specs.declared.end.End.{End}
+use Rattle.snap_top.specs.declared.end.End.TheVariants.{Refused, Worked}
+use Rattle.snap_top.specs.declared.end.Ending.{Ending}
+use Rattle.snap_top.specs.declared.end.Ending.TheVariants.{NotLoaded, NoTable, OtherArray, Answered}
+use Rattle.snap_top.proofs.BytesLemmas.{AreFormed}
+use Rattle.snap_top.proofs.CompleteLemmas.{same_ok}
+use Rattle.snap_top.proofs.EndedLemmas.{IsDoneAnswer, IsDoneEnd, done_end, only_read}
+use Rattle.snap_top.proofs.LostLemmas.{FactsAreGenuine}
+use Rattle.snap_top.proofs.MomentLemmas.{CopiesAreOfPartSyncs, FixKeepsSound, LayoutIsOfTrees, reading_did, run_did_is, sound_reading, sound_run, stands_same}
+use Rattle.snap_top.proofs.NamingLemmas.{RowsAreKnown, checks_end}
+use Rattle.snap_top.proofs.OfFixLemmas.{HasFix, HasScrub, HasSync, check_did, run_did}
+use Rattle.snap_top.proofs.OfScrubLemmas.{ScrubKeepsSound, ScrubKeepsValid}
+use Rattle.snap_top.proofs.OfSyncLemmas.{KeepsItsStripes, given_folders}
+use Rattle.snap_top.proofs.PartLemmas.{PendingIsFound, ReadIsGiven, ReadIsPartSync, VerifiedIsFullSync, ended_in_part, ended_run}
+use Rattle.snap_top.proofs.RefusalLemmas.{ending_untouched}
+use Rattle.snap_top.proofs.RestoringLemmas.{BlocksAreKnown, CellsAreLost, CellsAreRestored, LostAreUnknown, UnknownAreLost, done_by_did as fix_is_done, ended_fixed, ended_fixed_run}
+use Rattle.snap_top.proofs.ScrubbedLemmas.{done_by_did as scrub_is_done, ended_scrubbed, ended_scrubbed_run}
+use Rattle.snap_top.proofs.SyncEndLemmas.{FindsWhatIsPending, HasEndedSync, done_by_did as sync_is_done, ends_by_answer, sound_at_end, sync_ended}
+use Rattle.snap_top.proofs.SyncedLemmas.{MomentsAreSound, OneTable}
+
+-- what the crates below say
+pub record BelowSays : Type 0 where
+  pub laid : LayoutIsOfTrees
+  pub of_parts : CopiesAreOfPartSyncs
+  pub part : ReadIsPartSync
+  pub full : VerifiedIsFullSync
+  pub given : ReadIsGiven
+  pub finds : FindsWhatIsPending
+  pub found : PendingIsFound
+  pub moments : MomentsAreSound
+  pub keeps : KeepsItsStripes
+  pub one_table : OneTable
+  pub keeps_sound : FixKeepsSound
+  pub restored : CellsAreRestored
+  pub lost : CellsAreLost
+  pub unknown_lost : UnknownAreLost
+  pub lost_unknown : LostAreUnknown
+  pub known : BlocksAreKnown
+  pub genuine : FactsAreGenuine
+  pub restorable : RowsAreKnown
+  pub marks_valid : ScrubKeepsValid
+  pub marks_sound : ScrubKeepsSound
+
+-- a fix by the answer of an engine that is done
+fix_ends_by : (answer : Answer) (selection : Selection) (task : Task) (table : TableValue) (before after : World) (left : Left) (did : Did) → IsDoneAnswer answer → FixesBy answer selection task table before after left did
+    → FixEnds selection task table before after left did
+fix_ends_by answers.Clean selection task table before after left did done does = does
+fix_ends_by answers.Found selection task table before after left did done does = does
+fix_ends_by answers.OutputFailed selection task table before after left did done does = does
+fix_ends_by (answers.Zeroed disk rec) selection task table before after left did done does = absurd done
+fix_ends_by (answers.Emptied disk) selection task table before after left did done does = absurd done
+fix_ends_by (answers.Full blocks files) selection task table before after left did done does = absurd done
+fix_ends_by (answers.Broken (runs.Folder disk)) selection task table before after left did done does = absurd done
+fix_ends_by (answers.Broken runs.Vault) selection task table before after left did done does = absurd done
+fix_ends_by (answers.Broken runs.Memory) selection task table before after left did done does = absurd done
+
+-- a scrub likewise
+scrub_ends_by : (answer : Answer) (way : ScrubWay) (task : Task) (table : TableValue) (before after : World) (left : Left) (did : Did) → IsDoneAnswer answer → ScrubsBy answer way task table before after left did
+    → ScrubEnds way task table before after left did
+scrub_ends_by answers.Clean way task table before after left did done does = does
+scrub_ends_by answers.Found way task table before after left did done does = does
+scrub_ends_by answers.OutputFailed way task table before after left did done does = does
+scrub_ends_by (answers.Zeroed disk rec) way task table before after left did done does = absurd done
+scrub_ends_by (answers.Emptied disk) way task table before after left did done does = absurd done
+scrub_ends_by (answers.Full blocks files) way task table before after left did done does = absurd done
+scrub_ends_by (answers.Broken (runs.Folder disk)) way task table before after left did done does = absurd done
+scrub_ends_by (answers.Broken runs.Vault) way task table before after left did done does = absurd done
+scrub_ends_by (answers.Broken runs.Memory) way task table before after left did done does = absurd done
+
+module _ (says : BelowSays) (before : Entry) (exit : Exit) (tells : TellsAll before) (settled : IsSettled before.opener.vault) (in_time : before.moment < 2 ^ 64) (formed : AreFormed exit) (status : ℕ) where
+  -- ---- a command that was carried out
+
+  module _ (setup : SetupValue) (answer : Answer) (named : Option TableValue) (told : List Event) (ran : IsRun before exit setup (Answered answer named) told) (is : status ≡ answer_status answer) where
+    abbrev left : Left
+    left = record { answer = answer; named = named; counted = ran.goes.0; told = told }
+
+    abbrev one : IsAnswered ran.task ran.given (world_of exit.after) left ran.did
+    one = ran.goes.1
+
+    abbrev DoesSo : Command → Type 0
+    DoesSo command = DoesCommand command ran.task one.table one.start (world_of exit.after) left ran.did
+
+    part_of : (way : SyncWay) → ran.task.command ≡ commands.Sync way → IsDoneAnswer answer → (ends : EndsInPart before exit status) × (ran.did ≡ syncs false ends.run)
+    part_of way command done =
+        let does : SyncsBy answer ran.task way one.table one.start (world_of exit.after) left ran.did = subst DoesSo command one.does in
+        let sync : HasEndedSync before exit status = record {
+          setup = setup;
+          answer = answer;
+          named = named;
+          told = told;
+          ran = ran;
+          left = left;
+          one = one;
+          way = way;
+          command = command;
+          status_is = is;
+          ends = ends_by_answer answer ran.task way one.table one.start (world_of exit.after) left ran.did done does;
+        } in (
+          ended_in_part says.laid says.part says.full says.given says.finds says.found says.keeps before exit tells in_time formed status sync,
+          sync.ends.course.did_is ∙ ap (λ (run : SyncRun). syncs false run)
+              (sym (ended_run says.laid says.part says.full says.given says.finds says.found says.keeps before exit tells in_time formed status sync)),
+        )
+
+    fixed_of : (selection : Selection) → ran.task.command ≡ commands.Fix selection → IsDoneAnswer answer → (ends : EndsFixed before exit status) × (ran.did ≡ fixes false ends.run)
+    fixed_of selection command done =
+        let does : FixesBy answer selection ran.task one.table one.start (world_of exit.after) left ran.did = subst DoesSo command one.does in
+        let ends : FixEnds selection ran.task one.table one.start (world_of exit.after) left ran.did = fix_ends_by answer selection ran.task one.table one.start (world_of exit.after) left ran.did done does in (
+          ended_fixed says.restored says.lost says.unknown_lost says.lost_unknown says.known says.genuine before exit tells setup answer named told ran left one selection command status is ends,
+          ends.course.did_is ∙ ap (λ (run : FixRun). fixes false run)
+              (sym (ended_fixed_run says.restored says.lost says.unknown_lost says.lost_unknown says.known says.genuine before exit tells setup answer named told ran left one selection command status is ends)),
+        )
+
+    scrubbed_of : (way : ScrubWay) → ran.task.command ≡ commands.Scrub way → IsDoneAnswer answer → (ends : EndsScrubbed before exit status) × (ran.did ≡ scrubs false ends.run)
+    scrubbed_of way command done =
+        let does : ScrubsBy answer way ran.task one.table one.start (world_of exit.after) left ran.did = subst DoesSo command one.does in
+        let ends : ScrubEnds way ran.task one.table one.start (world_of exit.after) left ran.did = scrub_ends_by answer way ran.task one.table one.start (world_of exit.after) left ran.did done does in (
+          ended_scrubbed before exit tells in_time setup answer named told ran left one way command status is ends,
+          ends.course.did_is ∙ ap (λ (run : ScrubRun). scrubs false run)
+              (sym (ended_scrubbed_run before exit tells in_time setup answer named told ran left one way command status is ends)),
+        )
+
+    ends_of : (command : Command) → ran.task.command ≡ command → DoesSo command → has_ended ran.did ≡ true → EndsBy ran.did before exit status
+    ends_of commands.List command does ended = absurd (only_read ran.did does.did_is ended)
+    ends_of commands.Status command does ended = absurd (only_read ran.did does.did_is ended)
+    ends_of (commands.Sync way) command does ended =
+        let part = part_of way command (sync_is_done answer ran.task way one.table one.start (world_of exit.after) left ran.did does ended) in
+        subst (λ (did : Did). EndsBy did before exit status) (sym part.1) (part.0, refl)
+    ends_of (commands.Scrub way) command does ended =
+        let scrubbed = scrubbed_of way command (scrub_is_done answer way ran.task one.table one.start (world_of exit.after) left ran.did does ended) in
+        subst (λ (did : Did). EndsBy did before exit status) (sym scrubbed.1) (scrubbed.0, refl)
+    ends_of (commands.Check selection) command does ended =
+        absurd (only_read ran.did (check_did answer modes.Check selection ran.task one.table one.start (world_of exit.after) left ran.did does) ended)
+    ends_of (commands.Audit selection) command does ended =
+        absurd (only_read ran.did (check_did answer modes.Audit selection ran.task one.table one.start (world_of exit.after) left ran.did does) ended)
+    ends_of (commands.Fix selection) command does ended =
+        let fixed = fixed_of selection command (fix_is_done answer selection ran.task one.table one.start (world_of exit.after) left ran.did does ended) in
+        subst (λ (did : Did). EndsBy did before exit status) (sym fixed.1) (fixed.0, refl)
+
+    done_of : (command : Command) → ran.task.command ≡ command → ChangesFiles command → IsDoneAnswer answer → has_ended ran.did ≡ true
+    done_of commands.List command changes done = absurd changes
+    done_of commands.Status command changes done = absurd changes
+    done_of (commands.Sync way) command changes done = ap has_ended (part_of way command done).1
+    done_of (commands.Scrub way) command changes done = ap has_ended (scrubbed_of way command done).1
+    done_of (commands.Check selection) command changes done = absurd changes
+    done_of (commands.Audit selection) command changes done = absurd changes
+    done_of (commands.Fix selection) command changes done = ap has_ended (fixed_of selection command done).1
+
+  -- ---- a run that opened its array
+
+  ends_in : (setup : SetupValue) (ending : Ending) (told : List Event) (ran : IsRun before exit setup ending told) → status ≡ ending_status ending → has_ended ran.did ≡ true → EndsBy ran.did before exit status
+  ends_in setup (NotLoaded fault) told ran is ended = absurd (only_read ran.did ran.goes.0.1 ended)
+  ends_in setup NoTable told ran is ended = absurd (only_read ran.did ran.goes.0.1 ended)
+  ends_in setup (OtherArray difference content) told ran is ended = absurd (only_read ran.did ran.goes.0.1 ended)
+  ends_in setup (Answered answer named) told ran is ended = ends_of setup answer named told ran is ran.task.command refl ran.goes.1.does ended
+
+  abbrev IsDoneEnding : Ending → Type 0
+  IsDoneEnding (Answered answer named) = IsDoneAnswer answer
+  IsDoneEnding _ = ⊥
+
+  done_in : (setup : SetupValue) (ending : Ending) (told : List Event) (ran : IsRun before exit setup ending told) → status ≡ ending_status ending
+      → (asked : Options) → asked_by before.texts ≡ Ok asked → ChangesFiles asked.command → IsDoneEnding ending → has_ended ran.did ≡ true
+  done_in setup (NotLoaded fault) told ran is asked words changes done = absurd done
+  done_in setup NoTable told ran is asked words changes done = absurd done
+  done_in setup (OtherArray difference content) told ran is asked words changes done = absurd done
+  done_in setup (Answered answer named) told ran is asked words changes done =
+      let configured = ran.is_given.configured in
+      let same : configured.asked ≡ asked = same_ok (asked_by before.texts) configured.asked asked configured.read words in
+      done_of setup answer named told ran is asked.command (configured.command_is ∙ ap (λ (a : Options). a.command) same) changes done
+
+  abbrev fresh : HoldsFresh before
+  fresh = record { tells = tells.tells; tells_vault = tells.tells_vault; settled = settled }
+
+  step_by : (end : End) (told : List Event) → status ≡ status_of end → Ran before exit end told → (SyncsToItsEnd before exit status → IsSoundAtEnd before exit status) → ChecksEnd before exit status → RunStep before exit status
+  step_by (Refused why) told is ran synced checked =
+      let still : (files : Files) → StandsIn before exit files → files ≡ before.opener.vault.files = stands_same before exit status fresh synced ran.vault in
+      let read = reading_did before exit status fresh synced still in
+      record {
+        always = sound_reading before exit status fresh synced still;
+        folders = λ has. absurd (let clash : false ≡ true = sym ran.no_vault ∙ has in cc);
+        refused = λ refused. read;
+        done = λ asked words changes well. absurd (done_end before exit (Refused why) told status tells.tells is ran well);
+        at_end = λ ended. absurd (only_read _ read ended);
+        checked = checked;
+      }
+  step_by (Worked setup ending) told is ran synced checked =
+      let how : (ran.did ≡ reads_only) ⊎ (HasSync before exit ran.did ⊎ (HasFix before exit ran.did ⊎ HasScrub before exit ran.did))
+      = run_did before exit tells.tells tells.tells_vault says.keeps in_time formed (setup_value setup) ending told ran in
+      let always : IsSoundAlways before exit status
+      = sound_run before exit status fresh synced says.laid says.of_parts says.moments says.keeps_sound says.one_table says.marks_valid says.marks_sound ran.did (ran.changes tells.tells) how in
+      let same : always.did ≡ ran.did
+      = run_did_is before exit status fresh synced says.laid says.of_parts says.moments says.keeps_sound says.one_table says.marks_valid says.marks_sound ran.did (ran.changes tells.tells) how in
+      record {
+        always = always;
+        folders = λ has. subst (λ (did : Did). folders_after did before.opener.folders exit.after.folders) (sym same)
+            (subst (λ (olds : List FolderView). folders_after ran.did olds exit.after.folders) (given_folders before exit tells.tells tells.tells_vault (setup_value setup) ending told ran) ran.keeps.folders);
+        refused = λ refused. same ∙ (ending_untouched ending ran.task ran.given (world_of exit.after) told ran.did ran.goes (subst (λ (n : ℕ). (n ≡ 2) ⊎ (n ≡ 5)) is refused)).did_is;
+        done = λ asked words changes well. ap has_ended same
+            ∙ done_in (setup_value setup) ending told ran is asked words changes (done_ending ending (done_end before exit (Worked setup ending) told status tells.tells is ran well));
+        at_end = λ ended. subst (λ (did : Did). EndsBy did before exit status) (sym same) (ends_in (setup_value setup) ending told ran is (sym (ap has_ended same) ∙ ended));
+        checked = checked;
+      }
+    where
+      done_ending : (it : Ending) → IsDoneEnd (Worked setup it) → IsDoneEnding it
+      done_ending (NotLoaded fault) done = done
+      done_ending NoTable done = done
+      done_ending (OtherArray difference content) done = done
+      done_ending (Answered answer named) done = done
+
+-- of each run
+pub every_run_steps : BelowSays → (before : Entry) (exit : Exit) (end : End) (told : List Event) (status : ℕ) → before.moment < 2 ^ 64 → AreFormed exit → status ≡ status_of end → Ran before exit end told → EveryRunSteps before exit status
+every_run_steps says before exit end told status in_time formed is ran tells settled =
+    step_by says before exit tells settled in_time formed status end told is ran
+    (λ asked. sound_at_end says.keeps before exit tells.tells tells.tells_vault in_time formed status (sync_ended before exit end told status tells.tells is ran asked) says.one_table says.moments says.finds)
+    (checks_end says.restorable says.genuine before exit end told status is ran)

@@ -1,0 +1,7 @@
+use Rattle.snap_top.proofs.HeadlineLemmas.{headline_holds}
+use Rattle.snap_top.proofs.laws.headline.Goals as goal
+
+pub returns : goal.returns
+returns g c =
+    headline_holds g.O.Opener.view g.F.Folder.view g.V.Vault.view g.W.Sink.view c.a_moment_is_sound_with_its_rows.ensures c.one_table_has_a_spelling.ensures c.a_sync_is_a_part_sync.ensures.laid c.what_a_sync_saves_is_valid.ensures c.a_scrub_keeps_what_is_synced.ensures.valid
+    c.stopped_syncs_are_resumed.ensures c.there_is_a_full_sync.ensures.shape c.a_whole_level_is_what_the_file_holds.ensures

@@ -1,0 +1,45 @@
+-- A run as one step: what it did, what stands at each moment of it, and what it leaves at its end.
+use Rattle.std.specs.Prelude.{◌≡◌, ◌⊎◌, ℕ, ◌≤◌, true, Ok}
+use Rattle.disk_model.specs.Vault.{IsSettled}
+use Rattle.snap_config.specs.declared.options.Command.{Command}
+use Rattle.snap_config.specs.declared.options.Command.TheVariants as commands
+use Rattle.snap_config.specs.declared.options.Options.{Options}
+use Rattle.snap_top.specs.Complete.{NothingBroke}
+use Rattle.snap_top.specs.Ended.{has_ended}
+use Rattle.snap_top.specs.Moment.{EndsInPart, IsSoundAlways, TellsAll}
+use Rattle.snap_top.specs.Naming.{ChecksEnd}
+use Rattle.snap_top.specs.Opening.{asked_by}
+use Rattle.snap_top.specs.Restoring.{EndsFixed}
+use Rattle.snap_top.specs.Run.{Entry, Exit}
+use Rattle.snap_top.specs.Scrubbed.{EndsScrubbed}
+use Rattle.snap_top.specs.Task.{Did, fixes, folders_after, reads_only, scrubs, syncs}
+
+-- the commands that change files of the vault or of the folders
+abbrev pub ChangesFiles : Command → Type 0
+ChangesFiles (commands.Sync way) = Unit {0}
+ChangesFiles (commands.Scrub way) = Unit {0}
+ChangesFiles (commands.Fix selection) = Unit {0}
+ChangesFiles _ = ⊥
+
+-- what a sync, a fix or a scrub leaves that did not break off
+abbrev pub EndsBy : Did → Entry → Exit → ℕ → Type 0
+EndsBy (syncs failed run) before exit status = (ends : EndsInPart before exit status) × (ends.run ≡ run)
+EndsBy (fixes failed run) before exit status = (ends : EndsFixed before exit status) × (ends.run ≡ run)
+EndsBy (scrubs failed run) before exit status = (ends : EndsScrubbed before exit status) × (ends.run ≡ run)
+EndsBy reads_only before exit status = Unit {0}
+
+-- What a run did, and what stands at each moment of it. What was opened is only read, or changed as that says. With status 2 or 5 it only read. A sync, a
+-- fix or a scrub with status 0 or 1 did not break off, nor does one with status 3 where nothing failed but the output and readings; and so it ends by that.
+-- A check, not an audit, that went to its end names what is lost.
+pub record RunStep (before : Entry) (exit : Exit) (status : ℕ) : Type 0 where
+  pub always : IsSoundAlways before exit status
+  pub folders : exit.has_vault ≡ true → folders_after always.did before.opener.folders exit.after.folders
+  pub refused : (status ≡ 2) ⊎ (status ≡ 5) → always.did ≡ reads_only
+  pub done : (asked : Options) → asked_by before.texts ≡ Ok asked → ChangesFiles asked.command → (status ≤ 1) ⊎ ((status ≡ 3) × NothingBroke before exit)
+      → has_ended always.did ≡ true
+  pub at_end : has_ended always.did ≡ true → EndsBy always.did before exit status
+  pub checked : ChecksEnd before exit status
+
+-- so it is of each run over what is told, and over a vault that was opened anew
+abbrev pub EveryRunSteps : Entry → Exit → ℕ → Type 0
+EveryRunSteps before exit status = TellsAll before → IsSettled before.opener.vault → RunStep before exit status
