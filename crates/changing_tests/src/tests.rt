@@ -3,4 +3,5 @@ mod cases;
 mod checking;
 mod disks;
 mod fixing;
+mod scrubbing;
 mod syncing;

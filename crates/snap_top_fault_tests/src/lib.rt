@@ -1,5 +1,5 @@
 //! Tests of `sync` through `snap_top::run`, over objects in memory that fail at one call, that are stopped after
-//! some, or that are read by several threads.
+//! some, or that are read by several threads; the last also of `scrub` and `check`.
 #![tactic(auto)]
 
 #[cfg(test)]

@@ -1,10 +1,11 @@
-// Arrays in memory, and words that are run over them at 100.
+// Arrays in memory, and words that are run over them.
 ghost use Rattle.std.specs.Prelude.{IfOk, map};
 ghost use Rattle.disk_model.specs.Stamp.{IsStamp};
 ghost use Rattle.disk_model.specs.Vault.{IsSettled};
 ghost use Rattle.disk_memory.specs.Given.{CanGive, HasNoDraft};
 ghost use Rattle.disk_memory.specs.Vault.{vault_view};
 
+pub use crate::failing::{Failing, NONE, calls_before};
 use disk_memory::{MemFolder, MemOpener, MemSink, MemVault};
 use disk_model::{Folder, Path, Stamp, Vault};
 use snap_report::Report;
@@ -15,6 +16,9 @@ use std::thread::Threads;
 
 /// A configuration of one disk, one level and one content copy.
 pub const CONFIG: &str = "blocksize 1\nparity p\ncontent content\ndata d1 d\n";
+
+/// When a run is made unless another time is given, in seconds since 1970.
+pub const NOW: u64 = 100;
 
 pub const SYNC: &[&str] = &["snapraid", "sync", "-c", "FILE"];
 
@@ -59,46 +63,6 @@ pub const FIVE: Array = Array {
         ("e", b"e", 1, 5),
     ]],
     ..EMPTY
-};
-
-/// Which calls are to fail, by their numbers from 1 on; 0 is none.
-#[derive(Clone, Copy, Debug)]
-pub struct Failing {
-    pub opener: u64,
-    pub vault: u64,
-    /// Of the folder of this disk.
-    pub folder: u64,
-    pub disk: usize,
-    /// Whether each later call of that vault and of that folder fails too.
-    pub stops: bool,
-    pub out: u64,
-    pub err: u64,
-}
-
-impl Failing {
-    /// The same for the call after the vault's, and the one after the folder's.
-    pub fn later(self) -> Failing {
-        let mut later = self;
-        later.vault = after(self.vault);
-        later.folder = after(self.folder);
-        later
-    }
-}
-
-// The next call, if there is one.
-fn after(call: u64) -> u64 {
-    if call == 0 { 0 } else { call.saturating_add(1) }
-}
-
-/// No call fails.
-pub const NONE: Failing = Failing {
-    opener: 0,
-    vault: 0,
-    folder: 0,
-    disk: 0,
-    stops: false,
-    out: 0,
-    err: 0,
 };
 
 /// How a run ended, what it printed, and what was opened.
@@ -235,11 +199,6 @@ pub fn failing_vault(vault: MemVault, failing: Failing) -> Result<MemVault, Fail
     }
 }
 
-/// How many calls are made before all fail, if all are to fail from this one on.
-pub fn calls_before(call: u64, stops: bool) -> Option<u64> {
-    if stops { call.checked_sub(1) } else { None }
-}
-
 /// A stamp of these seconds and nanoseconds, of which there are fewer than a second has.
 pub fn stamp(seconds: i64, nanos: u32) -> Stamp
     ensures { IsStamp result }
@@ -316,12 +275,19 @@ fn opener<F: Folder + Drop, V: Vault + Drop>(
     Ok(opener)
 }
 
+/// The words of a run, its configuration, and when it is made, in seconds since 1970.
+#[derive(Clone, Copy)]
+pub struct Asked<'a> {
+    pub words: &'a [&'a str],
+    pub config: &'a str,
+    pub now: u64,
+}
+
 /// Runs words over folders and a vault, with reports, where the opener and the streams fail as is asked for.
 pub fn run_told<R: Threads + Sync, F: Folder + Drop, V: Vault + Drop>(
     rt: &R,
     alloc: Global,
-    words: &[&str],
-    config: &str,
+    asked: Asked,
     folders: Vec<F>,
     vault: V,
     reports: &mut Vec<Box<dyn Report>>,
@@ -329,6 +295,7 @@ pub fn run_told<R: Threads + Sync, F: Folder + Drop, V: Vault + Drop>(
 ) -> Result<Ran<F, V>, Fail>
     requires { CanGive F.view folders.items (V.view vault) }
 {
+    let Asked { words, config, now } = asked;
     let mut opener = opener(alloc, config, folders, vault, failing.opener)?;
     let Streams {
         line,
@@ -343,10 +310,24 @@ pub fn run_told<R: Threads + Sync, F: Folder + Drop, V: Vault + Drop>(
         reports,
         &mut out,
         &mut err,
-        100,
+        now,
         *b"abcdefghijklmnop",
     );
     Ok(Ran { outcome, out, err })
+}
+
+/// Runs what is asked for over folders and a vault, where neither the opener nor a stream fails.
+pub fn run_asked<R: Threads + Sync, F: Folder + Drop, V: Vault + Drop>(
+    rt: &R,
+    alloc: Global,
+    asked: Asked,
+    folders: Vec<F>,
+    vault: V,
+) -> Result<Ran<F, V>, Fail>
+    requires { CanGive F.view folders.items (V.view vault) }
+{
+    let mut reports = Vec::new(alloc);
+    run_told(rt, alloc, asked, folders, vault, &mut reports, NONE)
 }
 
 /// Runs words over folders and a vault.
@@ -360,8 +341,12 @@ pub fn run_with<R: Threads + Sync, F: Folder + Drop, V: Vault + Drop>(
 ) -> Result<Ran<F, V>, Fail>
     requires { CanGive F.view folders.items (V.view vault) }
 {
-    let mut reports = Vec::new(alloc);
-    run_told(rt, alloc, words, config, folders, vault, &mut reports, NONE)
+    let asked = Asked {
+        words,
+        config,
+        now: NOW,
+    };
+    run_asked(rt, alloc, asked, folders, vault)
 }
 
 /// Runs words over an array and a vault.

@@ -5,8 +5,8 @@ ghost use Rattle.disk_memory.specs.Given.{HasNoDraft};
 ghost use Rattle.disk_memory.specs.Vault.{vault_view};
 
 use crate::arrays::{
-    Array, Disk, EMPTY, Failing, LIST, Left, NONE, ONE, SYNC, calls_before, failing_vault, folder,
-    run_told, vault,
+    Array, Asked, Disk, EMPTY, Failing, LIST, Left, NONE, NOW, ONE, SYNC, calls_before,
+    failing_vault, folder, run_told, vault,
 };
 use crate::damage::{Copied, Damage, damaged, with_contents};
 use crate::left::{Level, compare, compare_kept};
@@ -20,6 +20,8 @@ use std::thread::Threads;
 pub struct Case<'a> {
     pub words: &'a [&'a str],
     pub array: Array<'a>,
+    /// When it is made, in seconds since 1970.
+    pub now: u64,
     /// The first content copies, written anew before the run; at most two.
     pub put: &'a [Copied<'a>],
     /// What becomes of what the run before left, before this one.
@@ -42,10 +44,22 @@ pub struct Case<'a> {
     pub left: Option<&'a [Disk<'a>]>,
 }
 
+impl<'a> Case<'a> {
+    /// What is run.
+    pub fn asked(&self) -> Asked<'a> {
+        Asked {
+            words: self.words,
+            config: self.array.config,
+            now: self.now,
+        }
+    }
+}
+
 /// A sync of one file, of which nothing more is looked at.
 pub const SYNCED: Case = Case {
     words: SYNC,
     array: ONE,
+    now: NOW,
     put: &[],
     damage: Damage::Nothing,
     failing: NONE,
@@ -173,8 +187,7 @@ pub fn run_case<R: Threads + Sync>(
     run_told(
         rt,
         alloc,
-        case.words,
-        case.array.config,
+        case.asked(),
         folders,
         vault,
         &mut reports,

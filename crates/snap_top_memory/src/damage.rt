@@ -81,6 +81,9 @@ fn cut_level(
     ensures settled { IfOk result (λ vault. IsSettled (vault_view vault)) }
     ensures drafts { IfOk result (λ vault. HasNoDraft (vault_view vault)) }
 {
+    if level >= vault.levels() {
+        return Ok(vault);
+    }
     let mut bytes = left.parity(alloc, level)?;
     bytes.truncate(length);
     with_parity(vault, level, bytes.as_slice())

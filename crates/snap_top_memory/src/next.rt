@@ -1,5 +1,5 @@
 // A run that breaks, and the next one.
-use crate::arrays::{Left, Ran, run_with};
+use crate::arrays::{Left, Ran, run_asked};
 use crate::cases::{Case, follow};
 use crate::left::{compare_kept, compare_left};
 use disk_memory::{MemFolder, MemVault};
@@ -77,7 +77,7 @@ fn run_again<R: Threads + Sync>(
 ) -> Result<Left, Fail> {
     let vault = left.stopped(choice)?;
     let folders = calmed(folders_of(left));
-    run_with(rt, alloc, next.words, next.array.config, folders, vault)
+    run_asked(rt, alloc, next.asked(), folders, vault)
 }
 
 fn folders_of(left: Left) -> Vec<MemFolder> {

@@ -60,7 +60,8 @@ pub struct Case<'a> {
     pub left: Disk<'a>,
     /// The level after it.
     pub level: Runs<'a>,
-    /// What a check prints then over these disks, where nothing changes.
+    /// What these words print then over these disks, where nothing changes.
+    pub next: &'a [&'a str],
     pub later: &'a [Disk<'a>],
     pub checked: &'a str,
 }
@@ -76,6 +77,7 @@ pub const SYNCED: Case = Case {
     out: "sync: 4 stripes synced, 0 pending\n",
     left: &[A, K],
     level: SUMS,
+    next: CHECK,
     later: WHOLE,
     checked: "check: 0 findings\n",
 };
@@ -180,7 +182,7 @@ fn has_left(alloc: Global, left: &mut Left, files: Disk) -> Result<bool, Fail> {
     }
 }
 
-// Fails where a check finds something else then.
+// Fails where the next run prints something else.
 fn check<R: Threads + Sync>(
     rt: &R,
     alloc: Global,
@@ -188,9 +190,9 @@ fn check<R: Threads + Sync>(
     case: &Case,
     left: &Left,
 ) -> Result<(), Fail> {
-    let checked = run_calm(rt, alloc, CHECK, case.later, left.reopened()?)?;
+    let checked = run_calm(rt, alloc, case.next, case.later, left.reopened()?)?;
     if checked.out.bytes() != case.checked.as_bytes() {
-        return Err(Fail::new(format_args!("case {number}: check")));
+        return Err(Fail::new(format_args!("case {number}: next run")));
     }
     Ok(())
 }

@@ -91,13 +91,13 @@ const BYTE: Disk<'static> = &[("a", b"1", 1, 5)];
 const TWO_DISKS: &str = "blocksize 1\nparity p\ncontent content\ndata d1 d\ndata d2 e\n";
 
 // The vault that words by so many readers over two disks with a file each leave, if they end so, and so many of the
-// two folders see at their first reading that the other one is read. That is a folder's third call, after it was
-// listed and the file looked at.
+// two folders see at their first reading that the other one is read. That is the call of this number, after the folder
+// was listed and the file looked at. A scrub lists nothing.
 fn sees_readings<R: Threads + Sync>(
     rt: &R,
     alloc: Global,
-    command: &str,
-    readers: &str,
+    words: &[&str],
+    call: u64,
     vault: MemVault,
     out: &str,
     see: usize,
@@ -110,10 +110,9 @@ fn sees_readings<R: Threads + Sync>(
     let one = AtomicBool::new(false);
     let two = AtomicBool::new(false);
     let mut folders = Vec::new(alloc);
-    folders.push(GateFolder::new(folder(alloc, BYTE)?, 3, &one, &two))?;
-    folders.push(GateFolder::new(folder(alloc, BYTE)?, 3, &two, &one))?;
-    let words = ["snapraid", command, "-c", "FILE", "--readers", readers];
-    let left = run_with(rt, alloc, &words, TWO_DISKS, folders, vault)?;
+    folders.push(GateFolder::new(folder(alloc, BYTE)?, call, &one, &two))?;
+    folders.push(GateFolder::new(folder(alloc, BYTE)?, call, &two, &one))?;
+    let left = run_with(rt, alloc, words, TWO_DISKS, folders, vault)?;
     let saw = left
         .outcome
         .folders
@@ -126,15 +125,35 @@ fn sees_readings<R: Threads + Sync>(
     Ok(Some(left.reopened()?))
 }
 
+const SYNC_BY_TWO: &[&str] = &["snapraid", "sync", "-c", "FILE", "--readers", "2"];
+
+const SCRUB_BY_TWO: &[&str] = &[
+    "snapraid",
+    "scrub",
+    "-c",
+    "FILE",
+    "-p",
+    "full",
+    "--readers",
+    "2",
+];
+
+const CHECK_BY_TWO: &[&str] = &["snapraid", "check", "-c", "FILE", "--readers", "2"];
+
 #[test]
 fn two_disks_are_read_at_once(rt: HostRuntime) -> Result<(), Fail> {
     let alloc = rt.alloc();
     let first = vault(alloc, EMPTY)?;
     let done = "sync: 1 stripes synced, 0 pending\n";
-    let Some(synced) = sees_readings(&rt, alloc, "sync", "2", first, done, 2)? else {
+    let Some(synced) = sees_readings(&rt, alloc, SYNC_BY_TWO, 3, first, done, 2)? else {
         return Err("a sync".into());
     };
-    let found = sees_readings(&rt, alloc, "check", "2", synced, "check: 0 findings\n", 2)?;
+    let done = "scrub: 1 stripes checked, 0 findings\n";
+    let Some(scrubbed) = sees_readings(&rt, alloc, SCRUB_BY_TWO, 2, synced, done, 2)? else {
+        return Err("a scrub".into());
+    };
+    let done = "check: 0 findings\n";
+    let found = sees_readings(&rt, alloc, CHECK_BY_TWO, 3, scrubbed, done, 2)?;
     assert!(rt; found.is_some(), "a check");
     Ok(())
 }
@@ -144,7 +163,8 @@ fn two_disks_are_read_at_once(rt: HostRuntime) -> Result<(), Fail> {
 fn one_reader_reads_two_disks_in_turn(rt: HostRuntime) -> Result<(), Fail> {
     let first = vault(rt.alloc(), EMPTY)?;
     let done = "sync: 1 stripes synced, 0 pending\n";
-    let found = sees_readings(&rt, rt.alloc(), "sync", "1", first, done, 1)?;
+    let words = ["snapraid", "sync", "-c", "FILE", "--readers", "1"];
+    let found = sees_readings(&rt, rt.alloc(), &words, 3, first, done, 1)?;
     assert!(rt; found.is_some());
     Ok(())
 }

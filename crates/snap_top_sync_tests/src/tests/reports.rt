@@ -3,7 +3,9 @@ use disk_model::Failed;
 use file_table::Table;
 use snap_report::Report;
 use snap_report::events::Event;
-use snap_top_memory::arrays::{CONFIG, Disk, EMPTY, Left, NONE, SYNC, folder, run_told, vault};
+use snap_top_memory::arrays::{
+    Asked, CONFIG, Disk, EMPTY, Left, NONE, NOW, SYNC, folder, run_told, vault,
+};
 use std::alloc::Global;
 use std::test::Fail;
 use std::thread::Threads;
@@ -64,7 +66,12 @@ fn run_reported<R: Threads + Sync>(
     failing.stop_after(1);
     let mut folders = Vec::new(alloc);
     folders.push(failing)?;
-    run_told(rt, alloc, SYNC, CONFIG, folders, vault, reports, NONE)
+    let asked = Asked {
+        words: SYNC,
+        config: CONFIG,
+        now: NOW,
+    };
+    run_told(rt, alloc, asked, folders, vault, reports, NONE)
 }
 
 // Whether the second one failed once, and the other two did not.
