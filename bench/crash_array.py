@@ -9,7 +9,7 @@ import shutil
 import struct
 from dataclasses import dataclass
 
-from fix_model import BLOCK, KEYWORDS, LOST, row_sum
+from fix_model import BLOCK, KEYWORDS, LOST, SYNCED, row_sum
 
 SIZES = [0, 1, 100, 1023, 1024, 1025, 2048, 3000, 5000]
 FOLDERS = ["", "", "a/", "a/b/"]
@@ -17,11 +17,20 @@ FOLDERS = ["", "", "a/", "a/b/"]
 
 @dataclass
 class Content:
-    """What a content file says: the records of each disk with positions and hashes, and which stripes are synced."""
+    """What a content file says: the records of each disk with positions and hashes, and of each stripe its flags and last check."""
     kind: int
     seed: bytes
     columns: list
-    synced: list
+    marks: list
+
+    @property
+    def synced(self):
+        return [bool(flags & SYNCED) for flags, _ in self.marks]
+
+    def is_checked(self, stripe):
+        """Whether a scrub of all stripes checks this one: it is synced and holds a block."""
+        held = {position for records in self.columns for record in records for position, _ in record[3]}
+        return self.synced[stripe] and stripe in held
 
 
 class Cursor:
@@ -59,7 +68,7 @@ def read_content(data):
                 blocks.append((position, it.take("16s") if has_hash else None))
             records.append((path, size, seconds * 10**9 + nanoseconds, blocks))
         columns.append(records)
-    return Content(kind, seed, columns, [bool(it.take("BQ")[0] & 1) for _ in range(length)])
+    return Content(kind, seed, columns, [it.take("BQ") for _ in range(length)])
 
 
 class Array:

@@ -6,15 +6,18 @@ The built program of this repository where none is given; ten minutes, all proce
 --some, of each command N kills, N power cuts and 2 N failures are drawn, so that many arrays are tried in a short time.
 
 Each array is small and random: one to four disks, one to three levels, one to three content copies. Over it come a first sync, a sync
-of changes, a check and a fix of damage that can be mended, a list and a status. Each is run once as it is. Then, from the same start
-each time, it is killed before its first call that writes, before its second one, and so on; and its first call on a file fails, with EIO
-and then with ENOSPC, its second one, and so on. Each kill is made twice. The second time it is a power cut: what was written and not
-fsynced is there, is undone, or is other bytes. What is left is compared with what is wanted, and so is what the next run leaves:
+of changes, a scrub, a list and a status, and then a scrub, a check and a fix of damage that can be mended. Each is run once as it is.
+Then, from the same start each time, it is killed before its first call that writes, before its second one, and so on; and its first call
+on a file fails, with EIO and then with ENOSPC, its second one, and so on. Each kill is made twice. The second time it is a power cut:
+what was written and not fsynced is there, is undone, or is other bytes. What is left is compared with what is wanted, and so is what the
+next run leaves:
 
 - a copy of the content file is as it was, or whole, and calls a stripe synced only where the levels have its sums;
+- a scrub changes of a copy the marks of the stripes alone, as what it printed says, and no parity;
 - a sync changes no data file; a block of a file or of a level that was right before a fix is right after it; other commands change nothing;
 - a failed run ends with 0, 1 or 3, and says what failed; one that ends with 0 did all that it does;
-- the next sync leaves the table and the parity of one that was not stopped, and the next fix brings back all files.
+- the next sync leaves the table and the parity of one that was not stopped, and the next fix brings back all files;
+- the next scrub of all stripes prints and marks what one prints and marks that was not stopped.
 
 It needs Linux on x86-64, Python, and a program that may be traced. The last line says how many kills and failures there were.
 """
@@ -31,6 +34,7 @@ import time
 TOP = os.path.dirname(os.path.dirname(os.path.abspath(__file__)))
 sys.path.insert(0, os.path.join(TOP, "bench"))
 from crash_array import BLOCK, LOST, Array, put, read, read_content  # noqa: E402
+from crash_scrub import wrong_scrub  # noqa: E402
 from tracing import Tamper, traced  # noqa: E402
 
 ERRORS = {errno.EIO: "EIO", errno.ENOSPC: "ENOSPC"}
@@ -55,14 +59,17 @@ class Case:
         self.fails = len(self.plain.calls)
 
     def run(self, tamper):
+        self.loaded, self.clock = self.array.contents(), int(time.time())
         return traced(self.words, tamper, self.array.room)
 
     def goes_well(self):
         """What is wrong with the run that nothing is in the way of."""
-        if self.plain.err or self.plain.status not in (0, 1 if self.command == "check" else 0):
+        if self.plain.err or self.plain.status not in (0, 1 if self.command in ("check", "scrub") else 0):
             return f"status {self.plain.status}, {self.plain.err!r}"
         if self.command == "sync":
             return self.wrong_after_sync()
+        if self.command == "scrub":
+            return wrong_scrub(self, self.plain)
         return self.wrong_end() if self.command == "fix" else self.changed()
 
     # What may be said.
@@ -111,6 +118,8 @@ class Case:
             wrong = self.wrong_trees() or self.wrong_copies()
             if wrong is None and outcome.status == 0:
                 wrong = self.wrong_after_sync()
+        elif wrong is None and self.command == "scrub":
+            wrong = wrong_scrub(self, outcome)
         elif wrong is None and self.command == "fix":
             wrong = self.wrong_fixing()
             if wrong is None and outcome.status == 0 and "io" not in outcome.out:
@@ -214,6 +223,8 @@ class Case:
             wrong = self.wrong_after_sync()
         elif self.command == "fix":
             wrong = self.wrong_end() or self.wrong_fixing()
+        elif self.command == "scrub":
+            wrong = wrong_scrub(self, again) or (None if again.out == self.plain.out else f"it prints {again.out!r}")
         else:
             wrong = self.changed() or (None if again.out == self.plain.out else f"it prints {again.out!r}")
         return wrong and f"then {wrong}"
@@ -298,10 +309,13 @@ def cases(array):
     yield Case(array, "sync", sync)
     array.edit()
     yield Case(array, "sync", sync)
+    scrub = [*readers, "-p", "full"]
+    yield Case(array, "scrub", scrub)
     yield Case(array, "list", [])
     yield Case(array, "status", [])
     sums = array.held()
     array.damage()
+    yield Case(array, "scrub", scrub)
     for command in ("check", "fix"):
         case = Case(array, command, readers)
         case.sums = sums

@@ -1,6 +1,6 @@
 """A plain model of checks and fixes, which was written from docs/ and not from the code: the table and its content file, parity, what is
 found and told, and what a fix leaves. A tree is a map from a path to its bytes and its stamp. It serves random_fixes.py;
-its matrix serves crashes.py, too.
+its matrix serves crashes.py and scrub_model.py, too.
 """
 import functools
 import hashlib
@@ -10,6 +10,7 @@ import struct
 
 BLOCK = 1024
 LOST = ".unrecoverable"
+SYNCED, BAD, FRESH = 1, 2, 4
 KEYWORDS = ["parity", "2-parity", "3-parity", "4-parity", "5-parity", "6-parity"]
 
 
@@ -98,12 +99,16 @@ class Record:
 class Table:
     def __init__(self, columns, synced, kind, seed, levels):
         self.columns, self.synced, self.kind, self.seed, self.levels = columns, synced, kind, seed, levels
+        self.marks = [(SYNCED, 100) if is_synced else (0, 0) for is_synced in synced]
+
+    def is_bad(self, stripe):
+        return bool(self.marks[stripe][0] & BAD)
 
     def hash(self, block):
         digest = hashlib.md5 if self.kind == 1 else hashlib.sha256
         return digest(self.seed + block).digest()[:16]
 
-    def content(self, flags):
+    def content(self):
         out = b"SNAPRCF\x01" + struct.pack("<IBB", BLOCK // 1024, self.levels, self.kind) + self.seed
         out += struct.pack("<IB", len(self.synced), len(self.columns))
         for d, records in enumerate(self.columns):
@@ -115,8 +120,8 @@ class Table:
                 out += struct.pack("<QqI", record.size, record.stamp // 10**9, record.stamp % 10**9)
                 for position, digest in zip(record.positions, record.hashes):
                     out += struct.pack("<IB", position, digest is not None) + (digest or b"")
-        for is_synced, flag in zip(self.synced, flags):
-            out += struct.pack("<BQ", flag, 100) if is_synced else bytes(9)
+        for flags, last in self.marks:
+            out += struct.pack("<BQ", flags, last)
         return out + hashlib.sha256(out).digest()
 
     def cell(self, d, stripe):
@@ -156,6 +161,7 @@ class Model:
         patterns = [w[1] for w in words if w[0] == "-f"]
         missing = any(w[0] == "-m" for w in words)
         self.audits = any(w[0] == "-a" for w in words)
+        self.errors = any(w[0] == "-e" for w in words)
         self.disks, self.patterns, self.missing = disks, patterns, missing
         self.before = [dict(tree) for tree in trees]
         self.findings = []
@@ -179,9 +185,16 @@ class Model:
             return False
         if self.patterns and not any(record.path.split("/")[-1] == p for p in self.patterns):
             return False
+        if self.errors and not self.stands_as_recorded(d, record):
+            return False
         return not (self.missing and record.path in self.before[d])
 
-    def is_level_selected(self, level):
+    def is_cell_selected(self, stripe, d, record):
+        return self.is_selected(d, record) and (not self.errors or self.table.is_bad(stripe))
+
+    def is_level_selected(self, stripe, level):
+        if self.errors and not self.table.is_bad(stripe):
+            return False
         if not self.disks and not self.patterns and not self.missing:
             return True
         return KEYWORDS[level] in self.disks
@@ -227,8 +240,8 @@ class Model:
     def stripe(self, stripe):
         table, levels = self.table, range(len(self.levels))
         row = [table.cell(d, stripe) for d in range(len(table.columns))]
-        selected = [d for d, cell in enumerate(row) if cell and self.is_selected(d, cell[0])]
-        if not selected and (self.audits or not any(self.is_level_selected(level) for level in levels)):
+        selected = [d for d, cell in enumerate(row) if cell and self.is_cell_selected(stripe, d, cell[0])]
+        if not selected and (self.audits or not any(self.is_level_selected(stripe, level) for level in levels)):
             return
         blocks = [self.present(d, *cell) if cell else b"" for d, cell in enumerate(row)]
         hashes = [cell[0].hashes[cell[1]] if cell else None for cell in row]
@@ -249,7 +262,7 @@ class Model:
         held = [level[stripe * BLOCK:(stripe + 1) * BLOCK] for level in self.levels]
         known = self.table.synced[stripe] and (not damaged or self.recover(row, damaged, blocks, held))
         sums = [row_sum(level, blocks) for level in range(len(held))] if known else held
-        wrong = [level for level in range(len(held)) if held[level] != sums[level] and self.is_level_selected(level)]
+        wrong = [level for level in range(len(held)) if held[level] != sums[level] and self.is_level_selected(stripe, level)]
         for level in wrong:
             self.findings.append(f"wrong-parity {stripe} {KEYWORDS[level]}")
         for d in [] if known else asked:

@@ -16,7 +16,7 @@ import tempfile
 
 TOP = os.path.dirname(os.path.dirname(os.path.abspath(__file__)))
 sys.path.insert(0, os.path.join(TOP, "bench"))
-from fix_model import KEYWORDS, LOST, Model, Record, Table, is_directory_of  # noqa: E402
+from fix_model import BAD, FRESH, KEYWORDS, LOST, SYNCED, Model, Record, Table, is_directory_of  # noqa: E402
 
 NAMES = ["a", "b", "b/c", "d/e", "d/f/g", "h.txt", "i\\j", "k l"]
 SIZES = [0, 1, 10, 1023, 1024, 1025, 2048, 3000, 9000, 20_000]
@@ -101,6 +101,7 @@ class Array:
         length = max([p + 1 for records in columns for r in records for p in r.positions], default=0)
         pending = rnd.choice([0, 0, 0.3])
         table = Table(columns, [rnd.random() >= pending for _ in range(length)], rnd.randint(1, 2), rnd.randbytes(16), self.count)
+        table.marks = [(SYNCED + rnd.choice([0, BAD, FRESH, BAD + FRESH]), 100) if synced else (0, 0) for synced in table.synced]
         for record in itertools.chain(*columns):
             for position, block in zip(record.positions, record.blocks):
                 digest = table.hash(block)
@@ -110,7 +111,7 @@ class Array:
     def settle(self, table):
         """Writes content and levels, as a sync leaves them."""
         with open(f"{self.room}/content", "wb") as out:
-            out.write(table.content([self.rnd.choice([1, 3, 5, 7]) for _ in table.synced]))
+            out.write(table.content())
         for i in range(self.count):
             with open(f"{self.room}/p{i}", "wb") as out:
                 out.write(table.parity(i))
@@ -178,6 +179,8 @@ class Array:
             words.append(("-d", KEYWORDS[rnd.randrange(self.count)]))
         if rnd.random() < 0.4:
             words.append(("-m",))
+        if rnd.random() < 0.3:
+            words.append(("-e",))
         for name in rnd.sample(["a", "c", "e", "g", "h.txt", "k l"], rnd.choice([0, 0, 1, 3])):
             words.append(("-f", name))
         return words
@@ -244,4 +247,5 @@ def main():
     print(f"{runs} arrays, each damaged twice: checks and fixes as the model says")
 
 
-main()
+if __name__ == "__main__":
+    main()

@@ -10,20 +10,23 @@ _snapraid_names() {
 _snapraid_options() {
     local all="-c --conf -l --log"
     local chosen="-f --filter -d --filter-disk -m --filter-missing -e --filter-error"
+    local planned="-p --plan -o --older-than"
     local forced="-Z --force-zero -E --force-empty --save-every"
     case ${1-} in
         sync) echo "$all $forced --readers" ;;
+        scrub) echo "$all $planned --readers" ;;
         check) echo "$all $chosen -a --audit-only --readers" ;;
         fix) echo "$all $chosen --readers" ;;
         list | status) echo "$all" ;;
-        *) echo "$all $chosen -a --audit-only $forced --readers" ;;
+        *) echo "$all $chosen -a --audit-only $planned $forced --readers" ;;
     esac
 }
 
 # Whether the word before takes a value.
 _snapraid_takes_value() {
     case ${1-} in
-        -c | --conf | -l | --log | -f | --filter | -d | --filter-disk | --save-every | --readers) return 0 ;;
+        -c | --conf | -l | --log | -f | --filter | -d | --filter-disk) return 0 ;;
+        -p | --plan | -o | --older-than | --save-every | --readers) return 0 ;;
     esac
     return 1
 }
@@ -45,7 +48,7 @@ _snapraid() {
         elif _snapraid_takes_value "$value"; then
             option=$value
         else
-            case $value in sync | check | fix | list | status) command=$value ;; esac
+            case $value in sync | scrub | check | fix | list | status) command=$value ;; esac
         fi
         i=$((i + 1))
     done
@@ -60,16 +63,20 @@ _snapraid() {
             mapfile -t COMPREPLY < <(compgen -W "$(_snapraid_names "$conf")" -- "$word")
             return
             ;;
+        -p | --plan)
+            mapfile -t COMPREPLY < <(compgen -W "bad new full" -- "$word")
+            return
+            ;;
         --readers)
             mapfile -t COMPREPLY < <(compgen -W "1 2 3 4 6 8 12 16" -- "$word")
             return
             ;;
-        -f | --filter | --save-every) return ;;
+        -f | --filter | -o | --older-than | --save-every) return ;;
     esac
     if [[ $word == -* ]]; then
         mapfile -t COMPREPLY < <(compgen -W "$(_snapraid_options "$command")" -- "$word")
     elif [ -z "$command" ]; then
-        mapfile -t COMPREPLY < <(compgen -W "sync check fix list status" -- "$word")
+        mapfile -t COMPREPLY < <(compgen -W "sync scrub check fix list status" -- "$word")
     fi
 }
 

@@ -6,9 +6,9 @@ function __snapraid_command
     for word in (commandline -opc)[2..-1]
         if test $skip = 1
             set skip 0
-        else if contains -- $word -c --conf -l --log -f --filter -d --filter-disk --save-every --readers
+        else if contains -- $word -c --conf -l --log -f --filter -d --filter-disk -p --plan -o --older-than --save-every --readers
             set skip 1
-        else if contains -- $word sync check fix list status
+        else if contains -- $word sync scrub check fix list status
             echo $word
             return 0
         end
@@ -43,6 +43,7 @@ end
 
 complete -c snapraid -f
 complete -c snapraid -n 'not __snapraid_command' -a sync -d 'write the parity of what changed'
+complete -c snapraid -n 'not __snapraid_command' -a scrub -d 'check a part of what was synced, and mark bad stripes'
 complete -c snapraid -n 'not __snapraid_command' -a check -d 'report what is damaged'
 complete -c snapraid -n 'not __snapraid_command' -a fix -d 'restore files and parity'
 complete -c snapraid -n 'not __snapraid_command' -a list -d 'print the files of the table'
@@ -55,7 +56,9 @@ complete -c snapraid -n '__snapraid_may check fix' -s f -l filter -x -d 'select 
 complete -c snapraid -n '__snapraid_may check fix' -s m -l filter-missing -d 'select files that are missing'
 complete -c snapraid -n '__snapraid_may check fix' -s e -l filter-error -d 'select blocks in bad stripes'
 complete -c snapraid -n '__snapraid_may check' -s a -l audit-only -d 'read no parity'
+complete -c snapraid -n '__snapraid_may scrub' -s p -l plan -x -a 'bad new full' -d 'which stripes are checked'
+complete -c snapraid -n '__snapraid_may scrub' -s o -l older-than -x -d 'leave out those checked later than so many days ago'
 complete -c snapraid -n '__snapraid_may sync' -s Z -l force-zero -d 'accept files that have become empty'
 complete -c snapraid -n '__snapraid_may sync' -s E -l force-empty -d 'accept disks that lost all files'
 complete -c snapraid -n '__snapraid_may sync' -l save-every -x -d 'save after so many stripes'
-complete -c snapraid -n '__snapraid_may sync check fix' -l readers -x -a '1 2 3 4 6 8 12 16' -d 'how many disks are read at once'
+complete -c snapraid -n '__snapraid_may sync scrub check fix' -l readers -x -a '1 2 3 4 6 8 12 16' -d 'how many disks are read at once'
