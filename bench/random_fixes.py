@@ -236,7 +236,8 @@ def play(program, seed):
         shutil.rmtree(room)
 
 
-def main():
+def play_all(play, what):
+    """Plays as many arrays as the first word says, from the seed that the second says, with the program that the third names."""
     runs = int(sys.argv[1]) if len(sys.argv) > 1 else 200
     first = int(sys.argv[2]) if len(sys.argv) > 2 else 0
     program = os.path.abspath(sys.argv[3]) if len(sys.argv) > 3 else os.path.join(TOP, "crates", "snapraid", "out", "snapraid")
@@ -244,7 +245,11 @@ def main():
         wrong = play(program, seed)
         if wrong is not None:
             sys.exit(f"seed {seed}: {wrong}")
-    print(f"{runs} arrays, each damaged twice: checks and fixes as the model says")
+    print(f"{runs} arrays, {what}")
+
+
+def main():
+    play_all(play, "each damaged twice: checks and fixes as the model says")
 
 
 if __name__ == "__main__":

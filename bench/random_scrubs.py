@@ -18,7 +18,7 @@ import time
 TOP = os.path.dirname(os.path.dirname(os.path.abspath(__file__)))
 sys.path.insert(0, os.path.join(TOP, "bench"))
 from fix_model import BAD, FRESH, SYNCED  # noqa: E402
-from random_fixes import Array, compare, same_tree  # noqa: E402
+from random_fixes import Array, compare, play_all, same_tree  # noqa: E402
 from scrub_model import DAY, Scrub, planned, status_text  # noqa: E402
 
 COPIES = ("content", "more")
@@ -130,14 +130,7 @@ def play(program, seed):
 
 
 def main():
-    runs = int(sys.argv[1]) if len(sys.argv) > 1 else 200
-    first = int(sys.argv[2]) if len(sys.argv) > 2 else 0
-    program = os.path.abspath(sys.argv[3]) if len(sys.argv) > 3 else os.path.join(TOP, "crates", "snapraid", "out", "snapraid")
-    for seed in range(first, first + runs):
-        wrong = play(program, seed)
-        if wrong is not None:
-            sys.exit(f"seed {seed}: {wrong}")
-    print(f"{runs} arrays, each scrubbed whole, rotten and damaged: scrubs, marks and fixes as the model says")
+    play_all(play, "each scrubbed whole, rotten and damaged: scrubs, marks and fixes as the model says")
 
 
 if __name__ == "__main__":
