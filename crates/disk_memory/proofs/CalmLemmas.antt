@@ -1,5 +1,5 @@
 -- A writing call of a calm folder.
-use Rattle.std.proofs.Common.{◌≡◌, ℕ, ◌≤◌, List, [], ◌∷◌, Bool, true, false, IsTrue, refl}
+use Rattle.std.proofs.Common.{◌≡◌, ℕ, ◌≤◌, [], true, false, refl}
 use Rattle.disk_model.specs.Cause.{Rose}
 use Rattle.disk_model.specs.Tree.{Tree}
 use Rattle.disk_model.specs.Folder.{FolderView, FolderCall}

@@ -1,13 +1,12 @@
 -- How the writing calls of a folder in memory change its tree.
-use Rattle.std.proofs.Common.{◌≡◌, ◌≢◌, inl, inr, ℕ, ◌≤◌, List, [], ◌∷◌, length, get_or, arith, Bool, true, false, not, is_some, IsTrue, if◌then◌else◌, Option, None, Some, Result, Ok, Err, refl, sym, ◌∙◌, ap, subst}
+use Rattle.std.proofs.Common.{◌≡◌, ◌≢◌, ℕ, ◌≤◌, List, [], ◌∷◌, length, get_or, arith, Bool, true, false, not, if◌then◌else◌, Option, None, Some, Result, Ok, Err, refl, sym, ◌∙◌, ap, subst}
 use Rattle.std.proofs.lemmas.List.{get_or_past}
 use Rattle.std.specs.Option.{option_map}
-use Rattle.std.specs.FinMap as map
 use Rattle.disk_model.specs.Bytes.{put, resized}
 use Rattle.disk_model.specs.Cause.{Rose, Grows}
 use Rattle.disk_model.specs.Tree.{Tree, File, file_of}
 use Rattle.disk_model.specs.Answer.{is_failure, done_answer}
-use Rattle.disk_model.specs.Folder.{FolderView, FolderCall, FolderDone}
+use Rattle.disk_model.specs.Folder.{FolderView, FolderCall, FolderDone, Allows}
 use Rattle.disk_model.specs.Writing.{Does, MayDo, IsFolderWrite, ChangesFile, Writes, WritesPart, Resizes, Stamps}
 use Rattle.disk_model.specs.declared.meta.Stamp.{Stamp}
 use Rattle.disk_model.specs.declared.fault.FileFault.{FileFault}
@@ -63,6 +62,14 @@ answer_of there = if there then Ok tt else Err Missing
 
 abbrev kept_of : Bool → Answer
 kept_of there = if there then answers.Done else answers.Missing
+
+-- a folder takes a file under the path of one that it holds
+pub held_allows : (f : MemFolder) (path : List ℕ) → file_of (folder_view f).tree path ≢ None → Allows (folder_view f) path
+held_allows f path there = by_file (file_of (folder_view f).tree path) refl
+  where
+    by_file : (found : Option File) → file_of (folder_view f).tree path ≡ found → Allows (folder_view f) path
+    by_file None none = absurd (there none)
+    by_file (Some file) is = let held = f.files.kept.tree path file is in record { is_open = refl; valid = held.valid; apart = held.apart }
 
 -- a call that did its work where the file was there
 pub wrote_found : (there : Bool) (result : Result (Unit {0}) FileFault) (answer : Answer) → result ≡ answer_of there → answer ≡ kept_of there → (f : MemFolder) (faults : ℕ) (now : Past FolderEntry) (tree : Tree) (call : FolderCall)

@@ -1,5 +1,5 @@
 -- A record goes on to tell how what is held came about.
-use Rattle.std.proofs.Common.{◌≡◌, ◌⊎◌, inl, inr, ℕ, ◌<◌, ◌≤◌, List, [], ◌∷◌, ◌++◌, length, map, drop, get_or, set, Option, None, Some, IfSome, IfNone, Bool, true, false, not, IsTrue, refl, sym, ◌∙◌, ap, subst, arith, length-append}
+use Rattle.std.proofs.Common.{◌≡◌, ◌⊎◌, inl, inr, ℕ, ◌≤◌, List, [], ◌∷◌, ◌++◌, length, map, drop, set, Option, None, Some, IfSome, IfNone, Bool, true, false, not, IsTrue, refl, sym, ◌∙◌, ap, subst, arith, length-append}
 use Rattle.std.proofs.lemmas.List.{map-set, set-get_or, get_or-map, get_or_past, length-map, drop-append-le, drop_all}
 use Rattle.std.proofs.lemmas.List.Elements.{All-append, All-nil, All-cons}
 use Rattle.std.proofs.lemmas.Bool.{cases_lt}
@@ -8,11 +8,10 @@ use Rattle.disk_model.specs.Bytes.{put, resized}
 use Rattle.disk_model.specs.Cause.{Grows}
 use Rattle.disk_model.specs.Files.{Files, parity_of, content_of, with_parity, with_content}
 use Rattle.disk_model.specs.Machine.{Machine, Loose, no_file, settled, level_of, copy_of, draft_in, staged_in, files_of, with_level as with_level_of, with_copy as with_copy_of, published, after, replay, GivesBytes, AllGiveBytes}
-use Rattle.disk_model.specs.Unsynced.{Unsynced, synced, written, stretched}
+use Rattle.disk_model.specs.Unsynced.{Unsynced}
 use Rattle.disk_model.specs.Vault.{VaultCall, VaultDone, ParityLen, ParityRead, ParityWrite, ParitySetLen, ParitySync, ContentSize, ContentRead, DraftBegin, DraftAppend, DraftSeal, Publish, is_sealed}
 use Rattle.disk_model.specs.declared.answer.Answer.{Answer}
 use Rattle.disk_model.specs.declared.answer.Answer.TheVariants.{Failed}
-use Rattle.disk_model.specs.declared.draft.Draft.{Draft}
 use Rattle.disk_model.specs.declared.draft.Draft.TheVariants.{Absent}
 use Rattle.disk_model.proofs.ByCallsLemmas.{opened_reads}
 use Rattle.disk_model.proofs.MachineLemmas.{replay_push}

@@ -1,8 +1,8 @@
 -- When nothing of a vault in memory is unsynced.
-use Rattle.std.proofs.Common.{◌≡◌, ◌⊎◌, inl, inr, ℕ, zero, suc, ◌≤◌, List, [], length, drop, not, IsTrue, Bool, true, false, if◌then◌else◌, Result, OnOk, OnErr, replicate, Ok, Err, refl, sym, ◌∙◌, ap, subst, arith}
+use Rattle.std.proofs.Common.{◌≡◌, ℕ, zero, suc, List, [], length, not, Bool, true, false, if◌then◌else◌, Result, OnOk, OnErr, replicate, Ok, Err, refl, sym, ◌∙◌, ap, subst, arith}
 use Rattle.std.proofs.lemmas.List.{drop_all, length-map, length-replicate}
 use Rattle.disk_model.specs.Files.{Files}
-use Rattle.disk_model.specs.Machine.{IsImage, images_of, opened_with}
+use Rattle.disk_model.specs.Machine.{images_of, opened_with}
 use Rattle.disk_model.specs.Moments.{MayLeave}
 use Rattle.disk_model.specs.Vault.{VaultDone, IsSettled}
 use Rattle.disk_model.specs.declared.draft.Draft.{Draft}

@@ -1,20 +1,20 @@
 -- How the calls of a vault in memory change its files, as they read and in each image.
-use Rattle.std.proofs.Common.{◌≡◌, ◌⊎◌, inl, inr, ℕ, ◌+◌, ◌<◌, ◌≤◌, List, [], ◌∷◌, ◌++◌, length, get_or, set, map, not, IsTrue, Bool, true, false, cond, nat_lt, position, Option, None, Some, IfSome, Result, Ok, Err, OnOk, OnErr, is_err, refl, sym, ◌∙◌, ap, subst, arith}
+use Rattle.std.proofs.Common.{◌≡◌, ◌⊎◌, inl, inr, ℕ, ◌+◌, ◌<◌, ◌≤◌, List, [], ◌∷◌, ◌++◌, length, set, map, not, IsTrue, Bool, true, false, cond, nat_lt, position, Option, None, Some, Result, Ok, Err, OnOk, OnErr, is_err, refl, sym, ◌∙◌, ap, subst, arith}
 use Rattle.std.specs.List.{position_or_len}
 use Rattle.std.proofs.lemmas.List.{set-get_or, length-map, length-set, get_or-set_same}
 use Rattle.disk_model.specs.Answer.{plain, vault_answer}
 use Rattle.disk_model.specs.Bytes.{put, resized}
 use Rattle.disk_model.specs.Cause.{Rose, Grows}
 use Rattle.disk_model.specs.Files.{Files, parity_of, content_of, with_parity, with_content, TearsParity, StretchesParity, MayPublish, Stays}
-use Rattle.disk_model.specs.Machine.{Machine, settled, draft_in, staged_in, files_of, IsWithin, step_of, replay, images_of}
-use Rattle.disk_model.specs.Moments.{Images, LeavesBy, Remembers, AllLeft, MayLeave}
+use Rattle.disk_model.specs.Machine.{Machine, settled, IsWithin, step_of, images_of}
+use Rattle.disk_model.specs.Moments.{Images, LeavesBy, Remembers}
 use Rattle.disk_model.specs.Unsynced.{synced}
 use Rattle.disk_model.specs.Vault.{VaultView, VaultCall, VaultDone, ParityWrite, ParitySetLen, ParitySync, DraftBegin, DraftAppend, DraftSeal, Publish, IsCall, IsCallBy, IsReading, ChangesBy, DraftsStay, DraftIs, Reads, Holds, is_sealed, draft_of, staged_of}
 use Rattle.disk_model.specs.Vault as vault
 use Rattle.disk_model.specs.declared.answer.Answer.{Answer}
 use Rattle.disk_model.specs.declared.answer.Answer.TheVariants.{Done}
 use Rattle.disk_model.specs.declared.draft.Draft.{Draft}
-use Rattle.disk_model.specs.declared.draft.Draft.TheVariants.{Absent, Open, Sealed}
+use Rattle.disk_model.specs.declared.draft.Draft.TheVariants.{Absent, Sealed}
 use Rattle.disk_model.specs.declared.fault.Failed.{Failed}
 use Rattle.disk_model.proofs.BytesLemmas.{torn_by_put, torn_not, stretched_by_resized, stretched_not}
 use Rattle.disk_model.proofs.ByCallsLemmas.{changes_by_call, remembers_by_call, holds_synced, holds_published}
@@ -28,7 +28,7 @@ use Rattle.disk_memory.specs.RecordedLaws.{follows, untold}
 use Rattle.disk_memory.specs.Schedule.{answer_of}
 use Rattle.disk_memory.specs.Store.{held, staged_held, draft_held, with_draft}
 use Rattle.disk_memory.specs.Vault.{value_of, view_of}
-use Rattle.disk_memory.specs.VaultLaws.{machine_of, steady_store, parities_long, contents_long, drafts_long, staged_long}
+use Rattle.disk_memory.specs.VaultLaws.{machine_of, steady_store, parities_long, contents_long, drafts_long}
 use Rattle.disk_memory.specs.declared.recorded.Recorded.{Recorded}
 use Rattle.disk_memory.specs.declared.store.Store.{Store}
 use Rattle.disk_memory.proofs.RecordedLemmas.{done_so, since_more, quiet_held}

@@ -1,8 +1,8 @@
 -- Objects in memory that fail for want of memory alone.
-use Rattle.std.specs.Prelude.{◌≡◌, ℕ, List, [], ◌∷◌, replicate, map, Bool, true, false, IsTrue, Option, None, Some}
+use Rattle.std.specs.Prelude.{◌≡◌, ℕ, [], Bool, true, false, IsTrue}
 use Rattle.std.specs.FinMap as finite
 use Rattle.disk_model.specs.Folder.{FolderView, IsFolder}
-use Rattle.disk_model.specs.Vault.{VaultView, no_images, IsWellFormed}
+use Rattle.disk_model.specs.Vault.{VaultView, no_images}
 use Rattle.disk_memory.specs.Files.{tree_of}
 use Rattle.disk_memory.specs.Held.{Held}
 use Rattle.disk_memory.specs.Store.{held, nothing_held}

@@ -1,12 +1,13 @@
 -- Folders in memory.
-use Rattle.std.specs.Prelude.{[], Bool, true, false, not, IsTrue}
+use Rattle.std.specs.Prelude.{[], Bool, true, false, not, IsTrue, Result, Err}
 use Rattle.std.specs.FinMap as map
-use Rattle.disk_model.specs.Answer.{is_failure}
+use Rattle.disk_model.specs.Answer.{is_failure, done_answer}
 use Rattle.disk_model.specs.Folder.{FolderView, IsFolder}
 use Rattle.disk_model.specs.declared.answer.Answer.{Answer}
+use Rattle.disk_model.specs.declared.fault.FileFault.{FileFault}
 use Rattle.disk_memory.specs.Calls.{folder_calls}
 use Rattle.disk_memory.specs.Files.{tree_of}
-use Rattle.disk_memory.specs.Schedule.{Plan, plan_of, ObeysOnRecord, ObeysExactly, ObeysUnless}
+use Rattle.disk_memory.specs.Schedule.{Plan, plan_of, ObeysExactly, ObeysUnless}
 use Rattle.disk_memory.specs.declared.folder.MemFolder.{MemFolder}
 
 -- an open folder that tells its tree, and its calls until memory refuses an entry
@@ -24,11 +25,11 @@ folder_view f = record {
 abbrev pub folder_plan : MemFolder → Plan
 folder_plan f = plan_of f.schedule
 
--- one call of it was counted, and failed where it was to, or memory refused it
-abbrev pub FolderObeys : Answer → MemFolder → MemFolder → Type 0
-FolderObeys answer old new = ObeysOnRecord (is_failure answer) (folder_plan old) (folder_plan new) (not old.past.lost) (not new.past.lost)
+-- what is kept of a call on one file that gave this fault
+abbrev pub fault_answer : FileFault → Answer
+fault_answer fault = let given : Result (Unit {0}) FileFault = Err fault in done_answer given
 
--- and it failed nowhere else but where memory refused its entry in the record
+-- one call of it was counted, and failed exactly where it was to, or memory refused its entry in the record
 abbrev pub FolderObeysExactly : Answer → MemFolder → MemFolder → Type 0
 FolderObeysExactly answer old new = ObeysExactly (is_failure answer) (folder_plan old) (folder_plan new) (not old.past.lost) (not new.past.lost)
 

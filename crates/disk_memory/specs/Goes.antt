@@ -34,6 +34,11 @@ pub record IsAnswered (may done : Bool) (old new : Recorded) : Type 0 where
   pub may_answer : MayAnswer may done old new
   pub only : done ≡ false → (may ≡ false) ⊎ ((old.past.lost ≡ false) × (new.past.lost ≡ true))
 
+-- and nowhere else, unless P
+pub record IsAnsweredUnless (P : Type 0) (may done : Bool) (old new : Recorded) : Type 0 where
+  pub may_answer : MayAnswer may done old new
+  pub only : done ≡ false → ((may ≡ false) ⊎ ((old.past.lost ≡ false) × (new.past.lost ≡ true))) ⊎ P
+
 -- the count rose where the call failed, and is as it was where it did not
 pub record CountsFaults (failed : Bool) (old new : ℕ) : Type 0 where
   pub later : old ≤ new

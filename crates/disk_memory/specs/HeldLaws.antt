@@ -1,5 +1,5 @@
 -- That files and drafts hold bytes can be shown in one way only.
-use Rattle.std.specs.Prelude.{ℕ, ◌<◌, List, [], get_or, All, Option, None, Some, IfSome}
+use Rattle.std.specs.Prelude.{ℕ, List, [], get_or, Option, None, Some, IfSome}
 use Rattle.std.specs.Coded.{le_prop}
 use Rattle.disk_model.specs.Bytes.{AreBytes}
 use Rattle.disk_model.specs.Files.{parity_of, content_of}

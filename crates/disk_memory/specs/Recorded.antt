@@ -1,5 +1,5 @@
 -- What a vault in memory held when it was opened, the calls since then, and what reads give after them.
-use Rattle.std.specs.Prelude.{◌≡◌, ℕ, ◌≤◌, List, [], ◌∷◌, ◌++◌, length, map, drop, Some, Bool, true, false, if◌then◌else◌}
+use Rattle.std.specs.Prelude.{◌≡◌, ℕ, ◌≤◌, List, [], ◌++◌, length, map, drop, Some, Bool, true, false, if◌then◌else◌}
 use Rattle.disk_model.specs.Bytes.{put, resized}
 use Rattle.disk_model.specs.Files.{parity_of}
 use Rattle.disk_model.specs.Machine.{Machine, AllGiveBytes, settled, files_of, replay}

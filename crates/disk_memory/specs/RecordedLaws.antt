@@ -1,5 +1,5 @@
 -- That a record tells how what is held came about can be shown in one way only.
-use Rattle.std.proofs.Common.{◌≡◌, ℕ, ◌<◌, List, Option, Bool, true, false, not, IsTrue, All, refl, ap, ◌∙◌}
+use Rattle.std.proofs.Common.{◌≡◌, ℕ, List, Option, Bool, true, false, not, IsTrue, refl, ap, ◌∙◌}
 use Rattle.std.specs.Coded.{le_prop}
 use Rattle.std.proofs.Props.{props}
 use Rattle.disk_model.specs.Machine.{GivesBytes, AllGiveBytes, replay}

@@ -3,10 +3,11 @@ use Rattle.std.specs.Prelude.{◌≡◌, ℕ, ◌+◌, ◌-◌, ◌^◌, min, Li
 use Rattle.std.specs.Global.{Vec}
 use Rattle.std.specs.FinMap as map
 use Rattle.disk_model.specs.Folder.{FolderView, IsFolder}
-use Rattle.disk_model.specs.Tree.{Tree, File}
+use Rattle.disk_model.specs.Tree.{Tree}
 use Rattle.disk_model.specs.declared.meta.Stamp.{Stamp}
 use Rattle.disk_memory.specs.Files.{changed}
 use Rattle.disk_memory.specs.Folder.{folder_view}
+use Rattle.disk_memory.specs.declared.folder.MemFolder.{MemFolder}
 use Rattle.disk_memory.specs.declared.scripted.Event.{Event}
 use Rattle.disk_memory.specs.declared.scripted.ScriptedFolder.{ScriptedFolder}
 
@@ -57,11 +58,12 @@ untold v = record v { tells = false; tree = map.empty }
 abbrev pub scripted_view : ScriptedFolder → FolderView
 scripted_view f = untold (folder_view f.base)
 
--- a call was counted, the script went on to it, and this step was made of what that left
-pub record Plays (step : FolderView → FolderView → Type 0) (old new : ScriptedFolder) : Type 0 where
+-- a call was counted, the script went on to it, and this step was made of what that left; the folder below counted it too, and failed so
+pub record Plays (step : FolderView → FolderView → Type 0) (obeys : MemFolder → MemFolder → Type 0) (old new : ScriptedFolder) : Type 0 where
   pub counts : new.calls ≡ next_call old
   pub script : new.script.items ≡ left_at new.calls old.script.items
   pub made : step (turned old) (folder_view new.base)
+  pub scheduled : obeys old.base new.base
 
 pub scripted_well_formed : (f : ScriptedFolder) → IsFolder (scripted_view f)
 scripted_well_formed f = record { tree = λ told. absurd (untrue told); told = λ closed. absurd (untrue closed); closed = λ closed. absurd (untrue closed) }

@@ -1,8 +1,8 @@
 -- Sinks in memory.
-use Rattle.std.specs.Prelude.{[], ℕ, List, map, Bool, true, not}
+use Rattle.std.specs.Prelude.{[], ℕ, ◌<◌, List, length, map, Bool, true, not}
 use Rattle.disk_model.specs.Answer.{is_failure}
 use Rattle.disk_model.specs.Sink.{SinkView, SinkDone}
-use Rattle.disk_memory.specs.Schedule.{Plan, plan_of, ObeysOnRecord}
+use Rattle.disk_memory.specs.Schedule.{Plan, plan_of, ObeysUnless}
 use Rattle.disk_memory.specs.declared.past.Made.{Made}
 use Rattle.disk_memory.specs.declared.sink.MemSink.{MemSink}
 
@@ -23,9 +23,10 @@ sink_view s = record {
 abbrev pub sink_plan : MemSink → Plan
 sink_plan s = plan_of s.schedule
 
--- one write was counted, and failed where it was to, or memory refused it
-abbrev pub SinkObeys : Bool → MemSink → MemSink → Type 0
-SinkObeys failed old new = ObeysOnRecord failed (sink_plan old) (sink_plan new) (not old.past.lost) (not new.past.lost)
+-- One write of these bytes was counted. It failed exactly where it was to, or memory refused its entry in the record,
+-- unless there were some bytes.
+abbrev pub SinkObeys : List ℕ → Bool → MemSink → MemSink → Type 0
+SinkObeys bytes failed old new = ObeysUnless (0 < length bytes) failed (sink_plan old) (sink_plan new) (not old.past.lost) (not new.past.lost)
 
 -- nothing written, and no failure
 abbrev pub fresh_sink : SinkView

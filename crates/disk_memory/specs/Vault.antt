@@ -7,7 +7,7 @@ use Rattle.disk_memory.specs.Calls.{vault_calls}
 use Rattle.disk_memory.specs.Choice.{picked_image}
 use Rattle.disk_memory.specs.Held.{Held}
 use Rattle.disk_memory.specs.Recorded.{opened_by, calls_since}
-use Rattle.disk_memory.specs.Schedule.{Plan, plan_of, ObeysOnRecord, ObeysExactly}
+use Rattle.disk_memory.specs.Schedule.{Plan, plan_of, ObeysExactly, ObeysUnless}
 use Rattle.disk_memory.specs.Store.{held, nothing_held, opened_held}
 use Rattle.disk_memory.specs.declared.recorded.Recorded.{Recorded}
 use Rattle.disk_memory.specs.declared.vault.MemVault.{MemVault}
@@ -72,13 +72,13 @@ opened_anew v files = record {
   since = [];
 }
 
--- one call of it was counted, and failed where it was to, or memory refused it
-abbrev pub VaultObeys : Bool → MemVault → MemVault → Type 0
-VaultObeys failed old new = ObeysOnRecord failed (vault_plan old) (vault_plan new) (not old.recorded.past.lost) (not new.recorded.past.lost)
-
--- and it failed nowhere else but where memory refused its entry in the record
+-- one call of it was counted, and failed exactly where it was to, or memory refused its entry in the record
 abbrev pub VaultObeysExactly : Bool → MemVault → MemVault → Type 0
 VaultObeysExactly failed old new = ObeysExactly failed (vault_plan old) (vault_plan new) (not old.recorded.past.lost) (not new.recorded.past.lost)
+
+-- and it failed nowhere else, unless P
+abbrev pub VaultObeysUnless : Type 0 → Bool → MemVault → MemVault → Type 0
+VaultObeysUnless P failed old new = ObeysUnless P failed (vault_plan old) (vault_plan new) (not old.recorded.past.lost) (not new.recorded.past.lost)
 
 -- with this held and nothing else left by a stop: opened anew, in the midst of its calls
 abbrev pub opened_with_these : Held → VaultValue → VaultValue

@@ -1,19 +1,19 @@
 -- A vault in memory is well formed.
-use Rattle.std.proofs.Common.{◌≡◌, inl, inr, ℕ, ◌<◌, ◌≤◌, List, [], length, map, take, drop, get_or, IfSome, not, sym, ◌∙◌, IsTrue, Bool, true, false, refl, subst, arith, ap}
+use Rattle.std.proofs.Common.{◌≡◌, ℕ, length, IfSome, not, sym, ◌∙◌, IsTrue, refl, subst, ap}
 use Rattle.std.proofs.lemmas.List.{length-map}
 use Rattle.disk_model.specs.Bytes.{AreBytes}
-use Rattle.disk_model.specs.Files.{parity_of, content_of}
-use Rattle.disk_model.specs.Machine.{Machine, IsSteady, IsImage, AllGiveBytes, level_of, copy_of, files_of, replay, images_of, settled}
+use Rattle.disk_model.specs.Files.{parity_of}
+use Rattle.disk_model.specs.Machine.{Machine, IsSteady, replay, images_of, settled}
 use Rattle.disk_model.specs.Moments.{MayLeave}
 use Rattle.disk_model.specs.Unsynced.{IsUnsynced, synced}
-use Rattle.disk_model.specs.Vault.{IsWellFormed, VaultView, HasFiles}
+use Rattle.disk_model.specs.Vault.{IsWellFormed, HasFiles}
 use Rattle.disk_model.proofs.ByCallsLemmas.{well_formed_by_calls}
-use Rattle.disk_model.proofs.SteadyLemmas.{opened_level, opened_copy, levels_stay, copies_stay}
+use Rattle.disk_model.proofs.SteadyLemmas.{opened_level, opened_copy, levels_stay}
 use Rattle.disk_model.proofs.UnsyncedLemmas.{synced_steady}
 use Rattle.disk_memory.specs.Held.{Held}
-use Rattle.disk_memory.specs.Recorded.{opened_by, calls_since, held_by}
+use Rattle.disk_memory.specs.Recorded.{opened_by, calls_since}
 use Rattle.disk_memory.specs.Store.{held}
-use Rattle.disk_memory.specs.Vault.{vault_view, VaultValue, value_of, view_of}
+use Rattle.disk_memory.specs.Vault.{vault_view, value_of, view_of}
 use Rattle.disk_memory.specs.declared.store.Store.{Store}
 use Rattle.disk_memory.specs.declared.recorded.Recorded.{Recorded}
 use Rattle.disk_memory.specs.declared.vault.MemVault.{MemVault}

@@ -27,15 +27,15 @@ pub struct MemFolder {
 }
 
 impl MemFolder {
-    ghost use Rattle.std.specs.Prelude.{[], ◌↔◌, ◌∷◌, ◌++◌, OnOk, OnErr, IfOk, IfSome, IsTrue, false};
+    ghost use Rattle.std.specs.Prelude.{[], ◌≢◌, ◌↔◌, ◌∷◌, ◌++◌, OnOk, OnErr, IfOk, IfSome, IsTrue, None, true, false};
     ghost use Rattle.std.specs.FinMap as map;
     ghost use Rattle.disk_model.specs.Folder.{FolderCall, Allows, IsFolderCall};
-    ghost use Rattle.disk_model.specs.Tree.{path_of};
+    ghost use Rattle.disk_model.specs.Tree.{file_of, path_of};
     ghost use Rattle.disk_model.specs.Stamp.{IsStamp};
-    ghost use Rattle.disk_memory.specs.Schedule.{fresh_plan};
+    ghost use Rattle.disk_memory.specs.Schedule.{fresh_plan, counted};
     ghost use Rattle.disk_memory.specs.Calls.{folder_call};
     ghost use Rattle.disk_memory.specs.Files.{changed};
-    ghost use Rattle.disk_memory.specs.Folder.{folder_view, folder_plan, fresh_folder};
+    ghost use Rattle.disk_memory.specs.Folder.{folder_view, folder_plan, fresh_folder, fault_answer, FolderObeysExactly};
 
     /// An empty tree.
     pub fn new(alloc: Global, keeps_stamps: bool) -> MemFolder
@@ -67,6 +67,28 @@ impl MemFolder {
         }
         self.files.put(path, stamp, held)?;
         Ok(true)
+    }
+
+    // Whether there is a file of this name.
+    pub(crate) fn holds(&self, path: &Path, lost: bool) -> bool
+        ensures there { result ≡ true → file_of (folder_view self.now).tree (path_of path.now lost) ≢ None }
+        ensures missing { result ≡ false → file_of (folder_view self.now).tree (path_of path.now lost) ≡ None }
+    {
+        self.files.get(name_of(path, lost).as_slice()).is_some()
+    }
+
+    // Whether the tree takes a file of this name, as far as memory lets it be told. It takes one that it holds.
+    pub(crate) fn takes(&self, path: &Path, lost: bool) -> bool
+        ensures allowed { result ≡ true → Allows (folder_view self.now) (path_of path.now lost) }
+        ensures missing { result ≡ false → file_of (folder_view self.now).tree (path_of path.now lost) ≡ None }
+    {
+        if self.holds(path, lost) {
+            return true;
+        }
+        match self.allows(path, lost) {
+            Ok(allowed) => allowed,
+            Err(NoMemory) => false,
+        }
     }
 
     /// Whether the tree takes a file of this name: no file stands in its way.
@@ -108,9 +130,25 @@ impl MemFolder {
         ensures called { (call : FolderCall) → IfSome entry (λ e. folder_call e ≡ call) →
             IsFolderCall call Answer.Failed (folder_view self.old) (folder_view self.new) }
         ensures tree { (folder_view self.new).tree ≡ (folder_view self.old).tree }
+        ensures counted { folder_plan self.new ≡ counted (folder_plan self.old) }
     {
         begin(&mut self.schedule, &mut self.past, entry);
         self.schedule.fail()
+    }
+
+    // A call on a file that is not there: it is counted and written down, and it finds no file unless it fails.
+    pub(crate) fn misses(&mut self, entry: Option<FolderEntry>) -> FileFault
+        ensures called { (call : FolderCall) → IfSome entry (λ e. folder_call e ≡ call) →
+            IsFolderCall call (fault_answer result) (folder_view self.old) (folder_view self.new) }
+        ensures tree { (folder_view self.new).tree ≡ (folder_view self.old).tree }
+        ensures scheduled { FolderObeysExactly (fault_answer result) self.old self.new }
+    {
+        if !begin(&mut self.schedule, &mut self.past, entry) {
+            self.schedule.fail();
+            return FileFault::Failed;
+        }
+        self.past.end(Answer::Missing);
+        FileFault::Missing
     }
 
     /// Adds a number to the list of failing calls.
@@ -151,7 +189,7 @@ fn answer_where(there: bool) -> Answer
 
 // Each call meets the trait's clauses, and fails as its schedule says (`scheduled`).
 impl Folder for MemFolder {
-    ghost use Rattle.std.specs.Prelude.{◌≡◌, ◌≤◌, ◌<◌, ◌+◌, ◌^◌, length, take, not, IfOk, IfSome, IsTrue, Some, None, is_err};
+    ghost use Rattle.std.specs.Prelude.{◌≡◌, ◌≢◌, ◌≤◌, ◌<◌, ◌+◌, ◌^◌, length, take, not, IfOk, IfSome, IsTrue, Some, None, is_err};
     ghost use Rattle.std.specs.Option.{option_map};
     ghost use Rattle.disk_model.specs.Bytes.{read_from};
     ghost use Rattle.disk_model.specs.Stamp.{IsStamp};
@@ -160,7 +198,7 @@ impl Folder for MemFolder {
     ghost use Rattle.disk_model.specs.Folder.{IsFolderReading, MissingExactly, MayHold};
     ghost use Rattle.disk_model.specs.Answer.{plain, listing_answer, file_answer, done_answer};
     ghost use Rattle.disk_model.specs.Writing.{IsFolderWrite};
-    ghost use Rattle.disk_memory.specs.Folder.{folder_view, FolderObeys, FolderObeysExactly, FolderObeysUnless, folder_well_formed};
+    ghost use Rattle.disk_memory.specs.Folder.{folder_view, FolderObeysExactly, FolderObeysUnless, folder_well_formed};
     ghost use Rattle.disk_memory.specs.Files.{IsShorter};
 
     ghost view = { folder_view };
@@ -338,17 +376,23 @@ impl Folder for MemFolder {
         Ok(self.keeps_stamps)
     }
 
+    // The other name of a file is a text of its own, for which memory may be refused.
     fn rename(&mut self, path: &Path, lost: bool) -> Result<(), FileFault>
         requires { MayHold (folder_view self.old) (path_of path.now lost) }
         ensures call { IsFolderWrite (Rename path.now lost) (done_answer result)
             (folder_view self.old) (folder_view self.new) }
         ensures missing { MissingExactly result (folder_view self.old) (path_of path.now (not lost)) }
-        ensures scheduled { FolderObeys (done_answer result) self.old self.new }
+        ensures scheduled { FolderObeysUnless (file_of (folder_view self.old).tree (path_of path.now (not lost)) ≢ None)
+            (done_answer result) self.old self.new }
     {
         let entry = rename_entry(path, lost);
         if !begin(&mut self.schedule, &mut self.past, entry) {
             self.schedule.fail();
             return Err(FileFault::Failed);
+        }
+        if !self.holds(path, !lost) {
+            self.past.end(Answer::Missing);
+            return Err(FileFault::Missing);
         }
         let Ok(to) = path_named(self.alloc, path, lost) else {
             self.schedule.fail();

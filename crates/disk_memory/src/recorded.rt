@@ -1,5 +1,6 @@
 // A store with the record of the calls that made it what it is.
-ghost use Rattle.std.specs.Prelude.{◌≡◌, ◌+◌, ◌<◌, ◌^◌, length, not, true, false, IfSome};
+ghost use Rattle.std.specs.Prelude.{◌≡◌, ◌⊎◌, ◌+◌, ◌<◌, ◌^◌, length, not, true, false, IfSome};
+ghost use Rattle.disk_model.specs.Files.{parity_of};
 ghost use Rattle.disk_model.specs.Vault.{VaultCall, ParityWrite, ParitySetLen, DraftBegin, DraftAppend, DraftSeal, Publish};
 ghost use Rattle.disk_memory.specs.Calls.{vault_call};
 ghost use Rattle.disk_memory.specs.Store.{held, draft_held, with_level, with_copy, SameCounts};
@@ -33,7 +34,7 @@ impl Recorded {
     ghost use Rattle.std.specs.Prelude.{take, IfOk, OnOk, OnErr};
     ghost use Rattle.disk_model.specs.Answer.{is_failure};
     ghost use Rattle.disk_model.specs.Bytes.{AreBytes};
-    ghost use Rattle.disk_memory.specs.Goes.{Goes, GoesBy, MayAnswer, IsAnswered, IsFreshRecord, IsOpenedRecord, Damages, SameRecord};
+    ghost use Rattle.disk_memory.specs.Goes.{Goes, GoesBy, IsAnswered, IsAnsweredUnless, IsFreshRecord, IsOpenedRecord, Damages, SameRecord};
     ghost use Rattle.disk_model.specs.Machine.{replay};
     ghost use Rattle.disk_memory.specs.Choice.{picked_image};
     ghost use Rattle.disk_memory.specs.Store.{opened_held};
@@ -150,7 +151,7 @@ impl Recorded {
         requires level { level < self.old.store.levels }
         requires room { at + length bytes.now < 2 ^ 64 }
         ensures goes { Goes (ParityWrite level at bytes.now) (not result) self.old self.new }
-        ensures answer { MayAnswer may result self.old self.new }
+        ensures answer { IsAnsweredUnless (length (parity_of (held self.old.store).files level) < at + length bytes.now) may result self.old self.new }
     {
         let entry = write_entry(self.alloc, level, at, bytes);
         let may = self.past.admit(may, entry);
@@ -162,7 +163,7 @@ impl Recorded {
     pub fn parity_set_len(&mut self, may: bool, level: u32, len: u64) -> bool
         requires { level < self.old.store.levels }
         ensures goes { Goes (ParitySetLen level len) (not result) self.old self.new }
-        ensures answer { MayAnswer may result self.old self.new }
+        ensures answer { IsAnsweredUnless (length (parity_of (held self.old.store).files level) < len) may result self.old self.new }
     {
         let may = self
             .past
@@ -187,7 +188,7 @@ impl Recorded {
         requires copy { copy < self.old.store.copies }
         requires draft { draft_held (held self.old.store) copy ≡ Draft.Open }
         ensures goes { Goes (DraftAppend copy bytes.now) (not result) self.old self.new }
-        ensures answer { MayAnswer may result self.old self.new }
+        ensures answer { IsAnsweredUnless (0 < length bytes.now) may result self.old self.new }
     {
         let entry = append_entry(self.alloc, copy, bytes);
         let may = self.past.admit(may, entry);
@@ -224,6 +225,7 @@ fn write_parity(store: &mut Store, may: bool, level: u32, at: u64, bytes: &[u8])
     requires room { at + length bytes.now < 2 ^ 64 }
     ensures now { held store.new ≡ held_after (held store.old) (ParityWrite level at bytes.now) (not result) }
     ensures may { may ≡ false → result ≡ false }
+    ensures full { result ≡ false → (may ≡ false) ⊎ (length (parity_of (held store.old).files level) < at + length bytes.now) }
     ensures same { SameCounts store.old store.new }
 {
     may && store.parity_write(level, at, bytes).is_ok()
@@ -233,6 +235,7 @@ fn set_parity_len(store: &mut Store, may: bool, level: u32, len: u64) -> bool
     requires { level < store.old.levels }
     ensures now { held store.new ≡ held_after (held store.old) (ParitySetLen level len) (not result) }
     ensures may { may ≡ false → result ≡ false }
+    ensures full { result ≡ false → (may ≡ false) ⊎ (length (parity_of (held store.old).files level) < len) }
     ensures same { SameCounts store.old store.new }
 {
     may && store.parity_set_len(level, len).is_ok()
@@ -255,6 +258,7 @@ fn append_draft(store: &mut Store, may: bool, copy: u32, bytes: &[u8]) -> bool
     requires draft { draft_held (held store.old) copy ≡ Draft.Open }
     ensures now { held store.new ≡ held_after (held store.old) (DraftAppend copy bytes.now) (not result) }
     ensures may { may ≡ false → result ≡ false }
+    ensures full { result ≡ false → (may ≡ false) ⊎ (0 < length bytes.now) }
     ensures same { SameCounts store.old store.new }
 {
     if may && store.draft_append(copy, bytes).is_ok() {

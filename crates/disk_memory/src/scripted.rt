@@ -62,7 +62,8 @@ impl Event {
 
     // It happens to a folder.
     fn befalls(self, folder: &mut MemFolder)
-        ensures { folder_view folder.new ≡ with_tree (folder_view folder.old) (after_event self (folder_view folder.old).tree) }
+        ensures view { folder_view folder.new ≡ with_tree (folder_view folder.old) (after_event self (folder_view folder.old).tree) }
+        ensures plan { folder_plan folder.new ≡ folder_plan folder.old }
     {
         let path = self.path;
         let stamp = self.stamp;
@@ -126,6 +127,7 @@ impl ScriptedFolder {
     // The first event happens, where it is due. Was it?
     fn step(&mut self) -> bool
         ensures calls { self.new.calls ≡ self.old.calls }
+        ensures plan { folder_plan self.new.base ≡ folder_plan self.old.base }
         ensures same { turned_at self.old.calls self.new ≡ turned_at self.old.calls self.old }
         ensures left { left_at self.old.calls self.new.script.items ≡ left_at self.old.calls self.old.script.items }
         ensures fewer { result ≡ true → length self.new.script.items + 1 ≡ length self.old.script.items }
@@ -143,6 +145,7 @@ impl ScriptedFolder {
         ensures calls { self.new.calls ≡ next_call self.old }
         ensures turned { folder_view self.new.base ≡ turned self.old }
         ensures script { self.new.script.items ≡ left_at self.new.calls self.old.script.items }
+        ensures plan { folder_plan self.new.base ≡ folder_plan self.old.base }
     {
         self.calls = self.calls.saturating_add(1);
         for _ in 0..self.script.len() {
@@ -155,7 +158,7 @@ impl ScriptedFolder {
 
 // Each call meets the trait's clauses. It is the call of the folder below as the script left that (`played`).
 impl Folder for ScriptedFolder {
-    ghost use Rattle.std.specs.Prelude.{◌≡◌, ◌≤◌, ◌<◌, ◌+◌, ◌^◌, length, take, not, IfOk, IfSome, IsTrue, Some, is_err};
+    ghost use Rattle.std.specs.Prelude.{◌≡◌, ◌≢◌, ◌≤◌, ◌<◌, ◌+◌, ◌^◌, length, take, not, IfOk, IfSome, IsTrue, Some, None, is_err};
     ghost use Rattle.std.specs.Option.{option_map};
     ghost use Rattle.disk_model.specs.Answer.{plain, listing_answer, file_answer, done_answer};
     ghost use Rattle.disk_model.specs.Bytes.{read_from};
@@ -164,6 +167,8 @@ impl Folder for ScriptedFolder {
     ghost use Rattle.disk_model.specs.Folder.{ListFiles, Look, ReadAt, Make, WriteAt, SetSize, SetStamp, Rename};
     ghost use Rattle.disk_model.specs.Folder.{IsFolderReading, MissingExactly, MayHold};
     ghost use Rattle.disk_model.specs.Writing.{IsFolderWrite};
+    ghost use Rattle.disk_memory.specs.Files.{IsShorter};
+    ghost use Rattle.disk_memory.specs.Folder.{FolderObeysExactly, FolderObeysUnless};
     ghost use Rattle.disk_memory.specs.Scripted.{scripted_view, scripted_well_formed, turned, Plays};
 
     ghost view = { scripted_view };
@@ -179,7 +184,8 @@ impl Folder for ScriptedFolder {
         ensures listing { IfOk result (λ files. IsListing (listed files.items)) }
         ensures found { IsTrue (scripted_view self.old).tells →
             IfOk result (λ files. listed files.items ≡ listing_of (scripted_view self.old).tree) }
-        ensures played { Plays (IsFolderReading ListFiles (listing_answer result)) self.old self.new }
+        ensures played { Plays (IsFolderReading ListFiles (listing_answer result))
+            (FolderObeysExactly (listing_answer result)) self.old self.new }
         ensures found_then { IfOk result (λ files. listed files.items ≡ listing_of (turned self.old).tree) }
     {
         self.turn();
@@ -193,7 +199,8 @@ impl Folder for ScriptedFolder {
         ensures stamp { IfOk result (λ meta. IsStamp meta.stamp) }
         ensures found { IsTrue (scripted_view self.old).tells → IfOk result (λ meta.
             option_map meta_of (file_of (scripted_view self.old).tree (path_of path.now lost)) ≡ Some meta) }
-        ensures played { Plays (IsFolderReading (Look path.now lost) (file_answer Answer.Saw result)) self.old self.new }
+        ensures played { Plays (IsFolderReading (Look path.now lost) (file_answer Answer.Saw result))
+            (FolderObeysExactly (file_answer Answer.Saw result)) self.old self.new }
         ensures missing_then { MissingExactly result (turned self.old) (path_of path.now lost) }
         ensures found_then { IfOk result (λ meta. option_map meta_of (file_of (turned self.old).tree (path_of path.now lost)) ≡ Some meta) }
     {
@@ -215,7 +222,8 @@ impl Folder for ScriptedFolder {
         ensures found { IsTrue (scripted_view self.old).tells → IfOk result (λ n.
             IfSome (file_of (scripted_view self.old).tree (path_of path.now lost)) (λ file.
             take n out.new ≡ read_from file.bytes at (length out.old))) }
-        ensures played { Plays (IsFolderReading (ReadAt path.now lost at (length out.old)) (file_answer Answer.Bytes result)) self.old self.new }
+        ensures played { Plays (IsFolderReading (ReadAt path.now lost at (length out.old)) (file_answer Answer.Bytes result))
+            (FolderObeysExactly (file_answer Answer.Bytes result)) self.old self.new }
         ensures missing_then { MissingExactly result (turned self.old) (path_of path.now lost) }
         ensures found_then { IfOk result (λ n. IfSome (file_of (turned self.old).tree (path_of path.now lost)) (λ file.
             take n out.new ≡ read_from file.bytes at (length out.old))) }
@@ -229,13 +237,14 @@ impl Folder for ScriptedFolder {
         requires { MayHold (scripted_view self.old) path.now }
         ensures call { IsFolderWrite (Make path.now) (plain (is_err result))
             (scripted_view self.old) (scripted_view self.new) }
-        ensures played { Plays (IsFolderWrite (Make path.now) (plain (is_err result))) self.old self.new }
+        ensures played { Plays (IsFolderWrite (Make path.now) (plain (is_err result)))
+            (FolderObeysUnless (file_of (turned self.old).tree path.now ≡ None) (plain (is_err result))) self.old self.new }
     {
         self.turn();
-        match self.base.allows(path, false) {
-            Ok(true) => self.base.make(path),
-            _ => Err(self.base.refuse(make_entry(path))),
+        if !self.base.takes(path, false) {
+            return Err(self.base.refuse(make_entry(path)));
         }
+        self.base.make(path)
     }
 
     fn write_at(&mut self, path: &Path, at: u64, bytes: &[u8]) -> Result<(), FileFault>
@@ -243,7 +252,8 @@ impl Folder for ScriptedFolder {
         ensures call { IsFolderWrite (WriteAt path.now at bytes.now) (done_answer result)
             (scripted_view self.old) (scripted_view self.new) }
         ensures missing { MissingExactly result (scripted_view self.old) path.now }
-        ensures played { Plays (IsFolderWrite (WriteAt path.now at bytes.now) (done_answer result)) self.old self.new }
+        ensures played { Plays (IsFolderWrite (WriteAt path.now at bytes.now) (done_answer result))
+            (FolderObeysUnless (IsShorter (turned self.old).tree path.now (at + length bytes.now)) (done_answer result)) self.old self.new }
         ensures missing_then { MissingExactly result (turned self.old) path.now }
     {
         self.turn();
@@ -254,7 +264,8 @@ impl Folder for ScriptedFolder {
         ensures call { IsFolderWrite (SetSize path.now size) (done_answer result)
             (scripted_view self.old) (scripted_view self.new) }
         ensures missing { MissingExactly result (scripted_view self.old) path.now }
-        ensures played { Plays (IsFolderWrite (SetSize path.now size) (done_answer result)) self.old self.new }
+        ensures played { Plays (IsFolderWrite (SetSize path.now size) (done_answer result))
+            (FolderObeysUnless (IsShorter (turned self.old).tree path.now size) (done_answer result)) self.old self.new }
         ensures missing_then { MissingExactly result (turned self.old) path.now }
     {
         self.turn();
@@ -267,7 +278,8 @@ impl Folder for ScriptedFolder {
             (scripted_view self.old) (scripted_view self.new) }
         ensures missing { MissingExactly result (scripted_view self.old) path.now }
         ensures kept { IfOk result (λ kept. kept ≡ (scripted_view self.old).keeps_stamps) }
-        ensures played { Plays (IsFolderWrite (SetStamp path.now stamp) (file_answer Answer.Kept result)) self.old self.new }
+        ensures played { Plays (IsFolderWrite (SetStamp path.now stamp) (file_answer Answer.Kept result))
+            (FolderObeysExactly (file_answer Answer.Kept result)) self.old self.new }
         ensures missing_then { MissingExactly result (turned self.old) path.now }
     {
         self.turn();
@@ -280,16 +292,20 @@ impl Folder for ScriptedFolder {
         ensures call { IsFolderWrite (Rename path.now lost) (done_answer result)
             (scripted_view self.old) (scripted_view self.new) }
         ensures missing { MissingExactly result (scripted_view self.old) (path_of path.now (not lost)) }
-        ensures played { Plays (IsFolderWrite (Rename path.now lost) (done_answer result)) self.old self.new }
+        ensures played { Plays (IsFolderWrite (Rename path.now lost) (done_answer result))
+            (FolderObeysUnless (file_of (turned self.old).tree (path_of path.now (not lost)) ≢ None) (done_answer result)) self.old self.new }
         ensures missing_then { MissingExactly result (turned self.old) (path_of path.now (not lost)) }
     {
         self.turn();
-        match self.base.allows(path, lost) {
-            Ok(true) => self.base.rename(path, lost),
-            _ => {
-                self.base.refuse(rename_entry(path, lost));
-                Err(FileFault::Failed)
-            }
+        if !self.base.holds(path, !lost) {
+            let missed = rename_entry(path, lost);
+            return Err(self.base.misses(missed));
         }
+        if !self.base.takes(path, lost) {
+            let refused = rename_entry(path, lost);
+            self.base.refuse(refused);
+            return Err(FileFault::Failed);
+        }
+        self.base.rename(path, lost)
     }
 }

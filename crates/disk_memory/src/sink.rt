@@ -71,7 +71,7 @@ impl Sink for MemSink {
 
     fn write(&mut self, bytes: &[u8]) -> Result<(), Failed>
         ensures written { IsWrite bytes.now result (sink_view self.old) (sink_view self.new) }
-        ensures scheduled { SinkObeys (is_err result) self.old self.new }
+        ensures scheduled { SinkObeys bytes.now (is_err result) self.old self.new }
     {
         let entry = sink_entry(self.alloc, bytes);
         if !begin(&mut self.schedule, &mut self.past, entry) {

@@ -42,7 +42,7 @@ fn answer_of_size(size: Option<u64>) -> Answer
 }
 
 impl MemVault {
-    ghost use Rattle.std.specs.Prelude.{◌<◌, [], ◌∷◌, ◌++◌, true, OnOk, OnErr, is_err};
+    ghost use Rattle.std.specs.Prelude.{◌<◌, [], ◌∷◌, ◌++◌, true, OnOk, OnErr, IsTrue, is_err};
     ghost use Rattle.disk_model.specs.Vault.{copies_of, IsSettled};
     ghost use Rattle.disk_memory.specs.Calls.{first_write, vault_call};
     ghost use Rattle.disk_memory.specs.Given.{HasNoDraft};
@@ -99,17 +99,20 @@ impl MemVault {
     /// The image that the bytes pick, opened anew. The first eight tell after how many calls since it was opened the stop came,
     /// the lowest first. Then, for each parity file, eight tell its length, and a byte follows for each place; and for each
     /// content copy eight tell which of those that are left it is, or, where that may be any, 0 for none and else one more
-    /// than the number of the bytes that follow.
+    /// than the number of the bytes that follow. None is made where memory refused an entry of the record.
     pub fn image(&self, choice: &[u8]) -> Result<MemVault, NoMemory>
         ensures picked { IfOk result (λ made. vault_value made ≡
             opened_anew (vault_value self.now) (image_at (vault_value self.now) choice.now)) }
         ensures plan { IfOk result (λ made. vault_plan made ≡ fresh_plan) }
-        ensures left { IfOk result (λ made. (vault_view self.now).images.since 0 (vault_view made).files) }
+        ensures left { IfOk result (λ made. IsTrue (vault_view self.now).images.told × (vault_view self.now).images.since 0 (vault_view made).files) }
         ensures levels { IfOk result (λ made. (vault_view made).levels ≡ (vault_view self.now).levels) }
         ensures copies { IfOk result (λ made. copies_of (vault_view made) ≡ copies_of (vault_view self.now)) }
         ensures settled { IfOk result (λ made. IsSettled (vault_view made)) }
         ensures drafts { IfOk result (λ made. HasNoDraft (vault_view made)) }
     {
+        if self.recorded.past.lost {
+            return Err(NoMemory);
+        }
         let store = self.recorded.image(choice)?;
         Ok(MemVault {
             alloc: self.alloc,
@@ -171,7 +174,7 @@ impl Vault for MemVault {
     ghost use Rattle.disk_model.specs.Files.{parity_of, content_of, TearsParity, StretchesParity, MayPublish, Stays};
     ghost use Rattle.disk_model.specs.Vault.{ParityLen, ParityRead, ParityWrite, ParitySetLen, ParitySync, ContentSize, ContentRead, DraftBegin, DraftAppend, DraftSeal, Publish};
     ghost use Rattle.disk_model.specs.Vault.{copies_of, draft_of, staged_of, is_sealed, IsCall, IsReading, ChangesBy, Reads, Holds, DraftIs, DraftsStay};
-    ghost use Rattle.disk_memory.specs.Vault.{vault_view, VaultObeys, VaultObeysExactly};
+    ghost use Rattle.disk_memory.specs.Vault.{vault_view, VaultObeysExactly, VaultObeysUnless};
     ghost use Rattle.disk_memory.specs.VaultLaws.{vault_well_formed};
 
     ghost view = { vault_view };
@@ -225,7 +228,7 @@ impl Vault for MemVault {
         ensures written { OnOk result (Reads (λ files. parity_of files level ≡ put (parity_of (vault_view self.old).files level) at bytes.now) (vault_view self.new)) }
         ensures changes { ChangesBy (TearsParity level at (length bytes.now)) (vault_view self.old) (vault_view self.new) }
         ensures drafts { DraftsStay (vault_view self.old) (vault_view self.new) }
-        ensures scheduled { VaultObeys (is_err result) self.old self.new }
+        ensures scheduled { VaultObeysUnless (length (parity_of (vault_view self.old).files level) < at + length bytes.now) (is_err result) self.old self.new }
     {
         let fails = self.schedule.next_call();
         let done = self.recorded.parity_write(!fails, level, at, bytes);
@@ -238,7 +241,7 @@ impl Vault for MemVault {
         ensures written { OnOk result (Reads (λ files. parity_of files level ≡ resized (parity_of (vault_view self.old).files level) len) (vault_view self.new)) }
         ensures changes { ChangesBy (StretchesParity level len) (vault_view self.old) (vault_view self.new) }
         ensures drafts { DraftsStay (vault_view self.old) (vault_view self.new) }
-        ensures scheduled { VaultObeys (is_err result) self.old self.new }
+        ensures scheduled { VaultObeysUnless (length (parity_of (vault_view self.old).files level) < len) (is_err result) self.old self.new }
     {
         let fails = self.schedule.next_call();
         let done = self.recorded.parity_set_len(!fails, level, len);
@@ -304,7 +307,7 @@ impl Vault for MemVault {
         ensures appended { OnOk result (DraftIs copy Draft.Open (staged_of (vault_view self.old) copy ++ bytes.now) (vault_view self.old) (vault_view self.new)) }
         ensures gone { OnErr result (DraftIs copy Draft.Absent [] (vault_view self.old) (vault_view self.new)) }
         ensures changes { ChangesBy Stays (vault_view self.old) (vault_view self.new) }
-        ensures scheduled { VaultObeys (is_err result) self.old self.new }
+        ensures scheduled { VaultObeysUnless (0 < length bytes.now) (is_err result) self.old self.new }
     {
         let fails = self.schedule.next_call();
         let done = self.recorded.draft_append(!fails, copy, bytes);

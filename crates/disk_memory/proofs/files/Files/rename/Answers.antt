@@ -1,6 +1,5 @@
-use Rattle.std.proofs.Common.{Option, None, Some, sym, subst, ap, is_some, ◌∙◌}
-use Rattle.std.specs.FinMap as map
-use Rattle.disk_model.specs.Tree.{Tree, File, file_of, IsFile}
+use Rattle.std.proofs.Common.{sym, subst}
+use Rattle.disk_model.specs.Tree.{Tree, IsFile}
 use Rattle.disk_memory.specs.Files.{tree_of, file_in}
 use Rattle.disk_memory.proofs.SetLemmas.{moved_file}
 use Rattle.disk_memory.proofs.files.Files.rename.Goals as goal

@@ -1,4 +1,4 @@
-use Rattle.std.proofs.Common.{List, ℕ, ◌<◌, ◌^◌, length, refl, subst, ap, is_some, arith, rules}
+use Rattle.std.proofs.Common.{List, ◌<◌, ◌^◌, length, refl, subst, ap, is_some, rules}
 use Rattle.disk_model.specs.Tree.{File}
 use Rattle.disk_memory.specs.Files.{HasPath, IsPlace, LacksPath}
 use Rattle.disk_memory.specs.declared.files.MemFile.{MemFile}

@@ -1,4 +1,4 @@
-use Rattle.std.proofs.Common.{List, ℕ, refl, subst, ap, sym, ◌∙◌, is_some, arith}
+use Rattle.std.proofs.Common.{List, refl, subst, ap, sym, is_some}
 use Rattle.disk_memory.specs.Files.{HasPath, IsPlace, LacksPath, with_stamp}
 use Rattle.disk_memory.specs.declared.files.MemFile.{MemFile}
 use Rattle.disk_memory.proofs.PlaceLemmas.{there_at, not_there}

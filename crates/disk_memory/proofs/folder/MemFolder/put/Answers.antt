@@ -1,4 +1,4 @@
-use Rattle.std.proofs.Common.{◌∙◌, ℕ, length, ◌<◌, ◌^◌, refl, sym, subst, arith, rules}
+use Rattle.std.proofs.Common.{◌∙◌, refl, sym, subst, arith, rules}
 use Rattle.disk_model.specs.Bytes.{AreBytes}
 use Rattle.disk_model.specs.Tree.{IsApart}
 use Rattle.disk_memory.specs.Files.{tree_of}

@@ -1,10 +1,9 @@
-use Rattle.std.proofs.Common.{Some, None, ℕ, not, refl, sym, ◌∙◌, ap, subst, arith, rules}
+use Rattle.std.proofs.Common.{Some, not, refl, ◌∙◌}
 use Rattle.disk_model.specs.Vault as vault
 use Rattle.disk_model.specs.declared.answer.Answer.TheVariants.{Done}
-use Rattle.disk_memory.specs.Calls.{vault_call}
 use Rattle.disk_memory.specs.Store.{held}
 use Rattle.disk_memory.specs.declared.calls.VaultEntry.TheVariants as entries
-use Rattle.disk_memory.proofs.RecordedLemmas.{IsWritten, written_grows, written_kept, recorded_on, quiet_held, quiet_gives}
+use Rattle.disk_memory.proofs.RecordedLemmas.{IsWritten, written_grows, written_kept, recorded_on}
 use Rattle.disk_memory.proofs.recorded.Recorded.publish.Goals as goal
 
 pub invariant_of-self : goal.invariant_of-self

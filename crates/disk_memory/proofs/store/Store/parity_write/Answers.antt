@@ -1,8 +1,8 @@
-use Rattle.std.proofs.Common.{List, ℕ, [], ◌∙◌, get_or, Option, None, Some, sym, subst, arith, rules}
+use Rattle.std.proofs.Common.{[], sym, subst, arith}
 use Rattle.std.proofs.lemmas.List.{get_or_read}
 use Rattle.disk_model.specs.Bytes.{AreBytes}
-use Rattle.disk_memory.specs.Store.{held, with_level, with_copy}
-use Rattle.disk_memory.proofs.BytesLemmas.{slice_bytes, no_bytes}
+use Rattle.disk_memory.specs.Store.{held}
+use Rattle.disk_memory.proofs.BytesLemmas.{slice_bytes}
 use Rattle.disk_memory.proofs.SetLemmas.{put_bytes}
 use Rattle.disk_memory.proofs.StoreLemmas.{bytes_level}
 use Rattle.disk_memory.proofs.store.Store.parity_write.Goals as goal

@@ -1,8 +1,8 @@
-use Rattle.std.proofs.Common.{List, ℕ, [], ◌∙◌, get_or, Option, None, Some, sym, subst, arith, rules}
+use Rattle.std.proofs.Common.{[], ◌∙◌, Some, sym, subst, arith}
 use Rattle.std.proofs.lemmas.List.{get_or_read}
 use Rattle.disk_model.specs.Bytes.{AreBytes}
-use Rattle.disk_memory.specs.Store.{held, with_level, with_copy}
-use Rattle.disk_memory.proofs.BytesLemmas.{slice_bytes, no_bytes}
+use Rattle.disk_memory.specs.Store.{held, with_copy}
+use Rattle.disk_memory.proofs.BytesLemmas.{no_bytes}
 use Rattle.disk_model.specs.declared.draft.Draft.TheVariants.{Absent}
 use Rattle.disk_memory.proofs.StoreLemmas.{bytes_copy, bytes_draft}
 use Rattle.disk_memory.proofs.store.Store.publish.Goals as goal

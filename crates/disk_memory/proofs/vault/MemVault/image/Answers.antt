@@ -24,8 +24,11 @@ returns c =
     record {
       picked = image_value faults c.new.result.faults old made store (image_at (value_of faults old) choice) holds c.in_ok-store.ensures.same view c.new.ensures.faults;
       plan = c.new.ensures.plan;
-      left = subst (λ (files : Files). (view_of (value_of faults old)).images.since 0 files) (sym (ap (λ (h : Held). h.files) (view.now ∙ holds)))
-          (image_left faults old choice (slice_bytes choice (λ i. omega (arith, c.type_inv.choice i))));
+      left = (
+        grind arith,
+        subst (λ (files : Files). (view_of (value_of faults old)).images.since 0 files) (sym (ap (λ (h : Held). h.files) (view.now ∙ holds)))
+            (image_left faults old choice (slice_bytes choice (λ i. omega (arith, c.type_inv.choice i)))),
+      );
       levels = view.same.levels ∙ c.in_ok-store.ensures.same.levels;
       copies = ap (λ (ds : List Draft). length ds) drafts ∙ length-replicate old.store.copies Absent ∙ sym (drafts_long old.store);
       settled = settled_fresh c.new.result.faults made view.calls (view.now ∙ sym view.opened);

@@ -1,4 +1,4 @@
-use Rattle.std.proofs.Common.{Bool, not, is_err, sym, subst}
+use Rattle.std.proofs.Common.{is_err, sym, subst}
 use Rattle.disk_memory.specs.Calls.{vault_call}
 use Rattle.disk_memory.specs.Goes.{GoesBy, CountsFaults}
 use Rattle.disk_memory.specs.Schedule.{plan_of}

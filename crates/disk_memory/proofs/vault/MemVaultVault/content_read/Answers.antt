@@ -1,11 +1,9 @@
-use Rattle.std.proofs.Common.{Bool, true, false, ℕ, List, [], length, take, Ok, Err, unwrap_or, refl, sym, ◌∙◌, ap, subst, arith, rules}
+use Rattle.std.proofs.Common.{true, false, [], length, Ok, Err, unwrap_or, refl, ◌∙◌, ap, arith}
 use Rattle.disk_model.specs.Vault as vault
 use Rattle.disk_model.specs.Bytes.{read_from}
-use Rattle.disk_model.specs.Files.{parity_of, content_of}
-use Rattle.std.specs.Option.{option_map}
+use Rattle.disk_model.specs.Files.{content_of}
 use Rattle.disk_model.specs.declared.answer.Answer.TheVariants.{Bytes}
 use Rattle.disk_memory.specs.Held.{Held}
-use Rattle.disk_memory.specs.Store.{held}
 use Rattle.disk_memory.proofs.BytesLemmas.{count_is}
 use Rattle.disk_memory.proofs.VaultLemmas.{reading, same_held, copy_within, copy_below}
 use Rattle.disk_memory.proofs.vault.MemVaultVault.content_read.Goals as goal

@@ -1,9 +1,9 @@
-use Rattle.std.proofs.Common.{Bool, true, false, not, ℕ, List, [], ◌++◌, length, take, is_err, Some, None, Ok, Err, refl, sym, ◌∙◌, ap, subst, arith, rules}
+use Rattle.std.proofs.Common.{not, [], ◌++◌, is_err}
 use Rattle.disk_model.specs.Vault as vault
-use Rattle.disk_model.specs.declared.draft.Draft.TheVariants.{Absent, Open, Sealed}
+use Rattle.disk_model.specs.declared.draft.Draft.TheVariants.{Absent, Open}
 use Rattle.disk_memory.specs.Schedule.{plan_of}
 use Rattle.disk_memory.specs.Store.{held, staged_held}
-use Rattle.disk_memory.proofs.ScheduleLemmas.{obeys_on_record}
+use Rattle.disk_memory.proofs.ScheduleLemmas.{obeys_unless}
 use Rattle.disk_memory.proofs.VaultLemmas.{copy_below, is_call, err_of, counts_from, on_ok, on_err, append_changes, draft_now, goes_as}
 use Rattle.disk_memory.proofs.vault.MemVaultVault.draft_append.Goals as goal
 
@@ -12,7 +12,7 @@ returns-clause-call c = is_call c.args.self.now.schedule.faults c.answer.new.sel
 
 pub returns-clause-scheduled : goal.returns-clause-scheduled
 returns-clause-scheduled c =
-    obeys_on_record c.next_call-fails.result c.draft_append-done.result (is_err c.answer.result) (plan_of c.args.self.now.schedule) (plan_of c.next_call-fails.new.self) (plan_of c.answer.new.self) c.args.self.now.recorded.past.lost c.draft_append-done.new.self.past.lost (err_of c.draft_append-done.result c.answer.result c.answer.ensures.result) c.next_call-fails.ensures.plan c.answer.ensures.plan c.next_call-fails.ensures.due c.draft_append-done.ensures.answer.refused c.draft_append-done.ensures.answer.lost
+    obeys_unless c.next_call-fails.result c.draft_append-done.result (is_err c.answer.result) (plan_of c.args.self.now.schedule) (plan_of c.next_call-fails.new.self) (plan_of c.answer.new.self) c.args.self.now.recorded.past.lost c.draft_append-done.new.self.past.lost (err_of c.draft_append-done.result c.answer.result c.answer.ensures.result) c.next_call-fails.ensures.plan c.answer.ensures.plan c.next_call-fails.ensures.due c.draft_append-done.ensures.answer.may_answer.refused c.draft_append-done.ensures.answer.may_answer.lost _ c.draft_append-done.ensures.answer.only
 
 pub returns-clause-changes : goal.returns-clause-changes
 returns-clause-changes c = append_changes c.args.self.now.schedule.faults c.answer.new.self.faults c.args.self.now.recorded c.draft_append-done.new.self (not c.draft_append-done.result) c.args.copy c.args.bytes.now c.draft_append-done.ensures.goes (copy_below c.args.self.now.recorded.store c.args.copy c.requires.copy)

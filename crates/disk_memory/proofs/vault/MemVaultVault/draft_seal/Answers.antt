@@ -1,6 +1,6 @@
-use Rattle.std.proofs.Common.{Bool, true, false, not, ℕ, List, [], ◌++◌, length, take, is_err, Some, None, Ok, Err, refl, sym, ◌∙◌, ap, subst, arith, rules}
+use Rattle.std.proofs.Common.{not, [], is_err}
 use Rattle.disk_model.specs.Vault as vault
-use Rattle.disk_model.specs.declared.draft.Draft.TheVariants.{Absent, Open, Sealed}
+use Rattle.disk_model.specs.declared.draft.Draft.TheVariants.{Absent, Sealed}
 use Rattle.disk_memory.specs.Schedule.{plan_of}
 use Rattle.disk_memory.specs.Store.{held, staged_held}
 use Rattle.disk_memory.proofs.ScheduleLemmas.{obeys_exactly}

@@ -1,9 +1,8 @@
-use Rattle.std.proofs.Common.{Bool, true, false, not, ℕ, List, [], ◌++◌, length, take, is_err, Some, None, Ok, Err, refl, sym, ◌∙◌, ap, subst, arith, rules}
+use Rattle.std.proofs.Common.{not, is_err}
 use Rattle.disk_model.specs.Vault as vault
 use Rattle.disk_memory.specs.Schedule.{plan_of}
-use Rattle.disk_memory.specs.Store.{held}
-use Rattle.disk_memory.proofs.ScheduleLemmas.{obeys_on_record}
-use Rattle.disk_memory.proofs.VaultLemmas.{is_call, err_of, counts_from, on_ok, on_err, set_len_changes, set_len_keeps, set_len_reads}
+use Rattle.disk_memory.proofs.ScheduleLemmas.{obeys_unless}
+use Rattle.disk_memory.proofs.VaultLemmas.{is_call, err_of, counts_from, on_ok, set_len_changes, set_len_keeps, set_len_reads}
 use Rattle.disk_memory.proofs.vault.MemVaultVault.parity_set_len.Goals as goal
 
 pub returns-clause-call : goal.returns-clause-call
@@ -11,7 +10,7 @@ returns-clause-call c = is_call c.args.self.now.schedule.faults c.answer.new.sel
 
 pub returns-clause-scheduled : goal.returns-clause-scheduled
 returns-clause-scheduled c =
-    obeys_on_record c.next_call-fails.result c.parity_set_len-done.result (is_err c.answer.result) (plan_of c.args.self.now.schedule) (plan_of c.next_call-fails.new.self) (plan_of c.answer.new.self) c.args.self.now.recorded.past.lost c.parity_set_len-done.new.self.past.lost (err_of c.parity_set_len-done.result c.answer.result c.answer.ensures.result) c.next_call-fails.ensures.plan c.answer.ensures.plan c.next_call-fails.ensures.due c.parity_set_len-done.ensures.answer.refused c.parity_set_len-done.ensures.answer.lost
+    obeys_unless c.next_call-fails.result c.parity_set_len-done.result (is_err c.answer.result) (plan_of c.args.self.now.schedule) (plan_of c.next_call-fails.new.self) (plan_of c.answer.new.self) c.args.self.now.recorded.past.lost c.parity_set_len-done.new.self.past.lost (err_of c.parity_set_len-done.result c.answer.result c.answer.ensures.result) c.next_call-fails.ensures.plan c.answer.ensures.plan c.next_call-fails.ensures.due c.parity_set_len-done.ensures.answer.may_answer.refused c.parity_set_len-done.ensures.answer.may_answer.lost _ c.parity_set_len-done.ensures.answer.only
 
 pub returns-clause-changes : goal.returns-clause-changes
 returns-clause-changes c = set_len_changes c.args.self.now.schedule.faults c.answer.new.self.faults c.args.self.now.recorded c.parity_set_len-done.new.self (not c.parity_set_len-done.result) c.args.level c.args.len c.parity_set_len-done.ensures.goes c.requires

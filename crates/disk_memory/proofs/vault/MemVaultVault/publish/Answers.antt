@@ -1,9 +1,8 @@
-use Rattle.std.proofs.Common.{Bool, true, false, not, ℕ, List, [], ◌++◌, length, take, is_err, Some, None, Ok, Err, refl, sym, ◌∙◌, ap, subst, arith, rules}
+use Rattle.std.proofs.Common.{not, is_err}
 use Rattle.disk_model.specs.Vault as vault
 use Rattle.disk_memory.specs.Schedule.{plan_of}
-use Rattle.disk_memory.specs.Store.{held}
 use Rattle.disk_memory.proofs.ScheduleLemmas.{obeys_exactly}
-use Rattle.disk_memory.proofs.VaultLemmas.{copy_below, is_call, err_of, counts_from, on_ok, on_err, publish_changes, publish_gone, published_holds}
+use Rattle.disk_memory.proofs.VaultLemmas.{copy_below, is_call, err_of, counts_from, on_ok, publish_changes, publish_gone, published_holds}
 use Rattle.disk_memory.proofs.vault.MemVaultVault.publish.Goals as goal
 
 pub returns-clause-call : goal.returns-clause-call
