@@ -28,7 +28,7 @@ pub enum Request {
     SetTime,
     Rename,
     Sync,
-    /// The parity file of this level, which content was saved for.
+    /// The parity file of this level, to change its length where content was saved for it, or to read it.
     FindParity(u32),
 }
 
@@ -107,6 +107,18 @@ impl Failures {
                 let _ = self.keep(request, name, error);
             }
         }
+    }
+
+    // Keeps that the parity file of this level was read and is not there, which is no failure of the call.
+    pub fn note_missing(&mut self, level: u32, name: &str) {
+        let answer: io::Result<()> = Err(io::Error::from(ErrorKind::NotFound));
+        self.note(Request::FindParity(level), name, &answer);
+    }
+
+    // Takes back what was kept of the parity file of this level: it was made since.
+    pub fn forget_missing(&mut self, level: u32) {
+        self.kept
+            .retain(|failure| failure.request != Request::FindParity(level));
     }
 
     fn keep(&mut self, request: Request, name: String, error: io::Error) -> Result<(), AllocError> {

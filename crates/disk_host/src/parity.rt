@@ -37,6 +37,11 @@ where
         self.name.as_str()
     }
 
+    /// Whether it is open, as it is after each reading of a file that is there.
+    pub fn is_open(&self) -> bool {
+        self.file.is_some()
+    }
+
     /// Makes an empty file where there is none, so that its name stays.
     pub fn make(&self, rt: &R) -> io::Result<()> {
         let _made = open_or_make(rt, self.name.as_str())?;

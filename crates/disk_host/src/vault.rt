@@ -127,6 +127,10 @@ where
     fn parity_read(&mut self, level: u32, at: u64, out: &mut [u8]) -> Result<usize, Failed> {
         let answer = self.parities[level as usize].read(&self.rt, at, out);
         self.failures.note(Request::Read, self.parities[level as usize].name(), &answer);
+        if answer.is_ok() && !self.parities[level as usize].is_open() {
+            self.failures
+                .note_missing(level, self.parities[level as usize].name());
+        }
         counted(&mut self.faults, answer)
     }
 
@@ -137,6 +141,9 @@ where
             self.parities[level as usize].name(),
             &answer,
         );
+        if answer.is_ok() {
+            self.failures.forget_missing(level);
+        }
         counted(&mut self.faults, answer)
     }
 
