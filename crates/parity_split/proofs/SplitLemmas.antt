@@ -42,6 +42,10 @@ sum_room counts level i within =
 pub parts_fit : (counts : List ℕ) (capacity files : ℕ) → AreParts counts capacity files → sum counts < 2 ^ 32
 parts_fit counts capacity files are = omega (arith, are.all, are.fit)
 
+-- the parts of a level, by the same numbers
+pub parts_same : {xs items counts : List ℕ} {k capacity : ℕ} (level : ℕ) → xs ≡ items → items ≡ counts → k ≡ capacity → parts_at xs k level ≡ parts_at counts capacity level
+parts_same {counts = counts} {k = k} level one two three = ap (λ ys. parts_at ys k level) (one ∙ two) ∙ ap (λ n. parts_at counts n level) three
+
 pub few_levels : (counts : List ℕ) → ((i : ℕ) → i < length counts → 0 < part_count counts i) → length counts ≤ sum counts
 few_levels [] each = omega arith
 few_levels (count ∷ counts) each =

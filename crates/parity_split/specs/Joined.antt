@@ -3,7 +3,8 @@ use Rattle.std.specs.Prelude.{ℕ, ◌-◌, ◌^◌, List, [], ◌∷◌, ◌++�
 use Rattle.std.specs.List.{sum}
 use Rattle.disk_model.specs.Files.{Files}
 
--- a part, with what the later ones join to: of a part that another follows only so many bytes count, and those after it only where it is full
+-- a part, with what the later ones join to: of a part that another follows only so many bytes count, and those after it only
+-- where it is full
 abbrev pub before_rest : ℕ → List ℕ → List (List ℕ) → List ℕ → List ℕ
 before_rest capacity part [] more = part
 before_rest capacity part (next ∷ rest) more = if nat_lt (length part) capacity then part else (take capacity part ++ more)

@@ -3,7 +3,7 @@ use Rattle.std.specs.Prelude.{◌≡◌, ℕ, ◌+◌, ◌*◌, ◌^◌, ◌<◌
 use Rattle.disk_model.specs.Files.{Files}
 use Rattle.disk_model.specs.Moments.{Remembers}
 use Rattle.disk_model.specs.Vault.{VaultView, SomeCalls, ChangesBy, DraftsStay, Holds, Reads}
-use Rattle.parity_split.specs.Joined.{joined, part_of}
+use Rattle.parity_split.specs.Joined.{joined, level_bytes, part_of}
 use Rattle.parity_split.specs.Parts.{IsEnd, IsNear}
 use Rattle.parity_split.specs.declared.parts.End.{End}
 use Rattle.parity_split.specs.declared.parts.Parts.{Parts}
@@ -42,6 +42,23 @@ pub record Works (step : Files → Files → Type 0) (old new : VaultView) : Typ
 -- P of the parts as they read and of them in each image
 abbrev pub HoldsOf : Parts → (List (List ℕ) → List (List ℕ) → Type 0) → VaultView → Type 0
 HoldsOf p P v = Holds (λ files. P (parts_in p v.files) (parts_in p files)) v
+
+-- what is so of the bytes of the level, as it reads
+abbrev pub LevelReads : Parts → (List ℕ → Type 0) → VaultView → Type 0
+LevelReads p P v = Reads (λ files. P (joined p.capacity (parts_in p files))) v
+
+-- the bytes of the level, as it reads, went on by a step
+abbrev pub ReadsBy : Parts → (List ℕ → List ℕ → Type 0) → VaultView → VaultView → Type 0
+ReadsBy p step old new = LevelReads p (step (joined p.capacity (parts_in p old.files))) new
+
+-- the bytes that a length of the level can tell went on so
+abbrev pub BytesBy : Parts → (List ℕ → List ℕ → Type 0) → VaultView → VaultView → Type 0
+BytesBy p step old new =
+    Reads (λ files. step (level_bytes p.capacity (parts_in p old.files)) (level_bytes p.capacity (parts_in p files))) new
+
+-- what is so of the parts, as they read
+abbrev pub PartsRead : Parts → (List (List ℕ) → Type 0) → VaultView → Type 0
+PartsRead p P v = Reads (λ files. P (parts_in p files)) v
 
 -- the level ends at this place
 pub record IsFound (p : Parts) (end : End) (files : Files) : Type 0 where

@@ -3,11 +3,11 @@ ghost use Rattle.std.specs.Prelude.{ℕ, ◌+◌, ◌*◌, ◌<◌, IfOk, OnOk, 
 ghost use Rattle.disk_model.specs.Bytes.{Torn};
 ghost use Rattle.disk_model.specs.Cause.{Rose};
 ghost use Rattle.disk_model.specs.Files.{Stays};
-ghost use Rattle.disk_model.specs.Vault.{Reads};
-ghost use Rattle.parity_split.specs.Joined.{joined, part_of};
-ghost use Rattle.parity_split.specs.Parts.{InStep, IsNear, IsReady};
+ghost use Rattle.parity_split.specs.Begins.{IsPartBehind, MayGrow};
+ghost use Rattle.parity_split.specs.Parts.{InStep, IsReady};
 ghost use Rattle.parity_split.specs.Values.{SameValues};
-ghost use Rattle.parity_split.specs.Works.{Works, IsWithin, LevelBy, HoldsOf, Same, EmptyFrom, HasBytes, IsPlaceOf, parts_in};
+ghost use Rattle.parity_split.specs.Works.{Works, IsWithin, LevelBy, ReadsBy, PartsRead, HoldsOf, Same, EmptyFrom};
+ghost use Rattle.parity_split.specs.Works.{IsPlaceOf, parts_in};
 
 use crate::base::Base;
 use crate::parts::{End, Parts, sync_from};
@@ -15,15 +15,14 @@ use disk_model::Failed;
 
 // Empties a part behind the end of the level.
 fn empty_hidden<V: Base>(base: &mut V, parts: Parts, end: u32, part: u32) -> Result<(), Failed>
-    requires parts { IsWithin parts (V.view base.old).levels }
-    requires behind { end < part }
-    requires within { part < parts.count }
-    requires ready { HoldsOf parts (IsReady parts.capacity end 0) (V.view base.old) }
+    requires { IsPartBehind parts end part (V.view base.old) }
     ensures works { Works (LevelBy parts Same) (V.view base.old) (V.view base.new) }
     ensures cause { OnErr result (Rose (V.view base.old).faults (V.view base.new).faults) }
     ensures ready { HoldsOf parts (IsReady parts.capacity end 0) (V.view base.new) }
-    ensures emptied { OnOk result (Reads (λ files. EmptyFrom part (part + 1) (parts_in parts files)) (V.view base.new)) }
-    ensures others { Reads (λ files. (j : ℕ) → EmptyFrom j part (parts_in parts (V.view base.old).files) → EmptyFrom j part (parts_in parts files)) (V.view base.new) }
+    ensures emptied { OnOk result (PartsRead parts (EmptyFrom part (part + 1)) (V.view base.new)) }
+    ensures others { PartsRead parts
+        (λ now. (j : ℕ) → EmptyFrom j part (parts_in parts (V.view base.old).files) → EmptyFrom j part now)
+        (V.view base.new) }
 {
     if base.part_len(parts.first + part)? == 0 {
         return Ok(());
@@ -39,7 +38,7 @@ fn empty_behind<V: Base>(base: &mut V, parts: Parts, end: u32) -> Result<(), Fai
     ensures works { Works (LevelBy parts Same) (V.view base.old) (V.view base.new) }
     ensures cause { OnErr result (Rose (V.view base.old).faults (V.view base.new).faults) }
     ensures ready { HoldsOf parts (IsReady parts.capacity end 0) (V.view base.new) }
-    ensures emptied { OnOk result (Reads (λ files. EmptyFrom (end + 1) parts.count (parts_in parts files)) (V.view base.new)) }
+    ensures emptied { OnOk result (PartsRead parts (EmptyFrom (end + 1) parts.count) (V.view base.new)) }
 {
     for part in end + 1..parts.count {
         empty_hidden(base, parts, end, part)?;
@@ -55,7 +54,8 @@ fn clear<V: Base>(base: &mut V, parts: Parts, end: u32) -> Result<(), Failed>
     ensures works { Works (LevelBy parts Same) (V.view base.old) (V.view base.new) }
     ensures cause { OnErr result (Rose (V.view base.old).faults (V.view base.new).faults) }
     ensures ready { HoldsOf parts (IsReady parts.capacity end 0) (V.view base.new) }
-    ensures cleared { OnOk result (HoldsOf parts (λ reads left. EmptyFrom (end + 1) parts.count left) (V.view base.new)) }
+    ensures cleared { OnOk result
+        (HoldsOf parts (λ reads left. EmptyFrom (end + 1) parts.count left) (V.view base.new)) }
 {
     empty_behind(base, parts, end)?;
     sync_from(base, parts, end + 1)
@@ -63,10 +63,7 @@ fn clear<V: Base>(base: &mut V, parts: Parts, end: u32) -> Result<(), Failed>
 
 // Syncs the part before an empty one, so that a stop leaves it full before that one grows.
 fn settle_before<V: Base>(base: &mut V, parts: Parts, end: End) -> Result<(), Failed>
-    requires parts { IsWithin parts (V.view base.old).levels }
-    requires within { end.part < parts.count }
-    requires near { HoldsOf parts (IsNear parts.capacity end.part) (V.view base.old) }
-    requires held { Reads (HasBytes parts end) (V.view base.old) }
+    requires { MayGrow parts end (V.view base.old) }
     ensures works { Works Stays (V.view base.old) (V.view base.new) }
     ensures cause { OnErr result (Rose (V.view base.old).faults (V.view base.new).faults) }
     ensures ready { OnOk result (HoldsOf parts (IsReady parts.capacity end.part 0) (V.view base.new)) }
@@ -79,10 +76,7 @@ fn settle_before<V: Base>(base: &mut V, parts: Parts, end: End) -> Result<(), Fa
 
 // Makes the part where a level ends ready for so many bytes of the level from its start on.
 fn make_ready<V: Base>(base: &mut V, parts: Parts, end: End, rest: u64) -> Result<(), Failed>
-    requires parts { IsWithin parts (V.view base.old).levels }
-    requires within { end.part < parts.count }
-    requires near { HoldsOf parts (IsNear parts.capacity end.part) (V.view base.old) }
-    requires held { Reads (HasBytes parts end) (V.view base.old) }
+    requires { MayGrow parts end (V.view base.old) }
     ensures works { Works (LevelBy parts Same) (V.view base.old) (V.view base.new) }
     ensures cause { OnErr result (Rose (V.view base.old).faults (V.view base.new).faults) }
     ensures kept { HoldsOf parts (InStep parts.capacity) (V.view base.new) }
@@ -95,19 +89,17 @@ fn make_ready<V: Base>(base: &mut V, parts: Parts, end: End, rest: u64) -> Resul
     clear(base, parts, end.part)
 }
 
-// Fills parts, from the one where the level ends on, up to that in which so many bytes from its start on end. Says which that is
-// and how many of them it is to hold; it is ready for them.
+// Fills parts, from the one where the level ends on, up to that in which so many bytes from its start on end.
+// Says which that is and how many of them it is to hold; it is ready for them.
 pub fn fill<V: Base>(base: &mut V, parts: Parts, end: End, rest: u64) -> Result<End, Failed>
-    requires parts { IsWithin parts (V.view base.old).levels }
-    requires within { end.part < parts.count }
-    requires near { HoldsOf parts (IsNear parts.capacity end.part) (V.view base.old) }
-    requires held { Reads (HasBytes parts end) (V.view base.old) }
-    ensures works { Works (LevelBy parts (Torn (end.part * parts.capacity + rest) 0)) (V.view base.old) (V.view base.new) }
+    requires { MayGrow parts end (V.view base.old) }
+    ensures works { Works (LevelBy parts (Torn (end.part * parts.capacity + rest) 0))
+        (V.view base.old) (V.view base.new) }
     ensures cause { OnErr result (Rose (V.view base.old).faults (V.view base.new).faults) }
     ensures kept { HoldsOf parts (InStep parts.capacity) (V.view base.new) }
     ensures last { IfOk result (λ last. IsPlaceOf parts last (end.part * parts.capacity + rest)) }
     ensures ready { IfOk result (λ last. HoldsOf parts (IsReady parts.capacity last.part last.len) (V.view base.new)) }
-    ensures same { OnOk result (Reads (λ files. SameValues (joined parts.capacity (parts_in parts (V.view base.old).files)) (joined parts.capacity (parts_in parts files))) (V.view base.new)) }
+    ensures same { OnOk result (ReadsBy parts SameValues (V.view base.old) (V.view base.new)) }
 {
     let mut now = end;
     let mut rest = rest;

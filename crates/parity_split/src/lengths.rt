@@ -3,11 +3,10 @@ ghost use Rattle.std.specs.Prelude.{◌≡◌, ◌+◌, ◌*◌, ◌-◌, ◌^�
 ghost use Rattle.disk_model.specs.Bytes.{Stretched};
 ghost use Rattle.disk_model.specs.Cause.{Rose};
 ghost use Rattle.disk_model.specs.Files.{Stays};
-ghost use Rattle.disk_model.specs.Vault.{Reads};
-ghost use Rattle.parity_split.specs.Joined.{joined, level_bytes};
-ghost use Rattle.parity_split.specs.Parts.{InStep, IsNear};
+ghost use Rattle.parity_split.specs.Begins.{EndsNearAt};
+ghost use Rattle.parity_split.specs.Parts.{InStep};
 ghost use Rattle.parity_split.specs.Values.{IsResized};
-ghost use Rattle.parity_split.specs.Works.{Works, IsWithin, LevelBy, HoldsOf, IsFound, parts_in};
+ghost use Rattle.parity_split.specs.Works.{Works, IsWithin, LevelBy, ReadsBy, BytesBy, HoldsOf};
 
 use crate::base::Base;
 use crate::cutting::cut_behind;
@@ -17,15 +16,12 @@ use disk_model::Failed;
 
 // Extends the level with zeros.
 pub fn grow<V: Base>(base: &mut V, parts: Parts, end: End, len: u64) -> Result<(), Failed>
-    requires parts { IsWithin parts (V.view base.old).levels }
-    requires within { end.part < parts.count }
-    requires near { HoldsOf parts (IsNear parts.capacity end.part) (V.view base.old) }
-    requires found { Reads (IsFound parts end) (V.view base.old) }
+    requires at { EndsNearAt parts end (V.view base.old) }
     requires longer { min (end.part * parts.capacity + end.len) (2 ^ 64 - 1) < len }
     ensures works { Works (LevelBy parts (Stretched len)) (V.view base.old) (V.view base.new) }
     ensures cause { OnErr result (Rose (V.view base.old).faults (V.view base.new).faults) }
     ensures kept { HoldsOf parts (InStep parts.capacity) (V.view base.new) }
-    ensures written { OnOk result (Reads (λ files. IsResized len (joined parts.capacity (parts_in parts (V.view base.old).files)) (joined parts.capacity (parts_in parts files))) (V.view base.new)) }
+    ensures written { OnOk result (ReadsBy parts (IsResized len) (V.view base.old) (V.view base.new)) }
 {
     let last = fill(base, parts, end, len - parts.start(end.part))?;
     base.part_set_len(parts.first + last.part, last.len)
@@ -33,16 +29,13 @@ pub fn grow<V: Base>(base: &mut V, parts: Parts, end: End, len: u64) -> Result<(
 
 // Cuts the level.
 pub fn cut<V: Base>(base: &mut V, parts: Parts, end: End, len: u64) -> Result<(), Failed>
-    requires parts { IsWithin parts (V.view base.old).levels }
-    requires within { end.part < parts.count }
-    requires near { HoldsOf parts (IsNear parts.capacity end.part) (V.view base.old) }
-    requires found { Reads (IsFound parts end) (V.view base.old) }
+    requires at { EndsNearAt parts end (V.view base.old) }
     requires room { end.part + 1 < parts.count → end.len ≤ parts.capacity }
     requires shorter { len < min (end.part * parts.capacity + end.len) (2 ^ 64 - 1) }
     ensures works { Works (LevelBy parts (Stretched len)) (V.view base.old) (V.view base.new) }
     ensures cause { OnErr result (Rose (V.view base.old).faults (V.view base.new).faults) }
     ensures kept { HoldsOf parts (InStep parts.capacity) (V.view base.new) }
-    ensures written { OnOk result (Reads (λ files. IsResized len (joined parts.capacity (parts_in parts (V.view base.old).files)) (joined parts.capacity (parts_in parts files))) (V.view base.new)) }
+    ensures written { OnOk result (ReadsBy parts (IsResized len) (V.view base.old) (V.view base.new)) }
 {
     let last = cut_behind(base, parts, end, len)?;
     base.part_set_len(parts.first + last.part, len - parts.start(last.part))
@@ -55,7 +48,7 @@ pub fn set_len<V: Base>(base: &mut V, parts: Parts, len: u64) -> Result<(), Fail
     ensures works { Works (LevelBy parts (Stretched len)) (V.view base.old) (V.view base.new) }
     ensures cause { OnErr result (Rose (V.view base.old).faults (V.view base.new).faults) }
     ensures kept { HoldsOf parts (InStep parts.capacity) (V.view base.new) }
-    ensures written { OnOk result (Reads (λ files. IsResized len (level_bytes parts.capacity (parts_in parts (V.view base.old).files)) (level_bytes parts.capacity (parts_in parts files))) (V.view base.new)) }
+    ensures written { OnOk result (BytesBy parts (IsResized len) (V.view base.old) (V.view base.new)) }
 {
     if parts.count == 1 {
         return base.part_set_len(parts.first, len);

@@ -94,7 +94,9 @@ pub fn sync_from<V: Base>(base: &mut V, parts: Parts, from: u32) -> Result<(), F
     requires { IsWithin parts (V.view base.old).levels }
     ensures works { Works Stays (V.view base.old) (V.view base.new) }
     ensures cause { OnErr result (Rose (V.view base.old).faults (V.view base.new).faults) }
-    ensures synced { OnOk result (Holds (λ files. SameFrom from parts.count (parts_in parts (V.view base.old).files) (parts_in parts files)) (V.view base.new)) }
+    ensures synced { OnOk result (Holds
+        (λ files. SameFrom from parts.count (parts_in parts (V.view base.old).files) (parts_in parts files))
+        (V.view base.new)) }
 {
     for part in from..parts.count {
         base.part_sync(parts.first + part)?;

@@ -1,4 +1,5 @@
 // A vault of which a level is several levels of its base.
+ghost use Rattle.std.specs.Prelude.{◌≡◌, ℕ, List, []};
 ghost use Rattle.parity_split.specs.Split.{AreParts, AllInStep};
 
 use crate::lengths::set_len;
@@ -6,35 +7,52 @@ use crate::parts::{find, parts_of, sync_from};
 use crate::reading::read;
 use crate::writing::write;
 use disk_model::{Failed, Vault};
+use std::marker::{Brand, PhantomData};
+
+/// How levels are split. A type stands for it, so that it stays while calls are made; a call at `Brand` picks it.
+pub trait Shape: Send {
+    /// How many levels of the base each level has.
+    ghost counts: { List ℕ };
+
+    /// How many bytes each part but the last of its level holds.
+    ghost capacity: { ℕ };
+}
+
+impl Shape for Brand {
+    ghost counts = { [] };
+
+    ghost capacity = { 0 };
+}
 
 /// A vault of which a level is several levels of its base, one after another.
 #[derive(Drop)]
-pub struct SplitVault<V: Vault> {
+pub struct SplitVault<V: Vault, P: Shape> {
     base: V,
-    /// How many levels of the base each level has.
-    pub parts: Vec<u32>,
-    /// How many bytes each part but the last of its level holds.
-    pub capacity: u64,
-    ghost are: { AreParts parts.items capacity (V.view base).levels },
-    ghost in_step: { AllInStep parts.items capacity (V.view base) },
+    parts: Vec<u32>,
+    capacity: u64,
+    shape: PhantomData<P>,
+    ghost counts_are: { parts.items ≡ P.counts },
+    ghost capacity_is: { capacity ≡ P.capacity },
+    ghost are: { AreParts P.counts P.capacity (V.view base).levels },
+    ghost in_step: { AllInStep P.counts P.capacity (V.view base) },
 }
 
-impl<V: Vault> SplitVault<V> {
-    ghost use Rattle.std.specs.Prelude.{◌≡◌};
+impl<V: Vault, P: Shape> SplitVault<V, P> {
     ghost use Rattle.disk_model.specs.Vault.{IsSettled};
 
     /// The levels of the base become parts of levels, in order, as many for each as the list says.
-    pub fn new(base: V, parts: Vec<u32>, capacity: u64) -> SplitVault<V>
-        requires parts { AreParts parts.items capacity (V.view base).levels }
+    pub fn new(base: V, parts: Vec<u32>, capacity: u64) -> SplitVault<V, P>
+        requires counts { parts.items ≡ P.counts }
+        requires capacity { capacity ≡ P.capacity }
+        requires parts { AreParts P.counts P.capacity (V.view base).levels }
         requires settled { IsSettled (V.view base) }
-        ensures base { result.base ≡ base }
-        ensures parts { result.parts ≡ parts }
-        ensures capacity { result.capacity ≡ capacity }
+        ensures { result.base ≡ base }
     {
         SplitVault {
             base,
             parts,
             capacity,
+            shape: PhantomData,
         }
     }
 
@@ -47,13 +65,13 @@ impl<V: Vault> SplitVault<V> {
     }
 }
 
-impl<V: Vault> Vault for SplitVault<V> {
+impl<V: Vault, P: Shape> Vault for SplitVault<V, P> {
     ghost use Rattle.parity_split.specs.Split.{split_view};
     ghost use Rattle.parity_split.specs.SplitLaws.{split_well_formed};
 
-    ghost view = { λ s. split_view s.parts.items s.capacity (V.view s.base) };
+    ghost view = { λ s. split_view P.counts P.capacity (V.view s.base) };
 
-    ghost well_formed = { λ s. split_well_formed s.parts.items s.capacity (V.view s.base) (V.well_formed s.base) };
+    ghost well_formed = { λ s. split_well_formed P.counts P.capacity (V.view s.base) (V.well_formed s.base) };
 
     fn faults(&self) -> u64 {
         self.base.faults()

@@ -1,12 +1,11 @@
 // Bytes of a level, written over the edges of its parts.
-ghost use Rattle.std.specs.Prelude.{◌≡◌, ℕ, ◌+◌, ◌*◌, ◌^◌, ◌<◌, ◌≤◌, List, length, IfOk, OnOk, OnErr};
+ghost use Rattle.std.specs.Prelude.{ℕ, ◌+◌, ◌*◌, ◌-◌, ◌^◌, ◌<◌, ◌≤◌, min, List, length, OnOk, OnErr};
 ghost use Rattle.disk_model.specs.Bytes.{Torn};
 ghost use Rattle.disk_model.specs.Cause.{Rose};
-ghost use Rattle.disk_model.specs.Vault.{Reads};
-ghost use Rattle.parity_split.specs.Joined.{joined, level_bytes};
+ghost use Rattle.parity_split.specs.Begins.{IsPartBefore, IsNearPart, IsReadyFor, MayGrow, EndsNearAt};
 ghost use Rattle.parity_split.specs.Parts.{InStep, IsNear, IsReady};
 ghost use Rattle.parity_split.specs.Values.{IsPut, IsPutBelow};
-ghost use Rattle.parity_split.specs.Works.{Works, IsWithin, LevelBy, HoldsOf, HasBytes, IsFound, IsPlaceOf, parts_in};
+ghost use Rattle.parity_split.specs.Works.{Works, IsWithin, LevelBy, LevelReads, ReadsBy, BytesBy, HoldsOf};
 
 use crate::base::Base;
 use crate::growth::fill;
@@ -22,18 +21,16 @@ fn write_before<V: Base>(
     at: u64,
     bytes: &[u8],
 ) -> Result<(), Failed>
-    requires parts { IsWithin parts (V.view base.old).levels }
-    requires before { part < end }
-    requires within { end < parts.count }
+    requires part { IsPartBefore parts part end (V.view base.old) }
     requires room { at + length bytes.now < 2 ^ 64 }
-    requires near { HoldsOf parts (IsNear parts.capacity end) (V.view base.old) }
     ensures works { Works (LevelBy parts (Torn at (length bytes.now))) (V.view base.old) (V.view base.new) }
     ensures cause { OnErr result (Rose (V.view base.old).faults (V.view base.new).faults) }
     ensures near { HoldsOf parts (IsNear parts.capacity end) (V.view base.new) }
-    ensures ready { (len : ℕ) → HoldsOf parts (IsReady parts.capacity end len) (V.view base.old) → HoldsOf parts (IsReady parts.capacity end len) (V.view base.new) }
+    ensures ready { (len : ℕ) → HoldsOf parts (IsReady parts.capacity end len) (V.view base.old) →
+        HoldsOf parts (IsReady parts.capacity end len) (V.view base.new) }
     ensures written { OnOk result ((start : List ℕ) →
-        Reads (λ files. IsPutBelow (part * parts.capacity) at bytes.now start (joined parts.capacity (parts_in parts files))) (V.view base.old) →
-        Reads (λ files. IsPutBelow (part * parts.capacity + parts.capacity) at bytes.now start (joined parts.capacity (parts_in parts files))) (V.view base.new)) }
+        LevelReads parts (IsPutBelow (part * parts.capacity) at bytes.now start) (V.view base.old) →
+        LevelReads parts (IsPutBelow (part * parts.capacity + parts.capacity) at bytes.now start) (V.view base.new)) }
 {
     let start = parts.start(part);
     let from = larger(at, start);
@@ -56,15 +53,15 @@ fn write_all_before<V: Base>(
     at: u64,
     bytes: &[u8],
 ) -> Result<(), Failed>
-    requires parts { IsWithin parts (V.view base.old).levels }
-    requires within { end < parts.count }
+    requires end { IsNearPart parts end (V.view base.old) }
     requires room { at + length bytes.now < 2 ^ 64 }
-    requires near { HoldsOf parts (IsNear parts.capacity end) (V.view base.old) }
     ensures works { Works (LevelBy parts (Torn at (length bytes.now))) (V.view base.old) (V.view base.new) }
     ensures cause { OnErr result (Rose (V.view base.old).faults (V.view base.new).faults) }
     ensures near { HoldsOf parts (IsNear parts.capacity end) (V.view base.new) }
-    ensures ready { (len : ℕ) → HoldsOf parts (IsReady parts.capacity end len) (V.view base.old) → HoldsOf parts (IsReady parts.capacity end len) (V.view base.new) }
-    ensures written { OnOk result (Reads (λ files. IsPutBelow (end * parts.capacity) at bytes.now (joined parts.capacity (parts_in parts (V.view base.old).files)) (joined parts.capacity (parts_in parts files))) (V.view base.new)) }
+    ensures ready { (len : ℕ) → HoldsOf parts (IsReady parts.capacity end len) (V.view base.old) →
+        HoldsOf parts (IsReady parts.capacity end len) (V.view base.new) }
+    ensures written { OnOk result
+        (ReadsBy parts (IsPutBelow (end * parts.capacity) at bytes.now) (V.view base.old) (V.view base.new)) }
 {
     for part in 0..end {
         write_before(base, parts, end, part, at, bytes)?;
@@ -80,16 +77,14 @@ fn write_end<V: Base>(
     at: u64,
     bytes: &[u8],
 ) -> Result<(), Failed>
-    requires parts { IsWithin parts (V.view base.old).levels }
-    requires end { IsPlaceOf parts end (at + length bytes.now) }
+    requires at { IsReadyFor parts end (at + length bytes.now) (V.view base.old) }
     requires room { at + length bytes.now < 2 ^ 64 }
-    requires ready { HoldsOf parts (IsReady parts.capacity end.part end.len) (V.view base.old) }
     ensures works { Works (LevelBy parts (Torn at (length bytes.now))) (V.view base.old) (V.view base.new) }
     ensures cause { OnErr result (Rose (V.view base.old).faults (V.view base.new).faults) }
     ensures kept { HoldsOf parts (InStep parts.capacity) (V.view base.new) }
     ensures written { OnOk result ((start : List ℕ) →
-        Reads (λ files. IsPutBelow (end.part * parts.capacity) at bytes.now start (joined parts.capacity (parts_in parts files))) (V.view base.old) →
-        Reads (λ files. IsPut at bytes.now start (joined parts.capacity (parts_in parts files))) (V.view base.new)) }
+        LevelReads parts (IsPutBelow (end.part * parts.capacity) at bytes.now start) (V.view base.old) →
+        LevelReads parts (IsPut at bytes.now start) (V.view base.new)) }
 {
     let start = parts.start(end.part);
     let from = larger(at, start);
@@ -108,16 +103,13 @@ fn write_past<V: Base>(
     at: u64,
     bytes: &[u8],
 ) -> Result<(), Failed>
-    requires parts { IsWithin parts (V.view base.old).levels }
-    requires within { end.part < parts.count }
+    requires end { MayGrow parts end (V.view base.old) }
     requires room { at + length bytes.now < 2 ^ 64 }
-    requires near { HoldsOf parts (IsNear parts.capacity end.part) (V.view base.old) }
-    requires held { Reads (HasBytes parts end) (V.view base.old) }
     requires past { end.part * parts.capacity ≤ at + length bytes.now }
     ensures works { Works (LevelBy parts (Torn at (length bytes.now))) (V.view base.old) (V.view base.new) }
     ensures cause { OnErr result (Rose (V.view base.old).faults (V.view base.new).faults) }
     ensures kept { HoldsOf parts (InStep parts.capacity) (V.view base.new) }
-    ensures written { OnOk result (Reads (λ files. IsPut at bytes.now (joined parts.capacity (parts_in parts (V.view base.old).files)) (joined parts.capacity (parts_in parts files))) (V.view base.new)) }
+    ensures written { OnOk result (ReadsBy parts (IsPut at bytes.now) (V.view base.old) (V.view base.new)) }
 {
     let rest = at + bytes.len() as u64 - parts.start(end.part);
     let last = fill(base, parts, end, rest)?;
@@ -133,17 +125,13 @@ fn write_within<V: Base>(
     at: u64,
     bytes: &[u8],
 ) -> Result<(), Failed>
-    requires parts { IsWithin parts (V.view base.old).levels }
-    requires within { end.part < parts.count }
-    requires room { at + length bytes.now < 2 ^ 64 }
-    requires near { HoldsOf parts (IsNear parts.capacity end.part) (V.view base.old) }
-    requires found { Reads (IsFound parts end) (V.view base.old) }
+    requires at { EndsNearAt parts end (V.view base.old) }
     requires last { end.part + 1 < parts.count → end.len < parts.capacity }
-    requires inside { at + length bytes.now ≤ end.part * parts.capacity + end.len }
+    requires inside { at + length bytes.now ≤ min (end.part * parts.capacity + end.len) (2 ^ 64 - 1) }
     ensures works { Works (LevelBy parts (Torn at (length bytes.now))) (V.view base.old) (V.view base.new) }
     ensures cause { OnErr result (Rose (V.view base.old).faults (V.view base.new).faults) }
     ensures kept { HoldsOf parts (InStep parts.capacity) (V.view base.new) }
-    ensures written { OnOk result (Reads (λ files. IsPut at bytes.now (joined parts.capacity (parts_in parts (V.view base.old).files)) (joined parts.capacity (parts_in parts files))) (V.view base.new)) }
+    ensures written { OnOk result (ReadsBy parts (IsPut at bytes.now) (V.view base.old) (V.view base.new)) }
 {
     write_all_before(base, parts, end.part, at, bytes)?;
     let to = at + bytes.len() as u64;
@@ -166,7 +154,7 @@ pub fn write<V: Base>(base: &mut V, parts: Parts, at: u64, bytes: &[u8]) -> Resu
     ensures works { Works (LevelBy parts (Torn at (length bytes.now))) (V.view base.old) (V.view base.new) }
     ensures cause { OnErr result (Rose (V.view base.old).faults (V.view base.new).faults) }
     ensures kept { HoldsOf parts (InStep parts.capacity) (V.view base.new) }
-    ensures written { OnOk result (Reads (λ files. IsPut at bytes.now (level_bytes parts.capacity (parts_in parts (V.view base.old).files)) (level_bytes parts.capacity (parts_in parts files))) (V.view base.new)) }
+    ensures written { OnOk result (BytesBy parts (IsPut at bytes.now) (V.view base.old) (V.view base.new)) }
 {
     if parts.count == 1 {
         return base.part_write(parts.first, at, bytes);

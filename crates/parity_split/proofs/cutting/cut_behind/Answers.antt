@@ -10,10 +10,10 @@ use Rattle.parity_split.proofs.cutting.cut_behind.Goals as goal
 pub loop-parts-init : goal.loop-parts-init
 loop-parts-init g c = record {
   works = works_start (LevelBy c.args.parts (Stretched c.args.len)) _ (λ files. level_stays c.args.parts (Stretched c.args.len) (λ x. same_stretched c.args.len x x refl) files files refl);
-  within = c.requires.parts;
-  near = c.requires.near;
-  held = c.requires.held;
-  cut = c.requires.cut;
+  within = c.requires.from.parts;
+  near = c.requires.from.near;
+  held = c.requires.from.held;
+  cut = c.requires.from.cut;
   same = λ t i below. refl;
 }
 
@@ -42,9 +42,9 @@ loop-parts-preserved g c =
     let works = level_works_then p (Stretched c.args.len) old mid new (stretched_then c.args.len) c.loop-parts.invariant.works (c.step_down.ensures.works c.args.len (omega arith)) in
     record {
       works = works;
-      within = still_within p (LevelBy p (Stretched c.args.len)) old new works c.requires.parts;
+      within = still_within p (LevelBy p (Stretched c.args.len)) old new works c.requires.from.parts;
       near = near_at_step p part (part - 1) new e c.in_ok-step_down.ensures.near;
-      held = holds_full p (part - 1) new c.requires.parts.capacity (full_at_step p part (part - 1) new e c.in_ok-step_down.ensures.full);
+      held = holds_full p (part - 1) new c.requires.from.parts.capacity (full_at_step p part (part - 1) new e c.in_ok-step_down.ensures.full);
       cut = place_below p c.loop-parts.now c.args.len (part - 1) e below c.loop-parts.invariant.cut.within;
       same = same_below_then p c.args.len (part * p.capacity) old.files mid new (omega arith) (c.step_down.ensures.works 0 (omega arith)).calls.goes_on.tells c.loop-parts.invariant.same c.in_ok-step_down.ensures.same;
     }
@@ -65,3 +65,6 @@ returns-clause-last g c = record {
 
 pub returns-clause-same : goal.returns-clause-same
 returns-clause-same g c = c.loop-parts.invariant.same
+
+pub step_down-requires : goal.step_down-requires
+step_down-requires g c = record { parts = c.loop-parts.invariant.within; within = c.loop-parts.invariant.cut.within; near = c.loop-parts.invariant.near; held = c.loop-parts.invariant.held }

@@ -37,3 +37,6 @@ returns-in_err-empty_hidden-clause-works g c = level_works_then c.args.parts Sam
 
 pub returns-in_err-empty_hidden-clause-cause : goal.returns-in_err-empty_hidden-clause-cause
 returns-in_err-empty_hidden-clause-cause g c = rose_at c.from_residual.result (LevelBy c.args.parts Same) (g.V.Base.view c.args.base.now) (g.V.Base.view c.loop-part.base) (g.V.Base.view c.empty_hidden.new.base) c.loop-part.invariant.works c.in_err-empty_hidden.ensures.cause
+
+pub empty_hidden-requires : goal.empty_hidden-requires
+empty_hidden-requires g c = record { parts = c.loop-part.invariant.within; behind = omega arith; within = omega arith; ready = c.loop-part.invariant.ready }

@@ -123,3 +123,6 @@ loop-base-preserved g c =
           (same_values_then p old mid ready c.loop-base.invariant.works.calls.goes_on.tells tells c.loop-base.invariant.same (same_values_by p mid ready c.make_ready.ensures.works))
           (filled_same p part ready new (g.V.Base.well_formed _) within more holds set c.in_ok-part_set_len.ensures.written);
     }
+
+pub make_ready-requires : goal.make_ready-requires
+make_ready-requires g c = record { parts = c.loop-base.invariant.within; within = c.loop-base.invariant.low; near = c.loop-base.invariant.near; held = c.loop-base.invariant.held }

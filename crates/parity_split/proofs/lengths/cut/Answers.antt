@@ -1,19 +1,12 @@
-use Rattle.std.proofs.Common.{◌≡◌, ◌+◌, ◌-◌, ◌*◌, ◌<◌, arith, rules}
+use Rattle.std.proofs.Common.{◌≡◌, ◌+◌, ◌-◌, ◌*◌, ◌<◌, arith}
 use Rattle.disk_model.specs.Bytes.{Stretched}
-use Rattle.disk_model.specs.Vault.{Reads}
 use Rattle.disk_model.proofs.VaultLemmas.{on_ok}
-use Rattle.parity_split.specs.Works.{LevelBy, HoldsSome, IsCutAt}
+use Rattle.parity_split.specs.Works.{LevelBy}
 use Rattle.parity_split.proofs.PieceLemmas.{stretched_then}
 use Rattle.parity_split.proofs.WorksLemmas.{level_works_then, still_within, set_len_works, rose_after}
 use Rattle.parity_split.proofs.CutLemmas.{ready_to_cut, stretched_keeps, resized_level}
 use Rattle.parity_split.proofs.LengthLemmas.{stretch_works, resized_after, found_holds}
 use Rattle.parity_split.proofs.lengths.cut.Goals as goal
-
-pub cut_behind-requires-clause-held : goal.cut_behind-requires-clause-held
-cut_behind-requires-clause-held g c = let held : Reads (HoldsSome c.args.parts c.args.end) (g.V.Base.view c.args.base.now) = found_holds c.args.parts c.args.end (g.V.Base.view c.args.base.now) c.requires.found in search rules
-
-pub cut_behind-requires-clause-cut : goal.cut_behind-requires-clause-cut
-cut_behind-requires-clause-cut g c = let cut : IsCutAt c.args.parts c.args.end c.args.len = record { within = c.requires.within; below = omega (arith, c.requires.shorter); room = c.requires.room } in search rules
 
 pub returns-clause-works : goal.returns-clause-works
 returns-clause-works g c =
@@ -31,7 +24,7 @@ returns-clause-works g c =
     let is : last.part * p.capacity + m ≡ c.args.len = omega arith in
     let some : 0 < last.len = omega arith in
     let room : last.part + 1 < p.count → m < p.capacity = (λ more. let r = near.cut.room more in omega arith) in
-    let within = still_within p (LevelBy p (Stretched c.args.len)) old mid c.cut_behind.ensures.works c.requires.parts in
+    let within = still_within p (LevelBy p (Stretched c.args.len)) old mid c.cut_behind.ensures.works c.requires.at.parts in
     let ready = ready_to_cut p last m mid (g.V.Base.well_formed _) within some room near.held near.near in
     let works = set_len_works p last.part m _ _ mid new near.cut.within c.part_set_len.ensures.call c.part_set_len.ensures.changes c.part_set_len.ensures.drafts in
     level_works_then p (Stretched c.args.len) old mid new (stretched_then c.args.len) c.cut_behind.ensures.works
@@ -56,7 +49,7 @@ returns-clause-kept g c =
     let is : last.part * p.capacity + m ≡ c.args.len = omega arith in
     let some : 0 < last.len = omega arith in
     let room : last.part + 1 < p.count → m < p.capacity = (λ more. let r = near.cut.room more in omega arith) in
-    let within = still_within p (LevelBy p (Stretched c.args.len)) old mid c.cut_behind.ensures.works c.requires.parts in
+    let within = still_within p (LevelBy p (Stretched c.args.len)) old mid c.cut_behind.ensures.works c.requires.at.parts in
     let ready = ready_to_cut p last m mid (g.V.Base.well_formed _) within some room near.held near.near in
     let works = set_len_works p last.part m _ _ mid new near.cut.within c.part_set_len.ensures.call c.part_set_len.ensures.changes c.part_set_len.ensures.drafts in
     stretched_keeps p last.part m mid new (g.V.Base.well_formed _) within near.cut.within ready works
@@ -77,10 +70,18 @@ returns-clause-written g c =
     let is : last.part * p.capacity + m ≡ c.args.len = omega arith in
     let some : 0 < last.len = omega arith in
     let room : last.part + 1 < p.count → m < p.capacity = (λ more. let r = near.cut.room more in omega arith) in
-    let within = still_within p (LevelBy p (Stretched c.args.len)) old mid c.cut_behind.ensures.works c.requires.parts in
+    let within = still_within p (LevelBy p (Stretched c.args.len)) old mid c.cut_behind.ensures.works c.requires.at.parts in
     let ready = ready_to_cut p last m mid (g.V.Base.well_formed _) within some room near.held near.near in
     let works = set_len_works p last.part m _ _ mid new near.cut.within c.part_set_len.ensures.call c.part_set_len.ensures.changes c.part_set_len.ensures.drafts in
     on_ok c.part_set_len.result
     (λ written. resized_after p c.args.len (last.part * p.capacity + m) old mid new is c.part_set_len.ensures.call.goes_on.tells c.in_ok-last.ensures.same
     (resized_level p last.part m mid new (g.V.Base.well_formed _) within near.cut.within (λ more. let r = room more in omega arith) ready works written))
     c.part_set_len.ensures.written
+
+pub cut_behind-requires-clause-from : goal.cut_behind-requires-clause-from
+cut_behind-requires-clause-from g c = record {
+  parts = c.requires.at.parts;
+  near = c.requires.at.near;
+  held = found_holds c.args.parts c.args.end (g.V.Base.view c.args.base.now) c.requires.at.found;
+  cut = record { within = c.requires.at.within; below = omega (arith, c.requires.shorter); room = c.requires.room };
+}

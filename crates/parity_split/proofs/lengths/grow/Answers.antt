@@ -1,16 +1,12 @@
-use Rattle.std.proofs.Common.{◌≡◌, ◌+◌, ◌-◌, ◌*◌, ◌∙◌, subst, arith, rules}
+use Rattle.std.proofs.Common.{◌≡◌, ◌+◌, ◌-◌, ◌*◌, ◌∙◌, subst, arith}
 use Rattle.disk_model.specs.Bytes.{Torn, Stretched}
-use Rattle.disk_model.specs.Vault.{Reads}
 use Rattle.disk_model.proofs.VaultLemmas.{on_ok}
-use Rattle.parity_split.specs.Works.{Works, LevelBy, HasBytes}
+use Rattle.parity_split.specs.Works.{Works, LevelBy}
 use Rattle.parity_split.proofs.PieceLemmas.{stretched_then, stretched_by_growth}
 use Rattle.parity_split.proofs.WorksLemmas.{level_works_then, works_loose, still_within, set_len_works, rose_after}
 use Rattle.parity_split.proofs.CutLemmas.{stretched_keeps, resized_level}
 use Rattle.parity_split.proofs.LengthLemmas.{stretch_works, resized_after, found_has}
 use Rattle.parity_split.proofs.lengths.grow.Goals as goal
-
-pub fill-requires-clause-held : goal.fill-requires-clause-held
-fill-requires-clause-held g c = let held : Reads (HasBytes c.args.parts c.args.end) (g.V.Base.view c.args.base.now) = found_has c.args.parts c.args.end (g.V.Base.view c.args.base.now) c.requires.found in search rules
 
 pub returns-in_err-last-clause-works : goal.returns-in_err-last-clause-works
 returns-in_err-last-clause-works g c =
@@ -39,7 +35,7 @@ returns-clause-works g c =
     let new = g.V.Base.view c.part_set_len.new.self in
     let place = c.in_ok-last.ensures.last in
     let is : q * p.capacity + m ≡ c.args.len = place.is ∙ e in
-    let within = still_within p (LevelBy p (Stretched c.args.len)) old mid one c.requires.parts in
+    let within = still_within p (LevelBy p (Stretched c.args.len)) old mid one c.requires.at.parts in
     let works = set_len_works p q m _ _ mid new place.within c.part_set_len.ensures.call c.part_set_len.ensures.changes c.part_set_len.ensures.drafts in
     level_works_then p (Stretched c.args.len) old mid new (stretched_then c.args.len) one
     (stretch_works p q m c.args.len mid new (g.V.Base.well_formed _) within place.within place.room is c.in_ok-last.ensures.ready works)
@@ -62,7 +58,7 @@ returns-clause-kept g c =
     let new = g.V.Base.view c.part_set_len.new.self in
     let place = c.in_ok-last.ensures.last in
     let is : q * p.capacity + m ≡ c.args.len = place.is ∙ e in
-    let within = still_within p (LevelBy p (Stretched c.args.len)) old mid one c.requires.parts in
+    let within = still_within p (LevelBy p (Stretched c.args.len)) old mid one c.requires.at.parts in
     let works = set_len_works p q m _ _ mid new place.within c.part_set_len.ensures.call c.part_set_len.ensures.changes c.part_set_len.ensures.drafts in
     stretched_keeps p q m mid new (g.V.Base.well_formed _) within place.within c.in_ok-last.ensures.ready works
 
@@ -81,9 +77,17 @@ returns-clause-written g c =
     let new = g.V.Base.view c.part_set_len.new.self in
     let place = c.in_ok-last.ensures.last in
     let is : q * p.capacity + m ≡ c.args.len = place.is ∙ e in
-    let within = still_within p (LevelBy p (Stretched c.args.len)) old mid one c.requires.parts in
+    let within = still_within p (LevelBy p (Stretched c.args.len)) old mid one c.requires.at.parts in
     let works = set_len_works p q m _ _ mid new place.within c.part_set_len.ensures.call c.part_set_len.ensures.changes c.part_set_len.ensures.drafts in
     on_ok c.part_set_len.result
     (λ written. resized_after p c.args.len (q * p.capacity + m) old mid new is c.part_set_len.ensures.call.goes_on.tells (λ t i below. c.in_ok-last.ensures.same t i)
     (resized_level p q m mid new (g.V.Base.well_formed _) within place.within place.room c.in_ok-last.ensures.ready works written))
     c.part_set_len.ensures.written
+
+pub fill-requires : goal.fill-requires
+fill-requires g c = record {
+  parts = c.requires.at.parts;
+  within = c.requires.at.within;
+  near = c.requires.at.near;
+  held = found_has c.args.parts c.args.end (g.V.Base.view c.args.base.now) c.requires.at.found;
+}

@@ -1,10 +1,10 @@
-use Rattle.std.proofs.Common.{◌≡◌, ◌+◌, ◌*◌, ◌<◌, refl, subst, arith, rules}
+use Rattle.std.proofs.Common.{◌≡◌, ◌+◌, ◌*◌, ◌<◌, refl, subst, arith}
 use Rattle.disk_model.specs.Bytes.{Stretched, resized}
 use Rattle.disk_model.specs.Files.{Stays, parity_of, StretchesParity}
 use Rattle.disk_model.specs.Vault.{Reads, ChangesBy}
 use Rattle.disk_model.proofs.VaultLemmas.{on_ok}
-use Rattle.parity_split.specs.Parts.{InStep, IsNear}
-use Rattle.parity_split.specs.Works.{IsFound, HoldsOf, parts_in}
+use Rattle.parity_split.specs.Parts.{InStep}
+use Rattle.parity_split.specs.Works.{IsFound, parts_in}
 use Rattle.parity_split.proofs.PieceLemmas.{stretched_then, same_stretched}
 use Rattle.parity_split.proofs.WorksLemmas.{level_works_then, works_level, still_within, still_holds, set_len_works, rose_after, reads_still}
 use Rattle.parity_split.proofs.LengthLemmas.{near_found, ready_alone, level_as_long, level_resized, level_resized_after, stretch_works}
@@ -87,29 +87,6 @@ returns-then-len-now-clause-works g c =
 pub returns-then-len-now-clause-cause : goal.returns-then-len-now-clause-cause
 returns-then-len-now-clause-cause g c = rose_after c.grow.result Stays (g.V.Base.view c.args.base.now) (g.V.Base.view c.find.new.base) (g.V.Base.view c.grow.new.base) c.find.ensures.works c.grow.ensures.cause
 
-pub grow-requires-clause-near : goal.grow-requires-clause-near
-grow-requires-clause-near g c =
-    let p = c.args.parts in
-    let old = g.V.Base.view c.args.base.now in
-    let mid = g.V.Base.view c.find.new.base in
-    let one = works_level p (Stretched c.args.len) old mid (λ x. same_stretched c.args.len x x refl) c.find.ensures.works in
-    let within = still_within p Stays old mid c.find.ensures.works c.requires.parts in
-    let in_step = still_holds p (InStep p.capacity) old mid (g.V.Base.well_formed _) c.find.ensures.works c.requires.in_step in
-    let found : Reads (IsFound p c.in_ok-end.end) mid = reads_still (IsFound p c.in_ok-end.end) old mid c.find.ensures.works c.in_ok-end.ensures.found in
-    let near : HoldsOf p (IsNear p.capacity c.in_ok-end.end.part) mid = near_found p c.in_ok-end.end mid (g.V.Base.well_formed _) within found in_step in
-    search rules
-
-pub grow-requires-clause-found : goal.grow-requires-clause-found
-grow-requires-clause-found g c =
-    let p = c.args.parts in
-    let old = g.V.Base.view c.args.base.now in
-    let mid = g.V.Base.view c.find.new.base in
-    let one = works_level p (Stretched c.args.len) old mid (λ x. same_stretched c.args.len x x refl) c.find.ensures.works in
-    let within = still_within p Stays old mid c.find.ensures.works c.requires.parts in
-    let in_step = still_holds p (InStep p.capacity) old mid (g.V.Base.well_formed _) c.find.ensures.works c.requires.in_step in
-    let found : Reads (IsFound p c.in_ok-end.end) mid = reads_still (IsFound p c.in_ok-end.end) old mid c.find.ensures.works c.in_ok-end.ensures.found in
-    search rules
-
 pub returns-then-len-now-clause-written : goal.returns-then-len-now-clause-written
 returns-then-len-now-clause-written g c =
     let p = c.args.parts in
@@ -136,29 +113,6 @@ returns-then-len-now-2-clause-works g c =
 pub returns-then-len-now-2-clause-cause : goal.returns-then-len-now-2-clause-cause
 returns-then-len-now-2-clause-cause g c = rose_after c.cut.result Stays (g.V.Base.view c.args.base.now) (g.V.Base.view c.find.new.base) (g.V.Base.view c.cut.new.base) c.find.ensures.works c.cut.ensures.cause
 
-pub cut-requires-clause-near : goal.cut-requires-clause-near
-cut-requires-clause-near g c =
-    let p = c.args.parts in
-    let old = g.V.Base.view c.args.base.now in
-    let mid = g.V.Base.view c.find.new.base in
-    let one = works_level p (Stretched c.args.len) old mid (λ x. same_stretched c.args.len x x refl) c.find.ensures.works in
-    let within = still_within p Stays old mid c.find.ensures.works c.requires.parts in
-    let in_step = still_holds p (InStep p.capacity) old mid (g.V.Base.well_formed _) c.find.ensures.works c.requires.in_step in
-    let found : Reads (IsFound p c.in_ok-end.end) mid = reads_still (IsFound p c.in_ok-end.end) old mid c.find.ensures.works c.in_ok-end.ensures.found in
-    let near : HoldsOf p (IsNear p.capacity c.in_ok-end.end.part) mid = near_found p c.in_ok-end.end mid (g.V.Base.well_formed _) within found in_step in
-    search rules
-
-pub cut-requires-clause-found : goal.cut-requires-clause-found
-cut-requires-clause-found g c =
-    let p = c.args.parts in
-    let old = g.V.Base.view c.args.base.now in
-    let mid = g.V.Base.view c.find.new.base in
-    let one = works_level p (Stretched c.args.len) old mid (λ x. same_stretched c.args.len x x refl) c.find.ensures.works in
-    let within = still_within p Stays old mid c.find.ensures.works c.requires.parts in
-    let in_step = still_holds p (InStep p.capacity) old mid (g.V.Base.well_formed _) c.find.ensures.works c.requires.in_step in
-    let found : Reads (IsFound p c.in_ok-end.end) mid = reads_still (IsFound p c.in_ok-end.end) old mid c.find.ensures.works c.in_ok-end.ensures.found in
-    search rules
-
 pub returns-then-len-now-2-clause-written : goal.returns-then-len-now-2-clause-written
 returns-then-len-now-2-clause-written g c =
     let p = c.args.parts in
@@ -170,3 +124,23 @@ returns-then-len-now-2-clause-written g c =
     let found : Reads (IsFound p c.in_ok-end.end) mid = reads_still (IsFound p c.in_ok-end.end) old mid c.find.ensures.works c.in_ok-end.ensures.found in
     let new = g.V.Base.view c.cut.new.base in
     on_ok c.cut.result (λ is. level_resized_after p c.args.len old mid new (omega (arith, c.ranges.len.fits)) c.find.ensures.works c.cut.ensures.works.calls.goes_on.tells is) c.cut.ensures.written
+
+pub grow-requires-clause-at : goal.grow-requires-clause-at
+grow-requires-clause-at g c =
+    let p = c.args.parts in
+    let old = g.V.Base.view c.args.base.now in
+    let mid = g.V.Base.view c.find.new.base in
+    let within = still_within p Stays old mid c.find.ensures.works c.requires.parts in
+    let in_step = still_holds p (InStep p.capacity) old mid (g.V.Base.well_formed _) c.find.ensures.works c.requires.in_step in
+    let found : Reads (IsFound p c.in_ok-end.end) mid = reads_still (IsFound p c.in_ok-end.end) old mid c.find.ensures.works c.in_ok-end.ensures.found in
+    record { parts = within; within = c.in_ok-end.ensures.within; near = near_found p c.in_ok-end.end mid (g.V.Base.well_formed _) within found in_step; found = found }
+
+pub cut-requires-clause-at : goal.cut-requires-clause-at
+cut-requires-clause-at g c =
+    let p = c.args.parts in
+    let old = g.V.Base.view c.args.base.now in
+    let mid = g.V.Base.view c.find.new.base in
+    let within = still_within p Stays old mid c.find.ensures.works c.requires.parts in
+    let in_step = still_holds p (InStep p.capacity) old mid (g.V.Base.well_formed _) c.find.ensures.works c.requires.in_step in
+    let found : Reads (IsFound p c.in_ok-end.end) mid = reads_still (IsFound p c.in_ok-end.end) old mid c.find.ensures.works c.in_ok-end.ensures.found in
+    record { parts = within; within = c.in_ok-end.ensures.within; near = near_found p c.in_ok-end.end mid (g.V.Base.well_formed _) within found in_step; found = found }

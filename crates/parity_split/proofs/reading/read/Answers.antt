@@ -36,12 +36,6 @@ returns-then-parts-eq1-clause-found g c = λ t.
     (λ k below. get_or_append_left sub (drop room out) 0 k (omega arith)) (omega arith))
     c.part_read.ensures.bound (c.part_read.ensures.found t)
 
-pub read_parts-requires-clause-parts : goal.read_parts-requires-clause-parts
-read_parts-requires-clause-parts g c = still_within c.args.parts Stays (g.V.Base.view c.args.base.now) (g.V.Base.view c.find.new.base) c.find.ensures.works c.requires
-
-pub read_parts-requires-clause-found : goal.read_parts-requires-clause-found
-read_parts-requires-clause-found g c = reads_still (IsFound c.args.parts c.in_ok-end.end) (g.V.Base.view c.args.base.now) (g.V.Base.view c.find.new.base) c.find.ensures.works c.in_ok-end.ensures.found
-
 pub returns-clause-works : goal.returns-clause-works
 returns-clause-works g c = works_then Stays (g.V.Base.view c.args.base.now) (g.V.Base.view c.find.new.base) (g.V.Base.view c.read_parts.new.base) stays_then c.find.ensures.works c.read_parts.ensures.works
 
@@ -71,3 +65,10 @@ returns-clause-found g c = λ t.
     if_both (λ n. n ≤ length out) (λ n. IsThere at last (joined p.capacity (parts_in p mid.files)) n out) (λ n. take n out ≡ read_from (level_bytes p.capacity (parts_in p old.files)) at len) c.read_parts.result
     (λ n bound there. read_values limit at len last n level out (omega (arith, c.ranges.at.fits)) is_last bound (subst (λ x. IsThere at last x n out) same there))
     c.read_parts.ensures.bound (c.read_parts.ensures.found was)
+
+pub read_parts-requires-clause-at : goal.read_parts-requires-clause-at
+read_parts-requires-clause-at g c = record {
+  parts = still_within c.args.parts Stays (g.V.Base.view c.args.base.now) (g.V.Base.view c.find.new.base) c.find.ensures.works c.requires;
+  within = c.in_ok-end.ensures.within;
+  found = reads_still (IsFound c.args.parts c.in_ok-end.end) (g.V.Base.view c.args.base.now) (g.V.Base.view c.find.new.base) c.find.ensures.works c.in_ok-end.ensures.found;
+}

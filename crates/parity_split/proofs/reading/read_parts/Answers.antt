@@ -9,7 +9,7 @@ use Rattle.parity_split.proofs.WriteLemmas.{exact_end}
 use Rattle.parity_split.proofs.reading.read_parts.Goals as goal
 
 pub loop-part-init : goal.loop-part-init
-loop-part-init g c = record { works = works_start Stays _ (λ files. refl); within = c.requires.parts; there = λ t k below inside. absurd (omega arith) }
+loop-part-init g c = record { works = works_start Stays _ (λ files. refl); within = c.requires.at.parts; there = λ t k below inside. absurd (omega arith) }
 
 pub loop-part-preserved : goal.loop-part-preserved
 loop-part-preserved g c =
@@ -26,12 +26,12 @@ loop-part-preserved g c =
     let is_to : to ≡ min last ((part + 1) * K) = exact_end last ((part + 1) * K) (2 ^ 64 - 1) c.start.result to c.start.ensures c.smaller-to.ensures (omega (arith, c.ranges.last.fits)) in
     record {
       works = works;
-      within = still_within p Stays old new works c.requires.parts;
+      within = still_within p Stays old new works c.requires.at.parts;
       there = λ t.
           let reads = parts_in p old.files in
           let was : IsTrue mid.tells = c.loop-part.invariant.works.calls.goes_on.tells ∙ t in
           let same : parts_in p mid.files ≡ reads = ap (parts_in p) (c.loop-part.invariant.works.changes.reads t) in
-          let end = (c.requires.found t).is in
+          let end = (c.requires.at.found t).is in
           let full : K ≤ length (part_of reads part) = end.full part (omega arith) in
           let more : (part + 1) * K ≡ part * K + K = omega arith in
           let room : to ≤ part * K + length (part_of reads part) = omega arith in
@@ -60,7 +60,7 @@ returns-then-there-saturating_sub-clause-found g c = λ t.
     let reads = parts_in p old.files in
     let was : IsTrue mid.tells = c.loop-part.invariant.works.calls.goes_on.tells ∙ t in
     let same : parts_in p mid.files ≡ reads = ap (parts_in p) (c.loop-part.invariant.works.changes.reads t) in
-    let end = (c.requires.found t).is in
+    let end = (c.requires.at.found t).is in
     let full : K ≤ length (part_of reads part) = end.full part (omega arith) in
     let more : (part + 1) * K ≡ part * K + K = omega arith in
     let room : to ≤ part * K + length (part_of reads part) = omega arith in
@@ -90,7 +90,7 @@ returns-clause-found g c = λ t.
     let was : IsTrue mid.tells = c.loop-part.invariant.works.calls.goes_on.tells ∙ t in
     let same : parts_in p mid.files ≡ reads = ap (parts_in p) (c.loop-part.invariant.works.changes.reads t) in
     let done : c.loop-part.part ≡ part = omega arith in
-    let found = c.requires.found t in
+    let found = c.requires.at.found t in
     let len = found.len in
     let room : last ≤ part * K + length (part_of reads part) = omega (arith, c.requires.inside) in
     let piece = c.read_piece-2.ensures.found was (subst (λ r. last ≤ part * K + length (part_of r part)) (sym same) room) in
@@ -98,3 +98,9 @@ returns-clause-found g c = λ t.
     (λ there is. there_at_end K part at last there reads c.loop-part.out c.read_piece-2.new.out found.is room (λ k below inside. c.loop-part.invariant.there t k (subst (λ m. at + k < m * K) (sym done) below) inside) c.read_piece-2.ensures.earlier
     (subst (λ r. PieceIsThere at last (part * K) (part_of r part) there c.read_piece-2.new.out) same is))
     piece
+
+pub read_piece-requires-clause-part : goal.read_piece-requires-clause-part
+read_piece-requires-clause-part g c = record { parts = c.loop-part.invariant.within; within = omega (arith, c.requires.at.within) }
+
+pub read_piece-requires-2-clause-part : goal.read_piece-requires-2-clause-part
+read_piece-requires-2-clause-part g c = record { parts = c.loop-part.invariant.within; within = c.requires.at.within }

@@ -32,5 +32,5 @@ returns-clause-found g c = λ tells room.
     let long : length sub ≡ to - from = omega arith in
     let found : take got sub ≡ take (length (take count (drop before out))) (drop (from - start) given) = c.in_ok-got.ensures.found tells in
     piece_there at to (part * p.capacity) from got (part_of (parts_in p files) part) sub _ is_from below room c.in_ok-got.ensures.bound long
-    (found ∙ ap (λ m. take m (drop (from - start) given)) old_long ∙ ap (λ s. take (to - from) (drop (from - s) given)) is_start ∙ ap (λ x. take (to - from) (drop (from - part * p.capacity) x)) (sym (part_is p files part c.requires.within)))
+    (found ∙ ap (λ m. take m (drop (from - start) given)) old_long ∙ ap (λ s. take (to - from) (drop (from - s) given)) is_start ∙ ap (λ x. take (to - from) (drop (from - part * p.capacity) x)) (sym (part_is p files part c.requires.part.within)))
     (λ k inside. in_part before count out sub (omega (arith, c.requires.room)) (omega arith) k (omega arith))

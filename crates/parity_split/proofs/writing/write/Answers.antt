@@ -1,4 +1,4 @@
-use Rattle.std.proofs.Common.{◌≡◌, ◌+◌, ◌-◌, ◌*◌, ◌<◌, length, get_or, refl, ap, subst, arith}
+use Rattle.std.proofs.Common.{◌≡◌, ◌+◌, ◌*◌, ◌<◌, length, get_or, refl, ap, subst, arith}
 use Rattle.disk_model.specs.Bytes.{Torn, put}
 use Rattle.disk_model.specs.Files.{Stays, parity_of, TearsParity}
 use Rattle.disk_model.specs.Vault.{Reads, ChangesBy}
@@ -74,25 +74,6 @@ returns-in_err-end-clause-works g c =
 pub returns-in_err-end-clause-kept : goal.returns-in_err-end-clause-kept
 returns-in_err-end-clause-kept g c = still_holds c.args.parts (InStep c.args.parts.capacity) (g.V.Base.view c.args.base.now) (g.V.Base.view c.find.new.base) (g.V.Base.well_formed _) c.find.ensures.works c.requires.in_step
 
-pub write_past-requires-clause-parts : goal.write_past-requires-clause-parts
-write_past-requires-clause-parts g c = still_within c.args.parts Stays (g.V.Base.view c.args.base.now) (g.V.Base.view c.find.new.base) c.find.ensures.works c.requires.parts
-
-pub write_past-requires-clause-near : goal.write_past-requires-clause-near
-write_past-requires-clause-near g c =
-    let p = c.args.parts in
-    let old = g.V.Base.view c.args.base.now in
-    let mid = g.V.Base.view c.find.new.base in
-    near_found p c.in_ok-end.end mid (g.V.Base.well_formed _) (still_within p Stays old mid c.find.ensures.works c.requires.parts)
-    (reads_still (IsFound p c.in_ok-end.end) old mid c.find.ensures.works c.in_ok-end.ensures.found)
-    (still_holds p (InStep p.capacity) old mid (g.V.Base.well_formed _) c.find.ensures.works c.requires.in_step)
-
-pub write_past-requires-clause-held : goal.write_past-requires-clause-held
-write_past-requires-clause-held g c =
-    let p = c.args.parts in
-    let old = g.V.Base.view c.args.base.now in
-    let mid = g.V.Base.view c.find.new.base in
-    found_has p c.in_ok-end.end mid (reads_still (IsFound p c.in_ok-end.end) old mid c.find.ensures.works c.in_ok-end.ensures.found)
-
 pub returns-then-at-bytes-clause-works : goal.returns-then-at-bytes-clause-works
 returns-then-at-bytes-clause-works g c =
     let n = length c.args.bytes.now in
@@ -112,21 +93,6 @@ returns-then-at-bytes-clause-written g c =
     let new = g.V.Base.view c.write_past.new.base in
     on_ok c.write_past.result (λ is. level_put_after p c.args.at c.args.bytes.now old mid new (omega (arith, c.requires.room)) c.find.ensures.works c.write_past.ensures.works.calls.goes_on.tells is) c.write_past.ensures.written
 
-pub write_within-requires-clause-parts : goal.write_within-requires-clause-parts
-write_within-requires-clause-parts g c = still_within c.args.parts Stays (g.V.Base.view c.args.base.now) (g.V.Base.view c.find.new.base) c.find.ensures.works c.requires.parts
-
-pub write_within-requires-clause-near : goal.write_within-requires-clause-near
-write_within-requires-clause-near g c =
-    let p = c.args.parts in
-    let old = g.V.Base.view c.args.base.now in
-    let mid = g.V.Base.view c.find.new.base in
-    near_found p c.in_ok-end.end mid (g.V.Base.well_formed _) (still_within p Stays old mid c.find.ensures.works c.requires.parts)
-    (reads_still (IsFound p c.in_ok-end.end) old mid c.find.ensures.works c.in_ok-end.ensures.found)
-    (still_holds p (InStep p.capacity) old mid (g.V.Base.well_formed _) c.find.ensures.works c.requires.in_step)
-
-pub write_within-requires-clause-found : goal.write_within-requires-clause-found
-write_within-requires-clause-found g c = reads_still (IsFound c.args.parts c.in_ok-end.end) (g.V.Base.view c.args.base.now) (g.V.Base.view c.find.new.base) c.find.ensures.works c.in_ok-end.ensures.found
-
 pub returns-clause-works : goal.returns-clause-works
 returns-clause-works g c =
     let n = length c.args.bytes.now in
@@ -145,3 +111,23 @@ returns-clause-written g c =
     let mid = g.V.Base.view c.find.new.base in
     let new = g.V.Base.view c.write_within.new.base in
     on_ok c.write_within.result (λ is. level_put_after p c.args.at c.args.bytes.now old mid new (omega (arith, c.requires.room)) c.find.ensures.works c.write_within.ensures.works.calls.goes_on.tells is) c.write_within.ensures.written
+
+pub write_past-requires-clause-end : goal.write_past-requires-clause-end
+write_past-requires-clause-end g c =
+    let p = c.args.parts in
+    let old = g.V.Base.view c.args.base.now in
+    let mid = g.V.Base.view c.find.new.base in
+    let within = still_within p Stays old mid c.find.ensures.works c.requires.parts in
+    let found : Reads (IsFound p c.in_ok-end.end) mid = reads_still (IsFound p c.in_ok-end.end) old mid c.find.ensures.works c.in_ok-end.ensures.found in
+    let near = near_found p c.in_ok-end.end mid (g.V.Base.well_formed _) within found (still_holds p (InStep p.capacity) old mid (g.V.Base.well_formed _) c.find.ensures.works c.requires.in_step) in
+    record { parts = within; within = c.in_ok-end.ensures.within; near = near; held = found_has p c.in_ok-end.end mid found }
+
+pub write_within-requires-clause-at : goal.write_within-requires-clause-at
+write_within-requires-clause-at g c =
+    let p = c.args.parts in
+    let old = g.V.Base.view c.args.base.now in
+    let mid = g.V.Base.view c.find.new.base in
+    let within = still_within p Stays old mid c.find.ensures.works c.requires.parts in
+    let found : Reads (IsFound p c.in_ok-end.end) mid = reads_still (IsFound p c.in_ok-end.end) old mid c.find.ensures.works c.in_ok-end.ensures.found in
+    let near = near_found p c.in_ok-end.end mid (g.V.Base.well_formed _) within found (still_holds p (InStep p.capacity) old mid (g.V.Base.well_formed _) c.find.ensures.works c.requires.in_step) in
+    record { parts = within; within = c.in_ok-end.ensures.within; near = near; found = found }

@@ -13,8 +13,8 @@ loop-part-init g c =
     let n = length c.args.bytes.now in
     record {
       works = works_start (LevelBy c.args.parts (Torn c.args.at n)) _ (λ files. level_stays c.args.parts (Torn c.args.at n) (λ x. same_torn c.args.at n x x refl) files files refl);
-      within = c.requires.parts;
-      near = c.requires.near;
+      within = c.requires.end.parts;
+      near = c.requires.end.near;
       ready = λ len holds. holds;
       written = λ t. let K = c.args.parts.capacity in let zero : 0 * K ≡ 0 = omega arith in
           let x = joined K (parts_in c.args.parts (g.V.Base.view c.args.base.now).files) in
@@ -33,7 +33,7 @@ loop-part-preserved g c =
     let more : part * p.capacity + p.capacity ≡ (part + 1) * p.capacity = omega arith in
     record {
       works = works;
-      within = still_within p (LevelBy p (Torn c.args.at n)) old new works c.requires.parts;
+      within = still_within p (LevelBy p (Torn c.args.at n)) old new works c.requires.end.parts;
       near = c.write_before.ensures.near;
       ready = λ len holds. c.write_before.ensures.ready len (c.loop-part.invariant.ready len holds);
       written = λ t. subst (λ s. IsPutBelow s c.args.at c.args.bytes.now (joined p.capacity (parts_in p old.files)) (joined p.capacity (parts_in p new.files))) more
@@ -53,3 +53,6 @@ returns-in_err-write_before-clause-ready g c = λ len holds. c.write_before.ensu
 
 pub returns-clause-ready : goal.returns-clause-ready
 returns-clause-ready g c = λ len holds. c.loop-part.invariant.ready len holds
+
+pub write_before-requires-clause-part : goal.write_before-requires-clause-part
+write_before-requires-clause-part g c = record { parts = c.loop-part.invariant.within; before = omega arith; within = c.requires.end.within; near = c.loop-part.invariant.near }

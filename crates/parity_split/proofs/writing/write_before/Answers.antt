@@ -55,8 +55,8 @@ returns-clause-works g c =
     let top_at : part * p.capacity + o + length piece ≤ at + length bytes = omega (arith, is_to) in
     let inside : o + length piece ≤ p.capacity = omega (arith, top) in
     let low : at ≤ part * p.capacity + o = omega (arith, is_from) in
-    let works = write_works p part o (length piece) _ _ old new (omega (arith, c.requires.before, c.requires.within)) c.part_write.ensures.call c.part_write.ensures.changes c.part_write.ensures.drafts in
-    before_works p c.args.end part o (length piece) at (length bytes) old new (g.V.Base.well_formed _) c.requires.parts c.requires.before c.requires.within inside low top_at c.requires.near works
+    let works = write_works p part o (length piece) _ _ old new (omega (arith, c.requires.part.before, c.requires.part.within)) c.part_write.ensures.call c.part_write.ensures.changes c.part_write.ensures.drafts in
+    before_works p c.args.end part o (length piece) at (length bytes) old new (g.V.Base.well_formed _) c.requires.part.parts c.requires.part.before c.requires.part.within inside low top_at c.requires.part.near works
 
 pub returns-clause-near : goal.returns-clause-near
 returns-clause-near g c =
@@ -85,8 +85,8 @@ returns-clause-near g c =
     let top_at : part * p.capacity + o + length piece ≤ at + length bytes = omega (arith, is_to) in
     let inside : o + length piece ≤ p.capacity = omega (arith, top) in
     let low : at ≤ part * p.capacity + o = omega (arith, is_from) in
-    let works = write_works p part o (length piece) _ _ old new (omega (arith, c.requires.before, c.requires.within)) c.part_write.ensures.call c.part_write.ensures.changes c.part_write.ensures.drafts in
-    before_near p c.args.end part o (length piece) old new (g.V.Base.well_formed _) c.requires.parts c.requires.before c.requires.within c.requires.near works
+    let works = write_works p part o (length piece) _ _ old new (omega (arith, c.requires.part.before, c.requires.part.within)) c.part_write.ensures.call c.part_write.ensures.changes c.part_write.ensures.drafts in
+    before_near p c.args.end part o (length piece) old new (g.V.Base.well_formed _) c.requires.part.parts c.requires.part.before c.requires.part.within c.requires.part.near works
 
 pub returns-clause-ready : goal.returns-clause-ready
 returns-clause-ready g c = λ len holds.
@@ -115,8 +115,8 @@ returns-clause-ready g c = λ len holds.
     let top_at : part * p.capacity + o + length piece ≤ at + length bytes = omega (arith, is_to) in
     let inside : o + length piece ≤ p.capacity = omega (arith, top) in
     let low : at ≤ part * p.capacity + o = omega (arith, is_from) in
-    let works = write_works p part o (length piece) _ _ old new (omega (arith, c.requires.before, c.requires.within)) c.part_write.ensures.call c.part_write.ensures.changes c.part_write.ensures.drafts in
-    before_ready p c.args.end part o (length piece) len old new (g.V.Base.well_formed _) c.requires.parts c.requires.before c.requires.within holds works
+    let works = write_works p part o (length piece) _ _ old new (omega (arith, c.requires.part.before, c.requires.part.within)) c.part_write.ensures.call c.part_write.ensures.changes c.part_write.ensures.drafts in
+    before_ready p c.args.end part o (length piece) len old new (g.V.Base.well_formed _) c.requires.part.parts c.requires.part.before c.requires.part.within holds works
 
 pub returns-clause-written : goal.returns-clause-written
 returns-clause-written g c =
@@ -145,12 +145,12 @@ returns-clause-written g c =
     let top_at : part * p.capacity + o + length piece ≤ at + length bytes = omega (arith, is_to) in
     let inside : o + length piece ≤ p.capacity = omega (arith, top) in
     let low : at ≤ part * p.capacity + o = omega (arith, is_from) in
-    let works = write_works p part o (length piece) _ _ old new (omega (arith, c.requires.before, c.requires.within)) c.part_write.ensures.call c.part_write.ensures.changes c.part_write.ensures.drafts in
+    let works = write_works p part o (length piece) _ _ old new (omega (arith, c.requires.part.before, c.requires.part.within)) c.part_write.ensures.call c.part_write.ensures.changes c.part_write.ensures.drafts in
     on_ok c.part_write.result
     (λ written start so_far.
-    before_written p c.args.end part o (length piece) at bytes piece start old new (g.V.Base.well_formed _) c.requires.parts c.requires.before c.requires.within is_from is_to
+    before_written p c.args.end part o (length piece) at bytes piece start old new (g.V.Base.well_formed _) c.requires.part.parts c.requires.part.before c.requires.part.within is_from is_to
     (λ k within. piece_values bytes (from - at) (to - at - (from - at)) k within ∙ ap (λ m. get_or bytes m 0) (omega (arith, at_from, low)))
-    c.requires.near works written so_far)
+    c.requires.part.near works written so_far)
     c.part_write.ensures.written
 
 pub returns-clause-cause : goal.returns-clause-cause

@@ -19,16 +19,6 @@ returns-in_err-last-clause-works g c =
     let e : c.args.end.part * p.capacity + (to - c.start.result) ≡ to = omega (arith, c.start.ensures, c.requires.past, c.requires.room) in
     works_loose p (Torn to 0) (Torn c.args.at n) old mid (λ x y torn. torn_wider c.args.at n to 0 x y (omega arith) (omega arith) torn) (subst (λ m. Works (LevelBy p (Torn m 0)) old mid) e c.fill.ensures.works)
 
-pub write_all_before-requires-clause-parts : goal.write_all_before-requires-clause-parts
-write_all_before-requires-clause-parts g c = still_within c.args.parts _ (g.V.Base.view c.args.base.now) (g.V.Base.view c.fill.new.base) c.fill.ensures.works c.requires.parts
-
-pub write_all_before-requires-clause-near : goal.write_all_before-requires-clause-near
-write_all_before-requires-clause-near g c =
-    let p = c.args.parts in
-    let mid = g.V.Base.view c.fill.new.base in
-    let within = still_within p _ (g.V.Base.view c.args.base.now) mid c.fill.ensures.works c.requires.parts in
-    near_of_ready_for p c.in_ok-last.last.part c.in_ok-last.last.len mid (g.V.Base.well_formed _) within c.in_ok-last.ensures.ready
-
 pub returns-in_err-write_all_before-clause-works : goal.returns-in_err-write_all_before-clause-works
 returns-in_err-write_all_before-clause-works g c =
     let p = c.args.parts in
@@ -46,24 +36,8 @@ returns-in_err-write_all_before-clause-kept g c =
     let p = c.args.parts in
     let mid = g.V.Base.view c.fill.new.base in
     let new = g.V.Base.view c.write_all_before.new.base in
-    let within = still_within p _ mid new c.write_all_before.ensures.works (still_within p _ (g.V.Base.view c.args.base.now) mid c.fill.ensures.works c.requires.parts) in
+    let within = still_within p _ mid new c.write_all_before.ensures.works (still_within p _ (g.V.Base.view c.args.base.now) mid c.fill.ensures.works c.requires.end.parts) in
     near_keeps p c.in_ok-last.last.part new (g.V.Base.well_formed _) within c.write_all_before.ensures.near
-
-pub write_end-requires-clause-parts : goal.write_end-requires-clause-parts
-write_end-requires-clause-parts g c =
-    let p = c.args.parts in
-    let mid = g.V.Base.view c.fill.new.base in
-    still_within p _ mid (g.V.Base.view c.write_all_before.new.base) c.write_all_before.ensures.works (still_within p _ (g.V.Base.view c.args.base.now) mid c.fill.ensures.works c.requires.parts)
-
-pub write_end-requires-clause-end : goal.write_end-requires-clause-end
-write_end-requires-clause-end g c =
-    let p = c.args.parts in
-    let to = c.args.at + length c.args.bytes.now in
-    let e : c.args.end.part * p.capacity + (to - c.start.result) ≡ to = omega (arith, c.start.ensures, c.requires.past, c.requires.room) in
-    subst (λ m. IsPlaceOf p c.in_ok-last.last m) e c.in_ok-last.ensures.last
-
-pub write_end-requires-clause-ready : goal.write_end-requires-clause-ready
-write_end-requires-clause-ready g c = c.write_all_before.ensures.ready c.in_ok-last.last.len c.in_ok-last.ensures.ready
 
 pub returns-clause-works : goal.returns-clause-works
 returns-clause-works g c =
@@ -99,3 +73,22 @@ returns-clause-written g c =
     (λ written. grown_put p c.args.at to c.args.bytes.now old mid new refl tells (subst (λ m. Works (LevelBy p (Torn m 0)) old mid) e c.fill.ensures.works) c.in_ok-last.ensures.same
     (written (joined p.capacity (parts_in p mid.files)) c.in_ok-write_all_before.ensures.written))
     c.write_end.ensures.written
+
+pub write_all_before-requires-clause-end : goal.write_all_before-requires-clause-end
+write_all_before-requires-clause-end g c =
+    let p = c.args.parts in
+    let mid = g.V.Base.view c.fill.new.base in
+    let within = still_within p _ (g.V.Base.view c.args.base.now) mid c.fill.ensures.works c.requires.end.parts in
+    record { parts = within; within = c.in_ok-last.ensures.last.within; near = near_of_ready_for p c.in_ok-last.last.part c.in_ok-last.last.len mid (g.V.Base.well_formed _) within c.in_ok-last.ensures.ready }
+
+pub write_end-requires-clause-at : goal.write_end-requires-clause-at
+write_end-requires-clause-at g c =
+    let p = c.args.parts in
+    let to = c.args.at + length c.args.bytes.now in
+    let mid = g.V.Base.view c.fill.new.base in
+    let e : c.args.end.part * p.capacity + (to - c.start.result) ≡ to = omega (arith, c.start.ensures, c.requires.past, c.requires.room) in
+    record {
+      parts = still_within p _ mid (g.V.Base.view c.write_all_before.new.base) c.write_all_before.ensures.works (still_within p _ (g.V.Base.view c.args.base.now) mid c.fill.ensures.works c.requires.end.parts);
+      place = subst (λ m. IsPlaceOf p c.in_ok-last.last m) e c.in_ok-last.ensures.last;
+      ready = c.write_all_before.ensures.ready c.in_ok-last.last.len c.in_ok-last.ensures.ready;
+    }

@@ -1,4 +1,4 @@
-use Rattle.std.proofs.Common.{length, sym, subst, arith, ◌^◌, ◌<◌, ◌∙◌, ap}
+use Rattle.std.proofs.Common.{length, sym, subst, arith, ◌^◌, ◌<◌, ◌∙◌}
 use Rattle.std.specs.List.{sum}
 use Rattle.disk_model.specs.Bytes.{Torn}
 use Rattle.disk_model.specs.Vault.{Reads}
@@ -7,38 +7,39 @@ use Rattle.parity_split.specs.Joined.{level_bytes}
 use Rattle.parity_split.specs.Parts.{InStep}
 use Rattle.parity_split.specs.Values.{IsPut}
 use Rattle.parity_split.specs.Works.{Works, HoldsOf, LevelBy, IsWithin, parts_in}
-use Rattle.parity_split.specs.Split.{parts_at}
-use Rattle.parity_split.proofs.SplitLemmas.{parts_fit, within_at, are_still, in_step_one, call_seen, drafts_seen, tears_seen, put_seen}
+use Rattle.parity_split.proofs.SplitLemmas.{parts_fit, parts_same, within_at, are_still, in_step_one, call_seen, drafts_seen, tears_seen, put_seen}
 use Rattle.parity_split.proofs.vault.SplitVaultVault.parity_write.Goals as goal
 
 pub parts_of-parts-requires-clause-fit : goal.parts_of-parts-requires-clause-fit
-parts_of-parts-requires-clause-fit g c = subst (λ xs. sum xs < 2 ^ 32) (sym c.deref.ensures.value) (parts_fit c.args.self.now.parts.items c.args.self.now.capacity _ c.args.self.now.are)
+parts_of-parts-requires-clause-fit g c = subst (λ xs. sum xs < 2 ^ 32) (sym (c.deref.ensures.value ∙ c.args.self.now.counts_are)) (parts_fit g.P.Shape.counts g.P.Shape.capacity _ c.args.self.now.are)
 
 pub write-requires-clause-parts : goal.write-requires-clause-parts
-write-requires-clause-parts g c = subst (λ q. IsWithin q (g.V.Vault.view c.args.self.now.base).levels) (sym (c.parts_of-parts.ensures ∙ ap (λ xs. parts_at xs c.args.self.now.capacity c.args.level) c.deref.ensures.value)) (within_at c.args.self.now.parts.items c.args.self.now.capacity c.args.level (g.V.Vault.view c.args.self.now.base).levels c.args.self.now.are c.requires.level)
+write-requires-clause-parts g c = subst (λ q. IsWithin q (g.V.Vault.view c.args.self.now.base).levels) (sym (c.parts_of-parts.ensures ∙ parts_same c.args.level c.deref.ensures.value c.args.self.now.counts_are c.args.self.now.capacity_is)) (within_at g.P.Shape.counts g.P.Shape.capacity c.args.level (g.V.Vault.view c.args.self.now.base).levels c.args.self.now.are c.requires.level)
 
 pub write-requires-clause-in_step : goal.write-requires-clause-in_step
-write-requires-clause-in_step g c = subst (λ q. HoldsOf q (InStep q.capacity) (g.V.Vault.view c.args.self.now.base)) (sym (c.parts_of-parts.ensures ∙ ap (λ xs. parts_at xs c.args.self.now.capacity c.args.level) c.deref.ensures.value)) (c.args.self.now.in_step c.args.level c.requires.level)
+write-requires-clause-in_step g c = subst (λ q. HoldsOf q (InStep q.capacity) (g.V.Vault.view c.args.self.now.base)) (sym (c.parts_of-parts.ensures ∙ parts_same c.args.level c.deref.ensures.value c.args.self.now.counts_are c.args.self.now.capacity_is)) (c.args.self.now.in_step c.args.level c.requires.level)
 
 pub invariant_of-self : goal.invariant_of-self
 invariant_of-self g c = record {
-  are = are_still c.args.self.now.parts.items c.args.self.now.capacity _ (g.V.Vault.view c.args.self.now.base) (g.V.Vault.view c.write.new.base) c.write.ensures.works c.args.self.now.are;
-  in_step = in_step_one c.args.self.now.parts.items c.args.self.now.capacity (Torn c.args.at (length c.args.bytes.now)) c.args.level (g.V.Vault.view c.args.self.now.base) (g.V.Vault.view c.write.new.base) (g.V.Vault.well_formed _) c.args.self.now.are c.requires.level
-      (subst (λ q. Works (LevelBy q (Torn c.args.at (length c.args.bytes.now))) (g.V.Vault.view c.args.self.now.base) (g.V.Vault.view c.write.new.base)) (c.parts_of-parts.ensures ∙ ap (λ xs. parts_at xs c.args.self.now.capacity c.args.level) c.deref.ensures.value) c.write.ensures.works)
-      (subst (λ q. HoldsOf q (InStep q.capacity) (g.V.Vault.view c.write.new.base)) (c.parts_of-parts.ensures ∙ ap (λ xs. parts_at xs c.args.self.now.capacity c.args.level) c.deref.ensures.value) c.write.ensures.kept) c.args.self.now.in_step;
+  counts_are = c.args.self.now.counts_are;
+  capacity_is = c.args.self.now.capacity_is;
+  are = are_still g.P.Shape.counts g.P.Shape.capacity _ (g.V.Vault.view c.args.self.now.base) (g.V.Vault.view c.write.new.base) c.write.ensures.works c.args.self.now.are;
+  in_step = in_step_one g.P.Shape.counts g.P.Shape.capacity (Torn c.args.at (length c.args.bytes.now)) c.args.level (g.V.Vault.view c.args.self.now.base) (g.V.Vault.view c.write.new.base) (g.V.Vault.well_formed _) c.args.self.now.are c.requires.level
+      (subst (λ q. Works (LevelBy q (Torn c.args.at (length c.args.bytes.now))) (g.V.Vault.view c.args.self.now.base) (g.V.Vault.view c.write.new.base)) (c.parts_of-parts.ensures ∙ parts_same c.args.level c.deref.ensures.value c.args.self.now.counts_are c.args.self.now.capacity_is) c.write.ensures.works)
+      (subst (λ q. HoldsOf q (InStep q.capacity) (g.V.Vault.view c.write.new.base)) (c.parts_of-parts.ensures ∙ parts_same c.args.level c.deref.ensures.value c.args.self.now.counts_are c.args.self.now.capacity_is) c.write.ensures.kept) c.args.self.now.in_step;
 }
 
 pub returns-clause-call : goal.returns-clause-call
-returns-clause-call g c = call_seen c.args.self.now.parts.items c.args.self.now.capacity _ _ c.write.result (g.V.Vault.view c.args.self.now.base) (g.V.Vault.view c.write.new.base) c.write.ensures.works c.write.ensures.cause
+returns-clause-call g c = call_seen g.P.Shape.counts g.P.Shape.capacity _ _ c.write.result (g.V.Vault.view c.args.self.now.base) (g.V.Vault.view c.write.new.base) c.write.ensures.works c.write.ensures.cause
 
 pub returns-clause-written : goal.returns-clause-written
 returns-clause-written g c = on_ok c.write.result
-    (λ is. put_seen c.args.self.now.parts.items c.args.self.now.capacity c.args.level c.args.at c.args.bytes.now (g.V.Vault.view c.args.self.now.base) (g.V.Vault.view c.write.new.base) c.requires.level
-    (subst (λ q. Reads (λ files. IsPut c.args.at c.args.bytes.now (level_bytes q.capacity (parts_in q (g.V.Vault.view c.args.self.now.base).files)) (level_bytes q.capacity (parts_in q files))) (g.V.Vault.view c.write.new.base)) (c.parts_of-parts.ensures ∙ ap (λ xs. parts_at xs c.args.self.now.capacity c.args.level) c.deref.ensures.value) is))
+    (λ is. put_seen g.P.Shape.counts g.P.Shape.capacity c.args.level c.args.at c.args.bytes.now (g.V.Vault.view c.args.self.now.base) (g.V.Vault.view c.write.new.base) c.requires.level
+    (subst (λ q. Reads (λ files. IsPut c.args.at c.args.bytes.now (level_bytes q.capacity (parts_in q (g.V.Vault.view c.args.self.now.base).files)) (level_bytes q.capacity (parts_in q files))) (g.V.Vault.view c.write.new.base)) (c.parts_of-parts.ensures ∙ parts_same c.args.level c.deref.ensures.value c.args.self.now.counts_are c.args.self.now.capacity_is) is))
     c.write.ensures.written
 
 pub returns-clause-changes : goal.returns-clause-changes
-returns-clause-changes g c = tears_seen c.args.self.now.parts.items c.args.self.now.capacity c.args.level c.args.at (length c.args.bytes.now) (g.V.Vault.view c.args.self.now.base) (g.V.Vault.view c.write.new.base) c.requires.level (omega (arith, c.requires.room)) (subst (λ q. Works (LevelBy q (Torn c.args.at (length c.args.bytes.now))) (g.V.Vault.view c.args.self.now.base) (g.V.Vault.view c.write.new.base)) (c.parts_of-parts.ensures ∙ ap (λ xs. parts_at xs c.args.self.now.capacity c.args.level) c.deref.ensures.value) c.write.ensures.works)
+returns-clause-changes g c = tears_seen g.P.Shape.counts g.P.Shape.capacity c.args.level c.args.at (length c.args.bytes.now) (g.V.Vault.view c.args.self.now.base) (g.V.Vault.view c.write.new.base) c.requires.level (omega (arith, c.requires.room)) (subst (λ q. Works (LevelBy q (Torn c.args.at (length c.args.bytes.now))) (g.V.Vault.view c.args.self.now.base) (g.V.Vault.view c.write.new.base)) (c.parts_of-parts.ensures ∙ parts_same c.args.level c.deref.ensures.value c.args.self.now.counts_are c.args.self.now.capacity_is) c.write.ensures.works)
 
 pub returns-clause-drafts : goal.returns-clause-drafts
-returns-clause-drafts g c = drafts_seen c.args.self.now.parts.items c.args.self.now.capacity (g.V.Vault.view c.args.self.now.base) (g.V.Vault.view c.write.new.base) c.write.ensures.works.drafts
+returns-clause-drafts g c = drafts_seen g.P.Shape.counts g.P.Shape.capacity (g.V.Vault.view c.args.self.now.base) (g.V.Vault.view c.write.new.base) c.write.ensures.works.drafts

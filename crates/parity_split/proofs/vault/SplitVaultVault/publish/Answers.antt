@@ -12,18 +12,20 @@ publish-requires-clause-draft g c = c.requires.draft
 
 pub invariant_of-self : goal.invariant_of-self
 invariant_of-self g c = record {
-  are = are_on c.args.self.now.parts.items c.args.self.now.capacity _ (g.V.Vault.view c.args.self.now.base) (g.V.Vault.view c.publish.new.self) c.publish.ensures.call.goes_on c.args.self.now.are;
-  in_step = in_step_publish c.args.self.now.parts.items c.args.self.now.capacity c.args.copy _ _ (g.V.Vault.view c.args.self.now.base) (g.V.Vault.view c.publish.new.self) (g.V.Vault.well_formed _) c.publish.ensures.call.goes_on.tells c.publish.ensures.changes c.args.self.now.in_step;
+  counts_are = c.args.self.now.counts_are;
+  capacity_is = c.args.self.now.capacity_is;
+  are = are_on g.P.Shape.counts g.P.Shape.capacity _ (g.V.Vault.view c.args.self.now.base) (g.V.Vault.view c.publish.new.self) c.publish.ensures.call.goes_on c.args.self.now.are;
+  in_step = in_step_publish g.P.Shape.counts g.P.Shape.capacity c.args.copy _ _ (g.V.Vault.view c.args.self.now.base) (g.V.Vault.view c.publish.new.self) (g.V.Vault.well_formed _) c.publish.ensures.call.goes_on.tells c.publish.ensures.changes c.args.self.now.in_step;
 }
 
 pub returns-clause-call : goal.returns-clause-call
-returns-clause-call g c = one_seen c.args.self.now.parts.items c.args.self.now.capacity _ _ (g.V.Vault.view c.args.self.now.base) (g.V.Vault.view c.publish.new.self) c.publish.ensures.call
+returns-clause-call g c = one_seen g.P.Shape.counts g.P.Shape.capacity _ _ (g.V.Vault.view c.args.self.now.base) (g.V.Vault.view c.publish.new.self) c.publish.ensures.call
 
 pub returns-clause-gone : goal.returns-clause-gone
-returns-clause-gone g c = draft_seen c.args.self.now.parts.items c.args.self.now.capacity c.args.copy _ _ (g.V.Vault.view c.args.self.now.base) (g.V.Vault.view c.publish.new.self) c.publish.ensures.gone
+returns-clause-gone g c = draft_seen g.P.Shape.counts g.P.Shape.capacity c.args.copy _ _ (g.V.Vault.view c.args.self.now.base) (g.V.Vault.view c.publish.new.self) c.publish.ensures.gone
 
 pub returns-clause-published : goal.returns-clause-published
-returns-clause-published g c = on_ok c.publish.result (λ given sealed. contents_seen c.args.self.now.parts.items c.args.self.now.capacity c.args.copy (λ content. content ≡ Some (staged_of (g.V.Vault.view c.args.self.now.base) c.args.copy)) (g.V.Vault.view c.publish.new.self) (given sealed)) c.publish.ensures.published
+returns-clause-published g c = on_ok c.publish.result (λ given sealed. contents_seen g.P.Shape.counts g.P.Shape.capacity c.args.copy (λ content. content ≡ Some (staged_of (g.V.Vault.view c.args.self.now.base) c.args.copy)) (g.V.Vault.view c.publish.new.self) (given sealed)) c.publish.ensures.published
 
 pub returns-clause-changes : goal.returns-clause-changes
-returns-clause-changes g c = publish_seen c.args.self.now.parts.items c.args.self.now.capacity c.args.copy _ _ (g.V.Vault.view c.args.self.now.base) (g.V.Vault.view c.publish.new.self) c.publish.ensures.changes
+returns-clause-changes g c = publish_seen g.P.Shape.counts g.P.Shape.capacity c.args.copy _ _ (g.V.Vault.view c.args.self.now.base) (g.V.Vault.view c.publish.new.self) c.publish.ensures.changes
