@@ -97,8 +97,8 @@ pub record FitsSize (path : List ℕ) (before size : ℕ) (old new : FolderView)
   pub wrote : FolderWrites (size_calls before size path) old new
 
 -- the file is finished as it was to be, by such calls, of which each found its file and those that write are just these
-pub record FinishesBy (wanted finish : Finish) (P : FolderCall → Type 0) (calls : List FolderCall) (meta : Meta) (start : Start) (state : FileState)
-    (path : List ℕ) (old new : FolderView) : Type 0 where
+pub record FinishesBy (wanted finish : Finish) (P : FolderCall → Type 0) (calls : List FolderCall) (meta : Meta)
+    (start : Start) (state : FileState) (path : List ℕ) (old new : FolderView) : Type 0 where
   pub is : finish ≡ wanted
   pub makes : StepMakes P calls false old new
   pub holds : IsTrue old.tells

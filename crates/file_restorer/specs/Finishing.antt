@@ -63,8 +63,10 @@ was_gone Gone = true
 
 abbrev pub IsWholeCall : Option Meta → Start → FileState → List ℕ → Meta → FolderCall → Type 0
 IsWholeCall listed start state path meta call =
-    ((start.place ≡ Lost) × (call ≡ Rename path false)) ⊎ (((stands start.place state.touched ≡ false) × (start.place ≡ Nowhere) × (call ≡ Make path))
-    ⊎ ((((state.size == meta.size) ≡ false) × (call ≡ SetSize path meta.size)) ⊎ ((is_stamped meta listed start state ≡ true) × (call ≡ SetStamp path meta.stamp))))
+    ((start.place ≡ Lost) × (call ≡ Rename path false))
+    ⊎ (((stands start.place state.touched ≡ false) × (start.place ≡ Nowhere) × (call ≡ Make path))
+    ⊎ ((((state.size == meta.size) ≡ false) × (call ≡ SetSize path meta.size))
+    ⊎ ((is_stamped meta listed start state ≡ true) × (call ≡ SetStamp path meta.stamp))))
 
 abbrev pub IsFinishCall : Bool → Option Meta → Start → FileState → List ℕ → Meta → FolderCall → Type 0
 IsFinishCall false listed start state path meta call = IsWholeCall listed start state path meta call
@@ -76,8 +78,8 @@ IsFinishCall true listed start state path meta call = (stands start.place state.
 abbrev pub size_calls : ℕ → ℕ → List ℕ → List FolderCall
 size_calls before size path = if before == size then [] else SetSize path size ∷ []
 
--- A file without a lost block is put under PATH, then its size is set, then its stamp, each where it is due. One with a lost block is renamed,
--- if it stands under PATH.
+-- A file without a lost block is put under PATH, then its size is set, then its stamp, each where it is due. One with a lost block is
+-- renamed, if it stands under PATH.
 abbrev pub whole_calls : Option Meta → Start → FileState → List ℕ → Meta → List FolderCall
 whole_calls listed start state path meta =
     (put_calls start.place state.touched path ++ size_calls state.size meta.size path)
@@ -133,7 +135,8 @@ pub record FitsTree (path : List ℕ) (listed : Option Meta) (start : Start) (st
   pub lost : start.place ≡ Lost → file_of tree (path_of path true) ≢ None
   pub nowhere : start.place ≡ Nowhere → file_of tree (path_of path true) ≡ None
   pub size : state.size ≡ length (bytes_now tree path)
-  pub recorded : state.touched ≡ false → start.place ≡ Plain → (file : File) → file_of tree (path_of path false) ≡ Some file → listed ≡ Some (meta_of file)
+  pub recorded : state.touched ≡ false → start.place ≡ Plain → (file : File) → file_of tree (path_of path false) ≡ Some file
+      → listed ≡ Some (meta_of file)
 
 -- a record can be finished: no other file stands in the way of either of its names
 pub record CanFinish (table : TableValue) (d i : ℕ) (listed : Option Meta) (starts : StartsValue)
@@ -145,16 +148,19 @@ pub record CanFinish (table : TableValue) (d i : ℕ) (listed : Option Meta) (st
   pub is_tree : IsTrue folder.tells → IsTree folder.tree
   pub is_open : folder.closed ≡ false
   pub free : IsTrue folder.tells → IsFree folder.tree (record_path (records_in table d) i)
-  pub fits : IsTrue folder.tells → FitsTree (record_path (records_in table d) i) listed (start_in (starts_at starts.columns d) i) (state_in states d i) folder.tree
+  pub fits : IsTrue folder.tells
+      → FitsTree (record_path (records_in table d) i) listed (start_in (starts_at starts.columns d) i) (state_in states d i) folder.tree
 
 -- The file of the record was finished, or one of the calls for it found it gone, which does not happen where the folder
 -- tells its files.
 pub record FinishesRecord (table : TableValue) (d i : ℕ) (listed : Option Meta) (finish : Finish) (starts : StartsValue)
     (states : List (List FileState)) (folder : FolderView) (starts_new : StartsValue)
     (states_new : List (List FileState)) (folder_new : FolderView) : Type 0 where
-  pub is : (finish ≡ finish_of (record_at table.columns d i).meta listed (start_in (starts_at starts.columns d) i) (state_in states d i) folder.keeps_stamps)
+  pub is : (finish ≡ finish_of (record_at table.columns d i).meta listed (start_in (starts_at starts.columns d) i)
+      (state_in states d i) folder.keeps_stamps)
       ⊎ ((finish ≡ Gone) × (folder.tells ≡ false)
-      × (finish_of (record_at table.columns d i).meta listed (start_in (starts_at starts.columns d) i) (state_in states d i) folder.keeps_stamps ≢ Kept))
+      × (finish_of (record_at table.columns d i).meta listed (start_in (starts_at starts.columns d) i)
+      (state_in states d i) folder.keeps_stamps ≢ Kept))
   pub starts_fit : StartsFit table starts_new
   pub states_fit : StatesFit table states_new
   pub other_starts : (k j : ℕ) → ((k ≢ d) ⊎ (j ≢ i)) → start_in (starts_at starts_new.columns k) j ≡ start_in (starts_at starts.columns k) j
@@ -163,12 +169,16 @@ pub record FinishesRecord (table : TableValue) (d i : ℕ) (listed : Option Meta
       (state_in states d i) (record_path (records_in table d) i) (record_at table.columns d i).meta)
       (finish_calls (state_in states d i).lost listed (start_in (starts_at starts.columns d) i) (state_in states d i)
       (record_path (records_in table d) i) (record_at table.columns d i).meta) (was_gone finish) folder folder_new
-  pub holds : IsTrue folder.tells → HoldsFinished finish folder.keeps_stamps (record_at table.columns d i).meta (start_in (starts_at starts.columns d) i) (state_in states d i)
+  pub holds : IsTrue folder.tells
+      → HoldsFinished finish folder.keeps_stamps (record_at table.columns d i).meta (start_in (starts_at starts.columns d) i)
+      (state_in states d i)
       (bytes_now folder.tree (record_path (records_in table d) i)) (record_path (records_in table d) i) folder.tree folder_new.tree
-  pub whole : IsTrue folder.tells → (state_in states d i).lost ≡ false → StandsWhole folder.keeps_stamps (record_at table.columns d i).meta (start_in (starts_at starts.columns d) i).place
+  pub whole : IsTrue folder.tells → (state_in states d i).lost ≡ false
+      → StandsWhole folder.keeps_stamps (record_at table.columns d i).meta (start_in (starts_at starts.columns d) i).place
       (bytes_now folder.tree (record_path (records_in table d) i)) (record_path (records_in table d) i) folder.tree folder_new.tree
   pub others : IsTrue folder.tells → OthersStay (record_path (records_in table d) i) folder.tree folder_new.tree
-  pub wrote : was_gone finish ≡ false → FolderWrites (finish_calls (state_in states d i).lost listed (start_in (starts_at starts.columns d) i) (state_in states d i)
+  pub wrote : was_gone finish ≡ false
+      → FolderWrites (finish_calls (state_in states d i).lost listed (start_in (starts_at starts.columns d) i) (state_in states d i)
       (record_path (records_in table d) i) (record_at table.columns d i).meta) folder folder_new
 
 -- its calls were made up to one that failed, and each before that found its file

@@ -73,8 +73,8 @@ pub record CanSetUp (path : List ℕ) (start : Start) (state : FileState) (folde
 
 -- Such calls were made: one of them found no file, or none did and they are just these. What the folder holds of the record
 -- goes on by these writes. All other names hold what they held.
-pub record GoesOnBy (P : FolderCall → Type 0) (calls : List FolderCall) (missing : Bool) (added : List Write) (path : List ℕ) (start : Start)
-    (state : FileState) (folder : FolderView) (start_new : Start) (state_new : FileState) (folder_new : FolderView) : Type 0 where
+pub record GoesOnBy (P : FolderCall → Type 0) (calls : List FolderCall) (missing : Bool) (added : List Write) (path : List ℕ)
+    (start : Start) (state : FileState) (folder : FolderView) (start_new : Start) (state_new : FileState) (folder_new : FolderView) : Type 0 where
   pub makes : StepMakes P calls missing folder folder_new
   pub same_size : start_new.size ≡ start.size
   pub stood : StaysPlace start.place start_new.place
@@ -145,19 +145,26 @@ pub record MendsCell (table : TableValue) (d : ℕ) (cell : Cell) (bytes : List 
   pub stood : StaysPlace (start_in (starts_at starts.columns d) cell.rec).place place
   pub states_are : states_new ≡ with_state states d cell.rec state
   pub same_lost : state.lost ≡ (state_in states d cell.rec).lost
-  pub size : state.size ≡ size_after (state_in states d cell.rec).size (if written then record { at = block_start table cell; bytes = bytes } ∷ [] else [])
+  pub size : state.size ≡ size_after (state_in states d cell.rec).size
+      (if written then record { at = block_start table cell; bytes = bytes } ∷ [] else [])
   pub touched : written ≡ true → state.touched ≡ true
   pub stays_touched : (state_in states d cell.rec).touched ≡ true → state.touched ≡ true
   pub there : IsTrue folder.tells → written ≡ true
-  pub wrote : written ≡ true → FolderWrites (block_calls (start_in (starts_at starts.columns d) cell.rec).place (state_in states d cell.rec).touched (cell_path table d cell) (block_start table cell) bytes) folder folder_new
+  pub wrote : written ≡ true
+      → FolderWrites (block_calls (start_in (starts_at starts.columns d) cell.rec).place (state_in states d cell.rec).touched
+      (cell_path table d cell) (block_start table cell) bytes) folder folder_new
   pub makes : StepMakes (IsBlockCall (start_in (starts_at starts.columns d) cell.rec).place (cell_path table d cell)
-      (block_start table cell) bytes) (block_calls (start_in (starts_at starts.columns d) cell.rec).place (state_in states d cell.rec).touched
+      (block_start table cell) bytes)
+      (block_calls (start_in (starts_at starts.columns d) cell.rec).place (state_in states d cell.rec).touched
       (cell_path table d cell) (block_start table cell) bytes) (not written) folder folder_new
-  pub holds : (first : FolderView) (writes : List (List Write)) → first.tells ≡ folder.tells → (IsTrue first.tells → IsFree first.tree (cell_path table d cell)) → (IsTrue first.tells → IsTree first.tree)
+  pub holds : (first : FolderView) (writes : List (List Write)) → first.tells ≡ folder.tells
+      → (IsTrue first.tells → IsFree first.tree (cell_path table d cell)) → (IsTrue first.tells → IsTree first.tree)
       → HoldsTold (records_in table d) (starts_at starts.columns d) (get_or states d []) writes first folder
-      → HoldsTold (records_in table d) (starts_at starts_new.columns d) (get_or states_new d []) (mended_writes table cell bytes written writes) first folder_new
+      → HoldsTold (records_in table d) (starts_at starts_new.columns d) (get_or states_new d [])
+      (mended_writes table cell bytes written writes) first folder_new
 
 -- its calls were made up to one that failed, and each before that found its file
 abbrev pub MendsNot : TableValue → ℕ → Cell → List ℕ → StartsValue → FolderView → FolderView → Type 0
 MendsNot table d cell bytes starts folder folder_new =
-    StepFails (IsBlockCall (start_in (starts_at starts.columns d) cell.rec).place (cell_path table d cell) (block_start table cell) bytes) folder folder_new
+    StepFails (IsBlockCall (start_in (starts_at starts.columns d) cell.rec).place (cell_path table d cell) (block_start table cell) bytes)
+    folder folder_new

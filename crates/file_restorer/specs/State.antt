@@ -118,7 +118,8 @@ pub record HoldsColumn (records : List Record) (starts : List Start) (states : L
   pub states_are : length states ≡ length records
   pub writes_are : length writes ≡ length records
   pub each : (i : ℕ) → i < length records
-      → HoldsRecord (slice_index_or starts i no_start) (slice_index_or states i no_state) (get_or writes i []) (record_path records i) first later
+      → HoldsRecord (slice_index_or starts i no_start) (slice_index_or states i no_state) (get_or writes i [])
+      (record_path records i) first later
   pub others : (name : List ℕ) → ¬ (IsNameOf records name) → file_of later name ≡ file_of first name
 
 -- the same, as far as the folder tells its files

@@ -1,8 +1,9 @@
--- How the spare was asked for one block, and for the cells of the first columns of a stripe.
+-- What the spare gave when it was asked for one block, and for the cells of the first columns of a stripe.
 use Rattle.std.specs.Prelude.{◌≡◌, ℕ, ◌<◌, ◌≤◌, ◌&&◌, not, List, length, count_by, Bool, true, false, IsTrue, Option}
 use Rattle.std.specs.List.{range_with_len}
 use Rattle.disk_model.specs.Cause.{Rose, RoseBy}
 use Rattle.file_table.specs.Cells.{CellView}
+use Rattle.file_table.specs.Table.{TableValue}
 use Rattle.stripe_reader.specs.SlotValue.{SlotValue}
 use Rattle.stripe_reader.specs.WindowValue.{WindowValue, slot_at}
 use Rattle.stripe_examiner.specs.declared.marking.CellMark.{CellMark}
@@ -10,7 +11,7 @@ use Rattle.stripe_examiner.specs.declared.marking.CellMark.TheVariants.{Right, G
 use Rattle.stripe_examiner.specs.declared.search.Wanted.{Wanted}
 use Rattle.stripe_examiner.specs.Facts.{is_damaged, has_hash, wanted_by}
 use Rattle.stripe_examiner.specs.Marks.{mark_in}
-use Rattle.stripe_examiner.specs.Plan.{FixPlan, is_searched, seen_at}
+use Rattle.stripe_examiner.specs.Plan.{FixPlan, is_searched, seen_at, seen_in}
 use Rattle.stripe_examiner.specs.Spare.{SpareView, holds_block}
 
 -- A block was asked of the spare or not, and was given or not. What the spare holds stays. Where it tells that, it gave nothing but what
@@ -26,7 +27,8 @@ pub record AsksCells (count : ℕ) (asked held given : ℕ → Bool) (old new : 
   pub later : old.faults ≤ new.faults
   pub same : new ≡ record old { faults = new.faults }
   pub gave : IsTrue old.tells → (d : ℕ) → d < count → given d ≡ true → held d ≡ true
-  pub withheld : IsTrue old.tells → RoseBy (count_by (λ d. asked d && not (given d) && held d) (range_with_len 0 count)) old.faults new.faults
+  pub withheld : IsTrue old.tells
+      → RoseBy (count_by (λ d. asked d && not (given d) && held d) (range_with_len 0 count)) old.faults new.faults
 
 -- the spare gave the block of a cell, by its mark
 abbrev pub is_marked_given : CellMark → Bool
@@ -42,7 +44,13 @@ asks_for searched seen slot = searched && is_damaged seen slot && has_hash seen
 abbrev pub holds_wanted : SpareView → Wanted → Bool
 holds_wanted spare wanted = holds_block spare wanted.hash.0 wanted.length
 
--- the spare was asked for the cells of a stripe that were marked
+-- the spare was asked for the cell of a column at a stripe, or was not, and gave its block or did not
+abbrev pub AsksCell : Bool → TableValue → ℕ → ℕ → SlotValue → Bool → SpareView → SpareView → Type 0
+AsksCell searched table stripe d slot given old new =
+    AsksBlock (asks_for searched (seen_in table stripe d) slot)
+    (holds_wanted old (wanted_by table.shape d (seen_in table stripe d))) given old new
+
+-- what the spare gave for the cells of a stripe, by their marks
 abbrev pub AsksMarked : FixPlan → ℕ → ℕ → WindowValue → List CellMark → SpareView → SpareView → Type 0
 AsksMarked plan stripe i before marks old new =
     AsksCells (length plan.table.columns)

@@ -1,5 +1,5 @@
 -- What leads from the marks of a stripe to its row.
-use Rattle.std.specs.Prelude.{◌≡◌, ◌≢◌, ℕ, ◌<◌, List, length, slice_index, is_some, true, All}
+use Rattle.std.specs.Prelude.{◌≡◌, ◌≢◌, ℕ, ◌*◌, ◌<◌, ◌≤◌, List, length, slice_index, is_some, true, All}
 use Rattle.gf256.specs.Field.{field_sum}
 use Rattle.cauchy.specs.Matrix.{parity_byte}
 use Rattle.parity_writer.specs.Parity.{Row}
@@ -20,6 +20,13 @@ abbrev pub IsRemainder : ℕ → Row → List ℕ → List ℕ → Type 0
 IsRemainder level row block remainder =
     (p : ℕ) → p < length block
     → slice_index remainder p ≡ field_sum (slice_index block p) (parity_byte level row p)
+
+-- blocks that were found stand end to end, and each has a column of a window and at most so many bytes there
+pub record CanPutFound (size : ℕ) (wanteds : List Wanted) (blocks : List ℕ) (window : WindowValue) : Type 0 where
+  pub size_is : size ≡ window.block_size
+  pub columns : All (λ (wanted : Wanted). wanted.column < length window.lanes) wanteds
+  pub lengths : All (λ (wanted : Wanted). wanted.length ≤ size) wanteds
+  pub bytes : length blocks ≡ length wanteds * size
 
 -- the slots of a stripe are as they were, but in the columns of these blocks
 abbrev pub KeepsOtherColumns : ℕ → List Wanted → WindowValue → WindowValue → Type 0

@@ -7,8 +7,10 @@ pub mod Restorable
 pub mod Facts
 pub mod Asking
 pub mod Known
+pub mod Alike
 pub mod Findings
 pub mod Counts
+pub mod Surveyed
 pub mod Marks
 pub mod MarkedCell
 pub mod AskedCell
@@ -19,6 +21,7 @@ pub mod Room
 pub mod Showing
 pub mod Shown
 pub mod Judged
+pub mod Finding
 pub mod MarkedWindow
 pub mod Examining
 pub mod Present

@@ -1,13 +1,29 @@
 -- What the mark of one cell says, and what it changes of the window.
-use Rattle.std.specs.Prelude.{◌≡◌, ◌≢◌, ◌⊎◌, ℕ, List, [], length, Option, Some}
+use Rattle.std.specs.Prelude.{◌≡◌, ◌≢◌, ◌<◌, ◌≤◌, ◌⊎◌, ℕ, List, [], length, Option, Some}
 use Rattle.block_hash.specs.Hash.{hash}
 use Rattle.block_hash.specs.declared.Digest16.{Digest16}
+use Rattle.file_table.specs.Table.{TableValue}
 use Rattle.file_table.specs.declared.shape.Shape.{Shape}
 use Rattle.stripe_reader.specs.Slot.{slot_given}
 use Rattle.stripe_reader.specs.SlotValue.{SlotValue}
-use Rattle.stripe_reader.specs.WindowValue.{WindowValue, slot_at}
+use Rattle.stripe_reader.specs.WindowValue.{Fits, WindowValue, slot_at}
 use Rattle.stripe_examiner.specs.declared.marking.CellMark.{CellMark}
 use Rattle.stripe_examiner.specs.declared.marking.CellMark.TheVariants.{Right, Given, Missing}
+
+-- there is a slot for the cell of a column at a stripe of a window, and a block that is no longer than those of the window, nor than the
+-- longest that is hashed
+pub record CanPut (i d long : ℕ) (window : WindowValue) : Type 0 where
+  pub number : i < window.count
+  pub lane : d < length window.lanes
+  pub size : long ≤ window.block_size
+  pub most : long ≤ 4194304
+
+-- the cell of a column at a stripe of a table, whose window has a place for it, can be marked
+pub record CanMarkCell (table : TableValue) (stripe i d : ℕ) (window : WindowValue) : Type 0 where
+  pub within : stripe < length table.infos
+  pub column : d < length table.columns
+  pub fits : Fits table window
+  pub number : i < window.count
 
 -- the window has the same room, and all slots but that of one column at one stripe are as they were
 pub record ChangesSlot (i d : ℕ) (before after : WindowValue) : Type 0 where

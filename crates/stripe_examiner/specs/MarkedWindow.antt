@@ -8,8 +8,9 @@ use Rattle.stripe_examiner.specs.Asking.{AsksSpare}
 use Rattle.stripe_examiner.specs.Facts.{StripeFacts}
 use Rattle.stripe_examiner.specs.Judged.{row_judged}
 use Rattle.stripe_examiner.specs.Looking.{LevelsAreRead, numbers_of, facts_at}
-use Rattle.stripe_examiner.specs.Marks.{IsMarked, mark_in, is_marked_missing, levels_read, row_if, gifts_after, slots_at}
+use Rattle.stripe_examiner.specs.Marks.{ChangesStripe, IsMarked, mark_in, is_marked_missing, levels_read, row_if, gifts_after, slots_at}
 use Rattle.stripe_examiner.specs.Plan.{FixPlan, seen_at, is_searched}
+use Rattle.stripe_examiner.specs.Room.{AreRoomsFor, IsStripeRoomFor}
 use Rattle.stripe_examiner.specs.Shown.{IsFound, found_at}
 use Rattle.stripe_examiner.specs.Spare.{SpareView}
 
@@ -38,14 +39,31 @@ pub record ReadsLevelsOf (plan : FixPlan) (numbers : List ℕ) (rooms : List Str
 pub record HasMarks (plan : FixPlan) (stripe i : ℕ) (before : WindowValue) (marks : List CellMark) (after : WindowValue) : Type 0 where
   pub as_many : length marks ≡ length plan.table.columns
   pub each : (d : ℕ) → d < length plan.table.columns
-      → IsMarked (is_searched plan stripe) plan.table.shape (seen_at plan stripe d) (slot_at before i d) (mark_in marks d) (slot_at after i d)
+      → IsMarked (is_searched plan stripe) plan.table.shape (seen_at plan stripe d) (slot_at before i d)
+      (mark_in marks d) (slot_at after i d)
 
 -- what was found in its cells was noted, and then they were marked
 pub record MarksStripe (plan : FixPlan) (stripe i : ℕ) (before after : WindowValue) (own : StripeRoom) : Type 0 where
   pub cells : HasMarks plan stripe i before own.marks.items after
   pub found : (d : ℕ) → d < length plan.table.columns → IsFound plan stripe (slot_at before i d) d (found_at own.found.items d)
 
--- the spare was asked for the damaged cells of these stripes, by their marks
+-- the same, in its room: the levels that were read stay, and so do the other stripes of the window
+pub record MarksIn (plan : FixPlan) (stripe i : ℕ) (before after : WindowValue) (old own : StripeRoom) : Type 0 where
+  pub room : IsStripeRoomFor plan.table own
+  pub levels : own.levels ≡ old.levels
+  pub marked : MarksStripe plan stripe i before after own
+  pub changes : ChangesStripe i before after
+
+-- the same of the stripes of these numbers, each in its room
+pub record MarksStripes (plan : FixPlan) (numbers : List ℕ) (before after : WindowValue) (olds rooms : List StripeRoom) : Type 0 where
+  pub rooms_are : AreRoomsFor plan.table (length numbers) rooms
+  pub levels : (k : ℕ) (other : StripeRoom) → k < length numbers
+      → (slice_index_or rooms k other).levels ≡ (slice_index_or olds k other).levels
+  pub large : IsAsLarge before after
+  pub marked : (k : ℕ) (other : StripeRoom) → k < length numbers
+      → MarksStripe plan (number_at numbers k) k before after (slice_index_or rooms k other)
+
+-- what the spare gave for the damaged cells of these stripes, by their marks
 pub record AsksForMarked (plan : FixPlan) (numbers : List ℕ) (before after : WindowValue) (rooms : List StripeRoom)
     (old new : SpareView) : Type 0 where
   pub stripes : List StripeFacts

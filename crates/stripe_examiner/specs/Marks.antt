@@ -47,7 +47,8 @@ pub record MarksCells (plan : FixPlan) (stripe i : ℕ) (before : WindowValue) (
   pub changes : ChangesStripe i before after
   pub as_many : length marks ≡ length plan.table.columns
   pub each : (d : ℕ) → d < length plan.table.columns
-      → IsMarked (is_searched plan stripe) plan.table.shape (seen_at plan stripe d) (slot_at before i d) (mark_in marks d) (slot_at after i d)
+      → IsMarked (is_searched plan stripe) plan.table.shape (seen_at plan stripe d) (slot_at before i d)
+      (mark_in marks d) (slot_at after i d)
 
 -- what is searched for, by the marks
 abbrev pub wanted_marked : FixPlan → ℕ → List CellMark → List Wanted

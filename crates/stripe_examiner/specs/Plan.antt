@@ -128,6 +128,9 @@ is_synced plan stripe = is_synced_mark (info_at plan.table.infos stripe).mark
 abbrev pub is_searched : FixPlan → ℕ → Bool
 is_searched plan stripe = is_synced plan stripe && not (is_audit plan.scope.mode)
 
--- what is seen of the cell of a column at a stripe
+-- what is seen of the cell of a column at a stripe, by a table and by a plan
+abbrev pub seen_in : TableValue → ℕ → ℕ → Option CellView
+seen_in table stripe d = cell_view (column_at table.columns d) stripe
+
 abbrev pub seen_at : FixPlan → ℕ → ℕ → Option CellView
-seen_at plan stripe d = cell_view (column_at plan.table.columns d) stripe
+seen_at plan stripe d = seen_in plan.table stripe d

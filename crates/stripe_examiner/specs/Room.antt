@@ -1,5 +1,5 @@
 -- The memory of a run.
-use Rattle.std.specs.Prelude.{◌≡◌, ◌*◌, ◌<◌, length, All}
+use Rattle.std.specs.Prelude.{◌≡◌, ℕ, ◌*◌, ◌<◌, List, length, All}
 use Rattle.file_table.specs.Table.{TableValue}
 use Rattle.stripe_reader.specs.WindowValue.{Fits, stripe_count}
 use Rattle.stripe_examiner.specs.declared.room.Room.{Room}
@@ -12,6 +12,11 @@ pub record IsStripeRoomFor (table : TableValue) (own : StripeRoom) : Type 0 wher
   pub levels : own.levels.block_size ≡ table.shape.block_size
   pub remainders : length own.remainders.items ≡ 6 * table.shape.block_size
   pub blocks : length own.blocks.items ≡ 6 * table.shape.block_size
+
+-- a room for each of so many stripes
+pub record AreRoomsFor (table : TableValue) (count : ℕ) (rooms : List StripeRoom) : Type 0 where
+  pub as_many : length rooms ≡ count
+  pub each : All (IsStripeRoomFor table) rooms
 
 -- room for a window of a run, with just so many stripes as one has, for each of them, and for one block
 pub record IsRoomFor (table : TableValue) (room : Room) : Type 0 where

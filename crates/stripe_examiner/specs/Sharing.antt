@@ -20,3 +20,14 @@ abbrev pub IsLeftOf : LevelsValue → Row → ℕ → List ℕ → Type 0
 IsLeftOf levels row r left =
     is_whole (level_at levels r).state ≡ true → (p : ℕ) → p < length left
     → slice_index left p ≡ field_sum (slice_index (level_at levels r).block p) (parity_byte r row p)
+
+-- the first so many levels, at most six, are those that were read, and there is a place for each of them
+pub record HasLevels (count : ℕ) (levels : LevelsValue) : Type 0 where
+  pub count_is : count ≡ levels.count
+  pub room : count ≤ length levels.levels
+  pub most : count ≤ 6
+
+-- six blocks of so many bytes stand end to end, none of them longer than the longest that is hashed
+pub record AreSixBlocks (size : ℕ) (blocks : List ℕ) : Type 0 where
+  pub most : size ≤ 4194304
+  pub long : length blocks ≡ 6 * size

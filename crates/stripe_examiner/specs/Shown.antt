@@ -53,5 +53,6 @@ noted_events found count = flat_map (λ d. option_to_list (found_at found d)) (r
 abbrev pub level_events_shown : FixPlan → ℕ → StripeRoom → List Event
 level_events_shown plan stripe own =
     if is_searched plan stripe
-    then all_level_io_events plan stripe (take own.levels.count own.levels.levels) ++ flagged_events stripe own.wrong plan.table.shape.levels
+    then all_level_io_events plan stripe (take own.levels.count own.levels.levels)
+    ++ flagged_events stripe own.wrong plan.table.shape.levels
     else []

@@ -16,6 +16,7 @@ use Rattle.stripe_examiner.specs.Plan.{FixPlan, EntriesFit}
 use Rattle.stripe_examiner.specs.Room.{IsRoomFor, IsStripeRoomFor}
 use Rattle.stripe_examiner.specs.Shown.{ShowsStripe}
 use Rattle.stripe_examiner.specs.Spare.{SpareView}
+use Rattle.stripe_examiner.specs.Surveyed.{CanRead}
 
 -- stripes of these numbers can be examined in a room, with files where they stood
 pub record CanExamineWindow (plan : FixPlan) (starts : StartsValue) (numbers : List ℕ) (room : Room) : Type 0 where
@@ -25,8 +26,8 @@ pub record CanExamineWindow (plan : FixPlan) (starts : StartsValue) (numbers : L
   pub room_is : IsRoomFor plan.table room
   pub enough : length numbers ≤ room.window.room
 
--- These are the facts of the stripes: their cells were read into the window, and all their levels, stripe after stripe, and the spare was
--- asked for what is damaged. The room of each of them shows its facts.
+-- These are the facts of the stripes: their cells were read into the window, and stripe after stripe the levels of those whose recovery is
+-- tried, and the spare gave what the facts say. The room of each of them shows its facts.
 pub record ExaminesWindow (plan : FixPlan) (starts : StartsValue) (numbers : List ℕ) (before after : Room)
     (folders folders_after : List FolderView) (vault vault_after : VaultView) (spare spare_after : SpareView) : Type 0 where
   pub stripes : List StripeFacts
@@ -43,7 +44,15 @@ pub record ExaminesWindow (plan : FixPlan) (starts : StartsValue) (numbers : Lis
   pub as_large : after.window.room ≡ before.window.room
   pub count : after.window.count ≡ length numbers
 
--- the same of a window and of as many rooms as there are stripes, or more
+-- stripes of these numbers can be examined in a window, with a room for each of them, or more
+pub record CanExamineRooms (plan : FixPlan) (starts : StartsValue) (numbers : List ℕ) (window : WindowValue) (rooms : List StripeRoom)
+    : Type 0 where
+  pub entries : EntriesFit plan.table plan.entries
+  pub read : CanRead plan.table starts numbers window
+  pub as_many : length numbers ≤ length rooms
+  pub each : All (IsStripeRoomFor plan.table) rooms
+
+-- they were, and this is what the window and the rooms show
 pub record ExaminesRooms (plan : FixPlan) (starts : StartsValue) (numbers : List ℕ) (before after : WindowValue) (rooms : List StripeRoom)
     (folders folders_after : List FolderView) (vault vault_after : VaultView) (spare spare_after : SpareView) : Type 0 where
   pub stripes : List StripeFacts

@@ -2,17 +2,16 @@
 ghost use Rattle.std.specs.Prelude.{◌≡◌, ◌<◌, ◌≤◌, All, length, map, true};
 ghost use Rattle.std.specs.Thread.{IsSend, IsSync};
 ghost use Rattle.stripe_reader.specs.Columns.{ReadsWindow};
-ghost use Rattle.stripe_reader.specs.Starts.{StartsFit};
 ghost use Rattle.stripe_reader.specs.WindowValue.{Fits};
 ghost use Rattle.parity_writer.specs.LevelReading.{ReadsLevels};
 ghost use Rattle.stripe_examiner.specs.Examining.{ReadsTried};
 ghost use Rattle.stripe_examiner.specs.MarkedWindow.{ReadsLevelsOf};
-ghost use Rattle.stripe_examiner.specs.Plan.{plan_of, is_searched as is_searched_at};
-ghost use Rattle.stripe_examiner.specs.Room.{IsStripeRoomFor};
+ghost use Rattle.stripe_examiner.specs.Plan.{is_searched as is_searched_at};
+ghost use Rattle.stripe_examiner.specs.Room.{AreRoomsFor, IsStripeRoomFor};
+ghost use Rattle.stripe_examiner.specs.Surveyed.{AreDisksOf, CanRead, plan_in};
 
-use crate::entry::Entries;
 use crate::room::StripeRoom;
-use crate::scope::Scope;
+use crate::survey::Survey;
 use crate::trying::is_searched;
 use disk_model::{Folder, Vault};
 use file_table::Table;
@@ -36,93 +35,65 @@ fn read_all<V: Vault>(table: &Table, stripe: u32, vault: &mut V, levels: &mut Le
 }
 
 // Reads the levels of a stripe into its room, where a recovery of its blocks is tried.
-fn read_searched<V: Vault>(
-    scope: Scope,
-    table: &Table,
-    entries: &Entries,
-    stripe: u32,
-    vault: &mut V,
-    own: &mut StripeRoom,
-)
-    requires within { stripe < length table.now.infos }
-    requires levels { (V.view vault.old).levels ≡ table.now.shape.levels }
-    requires room { IsStripeRoomFor table.now own.old }
-    ensures room { IsStripeRoomFor table.now own.new }
-    ensures count { is_searched_at (plan_of scope table.now entries.now) stripe ≡ true →
-        own.new.levels.count ≡ table.now.shape.levels }
-    ensures places { is_searched_at (plan_of scope table.now entries.now) stripe ≡ true →
+fn read_searched<V: Vault>(survey: &Survey<'_>, stripe: u32, vault: &mut V, own: &mut StripeRoom)
+    requires within { stripe < length survey.now.table.now.infos }
+    requires levels { (V.view vault.old).levels ≡ survey.now.table.now.shape.levels }
+    requires room { IsStripeRoomFor survey.now.table.now own.old }
+    ensures room { IsStripeRoomFor survey.now.table.now own.new }
+    ensures count { is_searched_at (plan_in survey.now) stripe ≡ true →
+        own.new.levels.count ≡ survey.now.table.now.shape.levels }
+    ensures places { is_searched_at (plan_in survey.now) stripe ≡ true →
         own.new.levels.count ≤ length own.new.levels.levels }
-    ensures read { ReadsTried (is_searched_at (plan_of scope table.now entries.now) stripe) stripe own.new.levels
+    ensures read { ReadsTried (is_searched_at (plan_in survey.now) stripe) stripe own.new.levels
         (V.view vault.old) (V.view vault.new) }
 {
-    if is_searched(scope, table, entries, stripe) {
-        read_all(table, stripe, vault, &mut own.levels);
+    if is_searched(survey.scope, survey.table, survey.entries, stripe) {
+        read_all(survey.table, stripe, vault, &mut own.levels);
     }
 }
 
 // Reads the levels of stripes, one stripe after another.
-fn read_levels_of<V: Vault>(
-    scope: Scope,
-    table: &Table,
-    entries: &Entries,
-    stripes: &[u32],
-    vault: &mut V,
-    rooms: &mut [StripeRoom],
-)
-    requires within { All (λ stripe. stripe < length table.now.infos) stripes.now }
-    requires levels { (V.view vault.old).levels ≡ table.now.shape.levels }
-    requires count { length rooms.old ≡ length stripes.now }
-    requires rooms { All (IsStripeRoomFor table.now) rooms.old }
-    ensures count { length rooms.new ≡ length rooms.old }
-    ensures rooms { All (IsStripeRoomFor table.now) rooms.new }
-    ensures read { ReadsLevelsOf (plan_of scope table.now entries.now) stripes.now rooms.new
+fn read_levels_of<V: Vault>(survey: &Survey<'_>, vault: &mut V, rooms: &mut [StripeRoom])
+    requires within { All (λ stripe. stripe < length survey.now.table.now.infos) survey.now.stripes.now }
+    requires levels { (V.view vault.old).levels ≡ survey.now.table.now.shape.levels }
+    requires rooms { AreRoomsFor survey.now.table.now (length survey.now.stripes.now) rooms.old }
+    ensures rooms { AreRoomsFor survey.now.table.now (length survey.now.stripes.now) rooms.new }
+    ensures read { ReadsLevelsOf (plan_in survey.now) survey.now.stripes.now rooms.new
         (V.view vault.old) (V.view vault.new) }
 {
-    for k in 0..stripes.len() {
-        read_searched(scope, table, entries, stripes[k], vault, &mut rooms[k]);
+    for k in 0..survey.stripes.len() {
+        read_searched(survey, survey.stripes[k], vault, &mut rooms[k]);
     }
 }
 
-/// Reads these stripes of all columns into a window, by so many readers at most, and meanwhile their levels, where a recovery of
-/// their blocks is tried.
+/// Reads the stripes of all columns into a window, and meanwhile their levels, where a recovery of their blocks is tried.
 pub(crate) fn read_beside<R: Threads + Sync, F: Folder, V: Vault>(
     rt: &R,
-    scope: Scope,
-    table: &Table,
-    entries: &Entries,
-    starts: &Starts,
-    stripes: &[u32],
-    readers: u32,
+    survey: &Survey<'_>,
     folders: &mut [F],
     window: &mut Window,
     vault: &mut V,
     rooms: &mut [StripeRoom],
 )
-    requires starts { StartsFit table.now starts.now }
-    requires within { All (λ stripe. stripe < length table.now.infos) stripes.now }
-    requires window { Fits table.now window.old }
-    requires enough { length stripes.now ≤ window.old.room }
-    requires folders { length folders.old ≡ length table.now.columns }
-    requires levels { (V.view vault.old).levels ≡ table.now.shape.levels }
-    requires count { length rooms.old ≡ length stripes.now }
-    requires rooms { All (IsStripeRoomFor table.now) rooms.old }
-    ensures window { Fits table.now window.new }
-    ensures cells { ReadsWindow table.now starts.now stripes.now window.old window.new
-        (map F.view folders.old) (map F.view folders.new) }
-    ensures count { length rooms.new ≡ length rooms.old }
-    ensures rooms { All (IsStripeRoomFor table.now) rooms.new }
-    ensures levels { ReadsLevelsOf (plan_of scope table.now entries.now) stripes.now rooms.new
+    requires can { CanRead survey.now.table.now survey.now.starts.now survey.now.stripes.now window.old }
+    requires disks { AreDisksOf survey.now.table.now (length folders.old) (V.view vault.old) }
+    requires rooms { AreRoomsFor survey.now.table.now (length survey.now.stripes.now) rooms.old }
+    ensures window { Fits survey.now.table.now window.new }
+    ensures cells { ReadsWindow survey.now.table.now survey.now.starts.now survey.now.stripes.now
+        window.old window.new (map F.view folders.old) (map F.view folders.new) }
+    ensures rooms { AreRoomsFor survey.now.table.now (length survey.now.stripes.now) rooms.new }
+    ensures levels { ReadsLevelsOf (plan_in survey.now) survey.now.stripes.now rooms.new
         (V.view vault.old) (V.view vault.new) }
 {
+    let (table, starts, stripes) = (survey.table, survey.starts, survey.stripes);
     let mut cells = ||
         requires { IsSync R.row × IsSend F.row × (length folders.now ≡ length table.now.columns) ×
-            StartsFit table.now starts.now × All (λ stripe. stripe < length table.now.infos) stripes.now ×
-            Fits table.now window.now × (length stripes.now ≤ window.now.room) }
-    { read_window(rt, folders, table, starts, stripes, readers, window) };
+            CanRead table.now starts.now stripes.now window.now }
+    { read_window(rt, folders, table, starts, stripes, survey.threads, window) };
     let mut levels = ||
-        requires { All (λ stripe. stripe < length table.now.infos) stripes.now ×
-            ((V.view vault.now).levels ≡ table.now.shape.levels) × (length rooms.now ≡ length stripes.now) ×
-            All (IsStripeRoomFor table.now) rooms.now }
-    { read_levels_of(scope, table, entries, stripes, vault, rooms) };
+        requires { All (λ stripe. stripe < length survey.now.table.now.infos) survey.now.stripes.now ×
+            ((V.view vault.now).levels ≡ survey.now.table.now.shape.levels) ×
+            AreRoomsFor survey.now.table.now (length survey.now.stripes.now) rooms.now }
+    { read_levels_of(survey, vault, rooms) };
     join_mut(rt, &mut cells, &mut levels);
 }

@@ -2,10 +2,11 @@
 ghost use Rattle.std.specs.Prelude.{◌≡◌, ◌*◌, ◌<◌, ◌≤◌, ℕ, [], All, length, get_or, slice_set, take, if◌then◌else◌, Some, None, true};
 ghost use Rattle.parity_writer.specs.Parity.{Row};
 ghost use Rattle.parity_writer.specs.WindowRow.{row_at};
+ghost use Rattle.stripe_examiner.specs.Finding.{CanFind, IsSearchRoom, row_with_found};
 ghost use Rattle.stripe_examiner.specs.Judged.{AreMissingIn};
 ghost use Rattle.stripe_examiner.specs.Known.{AreRemainders, IsKnown};
 ghost use Rattle.stripe_examiner.specs.Restorable.{filled};
-ghost use Rattle.stripe_examiner.specs.Search.{found_in};
+ghost use Rattle.stripe_examiner.specs.Sharing.{AreSixBlocks, HasLevels};
 
 use crate::knowing::whole_levels;
 use crate::remainders::{fill_in_turn, is_whole};
@@ -25,13 +26,10 @@ fn take_block(
     block: &[u8],
     remainders: &mut [u8],
 )
-    requires count { count ≡ levels.now.count }
-    requires room { count ≤ length levels.now.levels }
-    requires most { count ≤ 6 }
+    requires levels { HasLevels count levels.now }
     requires column { column < 251 }
     requires block { length block.now ≤ size }
-    requires most_size { size ≤ 4194304 }
-    requires remainders { length remainders.old ≡ 6 * size }
+    requires remainders { AreSixBlocks size remainders.old }
     ensures size { length remainders.new ≡ length remainders.old }
     ensures left { (row : Row) → column < length row → get_or row column [] ≡ [] →
         AreRemainders size row (take levels.now.count levels.now.levels) remainders.old →
@@ -61,18 +59,16 @@ fn take_found(
     blocks: &[u8],
     remainders: &mut [u8],
 )
-    requires count { count ≡ levels.now.count }
-    requires room { count ≤ length levels.now.levels }
-    requires most { count ≤ 6 }
+    requires levels { HasLevels count levels.now }
     requires columns { All (λ one. one.column < 251) wanted.now }
     requires lengths { All (λ one. one.length ≤ size) wanted.now }
     requires blocks { length blocks.now ≡ length wanted.now * size }
-    requires most_size { size ≤ 4194304 }
-    requires remainders { length remainders.old ≡ 6 * size }
+    requires remainders { AreSixBlocks size remainders.old }
     ensures size { length remainders.new ≡ length remainders.old }
     ensures left { (row : Row) → AreMissingIn row size wanted.now →
         AreRemainders size row (take levels.now.count levels.now.levels) remainders.old →
-        AreRemainders size (filled size blocks.now wanted.now row) (take levels.now.count levels.now.levels) remainders.new }
+        AreRemainders size (filled size blocks.now wanted.now row) (take levels.now.count levels.now.levels)
+        remainders.new }
 {
     for j in 0..wanted.len() {
         let one = wanted[j];
@@ -99,23 +95,14 @@ pub(crate) fn find(
     remainders: &mut [u8],
     blocks: &mut [u8],
 ) -> bool
-    requires stripe { i < window.now.count }
-    requires columns { length window.now.lanes ≡ length table.now.columns }
-    requires window { window.now.block_size ≡ table.now.shape.block_size }
-    requires count { levels.now.count ≡ table.now.shape.levels }
-    requires room { levels.now.count ≤ length levels.now.levels }
-    requires levels { levels.now.block_size ≡ table.now.shape.block_size }
-    requires few { length wanted.now ≤ 6 }
-    requires missing { AreMissingIn (row_at window.now i) table.now.shape.block_size wanted.now }
-    requires remainders { length remainders.old ≡ 6 * table.now.shape.block_size }
-    requires blocks { length blocks.old ≡ 6 * table.now.shape.block_size }
-    ensures remainders { length remainders.new ≡ length remainders.old }
-    ensures blocks { length blocks.new ≡ length blocks.old }
-    ensures known { IsKnown table.now.shape wanted.now (row_at window.now i) (take levels.now.count levels.now.levels)
-        (if result then Some (filled table.now.shape.block_size (found_in table.now.shape wanted.now blocks.new) wanted.now
-        (row_at window.now i)) else None) }
+    requires can { CanFind table.now i window.now levels.now wanted.now }
+    requires room { IsSearchRoom table.now.shape.block_size remainders.old blocks.old }
+    ensures room { IsSearchRoom table.now.shape.block_size remainders.new blocks.new }
+    ensures known { IsKnown table.now.shape wanted.now (row_at window.now i)
+        (take levels.now.count levels.now.levels)
+        (if result then Some (row_with_found table.now.shape wanted.now blocks.new (row_at window.now i)) else None) }
     ensures left { result ≡ true → AreRemainders table.now.shape.block_size
-        (filled table.now.shape.block_size (found_in table.now.shape wanted.now blocks.new) wanted.now (row_at window.now i))
+        (row_with_found table.now.shape wanted.now blocks.new (row_at window.now i))
         (take levels.now.count levels.now.levels) remainders.new }
 {
     let shape = table.shape();

@@ -5,14 +5,12 @@ ghost use Rattle.parity_writer.specs.Parity.{Row};
 ghost use Rattle.stripe_examiner.specs.Findings.{is_wrong as is_wrong_at, is_wrong_by};
 ghost use Rattle.stripe_examiner.specs.Judging.{TellsWrong};
 ghost use Rattle.stripe_examiner.specs.Known.{AreRemainders};
-ghost use Rattle.stripe_examiner.specs.Plan.{plan_of};
 ghost use Rattle.stripe_examiner.specs.Sharing.{IsLeftOf};
+ghost use Rattle.stripe_examiner.specs.Surveyed.{plan_in};
 
-use crate::entry::Entries;
-use crate::scope::Scope;
 use crate::search::are_zeros;
 use crate::selecting::selects_level;
-use file_table::Table;
+use crate::survey::Survey;
 use parity_writer::{LevelRead, Levels};
 
 // Whether a level is short or not the sum of the row, by what is left of it less that sum, where the row is known.
@@ -32,54 +30,51 @@ fn is_wrong(known: bool, levels: &Levels, r: u32, left: &[u8]) -> bool
 
 // Whether a selected level is.
 fn is_wrong_level(
-    scope: Scope,
-    table: &Table,
-    entries: &Entries,
+    survey: &Survey<'_>,
     stripe: u32,
     known: bool,
     levels: &Levels,
     r: u32,
     left: &[u8],
 ) -> bool
-    requires within { stripe < length table.now.infos }
+    requires within { stripe < length survey.now.table.now.infos }
     requires most { r < 6 }
     requires level { r < levels.now.count }
-    requires size { levels.now.block_size ≡ table.now.shape.block_size }
+    requires size { levels.now.block_size ≡ survey.now.table.now.shape.block_size }
     requires left { length left.now ≡ levels.now.block_size }
     ensures { (row : Row) → (known ≡ true → IsLeftOf levels.now row r left.now) →
-        result ≡ is_wrong_at (plan_of scope table.now entries.now) stripe (level_at levels.now r)
+        result ≡ is_wrong_at (plan_in survey.now) stripe (level_at levels.now r)
         (if known then Some row else None) r }
 {
-    selects_level(scope, table, entries, stripe, r) && is_wrong(known, levels, r, left)
+    selects_level(survey.scope, survey.table, survey.entries, stripe, r)
+        && is_wrong(known, levels, r, left)
 }
 
 /// Which of the selected levels that were read are short or not the sum of a row, where that is known: by what is left of them less
 /// its sums.
 pub fn wrong_levels(
-    scope: Scope,
-    table: &Table,
-    entries: &Entries,
+    survey: &Survey<'_>,
     stripe: u32,
     known: bool,
     levels: &Levels,
     remainders: &[u8],
 ) -> [bool; 6]
-    requires within { stripe < length table.now.infos }
-    requires count { levels.now.count ≡ table.now.shape.levels }
+    requires within { stripe < length survey.now.table.now.infos }
+    requires count { levels.now.count ≡ survey.now.table.now.shape.levels }
     requires room { levels.now.count ≤ length levels.now.levels }
-    requires size { levels.now.block_size ≡ table.now.shape.block_size }
-    requires remainders { length remainders.now ≡ 6 * table.now.shape.block_size }
-    ensures { (row : Row) → (known ≡ true → AreRemainders table.now.shape.block_size row
+    requires size { levels.now.block_size ≡ survey.now.table.now.shape.block_size }
+    requires remainders { length remainders.now ≡ 6 * survey.now.table.now.shape.block_size }
+    ensures { (row : Row) → (known ≡ true → AreRemainders survey.now.table.now.shape.block_size row
         (take levels.now.count levels.now.levels) remainders.now) →
-        TellsWrong (plan_of scope table.now entries.now) stripe levels.now (if known then Some row else None) result }
+        TellsWrong (plan_in survey.now) stripe levels.now (if known then Some row else None) result }
 {
-    let shape = table.shape();
+    let shape = survey.table.shape();
     let size = shape.block_size as usize;
     let mut wrong = [false; 6];
     for r in 0..shape.levels {
         let start = r as usize * size;
         let left = &remainders[start..start + size];
-        wrong[r as usize] = is_wrong_level(scope, table, entries, stripe, known, levels, r, left);
+        wrong[r as usize] = is_wrong_level(survey, stripe, known, levels, r, left);
     }
     wrong
 }

@@ -1,5 +1,5 @@
 // The row of a stripe, as far as it can be known: by its cells, by the spare, and by its levels.
-ghost use Rattle.std.specs.Prelude.{◌≡◌, ◌*◌, ◌<◌, ◌≤◌, All, MatchOption, is_some, length, slice_set, take, true};
+ghost use Rattle.std.specs.Prelude.{◌≡◌, ◌<◌, ◌≤◌, MatchOption, is_some, length, slice_set, take, true};
 ghost use Rattle.file_table.specs.Cells.{cell_view};
 ghost use Rattle.file_table.specs.Table.{column_at, info_at};
 ghost use Rattle.file_table.specs.declared.info.Mark.TheVariants.{Synced};
@@ -8,16 +8,16 @@ ghost use Rattle.parity_writer.specs.WindowRow.{row_at};
 ghost use Rattle.stripe_examiner.specs.Facts.{wanted_by};
 ghost use Rattle.stripe_examiner.specs.Known.{whole_levels as whole_levels_of};
 ghost use Rattle.stripe_examiner.specs.Restorable.{filled};
-ghost use Rattle.stripe_examiner.specs.Knowing.{HaveCells, KeepsOtherColumns};
+ghost use Rattle.stripe_examiner.specs.Knowing.{CanPutFound, HaveCells, KeepsOtherColumns};
 ghost use Rattle.stripe_examiner.specs.MarkedCell.{ChangesSlot};
 ghost use Rattle.stripe_examiner.specs.Marks.{ChangesStripe, wanted_marked, is_marked_missing};
-ghost use Rattle.stripe_examiner.specs.Plan.{plan_of, is_synced};
+ghost use Rattle.stripe_examiner.specs.Plan.{is_synced};
+ghost use Rattle.stripe_examiner.specs.Surveyed.{plan_in};
 
-use crate::entry::Entries;
 use crate::marking::{CellMark, cell_hash, cell_length};
 use crate::remainders::is_whole;
-use crate::scope::Scope;
 use crate::search::Wanted;
+use crate::survey::Survey;
 use arrayvec::ArrayVec;
 use block_hash::Digest16;
 use file_table::Table;
@@ -70,21 +70,20 @@ fn wanted_cell(table: &Table, stripe: u32, d: u32) -> Wanted
 
 /// The blocks that are searched for, where there are at most six.
 pub fn wanted_blocks(
-    scope: Scope,
-    table: &Table,
-    entries: &Entries,
+    survey: &Survey<'_>,
     stripe: u32,
     marks: &[CellMark],
 ) -> Option<ArrayVec<Wanted, 6>>
-    requires within { stripe < length table.now.infos }
-    requires marks { length marks.now ≡ length table.now.columns }
-    requires synced { is_synced (plan_of scope table.now entries.now) stripe ≡ true }
-    requires cells { HaveCells (plan_of scope table.now entries.now) stripe marks.now }
+    requires within { stripe < length survey.now.table.now.infos }
+    requires marks { length marks.now ≡ length survey.now.table.now.columns }
+    requires synced { is_synced (plan_in survey.now) stripe ≡ true }
+    requires cells { HaveCells (plan_in survey.now) stripe marks.now }
     ensures value { MatchOption result
-        (6 < length (wanted_marked (plan_of scope table.now entries.now) stripe marks.now))
+        (6 < length (wanted_marked (plan_in survey.now) stripe marks.now))
         (λ wanted. wanted.items
-        ≡ wanted_marked (plan_of scope table.now entries.now) stripe marks.now) }
+        ≡ wanted_marked (plan_in survey.now) stripe marks.now) }
 {
+    let table = survey.table;
     let mut wanted = ArrayVec::new();
     for d in 0..table.disks() {
         if is_missing(marks[d as usize]) {
@@ -139,10 +138,7 @@ fn put_block(window: &mut Window, i: u32, d: u32, bytes: &[u8])
 /// Puts the blocks that were found into a stripe of the window, each at its real length.
 pub fn put_found(window: &mut Window, i: u32, size: usize, wanted: &[Wanted], blocks: &[u8])
     requires stripe { i < window.old.count }
-    requires size { size ≡ window.old.block_size }
-    requires columns { All (λ one. one.column < length window.old.lanes) wanted.now }
-    requires lengths { All (λ one. one.length ≤ size) wanted.now }
-    requires blocks { length blocks.now ≡ length wanted.now * size }
+    requires can { CanPutFound size wanted.now blocks.now window.old }
     ensures row { row_at window.new i ≡ filled size blocks.now wanted.now (row_at window.old i) }
     ensures changes { ChangesStripe i window.old window.new }
     ensures others { KeepsOtherColumns i wanted.now window.old window.new }

@@ -1,6 +1,7 @@
 //! Stripes: which of their cells are damaged, which of their blocks are known, and which of their levels are wrong.
 //!
-//! Start at `surveying.rt`: a window of stripes is examined, and the room of each of them (`room.rt`) shows then what is found in it.
+//! Start at `surveying.rt`: a window of stripes is examined, by what `survey.rt` holds, and the room of each of them (`room.rt`) shows
+//! then what is found in it.
 //! 1. Its cells are read beside the levels of its stripes (`beside.rt`).
 //! 2. Stripe after stripe it is noted what is found in the cells, and they are marked (`marking_window.rt`, `marking.rt`, which asks
 //!    the spare for the blocks of damaged ones).
@@ -9,7 +10,7 @@
 //!    (`judging.rt`).
 //! 4. What was found is put into the window (`putting.rt`).
 //!
-//! Then each stripe is told by its room (`telling/stripe.rt`).
+//! Then each stripe is told by its room (`telling/stripe.rt`). That what was read determines what is found is a law (`laws.rt`).
 //! What all this is for is said by `entry.rt` and `scope.rt`: where the files of the table's records stand (`places.rt`), and what of
 //! them is selected (`selecting.rt`).
 #![tactic(auto)]
@@ -21,6 +22,7 @@ mod finding;
 mod judging;
 mod judging_window;
 mod knowing;
+pub mod laws;
 mod marking;
 mod marking_window;
 mod places;
@@ -31,6 +33,7 @@ mod scope;
 mod search;
 mod selecting;
 mod spare;
+mod survey;
 mod surveying;
 mod telling;
 mod trying;

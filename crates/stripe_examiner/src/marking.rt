@@ -1,21 +1,22 @@
 // Which cells of a stripe are damaged, and what the spare gives of them.
 ghost use Rattle.std.specs.Prelude.{◌≡◌, ◌<◌, ◌≤◌, List, Some, IsTrue, is_some, length, true};
 ghost use Rattle.block_hash.specs.Hash.{hash as hash_of};
-ghost use Rattle.file_table.specs.Cells.{cell_seen, cell_view};
+ghost use Rattle.file_table.specs.Cells.{cell_seen};
 ghost use Rattle.file_table.specs.Table.{column_at, record_at};
 ghost use Rattle.parity_writer.specs.Sound.{real_length};
-ghost use Rattle.stripe_reader.specs.WindowValue.{Fits, slot_at};
+ghost use Rattle.stripe_reader.specs.WindowValue.{slot_at};
 ghost use Rattle.stripe_examiner.specs.declared.entry.Entry.{Entry};
-ghost use Rattle.stripe_examiner.specs.AskedCell.{AsksBlock, AsksMarked, asks_for, holds_wanted, is_marked_given};
-ghost use Rattle.stripe_examiner.specs.Facts.{agrees as agrees_with, hash_or_none, wanted_by};
-ghost use Rattle.stripe_examiner.specs.MarkedCell.{ChangesSlot, ShowsAnswer};
+ghost use Rattle.stripe_examiner.specs.AskedCell.{AsksBlock, AsksCell, AsksMarked, is_marked_given};
+ghost use Rattle.stripe_examiner.specs.Facts.{agrees as agrees_with, hash_or_none};
+ghost use Rattle.stripe_examiner.specs.MarkedCell.{CanMarkCell, CanPut, ChangesSlot, ShowsAnswer};
 ghost use Rattle.stripe_examiner.specs.Marks.{CanExamine, IsMarked, MarksCells};
-ghost use Rattle.stripe_examiner.specs.Plan.{plan_of, is_searched as is_searched_by};
+ghost use Rattle.stripe_examiner.specs.Plan.{plan_of, is_searched as is_searched_by, seen_in};
 ghost use Rattle.stripe_examiner.specs.Spare.{IsSpareFor, holds_block};
+ghost use Rattle.stripe_examiner.specs.Surveyed.{plan_in};
 
-use crate::entry::Entries;
 use crate::scope::{Mode, Scope};
 use crate::spare::Spare;
+use crate::survey::Survey;
 use block_hash::{Digest16, digest};
 use file_table::{Cell, Mark, Shape, Table};
 use stripe_reader::Window;
@@ -100,10 +101,7 @@ fn mark_damaged<P: Spare>(
     spare: &mut P,
     block: &mut [u8],
 ) -> CellMark
-    requires stripe { i < window.old.count }
-    requires column { d < length window.old.lanes }
-    requires size { length block.old ≤ window.old.block_size }
-    requires most { length block.old ≤ 4194304 }
+    requires can { CanPut i d (length block.old) window.old }
     requires spare { IsSpareFor shape (P.holding spare.old) }
     ensures block { length block.new ≡ length block.old }
     ensures mark { ShowsAnswer asked shape window.old.block_size (length block.old)
@@ -134,21 +132,14 @@ fn mark_cell<P: Spare>(
     spare: &mut P,
     block: &mut [u8],
 ) -> CellMark
-    requires within { stripe < length table.now.infos }
-    requires column { d < length table.now.columns }
-    requires fits { Fits table.now window.old }
-    requires stripe { i < window.old.count }
+    requires can { CanMarkCell table.now stripe i d window.old }
     requires block { length block.old ≡ table.now.shape.block_size }
     requires spare { IsSpareFor table.now.shape (P.holding spare.old) }
     ensures block { length block.new ≡ length block.old }
-    ensures mark { IsMarked searched table.now.shape
-        (cell_view (column_at table.now.columns d) stripe)
+    ensures mark { IsMarked searched table.now.shape (seen_in table.now stripe d)
         (slot_at window.old i d) result (slot_at window.new i d) }
     ensures changes { ChangesSlot i d window.old window.new }
-    ensures asks { AsksBlock
-        (asks_for searched (cell_view (column_at table.now.columns d) stripe) (slot_at window.old i d))
-        (holds_wanted (P.holding spare.old)
-        (wanted_by table.now.shape d (cell_view (column_at table.now.columns d) stripe)))
+    ensures asks { AsksCell searched table.now stripe d (slot_at window.old i d)
         (is_marked_given result) (P.holding spare.old) (P.holding spare.new) }
 {
     let Some(cell) = table.cell(stripe, d) else {
@@ -160,25 +151,15 @@ fn mark_cell<P: Spare>(
         return CellMark::Right;
     }
     let asked = if searched { recorded } else { None };
-    let length = cell_length(table, d, cell) as usize;
-    mark_damaged(
-        asked,
-        table.shape(),
-        i,
-        d,
-        window,
-        spare,
-        &mut block[..length],
-    )
+    let block = &mut block[..cell_length(table, d, cell) as usize];
+    mark_damaged(asked, table.shape(), i, d, window, spare, block)
 }
 
 /// Marks the cells of a stripe of a window that was read: a missing one has no bytes then, and one
 /// whose block the spare gave has that. The spare is asked where the stripe's damaged blocks are
 /// searched for.
 pub fn mark_cells<P: Spare>(
-    scope: Scope,
-    table: &Table,
-    entries: &Entries,
+    survey: &Survey<'_>,
     stripe: u32,
     i: u32,
     window: &mut Window,
@@ -186,17 +167,17 @@ pub fn mark_cells<P: Spare>(
     spare: &mut P,
     block: &mut [u8],
 )
-    requires can { CanExamine (plan_of scope table.now entries.now) stripe i window.old }
-    requires marks { length marks.old ≡ length table.now.columns }
-    requires block { length block.old ≡ table.now.shape.block_size }
-    requires spare { IsSpareFor table.now.shape (P.holding spare.old) }
+    requires can { CanExamine (plan_in survey.now) stripe i window.old }
+    requires marks { length marks.old ≡ length survey.now.table.now.columns }
+    requires block { length block.old ≡ survey.now.table.now.shape.block_size }
+    requires spare { IsSpareFor survey.now.table.now.shape (P.holding spare.old) }
     ensures block { length block.new ≡ length block.old }
-    ensures marked { MarksCells (plan_of scope table.now entries.now) stripe i
-        window.old marks.new window.new }
-    ensures asks { AsksMarked (plan_of scope table.now entries.now) stripe i
+    ensures marked { MarksCells (plan_in survey.now) stripe i window.old marks.new window.new }
+    ensures asks { AsksMarked (plan_in survey.now) stripe i
         window.old marks.new (P.holding spare.old) (P.holding spare.new) }
 {
-    let searched = is_searched(scope, table, stripe);
+    let table = survey.table;
+    let searched = is_searched(survey.scope, table, stripe);
     for d in 0..table.disks() {
         marks[d as usize] = mark_cell(searched, table, stripe, i, d, window, spare, block);
     }

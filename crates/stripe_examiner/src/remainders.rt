@@ -1,9 +1,10 @@
 // What is left of the levels of a stripe, less the sums of its row.
-ghost use Rattle.std.specs.Prelude.{◌≡◌, ℕ, ◌*◌, ◌<◌, ◌≤◌, length, slice_index, take};
+ghost use Rattle.std.specs.Prelude.{◌≡◌, ℕ, ◌<◌, ◌≤◌, length, slice_index, take};
 ghost use Rattle.gf256.specs.Field.{field_sum};
 ghost use Rattle.parity_writer.specs.WindowRow.{row_at};
 ghost use Rattle.stripe_examiner.specs.Known.{AreRemainders, is_whole as is_whole_by};
 ghost use Rattle.stripe_examiner.specs.Knowing.{IsRemainder};
+ghost use Rattle.stripe_examiner.specs.Sharing.{AreSixBlocks, HasLevels};
 
 use parity_writer::{LevelRead, Levels, sum_row};
 use stripe_reader::Window;
@@ -52,13 +53,10 @@ pub fn fill_in_turn(
 )
     requires stripe { i < window.now.count }
     requires columns { length window.now.lanes ≤ 251 }
-    requires count { count ≡ levels.now.count }
-    requires room { count ≤ length levels.now.levels }
-    requires most { count ≤ 6 }
-    requires window { size ≡ window.now.block_size }
-    requires levels { size ≡ levels.now.block_size }
-    requires most_size { size ≤ 4194304 }
-    requires remainders { length remainders.old ≡ 6 * size }
+    requires levels { HasLevels count levels.now }
+    requires size { size ≡ window.now.block_size }
+    requires level_size { size ≡ levels.now.block_size }
+    requires remainders { AreSixBlocks size remainders.old }
     ensures { AreRemainders size (row_at window.now i) (take levels.now.count levels.now.levels)
         remainders.new }
 {

@@ -1,12 +1,9 @@
 // A window of stripes, examined.
-ghost use Rattle.std.specs.Prelude.{◌≡◌, ◌<◌, ◌≤◌, All, length, map};
-ghost use Rattle.stripe_reader.specs.Columns.{ReadsWindow};
-ghost use Rattle.stripe_reader.specs.Starts.{StartsFit};
-ghost use Rattle.stripe_reader.specs.WindowValue.{Fits};
-ghost use Rattle.stripe_examiner.specs.Plan.{EntriesFit, plan_of};
-ghost use Rattle.stripe_examiner.specs.Room.{IsStripeRoomFor};
+ghost use Rattle.std.specs.Prelude.{◌≡◌, length, map};
+ghost use Rattle.stripe_examiner.specs.Plan.{plan_of};
 ghost use Rattle.stripe_examiner.specs.Spare.{IsSpareFor};
-ghost use Rattle.stripe_examiner.specs.WindowExamined.{CanExamineWindow, ExaminesRooms, ExaminesWindow};
+ghost use Rattle.stripe_examiner.specs.Surveyed.{AreDisksOf, plan_in};
+ghost use Rattle.stripe_examiner.specs.WindowExamined.{CanExamineRooms, CanExamineWindow, ExaminesRooms, ExaminesWindow};
 
 use crate::beside::read_beside;
 use crate::entry::Entries;
@@ -16,6 +13,7 @@ use crate::putting::put_stripes;
 use crate::room::{Room, StripeRoom};
 use crate::scope::Scope;
 use crate::spare::Spare;
+use crate::survey::Survey;
 use disk_model::{Folder, Vault};
 use file_table::Table;
 use std::thread::Threads;
@@ -24,12 +22,7 @@ use stripe_reader::{Starts, Window};
 // The same, with as many rooms as there are stripes, or more.
 fn examine_rooms<R: Threads + Sync, F: Folder, V: Vault, P: Spare>(
     rt: &R,
-    scope: Scope,
-    table: &Table,
-    entries: &Entries,
-    starts: &Starts,
-    stripes: &[u32],
-    readers: u32,
+    survey: &Survey<'_>,
     window: &mut Window,
     block: &mut [u8],
     folders: &mut [F],
@@ -37,32 +30,24 @@ fn examine_rooms<R: Threads + Sync, F: Folder, V: Vault, P: Spare>(
     spare: &mut P,
     all: &mut [StripeRoom],
 )
-    requires entries { EntriesFit table.now entries.now }
-    requires starts { StartsFit table.now starts.now }
-    requires within { All (λ stripe. stripe < length table.now.infos) stripes.now }
-    requires window { Fits table.now window.old }
-    requires enough { length stripes.now ≤ window.old.room }
-    requires block { length block.old ≡ table.now.shape.block_size }
-    requires folders { length folders.old ≡ length table.now.columns }
-    requires levels { (V.view vault.old).levels ≡ table.now.shape.levels }
-    requires spare { IsSpareFor table.now.shape (P.holding spare.old) }
-    requires count { length stripes.now ≤ length all.old }
-    requires rooms { All (IsStripeRoomFor table.now) all.old }
+    requires can { CanExamineRooms (plan_in survey.now) survey.now.starts.now survey.now.stripes.now
+        window.old all.old }
+    requires block { length block.old ≡ survey.now.table.now.shape.block_size }
+    requires disks { AreDisksOf survey.now.table.now (length folders.old) (V.view vault.old) }
+    requires spare { IsSpareFor survey.now.table.now.shape (P.holding spare.old) }
     ensures count { length all.new ≡ length all.old }
     ensures block { length block.new ≡ length block.old }
-    ensures examined { ExaminesRooms (plan_of scope table.now entries.now) starts.now stripes.now window.old window.new all.new
-        (map F.view folders.old) (map F.view folders.new) (V.view vault.old) (V.view vault.new)
-        (P.holding spare.old) (P.holding spare.new) }
+    ensures examined { ExaminesRooms (plan_in survey.now) survey.now.starts.now survey.now.stripes.now
+        window.old window.new all.new (map F.view folders.old) (map F.view folders.new)
+        (V.view vault.old) (V.view vault.new) (P.holding spare.old) (P.holding spare.new) }
 {
     // A table has at most six levels.
-    let _shape = table.shape();
-    let rooms = &mut all[..stripes.len()];
-    read_beside(
-        rt, scope, table, entries, starts, stripes, readers, folders, window, vault, rooms,
-    );
-    mark_stripes(scope, table, entries, stripes, window, spare, block, rooms);
-    judge_stripes(rt, scope, table, entries, stripes, readers, window, rooms);
-    put_stripes(scope, table, entries, stripes, window, rooms);
+    let _shape = survey.table.shape();
+    let rooms = &mut all[..survey.stripes.len()];
+    read_beside(rt, survey, folders, window, vault, rooms);
+    mark_stripes(survey, window, spare, block, rooms);
+    judge_stripes(rt, survey, window, rooms);
+    put_stripes(survey, window, rooms);
 }
 
 /// Reads these stripes into the window, and their levels where a recovery of their blocks is tried, asks the spare for what is
@@ -89,19 +74,14 @@ pub fn examine_window<R: Threads + Sync, F: Folder, V: Vault, P: Spare>(
         (map F.view folders.old) (map F.view folders.new) (V.view vault.old) (V.view vault.new)
         (P.holding spare.old) (P.holding spare.new) }
 {
-    examine_rooms(
-        rt,
+    let survey = Survey {
         scope,
         table,
         entries,
         starts,
         stripes,
-        readers,
-        &mut room.window,
-        &mut room.block,
-        folders,
-        vault,
-        spare,
-        &mut room.stripes,
-    );
+        threads: readers,
+    };
+    let (window, block, rooms) = (&mut room.window, &mut room.block, &mut room.stripes);
+    examine_rooms(rt, &survey, window, block, folders, vault, spare, rooms);
 }

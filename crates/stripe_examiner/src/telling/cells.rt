@@ -76,7 +76,8 @@ pub fn tell_unsynced<W: Sink>(
 ) -> Counts
     requires entries { EntriesFit table.now entries.now }
     requires within { stripe < length table.now.infos }
-    ensures told { Told W.view standing stands table.now.columns (unsynced_events (plan_of scope table.now entries.now) stripe)
+    ensures told { Told W.view standing stands table.now.columns
+        (unsynced_events (plan_of scope table.now entries.now) stripe)
         lines.old lines.new reports.old.items reports.new.items }
     ensures counts { AreCounts (unsynced_events (plan_of scope table.now entries.now) stripe) result }
 {
@@ -228,7 +229,8 @@ pub fn tell_lost<W: Sink>(
     requires within { stripe < length table.now.infos }
     requires marks { length marks.now ≡ length table.now.columns }
     ensures told { Told W.view standing stands table.now.columns
-        (all_lost_events (plan_of scope table.now entries.now) stripe (λ d. is_marked_missing (mark_in marks.now d)) known)
+        (all_lost_events (plan_of scope table.now entries.now) stripe
+        (λ d. is_marked_missing (mark_in marks.now d)) known)
         lines.old lines.new reports.old.items reports.new.items }
     ensures counts { AreCounts (all_lost_events (plan_of scope table.now entries.now) stripe
         (λ d. is_marked_missing (mark_in marks.now d)) known) result }

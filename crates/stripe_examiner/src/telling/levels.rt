@@ -61,7 +61,8 @@ pub fn tell_unread_levels<W: Sink>(
     ensures told { Told W.view standing stands table.now.columns
         (all_level_io_events (plan_of scope table.now entries.now) stripe (take levels.now.count levels.now.levels))
         lines.old lines.new reports.old.items reports.new.items }
-    ensures counts { AreCounts (all_level_io_events (plan_of scope table.now entries.now) stripe (take levels.now.count levels.now.levels)) result }
+    ensures counts { AreCounts (all_level_io_events (plan_of scope table.now entries.now) stripe
+        (take levels.now.count levels.now.levels)) result }
 {
     let mut counts = Counts::NONE;
     for r in 0..table.shape().levels {

@@ -29,7 +29,8 @@ fn tell_noted<W: Sink>(
     reports: &mut Vec<Box<dyn Report>>,
 ) -> Counts
     requires count { length found.now ≡ length table.now.columns }
-    requires fits { (d : ℕ) → d < length table.now.columns → IfSome (found_at found.now d) (EventFits table.now.columns) }
+    requires fits { (d : ℕ) → d < length table.now.columns →
+        IfSome (found_at found.now d) (EventFits table.now.columns) }
     ensures told { Told W.view standing stands table.now.columns (noted_events found.now (length table.now.columns))
         lines.old lines.new reports.old.items reports.new.items }
     ensures counts { AreCounts (noted_events found.now (length table.now.columns)) result }
@@ -52,7 +53,8 @@ fn tell_levels<W: Sink>(
     reports: &mut Vec<Box<dyn Report>>,
 ) -> Counts
     requires can { CanTell (plan_of scope table.now entries.now) stripe own.now }
-    ensures told { Told W.view standing stands table.now.columns (level_events_shown (plan_of scope table.now entries.now) stripe own.now)
+    ensures told { Told W.view standing stands table.now.columns
+        (level_events_shown (plan_of scope table.now entries.now) stripe own.now)
         lines.old lines.new reports.old.items reports.new.items }
     ensures counts { AreCounts (level_events_shown (plan_of scope table.now entries.now) stripe own.now) result }
 {

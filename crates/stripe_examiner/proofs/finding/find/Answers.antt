@@ -39,22 +39,22 @@ search-requires-clause-room c =
       some = grind (arith, nat_tests, c.is_empty.ensures, c.if-is_empty.false);
       block = omega (arith, size_is, valid.shape.block_size.least);
       at_most = omega (arith, size_is, valid.shape.block_size.most);
-      lengths = subst (λ (n : ℕ). All (λ (one : Wanted). one.length ≤ n) c.args.wanted.now) (sym size_is) c.requires.missing.lengths;
+      lengths = subst (λ (n : ℕ). All (λ (one : Wanted). one.length ≤ n) c.args.wanted.now) (sym size_is) c.requires.can.missing.lengths;
       remainder_bytes = c.fill_in_turn.ensures.long;
-      work_bytes = omega (arith, size_is, c.requires.blocks);
+      work_bytes = omega (arith, size_is, c.requires.room.blocks_are);
     }
 
 pub search-requires-clause-columns : goal.search-requires-clause-columns
 search-requires-clause-columns c =
     distinct_below (length (row_at c.args.window.now c.args.i)) 251 _
-    (omega (arith, length-map c.args.window.now.lanes (bytes_in c.args.i), c.requires.columns, c.shape-shape.ensures.valid.columns.few)) c.requires.missing.distinct
+    (omega (arith, length-map c.args.window.now.lanes (bytes_in c.args.i), c.requires.can.fits.lanes, c.shape-shape.ensures.valid.columns.few)) c.requires.can.missing.distinct
 
 pub search-requires-clause-levels : goal.search-requires-clause-levels
 search-requires-clause-levels c =
     let levels = c.args.levels.now in
     let read = take levels.count levels.levels in
     subst (AreDistinctBelow 6) (sym (c.deref.ensures.0 ∙ c.whole_levels-whole.ensures))
-    (passed_distinct (whole_level read) (length read) 6 (omega (arith, length-take levels.count levels.levels, c.requires.count, c.shape-shape.ensures.valid.shape.levels.most)))
+    (passed_distinct (whole_level read) (length read) 6 (omega (arith, length-take levels.count levels.levels, c.requires.can.levels_fit.count, c.shape-shape.ensures.valid.shape.levels.most)))
 
 pub returns-then-not-search-clause-known : goal.returns-then-not-search-clause-known
 returns-then-not-search-clause-known c =
@@ -67,12 +67,12 @@ returns-then-not-search-clause-known c =
 pub take_found-requires-clause-columns : goal.take_found-requires-clause-columns
 take_found-requires-clause-columns c =
     columns_below (row_at c.args.window.now c.args.i) c.args.table.now.shape.block_size 251 c.args.wanted.now
-    (omega (arith, length-map c.args.window.now.lanes (bytes_in c.args.i), c.requires.columns, c.shape-shape.ensures.valid.columns.few)) c.requires.missing
+    (omega (arith, length-map c.args.window.now.lanes (bytes_in c.args.i), c.requires.can.fits.lanes, c.shape-shape.ensures.valid.columns.few)) c.requires.can.missing
 
 pub take_found-requires-clause-lengths : goal.take_found-requires-clause-lengths
 take_found-requires-clause-lengths c =
     let size_is : c.shape-shape.result.block_size ≡ c.args.table.now.shape.block_size = ap (λ (s : Shape). s.block_size) c.shape-shape.ensures.shape in
-    subst (λ (n : ℕ). All (λ (one : Wanted). one.length ≤ n) c.args.wanted.now) (sym size_is) c.requires.missing.lengths
+    subst (λ (n : ℕ). All (λ (one : Wanted). one.length ≤ n) c.args.wanted.now) (sym size_is) c.requires.can.missing.lengths
 
 pub returns-clause-known : goal.returns-clause-known
 returns-clause-known c =
@@ -96,6 +96,6 @@ returns-clause-left c is =
     let row = row_at c.args.window.now c.args.i in
     let shape = c.shape-shape.result in
     let size_is : shape.block_size ≡ table.shape.block_size = ap (λ (s : Shape). s.block_size) c.shape-shape.ensures.shape in
-    let missing : AreMissingIn row shape.block_size wanted = subst (λ (n : ℕ). AreMissingIn row n wanted) (sym size_is) c.requires.missing in
+    let missing : AreMissingIn row shape.block_size wanted = subst (λ (n : ℕ). AreMissingIn row n wanted) (sym size_is) c.requires.can.missing in
     left_at_shape table.shape shape wanted (length wanted) c.search.new.work c.take_found.new.remainders row (take levels.count levels.levels) c.shape-shape.ensures.shape refl
     (c.take_found.ensures.left row missing c.fill_in_turn.ensures)

@@ -22,12 +22,12 @@ loop-r-preserved c =
     let column = c.args.column in
     let so_far = c.loop-r.invariant in
     let read = take levels.count levels.levels in
-    let within : r < levels.count = omega (arith, c.requires.count) in
-    let known : r < 6 = omega (arith, within, c.requires.count, c.requires.most) in
+    let within : r < levels.count = omega (arith, c.requires.levels.count_is) in
+    let known : r < 6 = omega (arith, within, c.requires.levels.count_is, c.requires.levels.most) in
     let here : get_or read r no_level ≡ get_or levels.levels r no_level = get_or-take levels.count levels.levels r no_level within in
     let test : whole_level read r ≡ c.is_whole.result =
     ap (λ (level : LevelValue). is_whole level.state) here ∙ ap is_whole (sym c.state.ensures) ∙ sym c.is_whole.ensures in
-    let all : length old ≡ 6 * size = omega (arith, c.loop-r.auto.remainders, c.requires.remainders) in
+    let all : length old ≡ 6 * size = omega (arith, c.loop-r.auto.remainders, c.requires.remainders.long) in
     elim c.if-is_whole.branch [
       | then-is_whole w ↦
           let out = w.add_column.new.out in
@@ -72,5 +72,5 @@ returns-clause-left c row below empty are =
     let levels = c.args.levels.now in
     taken c.products.ensures.zero c.args.size c.args.column c.loop-r.r row c.args.block.now c.args.remainders.now c.loop-r.remainders (take levels.count levels.levels)
     c.loop-r.auto.remainders below empty
-    (omega (arith, c.loop-r-test.false, c.requires.count, levels_as_many levels (omega (arith, c.requires.count, c.requires.room))))
+    (omega (arith, c.loop-r-test.false, c.requires.levels.count_is, levels_as_many levels (omega (arith, c.requires.levels.count_is, c.requires.levels.room))))
     c.loop-r.invariant.added are

@@ -6,13 +6,13 @@ use Rattle.file_table.specs.declared.shape.Shape.{Shape}
 use Rattle.parity_writer.specs.LevelsValue.{level_at}
 use Rattle.stripe_examiner.specs.Findings.{is_wrong}
 use Rattle.stripe_examiner.specs.Known.{AreRemainders}
-use Rattle.stripe_examiner.specs.Plan.{plan_of}
+use Rattle.stripe_examiner.specs.Surveyed.{plan_in}
 use Rattle.stripe_examiner.proofs.JudgingLemmas.{left_of}
 use Rattle.stripe_examiner.proofs.judging.wrong_levels.Goals as goal
 
 pub loop-r-preserved : goal.loop-r-preserved
 loop-r-preserved c =
-    let plan = plan_of c.args.scope c.args.table.now c.args.entries.now in
+    let plan = plan_in c.args.survey.now in
     let levels = c.args.levels.now in
     let shape = c.shape-shape.result in
     let r = c.loop-r.r in

@@ -4,7 +4,7 @@ use Rattle.parity_writer.specs.LevelsValue.{level_at}
 use Rattle.parity_writer.specs.Parity.{Row}
 use Rattle.stripe_examiner.specs.Findings.{is_wrong}
 use Rattle.stripe_examiner.specs.Known.{AreRemainders}
-use Rattle.stripe_examiner.specs.Plan.{plan_of}
+use Rattle.stripe_examiner.specs.Surveyed.{plan_in}
 use Rattle.stripe_examiner.proofs.judging.wrong_levels.Given as goal
 
 -- the flags of the levels so far tell whether these are wrong
@@ -12,6 +12,6 @@ abbrev pub invariant-loop-r : goal.invariant-loop-r
 invariant-loop-r l =
     record {
       long : length l.wrong ≡ 6;
-      flags : (row : Row) → (l.known ≡ true → AreRemainders l.table.shape.block_size row (take l.levels.count l.levels.levels) l.remainders)
-          → (k : ℕ) → k < l.r → get_or l.wrong k false ≡ is_wrong (plan_of l.scope l.table l.entries) l.stripe (level_at l.levels k) (if l.known then Some row else None) k;
+      flags : (row : Row) → (l.known ≡ true → AreRemainders l.survey.table.now.shape.block_size row (take l.levels.count l.levels.levels) l.remainders)
+          → (k : ℕ) → k < l.r → get_or l.wrong k false ≡ is_wrong (plan_in l.survey) l.stripe (level_at l.levels k) (if l.known then Some row else None) k;
     }

@@ -1,4 +1,4 @@
-use Rattle.std.proofs.Common.{◌≡◌, ◌<◌, ◌≤◌, ℕ, List, refl, length, take, sym, ◌∙◌, ap, subst, arith}
+use Rattle.std.proofs.Common.{◌≡◌, ◌<◌, ◌≤◌, refl, length, take, sym, ◌∙◌, ap, subst, arith}
 use Rattle.std.proofs.lemmas.Bool.Decides.{nat_tests}
 use Rattle.std.proofs.lemmas.Bool.{false≢true}
 use Rattle.std.proofs.lemmas.List.{length-take, with_items_is}
@@ -6,7 +6,7 @@ use Rattle.file_table.specs.declared.shape.Shape.{Shape}
 use Rattle.parity_writer.specs.WindowRow.{row_at}
 use Rattle.stripe_examiner.specs.Judged.{AreMissingIn}
 use Rattle.stripe_examiner.specs.Marks.{wanted_marked}
-use Rattle.stripe_examiner.specs.Plan.{plan_of}
+use Rattle.stripe_examiner.specs.Surveyed.{plan_in}
 use Rattle.stripe_examiner.proofs.JudgedLemmas.{judges, judges_as_found, judges_whole, missing_in_row, none_wrong}
 use Rattle.stripe_examiner.proofs.JudgingLemmas.{none_selected}
 use Rattle.stripe_examiner.proofs.KnowRemainders.{none_of_many}
@@ -14,8 +14,8 @@ use Rattle.stripe_examiner.proofs.judging_window.judge_searched.Goals as goal
 
 pub returns-in_default-clause-judged : goal.returns-in_default-clause-judged
 returns-in_default-clause-judged c =
-    let table = c.args.table.now in
-    let plan = plan_of c.args.scope table c.args.entries.now in
+    let table = c.args.survey.now.table.now in
+    let plan = plan_in c.args.survey.now in
     let levels = c.args.own.now.levels in
     let count = c.requires.can.count c.requires.searched in
     let most : levels.count ≤ 6 = omega (arith, count, c.shape.ensures.valid.shape.levels.most) in
@@ -28,8 +28,8 @@ returns-in_default-clause-judged c =
 
 pub returns-then-not-is_judged-clause-judged : goal.returns-then-not-is_judged-clause-judged
 returns-then-not-is_judged-clause-judged c =
-    let table = c.args.table.now in
-    let plan = plan_of c.args.scope table c.args.entries.now in
+    let table = c.args.survey.now.table.now in
+    let plan = plan_in c.args.survey.now in
     let levels = c.args.own.now.levels in
     let count = c.requires.can.count c.requires.searched in
     let none : length c.in-Some.wanted.items ≡ 0 = grind (arith, nat_tests, c.is_empty.ensures, c.if-is_empty.true) in
@@ -40,24 +40,35 @@ returns-then-not-is_judged-clause-judged c =
     refl (sym (ap length wanteds) ∙ none)
     (none_selected plan c.args.stripe levels _ (sym c.has_selected_level-is_judged.ensures ∙ c.if-not-is_judged.true) count (omega (arith, count, c.shape.ensures.valid.shape.levels.most)))
 
-pub find-known-requires-clause-missing : goal.find-known-requires-clause-missing
-find-known-requires-clause-missing c =
-    let table = c.args.table.now in
-    let plan = plan_of c.args.scope table c.args.entries.now in
-    subst (AreMissingIn (row_at c.args.window.now c.args.i) table.shape.block_size)
-    (sym (c.deref-2.ensures.0 ∙ c.in-Some.ensures.value ∙ ap (wanted_marked plan c.args.stripe) c.deref.ensures.value))
-    (missing_in_row plan c.args.stripe c.args.i c.args.window.now c.args.own.now c.requires.can)
+pub find-known-requires-clause-can : goal.find-known-requires-clause-can
+find-known-requires-clause-can c =
+    let table = c.args.survey.now.table.now in
+    let plan = plan_in c.args.survey.now in
+    let count = c.requires.can.count c.requires.searched in
+    record {
+      number = c.requires.can.can.number;
+      fits = c.requires.can.can.fits;
+      levels_fit = record {
+        count = count;
+        room = omega (arith, c.see_levels.ensures, count, ap (λ (s : Shape). s.levels) c.shape.ensures.shape);
+        block_size = c.requires.can.room.levels;
+      };
+      few = omega (arith, c.deref-2.ensures.1);
+      missing = subst (AreMissingIn (row_at c.args.window.now c.args.i) table.shape.block_size)
+          (sym (c.deref-2.ensures.0 ∙ c.in-Some.ensures.value ∙ ap (wanted_marked plan c.args.stripe) c.deref.ensures.value))
+          (missing_in_row plan c.args.stripe c.args.i c.args.window.now c.args.own.now c.requires.can);
+    }
 
 pub returns-then-is_judged-clause-judged : goal.returns-then-is_judged-clause-judged
 returns-then-is_judged-clause-judged c =
-    let table = c.args.table.now in
-    let plan = plan_of c.args.scope table c.args.entries.now in
+    let table = c.args.survey.now.table.now in
+    let plan = plan_in c.args.survey.now in
     let own = c.args.own.now in
     let count = c.requires.can.count c.requires.searched in
     let wanteds : c.deref-2.result.now ≡ wanted_marked plan c.args.stripe own.marks.items =
     c.deref-2.ensures.0 ∙ c.in-Some.ensures.value ∙ ap (wanted_marked plan c.args.stripe) c.deref.ensures.value in
-    let remainders_are = c.deref-then-is_judged.ensures.value ∙ with_items_is own.remainders c.find-known.new.remainders (c.find-known.ensures.remainders ∙ ap (λ (xs : List ℕ). length xs) c.deref_mut.ensures.value ∙ sym own.remainders.ok.0) in
-    let blocks_are = with_items_is own.blocks c.find-known.new.blocks (c.find-known.ensures.blocks ∙ ap (λ (xs : List ℕ). length xs) c.deref_mut-2.ensures.value ∙ sym own.blocks.ok.0) in
+    let remainders_are = c.deref-then-is_judged.ensures.value ∙ with_items_is own.remainders c.find-known.new.remainders (c.find-known.ensures.room.remainders_are ∙ sym c.requires.can.room.remainders ∙ sym own.remainders.ok.0) in
+    let blocks_are = with_items_is own.blocks c.find-known.new.blocks (c.find-known.ensures.room.blocks_are ∙ sym c.requires.can.room.blocks ∙ sym own.blocks.ok.0) in
     judges_as_found plan c.args.stripe c.args.i c.args.window.now _ c.requires.searched
     (omega (arith, c.see_levels.ensures, count, ap (λ (s : Shape). s.levels) c.shape.ensures.shape))
     c.find-known.result c.deref-2.result.now c.find-known.new.blocks refl wanteds blocks_are
@@ -67,13 +78,13 @@ returns-then-is_judged-clause-judged c =
 
 pub returns-else-is_judged-clause-judged : goal.returns-else-is_judged-clause-judged
 returns-else-is_judged-clause-judged c =
-    let table = c.args.table.now in
-    let plan = plan_of c.args.scope table c.args.entries.now in
+    let table = c.args.survey.now.table.now in
+    let plan = plan_in c.args.survey.now in
     let own = c.args.own.now in
     let count = c.requires.can.count c.requires.searched in
     let wanteds : c.deref-2.result.now ≡ wanted_marked plan c.args.stripe own.marks.items =
     c.deref-2.ensures.0 ∙ c.in-Some.ensures.value ∙ ap (wanted_marked plan c.args.stripe) c.deref.ensures.value in
-    let blocks_are = with_items_is own.blocks c.find-known.new.blocks (c.find-known.ensures.blocks ∙ ap (λ (xs : List ℕ). length xs) c.deref_mut-2.ensures.value ∙ sym own.blocks.ok.0) in
+    let blocks_are = with_items_is own.blocks c.find-known.new.blocks (c.find-known.ensures.room.blocks_are ∙ sym c.requires.can.room.blocks ∙ sym own.blocks.ok.0) in
     judges_as_found plan c.args.stripe c.args.i c.args.window.now _ c.requires.searched
     (omega (arith, c.see_levels.ensures, count, ap (λ (s : Shape). s.levels) c.shape.ensures.shape))
     c.find-known.result c.deref-2.result.now c.find-known.new.blocks refl wanteds blocks_are

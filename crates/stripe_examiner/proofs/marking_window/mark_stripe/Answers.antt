@@ -1,4 +1,4 @@
-use Rattle.std.proofs.Common.{◌≡◌, List, Option, length, ap, ◌∙◌, sym, subst}
+use Rattle.std.proofs.Common.{◌≡◌, List, Option, length, refl, ap, ◌∙◌, sym, subst}
 use Rattle.std.specs.Vec.{with_items}
 use Rattle.std.proofs.lemmas.List.{with_items_is}
 use Rattle.snap_report.specs.declared.events.Event.{Event}
@@ -6,14 +6,14 @@ use Rattle.stripe_reader.specs.WindowValue.{slot_at}
 use Rattle.stripe_examiner.specs.declared.marking.CellMark.{CellMark}
 use Rattle.stripe_examiner.specs.AskedCell.{AsksMarked}
 use Rattle.stripe_examiner.specs.MarkedWindow.{HasMarks}
-use Rattle.stripe_examiner.specs.Plan.{plan_of}
+use Rattle.stripe_examiner.specs.Surveyed.{plan_in}
 use Rattle.stripe_examiner.specs.Shown.{IsFound, found_at}
 use Rattle.stripe_examiner.proofs.CellFactsLemmas.{has_marks}
 use Rattle.stripe_examiner.proofs.marking_window.mark_stripe.Goals as goal
 
-pub returns-clause-marked : goal.returns-clause-marked
-returns-clause-marked g c =
-    let plan = plan_of c.args.scope c.args.table.now c.args.entries.now in
+pub returns-clause-marks : goal.returns-clause-marks
+returns-clause-marks g c =
+    let plan = plan_in c.args.survey.now in
     let own = c.args.own.now in
     let window = c.args.window.now in
     let marks = c.mark_cells.new.marks in
@@ -22,15 +22,26 @@ returns-clause-marked g c =
     let marks_are : (with_items own.marks marks).items ≡ marks = with_items_is own.marks marks (cells.as_many ∙ sym c.requires.room.marks ∙ sym own.marks.ok.0) in
     let found_are : (with_items own.found found).items ≡ found = with_items_is own.found found (c.note_cells.ensures.count ∙ ap (λ (xs : List (Option Event)). length xs) c.deref_mut.ensures.value ∙ sym own.found.ok.0) in
     record {
-      cells = subst (λ (all : List CellMark). HasMarks plan c.args.stripe c.args.i window all c.mark_cells.new.window) (sym marks_are)
-          (has_marks plan c.args.stripe c.args.i window c.mark_cells.new.window marks cells);
-      found = λ d below.
-          subst (λ (all : List (Option Event)). IsFound plan c.args.stripe (slot_at window c.args.i d) d (found_at all d)) (sym found_are) (c.note_cells.ensures.found d below);
+      room = record {
+        found = ap (λ (xs : List (Option Event)). length xs) found_are ∙ c.note_cells.ensures.count ∙ ap (λ (xs : List (Option Event)). length xs) c.deref_mut.ensures.value ∙ c.requires.room.found;
+        marks = ap (λ (xs : List CellMark). length xs) marks_are ∙ cells.as_many;
+        levels = c.requires.room.levels;
+        remainders = c.requires.room.remainders;
+        blocks = c.requires.room.blocks;
+      };
+      levels = refl;
+      marked = record {
+        cells = subst (λ (all : List CellMark). HasMarks plan c.args.stripe c.args.i window all c.mark_cells.new.window) (sym marks_are)
+            (has_marks plan c.args.stripe c.args.i window c.mark_cells.new.window marks cells);
+        found = λ d below.
+            subst (λ (all : List (Option Event)). IsFound plan c.args.stripe (slot_at window c.args.i d) d (found_at all d)) (sym found_are) (c.note_cells.ensures.found d below);
+      };
+      changes = cells.changes;
     }
 
 pub returns-clause-asks : goal.returns-clause-asks
 returns-clause-asks g c =
-    let plan = plan_of c.args.scope c.args.table.now c.args.entries.now in
+    let plan = plan_in c.args.survey.now in
     let own = c.args.own.now in
     let marks = c.mark_cells.new.marks in
     let marks_are : (with_items own.marks marks).items ≡ marks = with_items_is own.marks marks (c.mark_cells.ensures.marked.as_many ∙ sym c.requires.room.marks ∙ sym own.marks.ok.0) in

@@ -3,13 +3,13 @@ use Rattle.std.specs.Prelude.{slice_set}
 use Rattle.std.proofs.lemmas.Bool.{cases_lt}
 use Rattle.std.proofs.lemmas.List.{get_or-set_same, get_or-set_other}
 use Rattle.stripe_reader.specs.WindowValue.{slot_at}
-use Rattle.stripe_examiner.specs.Plan.{plan_of}
+use Rattle.stripe_examiner.specs.Surveyed.{plan_in}
 use Rattle.stripe_examiner.specs.Shown.{IsFound, found_at}
 use Rattle.stripe_examiner.proofs.marking_window.note_cells.Goals as goal
 
 pub loop-d-preserved : goal.loop-d-preserved
 loop-d-preserved c = λ e below.
-    let plan = plan_of c.args.scope c.args.table.now c.args.entries.now in
+    let plan = plan_in c.args.survey.now in
     let window = c.args.window.now in
     let d = c.loop-d.d in
     let one = c.cell_finding.result in

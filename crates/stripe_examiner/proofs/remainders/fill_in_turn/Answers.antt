@@ -22,8 +22,8 @@ loop-r-preserved c =
     let new = c.if-is_whole.remainders in
     let row = row_at c.args.window.now c.args.i in
     let read = take levels.count levels.levels in
-    let within : r < levels.count = omega (arith, c.requires.count) in
-    let known : r < 6 = omega (arith, within, c.requires.count, c.requires.most) in
+    let within : r < levels.count = omega (arith, c.requires.levels.count_is) in
+    let known : r < 6 = omega (arith, within, c.requires.levels.count_is, c.requires.levels.most) in
     let place = place_within size 6 r known in
     let here : get_or read r no_level ≡ get_or levels.levels r no_level = get_or-take levels.count levels.levels r no_level within in
     let test : whole_level read r ≡ c.is_whole.result =
@@ -32,8 +32,8 @@ loop-r-preserved c =
       | then-is_whole w ↦
           let out = w.fill_remainder.new.out in
           let start = r * size in
-          let room : start ≤ length old = omega (arith, place, c.loop-r.auto.remainders, c.requires.remainders) in
-          let long : length out ≡ size = omega (arith, w.fill_remainder.ensures.size, length-take (start + size - start) (drop start old), length-drop start old, place, c.loop-r.auto.remainders, c.requires.remainders) in
+          let room : start ≤ length old = omega (arith, place, c.loop-r.auto.remainders, c.requires.remainders.long) in
+          let long : length out ≡ size = omega (arith, w.fill_remainder.ensures.size, length-take (start + size - start) (drop start old), length-drop start old, place, c.loop-r.auto.remainders, c.requires.remainders.long) in
           let front : take (start + size) new ≡ take start old ++ out =
           ap (take (start + size)) w.remainders-is ∙ take-put_mid start (start + size - start) old out (start + size) (omega (arith, long)) room in
           λ k p below whole inside. elim (cases_lt k r) [
@@ -42,7 +42,7 @@ loop-r-preserved c =
                 let same : r ≡ k = omega arith in
                 let filled : byte_in size new p r ≡ field_sum (get_or (get_or read r no_level).block p 0) (parity_byte r row p) =
                 put_byte size r old new out room long front p inside
-                ∙ w.fill_remainder.ensures.value p (omega (arith, inside, w.block.ensures.size, c.requires.levels))
+                ∙ w.fill_remainder.ensures.value p (omega (arith, inside, w.block.ensures.size, c.requires.level_size))
                 ∙ ap (λ (xs : List ℕ). field_sum (get_or xs p 0) (parity_byte r row p)) (w.block.ensures.value ∙ ap (λ (level : LevelValue). level.block) (sym here)) in
                 subst (λ (n : ℕ). byte_in size new p n ≡ field_sum (get_or (get_or read n no_level).block p 0) (parity_byte n row p)) same filled
           ]

@@ -6,7 +6,7 @@ use Rattle.stripe_examiner.specs.Facts.{StripeFacts}
 use Rattle.stripe_examiner.specs.Judged.{CanJudge}
 use Rattle.stripe_examiner.specs.Looking.{facts_at}
 use Rattle.stripe_examiner.specs.MarkedWindow.{number_at}
-use Rattle.stripe_examiner.specs.Plan.{plan_of}
+use Rattle.stripe_examiner.specs.Surveyed.{plan_in}
 use Rattle.stripe_examiner.specs.Room.{IsStripeRoomFor}
 use Rattle.stripe_examiner.specs.Shown.{ShowsStripe}
 use Rattle.stripe_examiner.proofs.JudgedLemmas.{can_kept}
@@ -15,40 +15,40 @@ use Rattle.stripe_examiner.proofs.surveying.examine_rooms.Goals as goal
 
 pub judge_stripes-requires-clause-can : goal.judge_stripes-requires-clause-can
 judge_stripes-requires-clause-can g c κs outlive k other below =
-    let table = c.args.table.now in
-    let plan = plan_of c.args.scope table c.args.entries.now in
-    let numbers = c.args.stripes.now in
+    let table = c.args.survey.now.table.now in
+    let plan = plan_in c.args.survey.now in
+    let numbers = c.args.survey.now.stripes.now in
     let read = c.read_beside.new.window in
     let marked = c.mark_stripes.new.window in
     let marks = c.mark_stripes.ensures in
     can_judge plan (number_at numbers k) k read marked (get_or c.read_beside.new.rooms k other) (get_or c.mark_stripes.new.rooms k other)
-    c.requires.entries (fits_as_large table read marked marks.window c.read_beside.ensures.window)
-    (c.requires.within k 0 below) (omega (arith, below, marks.window.count, c.read_beside.ensures.cells.count))
-    (marks.rooms k other (omega (arith, below, marks.count, c.read_beside.ensures.count, c.requires.count, length-take (length c.args.stripes.now) c.args.all.now)))
-    (marks.marked k other below) (marks.levels k other below) (c.read_beside.ensures.levels.counts k other below)
+    c.requires.can.entries (fits_as_large table read marked marks.marks.large c.read_beside.ensures.window)
+    (c.requires.can.read.within k 0 below) (omega (arith, below, marks.marks.large.count, c.read_beside.ensures.cells.count))
+    (marks.marks.rooms_are.each k other (omega (arith, below, marks.marks.rooms_are.as_many, c.read_beside.ensures.rooms.as_many, c.requires.can.as_many, length-take (length c.args.survey.now.stripes.now) c.args.all.now)))
+    (marks.marks.marked k other below) (marks.marks.levels k other below) (c.read_beside.ensures.levels.counts k other below)
 
 pub put_stripes-requires-clause-can : goal.put_stripes-requires-clause-can
 put_stripes-requires-clause-can g c k other below =
-    let table = c.args.table.now in
-    let plan = plan_of c.args.scope table c.args.entries.now in
-    let numbers = c.args.stripes.now in
+    let table = c.args.survey.now.table.now in
+    let plan = plan_in c.args.survey.now in
+    let numbers = c.args.survey.now.stripes.now in
     let read = c.read_beside.new.window in
     let marked = c.mark_stripes.new.window in
     let marks = c.mark_stripes.ensures in
     let judged = c.judge_stripes.ensures in
     can_kept plan (number_at numbers k) k marked (get_or c.mark_stripes.new.rooms k other) (get_or c.judge_stripes.new.rooms k other)
     (can_judge plan (number_at numbers k) k read marked (get_or c.read_beside.new.rooms k other) (get_or c.mark_stripes.new.rooms k other)
-    c.requires.entries (fits_as_large table read marked marks.window c.read_beside.ensures.window)
-    (c.requires.within k 0 below) (omega (arith, below, marks.window.count, c.read_beside.ensures.cells.count))
-    (marks.rooms k other (omega (arith, below, marks.count, c.read_beside.ensures.count, c.requires.count, length-take (length c.args.stripes.now) c.args.all.now)))
-    (marks.marked k other below) (marks.levels k other below) (c.read_beside.ensures.levels.counts k other below))
+    c.requires.can.entries (fits_as_large table read marked marks.marks.large c.read_beside.ensures.window)
+    (c.requires.can.read.within k 0 below) (omega (arith, below, marks.marks.large.count, c.read_beside.ensures.cells.count))
+    (marks.marks.rooms_are.each k other (omega (arith, below, marks.marks.rooms_are.as_many, c.read_beside.ensures.rooms.as_many, c.requires.can.as_many, length-take (length c.args.survey.now.stripes.now) c.args.all.now)))
+    (marks.marks.marked k other below) (marks.marks.levels k other below) (c.read_beside.ensures.levels.counts k other below))
     (judged.kept k other below) (judged.room k other below)
 
 pub returns-clause-examined : goal.returns-clause-examined
 returns-clause-examined g c =
-    let table = c.args.table.now in
-    let plan = plan_of c.args.scope table c.args.entries.now in
-    let numbers = c.args.stripes.now in
+    let table = c.args.survey.now.table.now in
+    let plan = plan_in c.args.survey.now in
+    let numbers = c.args.survey.now.stripes.now in
     let read = c.read_beside.new.window in
     let marked = c.mark_stripes.new.window in
     let final = c.put_stripes.new.window in
@@ -60,7 +60,7 @@ returns-clause-examined g c =
     let marks = c.mark_stripes.ensures in
     let judged = c.judge_stripes.ensures in
     let puts = c.put_stripes.ensures in
-    let many : length rooms ≡ length numbers = omega (arith, judged.count, marks.count, reads.count, c.requires.count, length-take (length numbers) c.args.all.now) in
+    let many : length rooms ≡ length numbers = omega (arith, judged.count, marks.marks.rooms_are.as_many, reads.rooms.as_many, c.requires.can.as_many, length-take (length numbers) c.args.all.now) in
     let stripes = facts_from plan read final 0 numbers rooms in
     let long = long_from plan read final numbers rooms many in
     let fact = fact_from plan read final numbers rooms many in
@@ -69,16 +69,16 @@ returns-clause-examined g c =
     let can : (k : ℕ) (other : StripeRoom) → k < length numbers → CanJudge plan (number_at numbers k) k marked (get_or rooms k other) = λ k other below.
     can_kept plan (number_at numbers k) k marked (get_or noted k other) (get_or rooms k other)
     (can_judge plan (number_at numbers k) k read marked (get_or first k other) (get_or noted k other)
-    c.requires.entries (fits_as_large table read marked marks.window reads.window)
-    (c.requires.within k 0 below) (omega (arith, below, marks.window.count, reads.cells.count))
-    (marks.rooms k other (omega (arith, below, marks.count, reads.count, c.requires.count, length-take (length numbers) c.args.all.now)))
-    (marks.marked k other below) (marks.levels k other below) (reads.levels.counts k other below))
+    c.requires.can.entries (fits_as_large table read marked marks.marks.large reads.window)
+    (c.requires.can.read.within k 0 below) (omega (arith, below, marks.marks.large.count, reads.cells.count))
+    (marks.marks.rooms_are.each k other (omega (arith, below, marks.marks.rooms_are.as_many, reads.rooms.as_many, c.requires.can.as_many, length-take (length numbers) c.args.all.now)))
+    (marks.marks.marked k other below) (marks.marks.levels k other below) (reads.levels.counts k other below))
     (judged.kept k other below) (judged.room k other below) in
     let each : (k : ℕ) (other : StripeRoom) → k < length stripes → ShowsStripe plan (facts_at stripes k) k final (get_or rooms k other) = λ k other below.
     let within : k < length numbers = omega (arith, below, long) in
     subst (λ (facts : StripeFacts). ShowsStripe plan facts k final (get_or rooms k other)) (sym (fact k other within))
     (stripe_shown plan (number_at numbers k) k read marked final (get_or noted k other) (get_or rooms k other) (can k other within) most lanes
-    (judged.kept k other within).found (judged.kept k other within).marks (marks.marked k other within) (judged.judged k other within) (puts.put k other within)) in
+    (judged.kept k other within).found (judged.kept k other within).marks (marks.marks.marked k other within) (judged.judged k other within) (puts.put k other within)) in
     record {
       stripes = stripes;
       numbers_are = numbers_from plan read final 0 numbers rooms many;
@@ -89,22 +89,22 @@ returns-clause-examined g c =
       each = λ k other below.
           subst (ShowsStripe plan (facts_at stripes k) k final) (sym (get_or_append_left rooms rest other k (omega (arith, below, long, many)))) (each k other below);
       levels = levels_shown plan numbers read marked final noted rooms many first _ _ reads.levels
-          (λ k other below. (judged.kept k other below).levels ∙ marks.levels k other below);
+          (λ k other below. (judged.kept k other below).levels ∙ marks.marks.levels k other below);
       asked = asked_shown plan numbers read marked final noted rooms many _ _ marks.asks
           (λ k other below. (judged.kept k other below).marks) puts.put;
       as_many = omega (arith, many, length-append rooms rest);
       rooms_are = All-append (IsStripeRoomFor table) rooms rest (λ k other within. judged.room k other (omega (arith, within, many)))
           (λ k other inside.
           subst (IsStripeRoomFor table) (sym (get_or-drop (length numbers) c.args.all.now k other))
-          (c.requires.rooms (length numbers + k) other (omega (arith, inside, c.requires.count, length-drop (length numbers) c.args.all.now))));
-      fits = fits_as_large table marked final puts.window (fits_as_large table read marked marks.window reads.window);
-      as_large = puts.window.room ∙ marks.window.room ∙ reads.cells.room;
-      count = puts.window.count ∙ marks.window.count ∙ reads.cells.count;
+          (c.requires.can.each (length numbers + k) other (omega (arith, inside, c.requires.can.as_many, length-drop (length numbers) c.args.all.now))));
+      fits = fits_as_large table marked final puts.window (fits_as_large table read marked marks.marks.large reads.window);
+      as_large = puts.window.room ∙ marks.marks.large.room ∙ reads.cells.room;
+      count = puts.window.count ∙ marks.marks.large.count ∙ reads.cells.count;
     }
 
 pub returns-clause-count : goal.returns-clause-count
 returns-clause-count g c =
-    let numbers = c.args.stripes.now in
+    let numbers = c.args.survey.now.stripes.now in
     let rooms = c.judge_stripes.new.rooms in
     omega (
       arith,
@@ -112,7 +112,7 @@ returns-clause-count g c =
       length-drop (length numbers) c.args.all.now,
       length-take (length numbers) c.args.all.now,
       c.judge_stripes.ensures.count,
-      c.mark_stripes.ensures.count,
-      c.read_beside.ensures.count,
-      c.requires.count,
+      c.mark_stripes.ensures.marks.rooms_are.as_many,
+      c.read_beside.ensures.rooms.as_many,
+      c.requires.can.as_many,
     )
