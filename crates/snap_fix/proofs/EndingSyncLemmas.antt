@@ -1,5 +1,5 @@
 -- Levels that were written are synced one after another.
-use Rattle.std.proofs.Common.{◌≡◌, inl, inr, ℕ, ◌+◌, ◌<◌, ◌||◌, Bool, true, false, List, [], ◌∷◌, ◌++◌, length, get_or, IsTrue, Result, Ok, Err, IfErr, refl, sym, ap, ◌∙◌, subst, arith, append_assoc}
+use Rattle.std.proofs.Common.{◌≡◌, inl, inr, ℕ, ◌+◌, ◌<◌, ◌||◌, Bool, true, false, List, [], ◌∷◌, ◌++◌, length, get_or, IsTrue, refl, sym, ap, ◌∙◌, subst, arith, append_assoc}
 use Rattle.std.specs.List.{range_with_len, flat_map, list_any}
 use Rattle.std.proofs.lemmas.Bool.{cases_lt}
 use Rattle.std.proofs.lemmas.List.{map-append}
@@ -13,11 +13,6 @@ use Rattle.snap_fix.specs.Underway.{done_well}
 use Rattle.snap_fix.proofs.BreakingLemmas.{fails_behind, fails_more, flat_split}
 use Rattle.stripe_examiner.proofs.LookingLemmas.{vault_goes_on}
 use Rattle.snap_fix.proofs.MendedVaultLemmas.{goes_on_none}
-
--- what holds whichever fault it was
-pub on_err : {T E : Type 0} (result : Result T E) (P : Type 0) → P → IfErr result (λ fault. P)
-on_err (Ok x) P is = tt
-on_err (Err e) P is = is
 
 -- ---- some calls, and then others
 

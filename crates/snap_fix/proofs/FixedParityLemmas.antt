@@ -1,5 +1,5 @@
 -- The levels of a stripe that is written anew: none is wrong where no recovery is tried.
-use Rattle.std.proofs.Common.{◌≡◌, ℕ, ◌&&◌, ◌||◌, List, [], ◌∷◌, length, get_or, Bool, true, false, None, Some, Result, Ok, Err, IfOk, IfErr, refl, sym, ap, ◌∙◌, subst}
+use Rattle.std.proofs.Common.{◌≡◌, ℕ, ◌&&◌, ◌||◌, List, [], ◌∷◌, length, get_or, Bool, true, false, None, Some, refl, sym, ap, ◌∙◌, subst}
 use Rattle.std.specs.List.{count_by, flat_map, range_with_len}
 use Rattle.disk_model.specs.Sink.{SinkView}
 use Rattle.disk_model.specs.Vault.{VaultView, VaultCall, GoesOn, DraftsStay}
@@ -132,11 +132,3 @@ module _ {W R : Type 0} (view : W → SinkView) (standing : R → ReportView) (s
       }
 
 -- ---- of what was answered
-
-pub if_ok : {T E : Type 0} (P Q S : T → Type 0) (result : Result T E) → ((t : T) → P t → Q t → S t) → IfOk result P → IfOk result Q → IfOk result S
-if_ok P Q S (Ok t) both one two = both t one two
-if_ok P Q S (Err e) both one two = tt
-
-pub if_err : {T E : Type 0} (P Q : E → Type 0) (result : Result T E) → ((e : E) → P e → Q e) → IfErr result P → IfErr result Q
-if_err P Q (Ok t) weaker one = tt
-if_err P Q (Err e) weaker one = weaker e one

@@ -24,7 +24,7 @@ use Rattle.snap_fix.specs.FixSteps.{MendsNotParity, MendsParity, ShowsTried}
 use Rattle.snap_fix.specs.Mended.{Mended, all_cell_news, all_level_news, cell_news, level_news}
 use Rattle.stripe_examiner.specs.Marks.{levels_read}
 use Rattle.stripe_examiner.specs.Plan.{FixPlan, is_searched}
-use Rattle.snap_fix.specs.Repairing.{MendsFiles, MendsNotFiles, levels_outside, outside}
+use Rattle.snap_fix.specs.Repairing.{LevelsOutside, MendsFiles, MendsNotFiles, levels_outside, outside}
 use Rattle.stripe_examiner.specs.Showing.{ShowsFacts}
 use Rattle.stripe_examiner.specs.Spare.{IsSpareFor, SpareView}
 use Rattle.snap_fix.specs.Underway.{IsMendCall}
@@ -49,6 +49,14 @@ module _ (plan : FixPlan) (facts : StripeFacts) (stripe i : ℕ) (window : Windo
 
   pub shows_marks : (marks : List CellMark) → marks ≡ own.marks.items → ShowsFacts plan facts i marks own.known window
   shows_marks marks same = subst (λ (all : List CellMark). ShowsFacts plan facts i all own.known window) (sym same) it.shows.shows
+
+-- the flags may be said otherwise
+pub parity_for : {W R : Type 0} (view : W → SinkView) (standing : R → ReportView) (stands : R → List Event → Type 0) (plan : FixPlan) (facts : StripeFacts)
+    (one two before after : List Bool) (old new : LevelsOutside W R) (count : ℕ) → one ≡ before → two ≡ after
+    → MendsParity view standing stands plan facts one two old new count → MendsParity view standing stands plan facts before after old new count
+parity_for view standing stands plan facts one two before after old new count same_before same_after mends =
+    subst (λ (flags : List Bool). MendsParity view standing stands plan facts before flags old new count) same_after
+    (subst (λ (flags : List Bool). MendsParity view standing stands plan facts flags two old new count) same_before mends)
 
 -- whatever the spare is
 pub fits_with : {W R : Type 0} (plan : FixPlan) (starts : StartsValue) (states : List (List FileState)) (written : List Bool) (folders : List FolderView) (vault : VaultView)

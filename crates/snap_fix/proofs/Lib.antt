@@ -29,6 +29,7 @@ pub mod EndingColumnLemmas
 pub mod EndingAllLemmas
 pub mod FixCountLemmas
 pub mod AskedLemmas
+pub mod AuditedLemmas
 pub mod KeptStartsLemmas
 pub mod MendedVaultLemmas
 pub mod WindowsLemmas
@@ -41,9 +42,10 @@ pub mod FixReadLemmas
 pub mod PresentCellLemmas
 pub mod PresentLemmas
 pub mod FixCallLemmas
+pub mod StoppedCellLemmas
 pub mod StoppedLemmas
 pub mod FixStripesLemmas
-pub mod FixWorkLemmas
+pub mod AnswerLemmas
 mod FixTreeLemmas
 mod FixStartLemmas
 mod FixEndLemmas

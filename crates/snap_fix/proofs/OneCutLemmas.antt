@@ -1,10 +1,10 @@
 -- Stripes are cut into windows in one way.
-use Rattle.std.proofs.Common.{◌≡◌, ℕ, suc, ◌+◌, ◌<◌, ◌≤◌, List, [], ◌∷◌, ◌++◌, length, get_or, All, refl, sym, ap, ap₂, ◌∙◌, arith}
+use Rattle.std.proofs.Common.{◌≡◌, ℕ, suc, ◌+◌, ◌<◌, List, [], ◌∷◌, ◌++◌, length, get_or, All, refl, sym, ap, ap₂, ◌∙◌, arith}
 use Rattle.std.proofs.lemmas.List.{length-append}
 use Rattle.parity_writer.specs.LevelReading.{LevelReading}
 use Rattle.stripe_examiner.specs.Facts.{StripeFacts}
 use Rattle.stripe_examiner.specs.Plan.{FixPlan}
-use Rattle.snap_fix.specs.Windows.{AreWindows, FixWindow, IsFixWindow, IsFull, no_window, readings_in, stripes_in, window_size}
+use Rattle.snap_fix.specs.Windows.{AreWindows, FixWindow, IsFixWindow, IsFull, no_window, readings_in, stripes_in}
 
 -- two lists that are the same, cut behind as many elements
 cut_alike : {A : Type 0} (xs ys rest others : List A) → length xs ≡ length ys → xs ++ rest ≡ ys ++ others → (xs ≡ ys) × (rest ≡ others)

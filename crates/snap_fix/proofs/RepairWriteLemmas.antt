@@ -1,5 +1,5 @@
 -- The block of a cell was written, or its file was gone, so that the cell is lost.
-use Rattle.std.proofs.Common.{◌≡◌, ℕ, ◌<◌, List, [], ◌∷◌, length, get_or, set, if◌then◌else◌, Bool, true, false, not, Some, Result, Ok, Err, IfOk, IfErr, refl, sym, ap, ◌∙◌, subst, arith}
+use Rattle.std.proofs.Common.{◌≡◌, ℕ, ◌<◌, List, [], ◌∷◌, length, get_or, set, if◌then◌else◌, Bool, true, false, not, Some, refl, sym, ap, ◌∙◌, subst, arith}
 use Rattle.std.proofs.lemmas.List.{set-set, length-set}
 use Rattle.disk_model.specs.Folder.{FolderView, FolderCall}
 use Rattle.disk_model.specs.Sink.{SinkView}
@@ -17,14 +17,6 @@ use Rattle.file_restorer.specs.Order.{block_calls}
 use Rattle.snap_fix.specs.RepairSteps.{WritesBlockOf, column_outside}
 use Rattle.file_restorer.specs.State.{HoldsColumn, HoldsTold, StepMakes, size_after, state_in}
 use Rattle.snap_fix.proofs.RepairLemmas.{column_lost, row_same, state_same}
-
-pub if_ok_then : {T E : Type 0} (P Q : T → Type 0) (result : Result T E) → ((x : T) → P x → Q x) → IfOk result P → IfOk result Q
-if_ok_then P Q (Ok x) more is = more x is
-if_ok_then P Q (Err e) more is = tt
-
-pub if_err_then : {T E : Type 0} (P Q : E → Type 0) (result : Result T E) → ((e : E) → P e → Q e) → IfErr result P → IfErr result Q
-if_err_then P Q (Ok x) more is = tt
-if_err_then P Q (Err e) more is = more e is
 
 -- a state that is replaced twice
 state_twice : (states : List (List FileState)) (d i : ℕ) (one other : FileState) → d < length states → with_state (with_state states d i one) d i other ≡ with_state states d i other

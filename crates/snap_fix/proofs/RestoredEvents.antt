@@ -223,7 +223,7 @@ unknown_where (Some bytes) row d no_gift no_row = absurd cc
 unknown_where None (Some row) d no_gift no_row = absurd cc
 unknown_where None None d no_gift no_row = refl
 
-contains_facts : (stripes : List Mended) (mended : Mended) → Contains stripes mended → Contains (facts_of stripes) mended.facts
+pub contains_facts : (stripes : List Mended) (mended : Mended) → Contains stripes mended → Contains (facts_of stripes) mended.facts
 contains_facts stripes mended one =
     let facts : Mended → StripeFacts = λ (it : Mended). it.facts in
     (one.0, omega (arith, length-map stripes facts, one.1), get_or-map facts stripes one.0 mended mended.facts one.1 ∙ ap facts one.2)

@@ -1,5 +1,5 @@
 -- A check as a whole.
-use Rattle.std.specs.Prelude.{◌≡◌, ℕ, List, ◌++◌, length, All, count_by}
+use Rattle.std.specs.Prelude.{◌≡◌, ◌↔◌, ℕ, List, ◌++◌, length, All, count_by}
 use Rattle.array_scan.specs.Kept.{ListedFile}
 use Rattle.array_scan.specs.Listings.{ListsAll}
 use Rattle.disk_model.specs.Folder.{FolderView}
@@ -17,6 +17,8 @@ use Rattle.snap_report.specs.declared.events.Event.{Event}
 use Rattle.snap_report.specs.declared.pages.Lines.{Lines}
 use Rattle.snap_fix.specs.declared.checks.FixEnd.{FixEnd}
 use Rattle.stripe_examiner.specs.declared.scope.Mode.{Mode}
+use Rattle.stripe_examiner.specs.declared.scope.Mode.TheVariants.{Audit}
+use Rattle.snap_fix.specs.Audited.{FindsNothing}
 use Rattle.stripe_examiner.specs.Asking.{AsksSpare}
 use Rattle.stripe_examiner.specs.Counts.{at_most}
 use Rattle.stripe_examiner.specs.Facts.{StripeFacts}
@@ -78,3 +80,5 @@ pub record Checks {W R : Type 0} (view : W → SinkView) (standing : R → Repor
   pub left : end.left ≡ at_most (count_by is_left (check_events plan stripes))
   pub no_blocks : end.blocks ≡ 0
   pub no_parities : end.parities ≡ 0
+  -- what an audit without a finding has seen
+  pub audited : mode ≡ Audit → (end.findings ≡ 0 ↔ FindsNothing plan stripes)

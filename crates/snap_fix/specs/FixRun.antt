@@ -5,7 +5,6 @@ use Rattle.disk_model.specs.Folder.{FolderView}
 use Rattle.disk_model.specs.Sink.{SinkView}
 use Rattle.disk_model.specs.Vault.{VaultView, GoesOn, Reads}
 use Rattle.parity_writer.specs.LevelReading.{LevelReading}
-use Rattle.file_table.specs.Table.{TableValue}
 use Rattle.snap_report.specs.Answer.{Gained, broke_folder, is_io_of, is_parity_io}
 use Rattle.file_restorer.specs.Breaking.{broke_parity}
 use Rattle.snap_fix.specs.BrokenStripe.{BreaksLevels}
@@ -17,18 +16,17 @@ use Rattle.snap_report.specs.declared.events.Event.{Event}
 use Rattle.stripe_reader.specs.Columns.{ReadsWindow, folder_at}
 use Rattle.stripe_reader.specs.Starts.{StartsValue}
 use Rattle.stripe_reader.specs.WindowValue.{WindowValue}
-use Rattle.snap_fix.specs.declared.beginning.Work.{Work}
 use Rattle.snap_fix.specs.declared.fixing.Totals.{Totals}
 use Rattle.file_restorer.specs.declared.state.FileState.{FileState}
 use Rattle.stripe_examiner.specs.Asking.{AsksSpare}
-use Rattle.snap_fix.specs.Checking.{plan_for}
 use Rattle.stripe_examiner.specs.Facts.{StripeFacts}
 use Rattle.snap_fix.specs.Fixing.{AreTotals, AreReadThen, BreaksCells, FixScene, FolderBroke, IsBrokenBy, MendsVault, SceneFits, TellsOfBroken, Writes, facts_of, levels_begun, unwritten}
 use Rattle.stripe_examiner.specs.Known.{AreFacts}
 use Rattle.stripe_examiner.specs.Looking.{AreAllLevelsOf, numbers_of, facts_at, unread_cells, unread_in}
 use Rattle.stripe_examiner.specs.Marks.{slots_at}
 use Rattle.snap_fix.specs.Mended.{Mended, AnswersFit, all_mended_events}
-use Rattle.stripe_examiner.specs.Plan.{FixPlan}
+use Rattle.stripe_examiner.specs.Plan.{EntriesFit, FixPlan}
+use Rattle.stripe_examiner.specs.declared.room.Room.{Room}
 use Rattle.snap_fix.specs.Reads.{AreAllRead, AreReadBy, FolderReads, IsQuiet}
 use Rattle.stripe_examiner.specs.Room.{IsRoomFor}
 use Rattle.file_restorer.specs.State.{FolderMakesBy, KeepsStarts}
@@ -103,19 +101,21 @@ pub record FixesInto {W R : Type 0} (view : W → SinkView) (standing : R → Re
 abbrev pub with_folders : {W R : Type 0} → FixScene W R → List FolderView → FixScene W R
 with_folders scene folders = record scene { folders = folders }
 
--- Some stripes of the work were read into the window, then looked at and written anew.
+-- Stripes were read into the window, then looked at and written anew.
 pub record FixesWindow {W R : Type 0} (view : W → SinkView) (standing : R → ReportView)
-    (stands : R → List Event → Type 0) (table : TableValue) (work : Work) (numbers : List ℕ)
+    (stands : R → List Event → Type 0) (plan : FixPlan) (numbers : List ℕ) (before : WindowValue)
     (old new : FixScene W R) (totals : Totals) : Type 0 where
   pub window : WindowValue
   pub mids : List FolderView
-  pub read : ReadsWindow table work.starts numbers work.room.window window old.folders mids
-  pub fixes : FixesInto view standing stands (plan_for table work) numbers window (with_folders old mids) new totals
+  pub read : ReadsWindow plan.table old.starts numbers before window old.folders mids
+  pub fixes : FixesInto view standing stands plan numbers window (with_folders old mids) new totals
 
--- room was used, the places of files may have changed, and all else stays
-pub record KeepsFixWork (table : TableValue) (old new : Work) : Type 0 where
-  pub rest : new ≡ record old { room = new.room; starts = new.starts }
-  pub room : IsRoomFor table new.room
+-- stripes of a table can be fixed: they are its stripes, ascending, and there is room for a window of them
+pub record CanFixStripes (plan : FixPlan) (numbers : List ℕ) (room : Room) : Type 0 where
+  pub entries : EntriesFit plan.table plan.entries
+  pub within : All (λ stripe. stripe < length plan.table.infos) numbers
+  pub room_is : IsRoomFor plan.table room
+  pub ascending : AreAscending numbers
 
 -- Stripes were read of the folders, looked at and written anew.
 pub record FixesStripes {W R : Type 0} (view : W → SinkView) (standing : R → ReportView)
@@ -301,11 +301,11 @@ pub record BreaksInto {W R : Type 0} (view : W → SinkView) (standing : R → R
       → FolderReads IsQuiet (folder_at old.folders d) (folder_at new.folders d)
   pub broke : HasBrokenInto plan fault first old.folders new.folders old.vault new.vault
 
--- Some stripes of the work were read into the window, and then it broke off.
+-- Stripes were read into the window, and then it broke off.
 pub record BreaksWindow {W R : Type 0} (view : W → SinkView) (standing : R → ReportView)
-    (stands : R → List Event → Type 0) (table : TableValue) (work : Work) (numbers : List ℕ)
+    (stands : R → List Event → Type 0) (plan : FixPlan) (numbers : List ℕ) (before : WindowValue)
     (old new : FixScene W R) (fault : RunFault) : Type 0 where
   pub window : WindowValue
   pub mids : List FolderView
-  pub read : ReadsWindow table work.starts numbers work.room.window window old.folders mids
-  pub breaks : BreaksInto view standing stands (plan_for table work) numbers window (with_folders old mids) new fault
+  pub read : ReadsWindow plan.table old.starts numbers before window old.folders mids
+  pub breaks : BreaksInto view standing stands plan numbers window (with_folders old mids) new fault

@@ -9,12 +9,14 @@ pub mod Windows
 pub mod WindowShown
 pub mod Repairing
 pub mod RepairSteps
+pub mod Audited
 pub mod Course
 pub mod Ending
 pub mod EndingSteps
 pub mod Fixing
 pub mod FixSteps
 pub mod FixRun
+pub mod Handed
 pub mod FixCourse
 pub mod FixBreaking
 pub mod ByMode

@@ -3,23 +3,30 @@ use Rattle.std.specs.Prelude.{◌≡◌, ◌⊎◌, ℕ, ◌+◌, ◌<◌, List,
 use Rattle.disk_model.specs.Folder.{FolderView}
 use Rattle.disk_model.specs.Tree.{Tree, File, file_of, path_of}
 use Rattle.disk_model.specs.declared.meta.Meta.{Meta}
-use Rattle.file_table.specs.Table.{TableValue, record_at}
+use Rattle.cauchy.specs.Matrix.{byte_of}
+use Rattle.cauchy.specs.Recovery.{AreBytes}
+use Rattle.file_table.specs.Table.{TableValue, record_at, records_in}
 use Rattle.file_table.specs.Valid.{IsValid}
 use Rattle.file_table.specs.declared.block.Cell.{Cell}
 use Rattle.parity_writer.specs.Keeps.{HasByte}
+use Rattle.parity_writer.specs.Parity.{Row}
+use Rattle.snap_report.specs.declared.events.Event.TheVariants as event
+use Rattle.stripe_reader.specs.Columns.{folder_at}
 use Rattle.stripe_reader.specs.Reading.{block_length}
 use Rattle.stripe_reader.specs.Starts.{StartsValue}
 use Rattle.file_restorer.specs.declared.finishing.Finish.{Finish}
-use Rattle.stripe_examiner.specs.Facts.{StripeFacts, damaged_at, gift_of}
-use Rattle.snap_fix.specs.FixCourse.{FixesFiles}
+use Rattle.stripe_examiner.specs.Facts.{StripeFacts, damaged_at, gift_of, is_missing}
+use Rattle.stripe_examiner.specs.Findings.{is_lost}
+use Rattle.snap_fix.specs.Ending.{is_finished}
+use Rattle.snap_fix.specs.FixCourse.{FixesFiles, fix_events}
 use Rattle.snap_fix.specs.Fixing.{facts_of}
-use Rattle.snap_fix.specs.Genuine.{IsRestorableStripe}
+use Rattle.snap_fix.specs.Genuine.{HasGenuineFacts, IsRestorableStripe, TellsIntactLevels}
 use Rattle.stripe_examiner.specs.Known.{AreFacts}
 use Rattle.stripe_examiner.specs.Looking.{numbers_of}
-use Rattle.snap_fix.specs.Mended.{AnswersFit, Mended, is_written}
+use Rattle.snap_fix.specs.Mended.{AnswersFit, Mended, has_lost, is_repaired, is_written}
 use Rattle.stripe_examiner.specs.Showing.{known_block}
 use Rattle.file_restorer.specs.Mending.{block_start, cell_path}
-use Rattle.stripe_examiner.specs.Plan.{FixPlan, cell_at, selects_cell, stripes_of}
+use Rattle.stripe_examiner.specs.Plan.{FixPlan, cell_at, entry_at, selects_cell, stripes_of}
 
 -- A fix that ended: it found these facts of the stripes of its plan, and did that to the files.
 pub record HasFixed (plan : FixPlan) (starts : StartsValue) (stripes : List Mended) (finishes : List (List Finish)) (firsts news : List FolderView) : Type 0 where
@@ -28,6 +35,20 @@ pub record HasFixed (plan : FixPlan) (starts : StartsValue) (stripes : List Mend
   pub are : All (AreFacts plan) (facts_of stripes)
   pub answered : All (AnswersFit plan firsts) stripes
   pub files : FixesFiles plan starts stripes finishes firsts news
+
+-- so it has, and its folder tells its files: this is a record of a column
+pub record HasFixedRecord (plan : FixPlan) (starts : StartsValue) (stripes : List Mended) (finishes : List (List Finish)) (firsts news : List FolderView)
+    (d i : ℕ) : Type 0 where
+  pub fixed : HasFixed plan starts stripes finishes firsts news
+  pub tells : IsTrue (folder_at firsts d).tells
+  pub column : d < length plan.table.columns
+  pub inside : i < length (records_in plan.table d)
+
+-- one that is selected, and isn't blocked
+pub record HasFinished (plan : FixPlan) (starts : StartsValue) (stripes : List Mended) (finishes : List (List Finish)) (firsts news : List FolderView)
+    (d i : ℕ) : Type 0 where
+  pub fixed : HasFixedRecord plan starts stripes finishes firsts news d i
+  pub finished : is_finished plan d i ≡ true
 
 -- a cell of one of these stripes is selected and damaged
 pub record IsDamagedCell (plan : FixPlan) (stripes : List StripeFacts) (facts : StripeFacts) (d : ℕ) (cell : Cell)
@@ -74,3 +95,24 @@ pub record StandsUnrecoverable (path : List ℕ) (tree : Tree) : Type 0 where
   pub file : File
   pub there : file_of tree (path_of path true) ≡ Some file
   pub none : file_of tree (path_of path false) ≡ None
+
+-- ---- a damaged cell, where no block has a recorded hash by chance
+
+-- its block can be had, and its record isn't blocked: its file has the block of the snapshot
+abbrev pub RestoresGenuine : Type 0
+RestoresGenuine = (plan : FixPlan) (starts : StartsValue) (stripes : List Mended) (finishes : List (List Finish)) (firsts news : List FolderView)
+    (facts : StripeFacts) (d : ℕ) (cell : Cell) (snapshot : Row) (is_intact : ℕ → Bool)
+    → HasFixed plan starts stripes finishes firsts news → IsDamagedCell plan (facts_of stripes) facts d cell
+    → HasGenuineFacts plan starts firsts snapshot facts → AreBytes snapshot → TellsIntactLevels plan facts snapshot is_intact
+    → (entry_at plan d cell.rec).blocked ≡ false → IsTrue (folder_at firsts d).tells → CanBeHad plan facts is_intact d
+    → HoldsCell plan.table d cell (has_lost plan stripes d cell.rec) (byte_of snapshot d) (folder_at news d).tree
+
+-- it can't be had: it is told to be lost, and nothing is written
+abbrev pub LosesGenuine : Type 0
+LosesGenuine = (plan : FixPlan) (starts : StartsValue) (stripes : List Mended) (finishes : List (List Finish)) (firsts : List FolderView)
+    (facts : StripeFacts) (d : ℕ) (cell : Cell) (snapshot : Row) (is_intact : ℕ → Bool)
+    → IsDamagedCell plan (facts_of stripes) facts d cell → HasGenuineFacts plan starts firsts snapshot facts → AreBytes snapshot
+    → TellsIntactLevels plan facts snapshot is_intact → (CanBeHad plan facts is_intact d → ⊥)
+    → (is_lost plan facts.stripe (is_missing plan facts d) (is_some facts.row) d ≡ true)
+    × Contains (fix_events plan stripes finishes) (event.Lost facts.stripe d cell.rec cell.index)
+    × (is_repaired plan facts d ≡ false)

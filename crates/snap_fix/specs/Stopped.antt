@@ -1,15 +1,21 @@
 -- What surely stands of the files of a folder, wherever a fix is stopped or breaks off.
-use Rattle.std.specs.Prelude.{◌≡◌, ◌≢◌, ◌⊎◌, ℕ, ◌+◌, ◌<◌, ◌≤◌, List, length, slice_index, Bool, true, false, Option, None, Some, All}
+use Rattle.std.specs.Prelude.{◌≡◌, ◌≢◌, ◌⊎◌, ℕ, ◌+◌, ◌<◌, ◌≤◌, List, length, slice_index, Bool, true, false, Option, None, Some, All, Contains}
 use Rattle.disk_model.specs.Folder.{FolderCall, FolderDone, ListFiles}
 use Rattle.disk_model.specs.Stopped.{MayBeLeft}
 use Rattle.disk_model.specs.Tree.{Tree, File, file_of, path_of}
 use Rattle.file_table.specs.Table.{Record, record_at, records_in}
 use Rattle.file_table.specs.Valid.{IsValid}
+use Rattle.file_table.specs.declared.block.Cell.{Cell}
+use Rattle.parity_writer.specs.Keeps.{HasByte}
+use Rattle.stripe_reader.specs.Reading.{block_length}
 use Rattle.stripe_reader.specs.Starts.{StartsValue, start_in, starts_at}
 use Rattle.snap_fix.specs.Ending.{is_finished}
 use Rattle.snap_fix.specs.FixCourse.{IsFixCall}
-use Rattle.snap_fix.specs.Mended.{Mended, has_lost}
-use Rattle.stripe_examiner.specs.Plan.{FixPlan}
+use Rattle.snap_fix.specs.Fixing.{facts_of}
+use Rattle.stripe_examiner.specs.Known.{AreFacts}
+use Rattle.snap_fix.specs.Mended.{Mended, has_lost, is_repaired}
+use Rattle.file_restorer.specs.Mending.{block_start}
+use Rattle.stripe_examiner.specs.Plan.{FixPlan, cell_at}
 use Rattle.file_restorer.specs.State.{AnyCall, place_in, record_path}
 use Rattle.snap_fix.specs.Underway.{WritesOneOf}
 
@@ -81,6 +87,27 @@ pub record StandsSpared (stop : FixStop) (i : ℕ) (before : File) : Type 0 wher
   pub there : file_of stop.left (path_of (path_at stop i) lost) ≡ Some after
   pub bytes : (byte : ℕ) → byte < length before.bytes → IsSpared stop i byte
       → (byte < length after.bytes) × (slice_index after.bytes byte ≡ slice_index before.bytes byte)
+
+-- ---- what it leaves of a cell
+
+-- A cell is written in none of the stripes of a stop: where it is looked at, it is not selected or not damaged, its block is not known, or
+-- its file is blocked. These stripes have their facts.
+pub record IsCellSpared (stop : FixStop) (cell : Cell) : Type 0 where
+  pub are : All (AreFacts stop.plan) (facts_of stop.stripes)
+  pub none : (mended : Mended) → Contains stop.stripes mended → cell_at stop.plan mended.facts.stripe stop.d ≡ Some cell
+      → is_repaired stop.plan mended.facts stop.d ≡ false
+
+-- the real length of its block
+abbrev pub cell_length : FixStop → Cell → ℕ
+cell_length stop cell = block_length stop.plan.table.shape.block_size (record_at stop.plan.table.columns stop.d cell.rec).meta.size cell.index
+
+-- under one of the names of its record stands a file with each byte of its block that stood in the place of the record's file
+pub record StandsInCell (stop : FixStop) (cell : Cell) (before : File) : Type 0 where
+  pub lost : Bool
+  pub after : File
+  pub there : file_of stop.left (path_of (path_at stop cell.rec) lost) ≡ Some after
+  pub bytes : (p b : ℕ) → p < cell_length stop cell → HasByte before.bytes (block_start stop.plan.table cell + p) b
+      → HasByte after.bytes (block_start stop.plan.table cell + p) b
 
 -- ---- what it leaves alone
 

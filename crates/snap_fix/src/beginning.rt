@@ -43,10 +43,8 @@ pub(crate) fn begin<F: Folder>(
     folders: &mut [F],
     table: &Table,
 ) -> Result<Work, RunFault>
-    requires folders { length folders.old ≡ length table.now.columns }
-    requires disks { length setup.now.disks ≡ length table.now.columns }
-    ensures begun { IfOk result (λ work. Begins mode selection.now
-        (names_of (setup_value setup.now)) table.now work
+    requires { (length folders.old ≡ length table.now.columns) × (length setup.now.disks ≡ length table.now.columns) }
+    ensures begun { IfOk result (λ work. Begins mode selection.now (names_of (setup_value setup.now)) table.now work
         (map F.view folders.old) (map F.view folders.new)) }
     ensures failed { IfErr result (BeginsNot (map F.view folders.old) (map F.view folders.new)) }
 {

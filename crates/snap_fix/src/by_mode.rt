@@ -32,16 +32,20 @@ pub fn repair<R: Threads + Sync, F: Folder, V: Vault, P: Spare, W: Sink>(
     reports: &mut Vec<Box<dyn Report>>,
     lines: &mut Lines<'_, W>,
 ) -> Result<FixEnd, RunFault>
-    requires array { IsArray table.now (length setup.now.disks) (map F.view folders.old) (V.view vault.old) (P.holding spare.old) }
+    requires array { IsArray table.now (length setup.now.disks)
+        (map F.view folders.old) (V.view vault.old) (P.holding spare.old) }
     requires open { AreOpenFor mode table.now (map F.view folders.old) }
-    ensures repairs { IfOk result (Repairs W.view standing stands mode selection.now (names_of (setup_value setup.now)) table.now
+    ensures repairs { IfOk result (Repairs W.view standing stands
+        mode selection.now (names_of (setup_value setup.now)) table.now
         (outside (map F.view folders.old) (V.view vault.old) (P.holding spare.old) lines.old reports.old.items)
         (outside (map F.view folders.new) (V.view vault.new) (P.holding spare.new) lines.new reports.new.items)) }
-    ensures failed { IfErr result (RepairsNot W.view standing stands mode selection.now (names_of (setup_value setup.now)) table.now
+    ensures failed { IfErr result (RepairsNot W.view standing stands
+        mode selection.now (names_of (setup_value setup.now)) table.now
         (outside (map F.view folders.old) (V.view vault.old) (P.holding spare.old) lines.old reports.old.items)
         (outside (map F.view folders.new) (V.view vault.new) (P.holding spare.new) lines.new reports.new.items)
         ((vault.new ≡ vault.old) × (spare.new ≡ spare.old) × (lines.new ≡ lines.old) × (reports.new ≡ reports.old))) }
-    ensures leaves { LeavesFor mode (map F.view folders.old) (map F.view folders.new) (V.view vault.old) (V.view vault.new) }
+    ensures leaves { LeavesFor mode
+        (map F.view folders.old) (map F.view folders.new) (V.view vault.old) (V.view vault.new) }
     ensures cause { IfErr result (MayFailBy mode) }
 {
     match mode {

@@ -63,40 +63,27 @@ fn check_window<R: Threads + Sync, F: Folder, V: Vault, P: Spare, W: Sink>(
     reports: &mut Vec<Box<dyn Report>>,
 ) -> Counts
     requires work { IsWorkFor table.now work.old }
-    requires within { done + count ≤ length work.old.stripes.items }
-    requires room { count ≤ work.old.room.window.room }
+    requires next { (done + count ≤ length work.old.stripes.items) × (count ≤ work.old.room.window.room) }
     requires folders { length folders.old ≡ length table.now.columns }
     requires levels { (V.view vault.old).levels ≡ table.now.shape.levels }
     requires spare { IsSpareFor table.now.shape (P.holding spare.old) }
-    ensures work { KeepsWork table.now work.old work.new }
-    ensures same_room { work.new.room.window.room ≡ work.old.room.window.room }
-    ensures checks { ChecksWindow W.view standing stands table.now work.old (take count (drop done work.old.stripes.items)) result
+    ensures work { KeepsWork table.now work.old work.new × (work.new.room.window.room ≡ work.old.room.window.room) }
+    ensures checks { ChecksWindow W.view standing stands
+        table.now work.old (take count (drop done work.old.stripes.items)) result
         (map F.view folders.old) (map F.view folders.new)
-        (scene (V.view vault.old) (P.holding spare.old) lines.old reports.old.items) (scene (V.view vault.new) (P.holding spare.new) lines.new reports.new.items) }
+        (scene (V.view vault.old) (P.holding spare.old) lines.old reports.old.items)
+        (scene (V.view vault.new) (P.holding spare.new) lines.new reports.new.items) }
 {
     let stripes = &work.stripes[done..done + count];
+    let scope = work.scope;
+    let entries = &work.entries;
+    let starts = &work.starts;
+    let room = &mut work.room;
     examine_window(
-        rt,
-        work.scope,
-        table,
-        &work.entries,
-        &work.starts,
-        stripes,
-        readers,
-        &mut work.room,
-        folders,
-        vault,
-        spare,
+        rt, scope, table, entries, starts, stripes, readers, room, folders, vault, spare,
     );
-    tell_window(
-        work.scope,
-        table,
-        &work.entries,
-        stripes,
-        &work.room.stripes,
-        lines,
-        reports,
-    )
+    let rooms = &room.stripes;
+    tell_window(scope, table, entries, stripes, rooms, lines, reports)
 }
 
 /// Looks at all stripes that a run is for: a window of them is examined, by so many readers at most, and then what is found in each is
@@ -119,7 +106,8 @@ pub(crate) fn check_stripes<R: Threads + Sync, F: Folder, V: Vault, P: Spare, W:
     ensures work { KeepsWork table.now work.old work.new }
     ensures checks { ChecksStripes W.view standing stands table.now work.old result
         (map F.view folders.old) (map F.view folders.new)
-        (scene (V.view vault.old) (P.holding spare.old) lines.old reports.old.items) (scene (V.view vault.new) (P.holding spare.new) lines.new reports.new.items) }
+        (scene (V.view vault.old) (P.holding spare.old) lines.old reports.old.items)
+        (scene (V.view vault.new) (P.holding spare.new) lines.new reports.new.items) }
 {
     let mut counts = Counts::NONE;
     let mut done = 0;

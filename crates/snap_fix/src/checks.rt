@@ -44,8 +44,10 @@ pub(crate) fn check<R: Threads + Sync, F: Folder, V: Vault, P: Spare, W: Sink>(
     reports: &mut Vec<Box<dyn Report>>,
     lines: &mut Lines<'_, W>,
 ) -> Result<FixEnd, RunFault>
-    requires { IsArray table.now (length setup.now.disks) (map F.view folders.old) (V.view vault.old) (P.holding spare.old) }
-    ensures checks { IfOk result (Checks W.view standing stands mode selection.now (names_of (setup_value setup.now)) table.now
+    requires { IsArray table.now (length setup.now.disks)
+        (map F.view folders.old) (V.view vault.old) (P.holding spare.old) }
+    ensures checks { IfOk result (Checks W.view standing stands
+        mode selection.now (names_of (setup_value setup.now)) table.now
         (outside (map F.view folders.old) (V.view vault.old) (P.holding spare.old) lines.old reports.old.items)
         (outside (map F.view folders.new) (V.view vault.new) (P.holding spare.new) lines.new reports.new.items)) }
     ensures failed { IfErr result (λ fault. BeginsNot (map F.view folders.old) (map F.view folders.new) fault ×

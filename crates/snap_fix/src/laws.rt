@@ -1,6 +1,6 @@
 //! What follows of a search for lost blocks, and of a fix that is stopped. The calls do nothing: their contracts are laws.
 
-ghost use Rattle.std.specs.Prelude.{◌≡◌, ◌↔◌, ℕ, ◌+◌, ◌*◌, ◌<◌, ◌≤◌, Bool, true, false, List, [], length, slice_index, slice_index_or, All, Contains, is_some, Some, IsTrue, None, filter, get_or};
+ghost use Rattle.std.specs.Prelude.{◌≡◌, ◌↔◌, ℕ, ◌+◌, ◌*◌, ◌<◌, ◌≤◌, Bool, true, false, List, [], length, slice_index, slice_index_or, All, count_by, Contains, is_some, Some, IsTrue, None, filter, get_or};
 ghost use Rattle.array_scan.specs.Kept.{ListedFile};
 ghost use Rattle.cauchy.specs.Matrix.{byte_of, parity_byte};
 ghost use Rattle.cauchy.specs.Recovery.{AreBytes, others_sum};
@@ -22,6 +22,7 @@ ghost use Rattle.stripe_reader.specs.Starts.{StartsValue};
 ghost use Rattle.stripe_reader.specs.declared.starts.Place.TheVariants as place;
 ghost use Rattle.file_restorer.specs.declared.finishing.Finish.{Finish};
 ghost use Rattle.stripe_examiner.specs.declared.scope.Mode.TheVariants as mode;
+ghost use Rattle.snap_fix.specs.Audited.{FindsNothing};
 ghost use Rattle.snap_fix.specs.Course.{IsPlan, check_events};
 ghost use Rattle.snap_fix.specs.Ending.{is_finished};
 ghost use Rattle.stripe_examiner.specs.Facts.{StripeFacts, gift_of, is_missing};
@@ -35,10 +36,10 @@ ghost use Rattle.snap_fix.specs.Mended.{Mended, has_lost, is_repaired, is_wrong_
 ghost use Rattle.stripe_examiner.specs.Showing.{block_or_none, known_block};
 ghost use Rattle.stripe_examiner.specs.Plan.{FixPlan, entry_at, is_audit, is_searched, starts_of, stripes_of};
 ghost use Rattle.stripe_examiner.specs.Restorable.{Accepts, AreBlocksOf, CanAccept, CandidatesAreGenuine, Follows, IsIntact, IsKnownBeside, IsLost, IsOneOf, IsRestorable, IsSnapshotOf, LostStripe, SearchFinds, SearchFindsNone, SomeAccepted, TellsIntact, row_with};
-ghost use Rattle.snap_fix.specs.Restored.{CanBeHad, HasFixed, HoldsCell, IsDamagedCell, IsNotWritten, IsUnknownCell, StandsRestored, StandsUnrecoverable};
+ghost use Rattle.snap_fix.specs.Restored.{CanBeHad, HasFinished, HasFixed, HasFixedRecord, HoldsCell, IsDamagedCell, IsNotWritten, IsUnknownCell, LosesGenuine, RestoresGenuine, StandsRestored, StandsUnrecoverable};
 ghost use Rattle.stripe_examiner.specs.Search.{IsRightBlock, wanted_at};
 ghost use Rattle.file_restorer.specs.State.{IsNameOf, bytes_placed, has_some, place_in, record_path};
-ghost use Rattle.snap_fix.specs.Stopped.{FixStop, IsNoneOf, IsStop, StandInPlace, StandsSpared, file_placed, path_at, records_of};
+ghost use Rattle.snap_fix.specs.Stopped.{FixStop, IsCellSpared, IsNoneOf, IsStop, StandInPlace, StandsInCell, StandsSpared, file_placed, path_at, records_of};
 ghost use Rattle.snap_fix.specs.Underway.{HoldsWrong, IsMendedLevel, KeepsLevels};
 ghost use Rattle.snap_fix.specs.Windows.{AreWindows, FixWindow};
 ghost use Rattle.parity_writer.specs.LevelReading.{LevelReading};
@@ -114,6 +115,10 @@ pub fn a_stripe_is_restorable_by_counting()
 pub fn a_stop_within_a_fix_changes_written_blocks_alone()
     ensures bytes { (stop : FixStop) (i : ℕ) (file : File) → IsStop stop → i < length (records_of stop) →
         file_placed stop.first (path_at stop i) ≡ Some file → StandsSpared stop i file }
+    // So has it all bytes of a cell that is not selected, not damaged, not known, or of a blocked file.
+    ensures cells { (stop : FixStop) (cell : Cell) (file : File) → IsStop stop → IsCellSpared stop cell →
+        cell.rec < length (records_of stop) → file_placed stop.first (path_at stop cell.rec) ≡ Some file →
+        StandsInCell stop cell file }
     ensures not_selected { (stop : FixStop) (i : ℕ) (lost : Bool) → IsStop stop → i < length (records_of stop) →
         is_finished stop.plan stop.d i ≡ false →
         file_of stop.left (path_of (path_at stop i) lost) ≡ file_of stop.first (path_of (path_at stop i) lost) }
@@ -209,39 +214,18 @@ pub fn a_fix_restores()
         HasGenuineFacts plan starts firsts snapshot facts → AreBytes snapshot →
         TellsIntactLevels plan facts snapshot is_intact →
         (is_some (known_block facts d) ≡ true ↔ CanBeHad plan facts is_intact d) }
-    ensures restored { (plan : FixPlan) (starts : StartsValue) (stripes : List Mended)
-        (finishes : List (List Finish)) (firsts news : List FolderView) (facts : StripeFacts) (d : ℕ)
-        (cell : Cell) (snapshot : Row) (is_intact : ℕ → Bool) →
-        HasFixed plan starts stripes finishes firsts news → IsDamagedCell plan (facts_of stripes) facts d cell →
-        HasGenuineFacts plan starts firsts snapshot facts → AreBytes snapshot →
-        TellsIntactLevels plan facts snapshot is_intact →
-        (entry_at plan d cell.rec).blocked ≡ false → IsTrue (folder_at firsts d).tells →
-        CanBeHad plan facts is_intact d →
-        HoldsCell plan.table d cell (has_lost plan stripes d cell.rec) (byte_of snapshot d)
-        (folder_at news d).tree }
-    ensures unrestored { (plan : FixPlan) (starts : StartsValue) (stripes : List Mended)
-        (finishes : List (List Finish)) (firsts : List FolderView) (facts : StripeFacts) (d : ℕ)
-        (cell : Cell) (snapshot : Row) (is_intact : ℕ → Bool) →
-        IsDamagedCell plan (facts_of stripes) facts d cell →
-        HasGenuineFacts plan starts firsts snapshot facts → AreBytes snapshot →
-        TellsIntactLevels plan facts snapshot is_intact →
-        (CanBeHad plan facts is_intact d → ⊥) →
-        (is_lost plan facts.stripe (is_missing plan facts d) (is_some facts.row) d ≡ true)
-        × Contains (fix_events plan stripes finishes) (event.Lost facts.stripe d cell.rec cell.index)
-        × (is_repaired plan facts d ≡ false) }
+    ensures restored { RestoresGenuine }
+    ensures unrestored { LosesGenuine }
 {
     products();
 }
 
 /// What a fix leaves as it was, where a folder tells its files. Each byte of a cell that it did not write stays in the
-/// place of its record, and so do the files of records that are not selected or are blocked, and all other files. A
-/// selected record that isn't blocked stands under its path with its recorded size, if it has no lost cell, and else
-/// has the name for that.
+/// place of its record, and so do the files of records that are not selected or are blocked, and all other files.
 pub fn a_fix_leaves_the_rest()
     ensures bytes { (plan : FixPlan) (starts : StartsValue) (stripes : List Mended)
         (finishes : List (List Finish)) (firsts news : List FolderView) (d i index p b : ℕ) →
-        HasFixed plan starts stripes finishes firsts news → IsTrue (folder_at firsts d).tells →
-        d < length plan.table.columns → i < length (records_in plan.table d) →
+        HasFixedRecord plan starts stripes finishes firsts news d i →
         p < block_length plan.table.shape.block_size (record_at plan.table.columns d i).meta.size index →
         IsNotWritten plan stripes d (let cell : Cell = record { rec = i; index = index } in cell) →
         HasByte (bytes_placed (folder_at firsts d).tree (record_path (records_in plan.table d) i))
@@ -250,9 +234,7 @@ pub fn a_fix_leaves_the_rest()
         (index * plan.table.shape.block_size + p) b }
     ensures unfinished { (plan : FixPlan) (starts : StartsValue) (stripes : List Mended)
         (finishes : List (List Finish)) (firsts news : List FolderView) (d i : ℕ) (lost : Bool) →
-        HasFixed plan starts stripes finishes firsts news → IsTrue (folder_at firsts d).tells →
-        d < length plan.table.columns → i < length (records_in plan.table d) →
-        is_finished plan d i ≡ false →
+        HasFixedRecord plan starts stripes finishes firsts news d i → is_finished plan d i ≡ false →
         file_of (folder_at news d).tree (path_of (record_path (records_in plan.table d) i) lost)
         ≡ file_of (folder_at firsts d).tree (path_of (record_path (records_in plan.table d) i) lost) }
     ensures others { (plan : FixPlan) (starts : StartsValue) (stripes : List Mended)
@@ -260,41 +242,36 @@ pub fn a_fix_leaves_the_rest()
         HasFixed plan starts stripes finishes firsts news → IsTrue (folder_at firsts d).tells →
         d < length plan.table.columns → ¬ (IsNameOf (records_in plan.table d) name) →
         file_of (folder_at news d).tree name ≡ file_of (folder_at firsts d).tree name }
+{}
+
+/// How a fix finishes the file of a selected record that isn't blocked, where its folder tells its files. It stands under
+/// its path with its recorded size, if the record has no lost cell, and else has the name for that.
+pub fn a_fix_finishes_files()
     ensures whole { (plan : FixPlan) (starts : StartsValue) (stripes : List Mended)
         (finishes : List (List Finish)) (firsts news : List FolderView) (d i : ℕ) →
-        HasFixed plan starts stripes finishes firsts news → IsTrue (folder_at firsts d).tells →
-        d < length plan.table.columns → i < length (records_in plan.table d) →
-        is_finished plan d i ≡ true → has_lost plan stripes d i ≡ false →
+        HasFinished plan starts stripes finishes firsts news d i → has_lost plan stripes d i ≡ false →
         StandsRestored (folder_at firsts d).keeps_stamps (record_at plan.table.columns d i).meta
         (record_path (records_in plan.table d) i) (folder_at news d).tree }
     // An older file under the name for a lost cell stays, unless it was in the place of the record.
     ensures kept { (plan : FixPlan) (starts : StartsValue) (stripes : List Mended)
         (finishes : List (List Finish)) (firsts news : List FolderView) (d i : ℕ) →
-        HasFixed plan starts stripes finishes firsts news → IsTrue (folder_at firsts d).tells →
-        d < length plan.table.columns → i < length (records_in plan.table d) →
-        is_finished plan d i ≡ true → has_lost plan stripes d i ≡ false →
+        HasFinished plan starts stripes finishes firsts news d i → has_lost plan stripes d i ≡ false →
         place_in (folder_at firsts d).tree (record_path (records_in plan.table d) i) ≡ place.Plain →
         file_of (folder_at news d).tree (path_of (record_path (records_in plan.table d) i) true)
         ≡ file_of (folder_at firsts d).tree (path_of (record_path (records_in plan.table d) i) true) }
     ensures gone { (plan : FixPlan) (starts : StartsValue) (stripes : List Mended)
         (finishes : List (List Finish)) (firsts news : List FolderView) (d i : ℕ) →
-        HasFixed plan starts stripes finishes firsts news → IsTrue (folder_at firsts d).tells →
-        d < length plan.table.columns → i < length (records_in plan.table d) →
-        is_finished plan d i ≡ true → has_lost plan stripes d i ≡ false →
+        HasFinished plan starts stripes finishes firsts news d i → has_lost plan stripes d i ≡ false →
         place_in (folder_at firsts d).tree (record_path (records_in plan.table d) i) ≡ place.Lost →
         file_of (folder_at news d).tree (path_of (record_path (records_in plan.table d) i) true) ≡ None }
     ensures renamed { (plan : FixPlan) (starts : StartsValue) (stripes : List Mended)
         (finishes : List (List Finish)) (firsts news : List FolderView) (d i : ℕ) →
-        HasFixed plan starts stripes finishes firsts news → IsTrue (folder_at firsts d).tells →
-        d < length plan.table.columns → i < length (records_in plan.table d) →
-        is_finished plan d i ≡ true → has_lost plan stripes d i ≡ true →
+        HasFinished plan starts stripes finishes firsts news d i → has_lost plan stripes d i ≡ true →
         place_in (folder_at firsts d).tree (record_path (records_in plan.table d) i) ≡ place.Plain →
         StandsUnrecoverable (record_path (records_in plan.table d) i) (folder_at news d).tree }
     ensures nowhere { (plan : FixPlan) (starts : StartsValue) (stripes : List Mended)
         (finishes : List (List Finish)) (firsts news : List FolderView) (d i : ℕ) (lost : Bool) →
-        HasFixed plan starts stripes finishes firsts news → IsTrue (folder_at firsts d).tells →
-        d < length plan.table.columns → i < length (records_in plan.table d) →
-        is_finished plan d i ≡ true → has_lost plan stripes d i ≡ true →
+        HasFinished plan starts stripes finishes firsts news d i → has_lost plan stripes d i ≡ true →
         place_in (folder_at firsts d).tree (record_path (records_in plan.table d) i) ≡ place.Nowhere →
         has_some (writes_of plan stripes d i) ≡ false →
         file_of (folder_at news d).tree (path_of (record_path (records_in plan.table d) i) lost) ≡ None }
@@ -303,8 +280,17 @@ pub fn a_fix_leaves_the_rest()
 /// The stripes of a fix, and what was read of their levels, are cut into windows in one way. So the calls of the vault are one
 /// list, for any number of readers.
 pub fn a_fix_cuts_its_stripes_in_one_way()
-    ensures { (plan : FixPlan) (windows others : List FixWindow) (stripes : List StripeFacts) (readings : List (List LevelReading)) →
+    ensures { (plan : FixPlan) (windows others : List FixWindow) (stripes : List StripeFacts)
+        (readings : List (List LevelReading)) →
         AreWindows plan windows stripes readings → AreWindows plan others stripes readings → windows ≡ others }
+{}
+
+/// An audit has no finding exactly where each selected record is listed as it was recorded, and each selected cell of the
+/// stripes was read, with the recorded hash. It tells nothing of parity.
+pub fn an_audit_finds_what_is_changed()
+    ensures { (plan : FixPlan) (stripes : List StripeFacts) →
+        plan.scope.mode ≡ mode.Audit → All (AreFacts plan) stripes →
+        (count_by is_finding (check_events plan stripes) ≡ 0 ↔ FindsNothing plan stripes) }
 {}
 
 /// A fix finds just what a check finds of the same stripes, and tells besides what it did: where each cell that was to be

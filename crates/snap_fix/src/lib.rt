@@ -14,6 +14,7 @@ mod ending;
 mod fixes;
 mod fixing;
 pub mod laws;
+mod plan;
 mod repairing;
 mod repairs;
 

@@ -20,4 +20,16 @@ impl Repaired {
         blocks: 0,
         counts: Counts::NONE,
     };
+
+    /// One block was written.
+    pub const WRITTEN: Repaired = Repaired {
+        blocks: 1,
+        counts: Counts::NONE,
+    };
+
+    /// The file of one block was gone: it is lost, and that is a finding.
+    pub const GONE: Repaired = Repaired {
+        blocks: 0,
+        counts: Counts { found: 1, left: 1 },
+    };
 }

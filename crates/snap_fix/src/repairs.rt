@@ -7,10 +7,11 @@ ghost use Rattle.snap_fix.specs.FixCourse.{AreOpen, Fixes};
 ghost use Rattle.stripe_examiner.specs.Plan.{names_of};
 ghost use Rattle.file_restorer.specs.State.{first_state, first_states};
 
-use crate::beginning::begin;
+use crate::beginning::{Work, begin};
 use crate::checks::FixEnd;
 use crate::ending::{finish_all, sync_levels};
 use crate::fixes::fix_stripes;
+use crate::plan::{Plan, Progress};
 use disk_model::{Folder, NoMemory, Sink, Vault};
 use file_restorer::{FileState, States};
 use file_table::Table;
@@ -72,46 +73,66 @@ pub(crate) fn fix<R: Threads + Sync, F: Folder, V: Vault, P: Spare, W: Sink>(
     reports: &mut Vec<Box<dyn Report>>,
     lines: &mut Lines<'_, W>,
 ) -> Result<FixEnd, RunFault>
-    requires array { IsArray table.now (length setup.now.disks) (map F.view folders.old) (V.view vault.old) (P.holding spare.old) }
+    requires array { IsArray table.now (length setup.now.disks)
+        (map F.view folders.old) (V.view vault.old) (P.holding spare.old) }
     requires open { AreOpen table.now (map F.view folders.old) }
-    ensures fixes { IfOk result (Fixes W.view standing stands Mode.Fix selection.now (names_of (setup_value setup.now)) table.now
+    ensures fixes { IfOk result (Fixes W.view standing stands
+        Mode.Fix selection.now (names_of (setup_value setup.now)) table.now
         (outside (map F.view folders.old) (V.view vault.old) (P.holding spare.old) lines.old reports.old.items)
         (outside (map F.view folders.new) (V.view vault.new) (P.holding spare.new) lines.new reports.new.items)) }
-    ensures failed { IfErr result (FixesNot W.view standing stands Mode.Fix selection.now (names_of (setup_value setup.now)) table.now
+    ensures failed { IfErr result (FixesNot W.view standing stands
+        Mode.Fix selection.now (names_of (setup_value setup.now)) table.now
         (outside (map F.view folders.old) (V.view vault.old) (P.holding spare.old) lines.old reports.old.items)
         (outside (map F.view folders.new) (V.view vault.new) (P.holding spare.new) lines.new reports.new.items)
         ((vault.new ≡ vault.old) × (spare.new ≡ spare.old) × (lines.new ≡ lines.old) × (reports.new ≡ reports.old))) }
 {
-    let mut work = begin(alloc, Mode::Fix, selection, setup, folders, table)?;
-    let Ok(mut states) = states_before(alloc, &work.starts) else {
+    let work = begin(alloc, Mode::Fix, selection, setup, folders, table)?;
+    let Ok(states) = states_before(alloc, &work.starts) else {
         return Err(RunFault::Memory);
     };
-    let Ok(mut written) = vec![in alloc; false; table.shape().levels as usize] else {
+    let Ok(written) = vec![in alloc; false; table.shape().levels as usize] else {
         return Err(RunFault::Memory);
     };
-    let opening = tell_opening(work.scope, table, &work.entries, lines, reports);
+    let Work {
+        scope,
+        entries,
+        starts,
+        stripes,
+        mut room,
+    } = work;
+    let mut progress = Progress {
+        starts,
+        states,
+        written,
+    };
+    let plan = Plan {
+        scope,
+        table,
+        entries: &entries,
+    };
+    let opening = tell_opening(scope, table, &entries, lines, reports);
     let totals = fix_stripes(
         rt,
-        table,
-        &mut work,
-        &mut states,
-        written.as_mut_slice(),
+        &plan,
+        &stripes,
         readers,
+        &mut room,
+        &mut progress,
         folders,
         vault,
         spare,
         lines,
         reports,
     )?;
-    if sync_levels(written.as_slice(), vault).is_err() {
+    if sync_levels(progress.written.as_slice(), vault).is_err() {
         return Err(RunFault::Vault);
     }
     let news = match finish_all(
-        work.scope,
+        scope,
         table,
-        &work.entries,
-        &mut work.starts,
-        &mut states,
+        &entries,
+        &mut progress.starts,
+        &mut progress.states,
         folders,
         lines,
         reports,

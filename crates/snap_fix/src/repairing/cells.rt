@@ -2,20 +2,22 @@
 ghost use Rattle.std.specs.Prelude.{◌≡◌, ◌<◌, [], length, get_or, IfOk, IfErr, Some, true};
 ghost use Rattle.parity_writer.specs.WindowRow.{bytes_of};
 ghost use Rattle.stripe_reader.specs.WindowValue.{slot_at};
-ghost use Rattle.stripe_examiner.specs.Marks.{CanExamine, mark_in};
+ghost use Rattle.stripe_examiner.specs.Marks.{mark_in};
 ghost use Rattle.file_restorer.specs.Mending.{CanWrite, with_state};
-ghost use Rattle.stripe_examiner.specs.Plan.{EntriesFit, plan_of, cell_at};
-ghost use Rattle.snap_fix.specs.RepairSteps.{CanMendColumn, MendsColumn, MendsNotColumn, column_outside, WritesBlockOf, WritesNotBlockOf, is_lost_by, is_repaired_by};
+ghost use Rattle.stripe_examiner.specs.Plan.{EntriesFit, cell_at};
+ghost use Rattle.snap_fix.specs.Handed.{CanExamineOne, CanMendIn, MendsIn, MendsNotIn, seen};
+ghost use Rattle.snap_fix.specs.RepairSteps.{column_outside, WritesBlockOf, WritesNotBlockOf, is_lost_by, is_repaired_by};
 ghost use Rattle.file_restorer.specs.State.{state_in};
 ghost use Rattle.stripe_examiner.specs.Showing.{is_damaged_mark};
 
 use super::Repaired;
+use crate::plan::{Examined, Plan};
 use disk_model::{Failed, Folder, Sink};
 use file_restorer::{States, mend_cell};
 use file_table::{Cell, Table};
 use snap_report::events::Event;
 use snap_report::{Lines, Report, tell};
-use stripe_examiner::{CellMark, Counts, Entries, Scope, selects_cell};
+use stripe_examiner::{CellMark, selects_cell};
 use stripe_reader::{Found, Starts, Window};
 
 // The bytes of a cell, without the zeros behind them.
@@ -50,45 +52,38 @@ fn is_damaged(mark: CellMark) -> bool
     !matches!(mark, CellMark::Right)
 }
 
-// Whether a selected cell is lost, by its mark.
-fn is_lost(
-    scope: Scope,
-    table: &Table,
-    entries: &Entries,
-    stripe: u32,
-    d: u32,
-    mark: CellMark,
-    known: bool,
-) -> bool
-    requires entries { EntriesFit table.now entries.now }
-    requires stripe { stripe < length table.now.infos }
-    requires column { d < length table.now.columns }
-    ensures { result ≡ is_lost_by (plan_of scope table.now entries.now) stripe mark known d }
+// What became of the cell of a column of a stripe.
+fn mark_of(one: &Examined<'_>, d: u32) -> CellMark
+    requires { d < length one.now.own.now.marks.items }
+    ensures { result ≡ mark_in one.now.own.now.marks.items d }
 {
-    selects_cell(scope, table, entries, stripe, d) && mark == CellMark::Missing && !known
+    one.own.marks[d as usize]
+}
+
+// Whether a selected cell is lost, by its mark.
+fn is_lost(plan: &Plan<'_>, one: &Examined<'_>, d: u32, mark: CellMark) -> bool
+    requires entries { EntriesFit plan.now.table.now plan.now.entries.now }
+    requires stripe { one.now.stripe < length plan.now.table.now.infos }
+    requires column { d < length plan.now.table.now.columns }
+    ensures { result ≡ is_lost_by (seen plan.now) one.now.stripe mark one.now.own.now.known d }
+{
+    selects_cell(plan.scope, plan.table, plan.entries, one.stripe, d)
+        && mark == CellMark::Missing
+        && !one.own.known
 }
 
 // Whether a cell is to be written, by its mark.
-fn is_repaired(
-    scope: Scope,
-    table: &Table,
-    entries: &Entries,
-    stripe: u32,
-    d: u32,
-    cell: Cell,
-    mark: CellMark,
-    known: bool,
-) -> bool
-    requires entries { EntriesFit table.now entries.now }
-    requires stripe { stripe < length table.now.infos }
-    requires column { d < length table.now.columns }
-    requires cell { cell_at (plan_of scope table.now entries.now) stripe d ≡ Some cell }
-    ensures { result ≡ is_repaired_by (plan_of scope table.now entries.now) stripe mark known d }
+fn is_repaired(plan: &Plan<'_>, one: &Examined<'_>, d: u32, cell: Cell, mark: CellMark) -> bool
+    requires entries { EntriesFit plan.now.table.now plan.now.entries.now }
+    requires stripe { one.now.stripe < length plan.now.table.now.infos }
+    requires column { d < length plan.now.table.now.columns }
+    requires cell { cell_at (seen plan.now) one.now.stripe d ≡ Some cell }
+    ensures { result ≡ is_repaired_by (seen plan.now) one.now.stripe mark one.now.own.now.known d }
 {
-    selects_cell(scope, table, entries, stripe, d)
+    selects_cell(plan.scope, plan.table, plan.entries, one.stripe, d)
         && is_damaged(mark)
-        && (mark == CellMark::Given || known)
-        && !entries.at(d, cell.rec).blocked
+        && (mark == CellMark::Given || one.own.known)
+        && !plan.entries.at(d, cell.rec).blocked
 }
 
 // Writes the block of a cell and tells it. Where its file is gone, the cell is lost, and that is told.
@@ -121,10 +116,7 @@ fn write_cell<F: Folder, W: Sink>(
             index: cell.index,
         };
         tell(reports, lines, table, &event);
-        return Ok(Repaired {
-            blocks: 1,
-            counts: Counts::NONE,
-        });
+        return Ok(Repaired::WRITTEN);
     }
     lose(states, d, cell.rec);
     let event = Event::Lost {
@@ -134,64 +126,46 @@ fn write_cell<F: Folder, W: Sink>(
         index: cell.index,
     };
     tell(reports, lines, table, &event);
-    Ok(Repaired {
-        blocks: 0,
-        counts: Counts { found: 1, left: 1 },
-    })
+    Ok(Repaired::GONE)
 }
 
 /// Writes the cell of a column where it is selected, damaged and known, and its file isn't blocked. Where it is selected,
 /// damaged and not known, its record has a lost block then.
 pub(super) fn mend_column<F: Folder, W: Sink>(
-    scope: Scope,
-    table: &Table,
-    entries: &Entries,
-    stripe: u32,
-    i: u32,
+    plan: &Plan<'_>,
+    one: &Examined<'_>,
     d: u32,
-    window: &Window,
-    marks: &[CellMark],
-    known: bool,
     starts: &mut Starts,
     states: &mut States,
     folder: &mut F,
     lines: &mut Lines<'_, W>,
     reports: &mut Vec<Box<dyn Report>>,
 ) -> Result<Repaired, Failed>
-    requires can { CanExamine (plan_of scope table.now entries.now) stripe i window.now }
-    requires mend { CanMendColumn (plan_of scope table.now entries.now) stripe i d window.now marks.now known
-        starts.old states.old (F.view folder.old) }
-    ensures mended { IfOk result (MendsColumn W.view standing stands (plan_of scope table.now entries.now) stripe i d window.now marks.now known
+    requires can { CanExamineOne (seen plan.now) one.now }
+    requires mend { CanMendIn (seen plan.now) one.now d starts.old states.old (F.view folder.old) }
+    ensures mended { IfOk result (MendsIn W.view standing stands (seen plan.now) one.now d
         (column_outside starts.old states.old (F.view folder.old) lines.old reports.old.items)
         (column_outside starts.new states.new (F.view folder.new) lines.new reports.new.items)) }
-    ensures failed { IfErr result (λ _. MendsNotColumn W.view standing stands (plan_of scope table.now entries.now) stripe i d window.now marks.now known
+    ensures failed { IfErr result (λ _. MendsNotIn W.view standing stands (seen plan.now) one.now d
         (column_outside starts.old states.old (F.view folder.old) lines.old reports.old.items)
         (column_outside starts.new states.new (F.view folder.new) lines.new reports.new.items)) }
 {
-    let mark = marks[d as usize];
+    let mark = mark_of(one, d);
     if !is_damaged(mark) {
         return Ok(Repaired::NONE);
     }
-    let Some(cell) = table.cell(stripe, d) else {
+    let Some(cell) = plan.table.cell(one.stripe, d) else {
         return Ok(Repaired::NONE);
     };
-    if is_lost(scope, table, entries, stripe, d, mark, known) {
+    if is_lost(plan, one, d, mark) {
         lose(states, d, cell.rec);
         return Ok(Repaired::NONE);
     }
-    if !is_repaired(scope, table, entries, stripe, d, cell, mark, known) {
+    if !is_repaired(plan, one, d, cell, mark) {
         return Ok(Repaired::NONE);
     }
+    let bytes = cell_bytes(one.window, one.slot, d);
     write_cell(
-        table,
-        stripe,
-        d,
-        cell,
-        cell_bytes(window, i, d),
-        starts,
-        states,
-        folder,
-        lines,
-        reports,
+        plan.table, one.stripe, d, cell, bytes, starts, states, folder, lines, reports,
     )
 }

@@ -1,64 +1,41 @@
 // The damaged cells of a stripe of the window, written anew.
 ghost use Rattle.std.specs.Prelude.{◌≡◌, ◌<◌, ◌≤◌, length, map, IfOk, IfErr};
-ghost use Rattle.stripe_examiner.specs.Marks.{CanExamine};
-ghost use Rattle.stripe_examiner.specs.Plan.{plan_of};
-ghost use Rattle.snap_fix.specs.Repairing.{CanMend, MendsFiles, MendsNotFiles, outside};
+ghost use Rattle.snap_fix.specs.Handed.{CanExamineOne, CanMendOne, MendsNotOne, MendsOne, seen};
+ghost use Rattle.snap_fix.specs.Repairing.{outside};
 
 use super::Repaired;
 use super::cells::mend_column;
+use crate::plan::{Examined, Plan};
 use disk_model::{Folder, Sink};
 use file_restorer::States;
-use file_table::Table;
 use snap_report::{Lines, Report};
-use stripe_examiner::{CellMark, Entries, Scope};
-use stripe_reader::{Starts, Window};
+use stripe_reader::Starts;
 
 /// Writes the damaged blocks of the selected cells of a stripe that are known, column by column, each to the file of its
 /// record. Of a cell whose block is not known, its record has a lost block then. It fails by the folder of a column, which
 /// is answered.
 pub(crate) fn mend_files<F: Folder, W: Sink>(
-    scope: Scope,
-    table: &Table,
-    entries: &Entries,
-    stripe: u32,
-    i: u32,
-    window: &Window,
-    marks: &[CellMark],
-    known: bool,
+    plan: &Plan<'_>,
+    one: &Examined<'_>,
     starts: &mut Starts,
     states: &mut States,
     folders: &mut [F],
     lines: &mut Lines<'_, W>,
     reports: &mut Vec<Box<dyn Report>>,
 ) -> Result<Repaired, u32>
-    requires can { CanExamine (plan_of scope table.now entries.now) stripe i window.now }
-    requires mend { CanMend (plan_of scope table.now entries.now) stripe i window.now marks.now known
-        starts.old states.old (map F.view folders.old) }
-    ensures mended { IfOk result (MendsFiles W.view standing stands (plan_of scope table.now entries.now) stripe i window.now marks.now known
+    requires can { CanExamineOne (seen plan.now) one.now }
+    requires mend { CanMendOne (seen plan.now) one.now starts.old states.old (map F.view folders.old) }
+    ensures mended { IfOk result (MendsOne W.view standing stands (seen plan.now) one.now
         (outside starts.old states.old (map F.view folders.old) lines.old reports.old.items)
         (outside starts.new states.new (map F.view folders.new) lines.new reports.new.items)) }
-    ensures failed { IfErr result (MendsNotFiles W.view standing stands (plan_of scope table.now entries.now) stripe i window.now marks.now known
+    ensures failed { IfErr result (MendsNotOne W.view standing stands (seen plan.now) one.now
         (outside starts.old states.old (map F.view folders.old) lines.old reports.old.items)
         (outside starts.new states.new (map F.view folders.new) lines.new reports.new.items)) }
 {
     let mut repaired = Repaired::NONE;
-    for d in 0..table.disks() {
-        let column = mend_column(
-            scope,
-            table,
-            entries,
-            stripe,
-            i,
-            d,
-            window,
-            marks,
-            known,
-            starts,
-            states,
-            &mut folders[d as usize],
-            lines,
-            reports,
-        );
+    for d in 0..plan.table.disks() {
+        let folder = &mut folders[d as usize];
+        let column = mend_column(plan, one, d, starts, states, folder, lines, reports);
         let Ok(more) = column else {
             return Err(d);
         };

@@ -41,7 +41,7 @@ loop-done-preserved g c =
       read = more.read;
       looks = more.looks;
       within = omega (arith, c.min-count.ensures, c.len-in-loop-done.ensures, c.loop-done-test.true, ap (λ it. length it.stripes.items) so_far.kept.rest, so_far.within);
-      kept = keeps_then table first work c.check_window-more.new.work so_far.kept c.check_window-more.ensures.work;
+      kept = keeps_then table first work c.check_window-more.new.work so_far.kept c.check_window-more.ensures.work.0;
       folders = sym (length-map c.check_window-more.new.folders g.F.Folder.view) ∙ more.read.folders ∙ length-map c.args.folders.now g.F.Folder.view ∙ c.requires.folders;
       levels = more.looks.levels.goes_on.levels ∙ c.requires.levels;
     }

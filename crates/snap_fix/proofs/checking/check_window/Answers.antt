@@ -10,7 +10,7 @@ use Rattle.snap_fix.proofs.checking.check_window.Goals as goal
 pub tell_window-requires-clause-count : goal.tell_window-requires-clause-count
 tell_window-requires-clause-count g c =
     let ex = c.examine_window.ensures in
-    omega (arith, ex.room.as_many, ex.as_large, c.requires.room, ap length c.deref.ensures.value, ap length c.deref-2.ensures.value)
+    omega (arith, ex.room.as_many, ex.as_large, c.requires.next.1, ap length c.deref.ensures.value, ap length c.deref-2.ensures.value)
 
 pub tell_window-requires-clause-can : goal.tell_window-requires-clause-can
 tell_window-requires-clause-can g c k other below =

@@ -5,6 +5,7 @@ use Rattle.snap_report.proofs.PutsLemmas.{puts_then}
 use Rattle.snap_report.proofs.ToldLemmas.{told_then}
 use Rattle.snap_fix.specs.Checking.{plan_for}
 use Rattle.stripe_examiner.specs.Findings.{opening_events, events_of}
+use Rattle.snap_fix.proofs.AuditedLemmas.{audit_finds_nothing, capped}
 use Rattle.snap_fix.proofs.CourseLemmas.{entries_begun, work_begun, read_begun}
 use Rattle.snap_fix.proofs.checks.check.Goals as goal
 
@@ -42,4 +43,5 @@ returns-clause-checks g c =
       left = counts.left;
       no_blocks = refl;
       no_parities = refl;
+      audited = λ audit. capped (audit_finds_nothing plan checks.stripes (begun.scope.mode_is ∙ audit) checks.looks.are) counts.found;
     }

@@ -2,7 +2,7 @@ use Rattle.std.proofs.Common.{◌<◌, length, refl, arith}
 use Rattle.stripe_examiner.specs.Plan.{plan_of}
 use Rattle.file_table.specs.Table.{records_in}
 use Rattle.snap_fix.proofs.EndingColumnLemmas.{told_start, can_next, told_more, ended_not, ended_all}
-use Rattle.snap_fix.proofs.EndingSyncLemmas.{on_err}
+use Rattle.snap_fix.proofs.AnswerLemmas.{on_err}
 use Rattle.file_restorer.proofs.RecordPathsLemmas.{table_paths}
 use Rattle.snap_fix.proofs.ending.end_column.Goals as goal
 

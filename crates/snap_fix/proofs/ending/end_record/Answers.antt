@@ -1,7 +1,7 @@
 use Rattle.std.proofs.Common.{◌≡◌, ◌&&◌, Bool, not, refl, sym, ap, ◌∙◌}
 use Rattle.stripe_examiner.specs.declared.entry.Entry.{Entry}
 use Rattle.stripe_examiner.specs.Plan.{plan_of}
-use Rattle.snap_fix.proofs.EndingSyncLemmas.{on_err}
+use Rattle.snap_fix.proofs.AnswerLemmas.{on_err}
 use Rattle.snap_fix.proofs.EndingRecordLemmas.{can_finish, ends_done, ends_kept, ends_not}
 use Rattle.snap_fix.proofs.ending.end_record.Goals as goal
 

@@ -1,5 +1,6 @@
 use Rattle.std.proofs.Common.{◌∙◌, refl, arith}
-use Rattle.snap_fix.proofs.EndingSyncLemmas.{on_err, synced_more, synced_not}
+use Rattle.snap_fix.proofs.AnswerLemmas.{on_err}
+use Rattle.snap_fix.proofs.EndingSyncLemmas.{synced_more, synced_not}
 use Rattle.snap_fix.proofs.ending.sync_levels.Goals as goal
 
 pub returns-in_err-sync_level-clause-failed : goal.returns-in_err-sync_level-clause-failed

@@ -1,6 +1,6 @@
 use Rattle.std.proofs.Common.{◌≡◌, List, length, map, take}
 use Rattle.stripe_examiner.specs.Facts.{StripeFacts}
-use Rattle.stripe_examiner.specs.Plan.{plan_of}
+use Rattle.snap_fix.specs.Handed.{seen}
 use Rattle.stripe_examiner.specs.Spare.{IsSpareFor, SpareView}
 use Rattle.snap_fix.specs.Fixing.{fix_scene}
 use Rattle.snap_fix.specs.FixRun.{MendsInto}
@@ -11,10 +11,10 @@ abbrev pub invariant-loop-i : goal.invariant-loop-i
 invariant-loop-i g l =
     record {
       mends : (all : List StripeFacts) (spare : SpareView)
-          → ShowsAll (plan_of l.scope l.table l.entries) all l.stripes l.window l.rooms → IsSpareFor l.table.shape spare
+          → ShowsAll (seen l.plan) all l.stripes l.window l.rooms → IsSpareFor l.plan.table.now.shape spare
           → MendsInto g.W.Sink.view (λ b. (goal.Report-dyn g (b.vtable, b.value)).standing b.value) (λ b. (goal.Report-dyn g (b.vtable, b.value)).stands b.value)
-          (plan_of l.scope l.table l.entries) (take l.i all)
-          (fix_scene l.fn.starts l.fn.states l.fn.written (map g.F.Folder.view l.fn.folders) (g.V.Vault.view l.fn.vault) spare l.fn.lines l.fn.reports.items)
-          (fix_scene l.starts l.states l.written (map g.F.Folder.view l.folders) (g.V.Vault.view l.vault) spare l.lines l.reports.items) l.totals;
+          (seen l.plan) (take l.i all)
+          (fix_scene l.fn.progress.starts l.fn.progress.states l.fn.progress.written.items (map g.F.Folder.view l.fn.folders) (g.V.Vault.view l.fn.vault) spare l.fn.lines l.fn.reports.items)
+          (fix_scene l.progress.starts l.progress.states l.progress.written.items (map g.F.Folder.view l.folders) (g.V.Vault.view l.vault) spare l.lines l.reports.items) l.totals;
       block : length l.block ≡ length l.fn.block;
     }

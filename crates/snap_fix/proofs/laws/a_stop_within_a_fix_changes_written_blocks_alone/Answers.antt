@@ -1,6 +1,7 @@
 use Rattle.disk_model.specs.Tree.{path_of}
 use Rattle.snap_fix.specs.Stopped.{path_at}
 use Rattle.snap_fix.proofs.StoppedLemmas.{bytes_stand, left_alone, listed_in_place, unfinished_alone}
+use Rattle.snap_fix.proofs.StoppedCellLemmas.{cell_stands}
 use Rattle.snap_fix.proofs.laws.a_stop_within_a_fix_changes_written_blocks_alone.Goals as goal
 
 pub returns-clause-bytes : goal.returns-clause-bytes
@@ -9,6 +10,14 @@ returns-clause-bytes c stop i file is within placed =
     bytes_stand stop is i within file
     (c.bytes_that_no_call_touches_stay.ensures.place stop.keeps_stamps path is.calls stop.first stop.left file)
     (c.bytes_that_no_call_touches_stay.ensures.lost stop.keeps_stamps path is.calls stop.first stop.left file) placed
+
+pub returns-clause-cells : goal.returns-clause-cells
+returns-clause-cells c stop cell file is spared within placed =
+    let path = path_at stop cell.rec in
+    cell_stands stop is cell spared within file
+    (bytes_stand stop is cell.rec within file
+    (c.bytes_that_no_call_touches_stay.ensures.place stop.keeps_stamps path is.calls stop.first stop.left file)
+    (c.bytes_that_no_call_touches_stay.ensures.lost stop.keeps_stamps path is.calls stop.first stop.left file) placed)
 
 pub returns-clause-not_selected : goal.returns-clause-not_selected
 returns-clause-not_selected c stop i lost is within not_finished =

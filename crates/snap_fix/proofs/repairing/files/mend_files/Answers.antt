@@ -1,7 +1,7 @@
 use Rattle.std.proofs.Common.{◌<◌, false, length, map, refl, sym, arith}
 use Rattle.std.proofs.lemmas.List.{get_or-map, length-map, map-set}
 use Rattle.disk_model.specs.Folder.{quiet_folder}
-use Rattle.stripe_examiner.specs.Plan.{plan_of}
+use Rattle.snap_fix.specs.Handed.{seen}
 use Rattle.snap_fix.proofs.RepairFilesLemmas.{files_none, column_can, files_more, files_not, files_all}
 use Rattle.snap_fix.proofs.repairing.files.mend_files.Goals as goal
 
@@ -17,10 +17,10 @@ mend_column-column-requires-clause-mend g c κs within =
     let folders = c.loop-d.folders in
     let d = c.loop-d.d in
     let so_far = c.loop-d.invariant.so_far in
-    let column : d < length c.args.table.now.columns = omega (arith, c.loop-d-test.true, c.loop-d.invariant.end) in
+    let column : d < length c.args.plan.now.table.now.columns = omega (arith, c.loop-d-test.true, c.loop-d.invariant.end) in
     let there : d < length folders = omega (arith, column, so_far.folders, c.requires.mend.folders_are, length-map folders view) in
     column_can g.W.Sink.view (λ b. (goal.Report-dyn g (b.vtable, b.value)).standing b.value) (λ b. (goal.Report-dyn g (b.vtable, b.value)).stands b.value)
-    (plan_of c.args.scope c.args.table.now c.args.entries.now) c.args.stripe c.args.i c.args.window.now c.args.marks.now c.args.known _ d _ c.loop-d.repaired c.requires.mend so_far column _
+    (seen c.args.plan.now) c.args.one.now.stripe c.args.one.now.slot c.args.one.now.window.now c.args.one.now.own.now.marks.items c.args.one.now.own.now.known _ d _ c.loop-d.repaired c.requires.mend so_far column _
     (sym (get_or-map view folders d c.index-folders-d.result (quiet_folder 0 false) there))
 
 pub loop-d-preserved : goal.loop-d-preserved
@@ -29,12 +29,12 @@ loop-d-preserved g c =
     let folders = c.loop-d.folders in
     let d = c.loop-d.d in
     let so_far = c.loop-d.invariant.so_far in
-    let column : d < length c.args.table.now.columns = omega (arith, c.loop-d-test.true, c.loop-d.invariant.end) in
+    let column : d < length c.args.plan.now.table.now.columns = omega (arith, c.loop-d-test.true, c.loop-d.invariant.end) in
     let there : d < length folders = omega (arith, column, so_far.folders, c.requires.mend.folders_are, length-map folders view) in
     let mapped : d < length (map view folders) = omega (arith, there, length-map folders view) in
     record {
       end = c.loop-d.invariant.end;
-      so_far = files_more _ _ _ (plan_of c.args.scope c.args.table.now c.args.entries.now) c.args.stripe c.args.i c.args.window.now c.args.marks.now c.args.known _ d _ _ _ _
+      so_far = files_more _ _ _ (seen c.args.plan.now) c.args.one.now.stripe c.args.one.now.slot c.args.one.now.window.now c.args.one.now.own.now.marks.items c.args.one.now.own.now.known _ d _ _ _ _
           (sym (get_or-map view folders d c.index-folders-d.result (quiet_folder 0 false) there)) mapped (map-set view folders d c.mend_column-column.new.folder)
           c.loop-d.repaired c.in-Ok.more _ column c.and.ensures refl so_far c.in-Ok.ensures.mended;
     }
@@ -45,14 +45,14 @@ returns-in_default-clause-failed g c =
     let folders = c.loop-d.folders in
     let d = c.loop-d.d in
     let so_far = c.loop-d.invariant.so_far in
-    let column : d < length c.args.table.now.columns = omega (arith, c.loop-d-test.true, c.loop-d.invariant.end) in
+    let column : d < length c.args.plan.now.table.now.columns = omega (arith, c.loop-d-test.true, c.loop-d.invariant.end) in
     let there : d < length folders = omega (arith, column, so_far.folders, c.requires.mend.folders_are, length-map folders view) in
     let mapped : d < length (map view folders) = omega (arith, there, length-map folders view) in
-    files_not _ _ _ (plan_of c.args.scope c.args.table.now c.args.entries.now) c.args.stripe c.args.i c.args.window.now c.args.marks.now c.args.known _ d _ _ _ _
+    files_not _ _ _ (seen c.args.plan.now) c.args.one.now.stripe c.args.one.now.slot c.args.one.now.window.now c.args.one.now.own.now.marks.items c.args.one.now.own.now.known _ d _ _ _ _
     (sym (get_or-map view folders d c.index-folders-d.result (quiet_folder 0 false) there)) mapped (map-set view folders d c.mend_column-column.new.folder)
     c.loop-d.repaired column so_far c.in_default.ensures.failed
 
 pub returns-clause-mended : goal.returns-clause-mended
 returns-clause-mended g c =
-    files_all _ _ _ (plan_of c.args.scope c.args.table.now c.args.entries.now) c.args.stripe c.args.i c.args.window.now c.args.marks.now c.args.known _ c.loop-d.d _ c.loop-d.repaired
+    files_all _ _ _ (seen c.args.plan.now) c.args.one.now.stripe c.args.one.now.slot c.args.one.now.window.now c.args.one.now.own.now.marks.items c.args.one.now.own.now.known _ c.loop-d.d _ c.loop-d.repaired
     (omega (arith, c.loop-d-test.false, c.loop-d.auto.d-end, c.loop-d.invariant.end)) c.loop-d.invariant.so_far

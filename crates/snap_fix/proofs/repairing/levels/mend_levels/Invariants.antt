@@ -1,7 +1,7 @@
 use Rattle.std.proofs.Common.{◌≡◌, ◌≤◌, length}
 use Rattle.disk_model.specs.Vault.{SomeCalls, DraftsStay}
 use Rattle.stripe_examiner.specs.Facts.{StripeFacts}
-use Rattle.stripe_examiner.specs.Plan.{plan_of}
+use Rattle.snap_fix.specs.Handed.{seen}
 use Rattle.snap_fix.specs.Repairing.{ShowsLevels, levels_outside}
 use Rattle.snap_fix.proofs.MendedLevelLemmas.{LevelsSoFar}
 use Rattle.snap_fix.proofs.FlagLemmas.{FlagsSoFar}
@@ -15,11 +15,11 @@ invariant-loop-r g l =
       drafts : DraftsStay (g.V.Vault.view l.fn.vault) (g.V.Vault.view l.vault);
       few : l.count ≤ l.r;
       long : length l.written ≡ length l.fn.written;
-      flags : (facts : StripeFacts) → ShowsLevels facts l.stripe l.i l.window l.levels l.known
-          → FlagsSoFar (plan_of l.fn.scope l.table l.entries) facts l.r l.fn.written l.written;
-      end : l.r-end ≡ l.table.shape.levels;
-      so_far : (facts : StripeFacts) → ShowsLevels facts l.stripe l.i l.window l.levels l.known
+      flags : (facts : StripeFacts) → ShowsLevels facts l.one.stripe l.one.slot l.one.window.now l.one.own.now.levels l.one.own.now.known
+          → FlagsSoFar (seen l.plan) facts l.r l.fn.written l.written;
+      end : l.r-end ≡ l.plan.table.now.shape.levels;
+      so_far : (facts : StripeFacts) → ShowsLevels facts l.one.stripe l.one.slot l.one.window.now l.one.own.now.levels l.one.own.now.known
           → LevelsSoFar g.W.Sink.view (λ b. (goal.Report-dyn g (b.vtable, b.value)).standing b.value) (λ b. (goal.Report-dyn g (b.vtable, b.value)).stands b.value)
-          (plan_of l.fn.scope l.table l.entries) facts l.r l.count
+          (seen l.plan) facts l.r l.count
           (levels_outside (g.V.Vault.view l.fn.vault) l.fn.lines l.fn.reports.items) (levels_outside (g.V.Vault.view l.vault) l.lines l.reports.items);
     }
