@@ -31,6 +31,7 @@ use Rattle.stripe_findings.specs.Findings.{events_of}
 use Rattle.stripe_findings.specs.Reading.{StripeReading, readings_in, is_verified}
 use Rattle.snap_sync.specs.Reading.{ReadsFirst}
 use Rattle.snap_sync.specs.Run.{readings_near, plan_for, HasSynced}
+use Rattle.stripe_reader.specs.WindowValue.{stripe_count}
 use Rattle.snap_sync.proofs.RunLemmas.{IsSetting, breaks_with}
 use Rattle.snap_sync.proofs.UnderwayLemmas.{IsSaved, SavesNot, underway_ended, underway_stopped_ending}
 
@@ -53,6 +54,7 @@ module _ {W R : Type 0} {view : W → SinkView} {standing : R → ReportView} {s
     pub breaks_ending : SavesNot piece work.table mid.vault new → Breaks view standing stands plan old (outside mid.folders new mid.lines mid.reports)
     breaks_ending saves =
         breaks_with view standing stands plan so_far.readings (readings_near work progress.done) old (outside mid.folders new mid.lines mid.reports) so_far.reads
+        (subst (λ (its : List StripeReading). length its ≤ stripe_count (length plan.start.columns) plan.start.shape.block_size) (sym nothing_near) (omega arith))
         (underway_stopped_ending plan so_far.readings so_far.saved piece (setting.piece_is ∙ piece_is) work.table so_far.table old.vault mid.vault new setting.for formed all_read so_far.vault saves) so_far.told
 
     -- it did not fail, and the last line was told

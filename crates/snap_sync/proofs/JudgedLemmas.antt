@@ -1,6 +1,8 @@
 -- How far a sync is once a window was judged, and once it was turned.
 use Rattle.std.proofs.Common.{◌≡◌, ℕ, ◌+◌, ◌<◌, ◌≤◌, List, [], ◌∷◌, ◌++◌, length, map, take, drop, Bool, refl, sym, ap, ap₂, ◌∙◌, subst, arith, length-append}
-use Rattle.std.proofs.lemmas.List.{map-append}
+use Rattle.std.specs.List.{range_with_len}
+use Rattle.std.proofs.lemmas.List.{length-map, map-append}
+use Rattle.std.proofs.lemmas.List.FromFn.{length-range_with_len}
 use Rattle.std.proofs.lemmas.List.Elements.{All-head, All-tail}
 use Rattle.array_scan.specs.Layout.{pending_stripes}
 use Rattle.disk_model.specs.Folder.{FolderView}
@@ -19,7 +21,8 @@ use Rattle.snap_report.proofs.ToldLemmas.{told_then}
 use Rattle.stripe_reader.specs.Columns.{ReadsWindow}
 use Rattle.stripe_reader.specs.Reading.{tasks_at}
 use Rattle.stripe_reader.specs.Starts.{StartsValue, recorded_starts}
-use Rattle.stripe_reader.specs.WindowValue.{WindowValue, Fits}
+use Rattle.file_table.specs.declared.shape.Shape.{Shape}
+use Rattle.stripe_reader.specs.WindowValue.{WindowValue, Fits, stripe_count}
 use Rattle.snap_sync.specs.declared.beginning.Work.{Work}
 use Rattle.snap_sync.specs.declared.judging.Counts.{Counts}
 use Rattle.snap_sync.specs.declared.stripes.Progress.{Progress}
@@ -27,7 +30,7 @@ use Rattle.snap_sync.specs.Calls.{SyncPlan}
 use Rattle.snap_sync.specs.Closing.{closed, verified_in}
 use Rattle.snap_sync.specs.Course.{Outside, Breaks, outside}
 use Rattle.stripe_findings.specs.Findings.{events_of}
-use Rattle.stripe_findings.specs.Reading.{StripeReading, AreRead, stripes_of, readings_in, is_verified}
+use Rattle.stripe_findings.specs.Reading.{StripeReading, AreRead, stripes_of, reading_at, readings_in, is_verified}
 use Rattle.snap_sync.specs.Reading.{ReadsFirst}
 use Rattle.snap_sync.specs.Run.{all_of, count_after, stripes_near, stripes_next, readings_near, choice_near, AreCounts, IsReady, Judges, ReadsFar, KeepsWork, HasSynced}
 use Rattle.snap_sync.specs.Schedule.{window_count}
@@ -42,7 +45,7 @@ use Rattle.snap_sync.proofs.PendingLemmas.{none_within}
 use Rattle.stripe_findings.proofs.ReadLemmas.{are_read_by, window_are_read, stripes_of_window, length_of_window, length_after}
 use Rattle.snap_sync.proofs.StandLemmas.{IsStopped, IsWritten}
 use Rattle.snap_sync.proofs.UnderwayLemmas.{ComesNext, underway_written, underway_stopped_writing, writing_broke}
-use Rattle.snap_sync.proofs.WorkLemmas.{judged_ready, window_within, window_some, swapped_of, turned_is, near_is, turn_ready}
+use Rattle.snap_sync.proofs.WorkLemmas.{judged_ready, window_few, window_within, window_some, swapped_of, turned_is, near_is, turn_ready}
 use Rattle.snap_sync.proofs.NextLemmas.{distinct_of, reads_more}
 use Rattle.snap_sync.proofs.RunLemmas.{IsSetting, told_by, breaks_with}
 
@@ -240,9 +243,27 @@ module _ {W R : Type 0} {view : W → SinkView} {standing : R → ReportView} {s
         (ap (λ (n : ℕ). take n (drop (progress.done + judged.room.near.count) judged.pending.items)) (sym (length_after judged.pending.items (progress.done + judged.room.near.count) many_ahead ahead_within))
         ∙ ap₂ (λ (n : ℕ) (its : List ℕ). take (length stripes) (drop n its)) place items)
 
+    -- they are no more than one window has
+    few_ahead : length ahead ≤ stripe_count (length plan.start.columns) plan.start.shape.block_size
+    few_ahead =
+        let stripes = stripes_next plan.every judged progress.done in
+        let shape = (differs-closed plan.now plan.start judged_so_far).shape in
+        let width = (differs-closed plan.now plan.start judged_so_far).columns in
+        let table_width : length judged.table.columns ≡ length plan.start.columns = ap (λ (table : TableValue). length table.columns) judged_table ∙ width in
+        let table_shape : judged.table.shape ≡ plan.start.shape = ap (λ (table : TableValue). table.shape) judged_table ∙ shape in
+        let long : length ahead ≡ length stripes = length-map (range_with_len 0 (length stripes)) (reading_at stripes far) ∙ length-range_with_len 0 (length stripes) in
+        let many : length stripes ≡ many_ahead = length_after judged.pending.items (progress.done + judged.room.near.count) many_ahead ahead_within in
+        let room : many_ahead ≤ judged.room.near.room = window_few plan.every judged.room.near.room (all_of judged) (progress.done + judged.room.near.count) in
+        subst (λ (n : ℕ). length ahead ≤ stripe_count n plan.start.shape.block_size) table_width
+        (subst (λ (s : Shape). length ahead ≤ stripe_count (length judged.table.columns) s.block_size) table_shape
+        (le_through (length ahead) judged.room.near.room (stripe_count (length judged.table.columns) judged.table.shape.block_size) (omega (arith, long, many, room)) window.ready.is_work.room.few))
+      where
+        le_through : (a b c : ℕ) → a ≤ b → b ≤ c → a ≤ c
+        le_through a b c one two = omega (arith, one, two)
+
     -- a call failed
     pub breaks_turned : {vault : VaultView} → IsStopped plan judged_so_far old.vault vault → Breaks view standing stands plan old (outside folders vault lines reports)
-    breaks_turned {vault} stopped = breaks_with view standing stands plan judged_so_far ahead old (outside folders vault lines reports) reads_turned stopped told_judged
+    breaks_turned {vault} stopped = breaks_with view standing stands plan judged_so_far ahead old (outside folders vault lines reports) reads_turned few_ahead stopped told_judged
 
     -- none failed
     pub synced_more : {turned saved swapped : Work} {more : Progress} {counts : Counts} {c : ℕ} {vault : VaultView} → AreCounts work.table ws counts → ReadsFar judged turned → turned.room.far ≡ far

@@ -27,6 +27,7 @@ use Rattle.snap_sync.specs.Run.{all_of, stripes_near, readings_near, IsReady, Ha
 use Rattle.snap_sync.specs.Work.{IsPlanFor, IsUnderway}
 use Rattle.stripe_findings.proofs.ReadLemmas.{are_read_start, window_are_read, stripes_of_window, length_of_window, length_after}
 use Rattle.snap_sync.proofs.StandLemmas.{IsStopped}
+use Rattle.stripe_reader.specs.WindowValue.{stripe_count}
 use Rattle.snap_sync.proofs.WorkLemmas.{window_within}
 
 -- ---- what a sync begins with
@@ -79,11 +80,13 @@ module _ {W R : Type 0} (view : W → SinkView) (standing : R → ReportView) (s
   touches plan readings old new stopped = record { calls = stopped.calls; ran = stopped.ran; broke = λ failed. stopped.broke; changes = stopped.changes }
 
   -- a sync that broke off
-  pub breaks_with : (plan : SyncPlan) (readings ahead : List StripeReading) (old new : Outside W R) → ReadsFirst plan.start (readings ++ ahead) old.folders new.folders → IsStopped plan readings old.vault new.vault
+  pub breaks_with : (plan : SyncPlan) (readings ahead : List StripeReading) (old new : Outside W R) → ReadsFirst plan.start (readings ++ ahead) old.folders new.folders
+      → length ahead ≤ stripe_count (length plan.start.columns) plan.start.shape.block_size → IsStopped plan readings old.vault new.vault
       → Told view standing stands plan.start.columns (events_of plan.start readings) old.lines new.lines old.reports new.reports → Breaks view standing stands plan old new
-  breaks_with plan readings ahead old new reads stopped told = record {
+  breaks_with plan readings ahead old new reads few stopped told = record {
     readings = readings;
     ahead = ahead;
+    few = few;
     course = record { reads = reads; vault = touches plan readings old.vault new.vault stopped; tells = tells_these plan.start readings old new told };
   }
 
@@ -92,6 +95,7 @@ module _ {W R : Type 0} (view : W → SinkView) (standing : R → ReportView) (s
   breaks_opening plan old new folders lines reports stopped =
       breaks_with plan [] [] old new
       (record { stripes = refl; read = subst (λ (news : List FolderView). AreRead plan.start [] old.folders news) (sym folders) (are_read_start plan.start old.folders) })
+      (omega arith)
       stopped
       (subst (λ (its : Lines W). Told view standing stands plan.start.columns [] old.lines its old.reports new.reports) (sym lines)
       (subst (λ (its : List R). Told view standing stands plan.start.columns [] old.lines old.lines old.reports its) (sym reports) (told_nothing view standing stands plan.start.columns old.lines old.reports)))

@@ -9,7 +9,8 @@ use Rattle.disk_model.specs.Folder.{FolderView}
 use Rattle.file_table.specs.Table.{TableValue, info_at}
 use Rattle.file_table.specs.Valid.{most_blocks}
 use Rattle.stripe_reader.specs.Columns.{ReadsWindow}
-use Rattle.stripe_reader.specs.WindowValue.{WindowValue, Fits}
+use Rattle.file_table.specs.declared.shape.Shape.{Shape}
+use Rattle.stripe_reader.specs.WindowValue.{WindowValue, Fits, stripe_count}
 use Rattle.snap_sync.specs.declared.beginning.Work.{Work}
 use Rattle.snap_sync.specs.declared.room.Room.{Room}
 use Rattle.snap_sync.specs.Closing.{closed}
@@ -25,6 +26,11 @@ use Rattle.stripe_findings.proofs.ReadLemmas.{length_after}
 pub window_within : (every : Option ℕ) (room all count : ℕ) → count ≤ all → count + window_count every room all count ≤ all
 window_within every room all count within = omega arith
 
+-- nor more than there is room for
+pub window_few : (every : Option ℕ) (room all count : ℕ) → window_count every room all count ≤ room
+window_few None room all count = omega arith
+window_few (Some every) room all count = omega arith
+
 -- and at least one
 pub window_some : (every : Option ℕ) (room all count : ℕ) → IfSome every (λ every. 0 < every) → 0 < room → count < all → 0 < window_count every room all count
 window_some None room all count some has more = omega arith
@@ -39,6 +45,8 @@ room_closed now table readings room is =
     record {
       starts = is.starts ∙ sym (recorded_starts-closed now table readings);
       some = is.some;
+      few = subst (λ (n : ℕ). room.near.room ≤ stripe_count n (closed now table readings).shape.block_size) (sym width)
+          (subst (λ (s : Shape). room.near.room ≤ stripe_count (length table.columns) s.block_size) (sym shape) is.few);
       near = record { lanes = is.near.lanes ∙ sym width; block_size = is.near.block_size ∙ sym (ap (λ it. it.block_size) shape) };
       far = record { lanes = is.far.lanes ∙ sym width; block_size = is.far.block_size ∙ sym (ap (λ it. it.block_size) shape) };
       as_much = is.as_much;
@@ -56,7 +64,7 @@ work_closed now work readings is = record {
 
 work_chosen : (work : Work) (chosen : Vec Bool Global) → length chosen.items ≡ length work.room.chosen.items → IsWork work → IsWork (record work { room = record work.room { chosen = chosen } })
 work_chosen work chosen as_many is = record {
-  room = record { starts = is.room.starts; some = is.room.some; near = is.room.near; far = is.room.far; as_much = is.room.as_much; chosen = as_many ∙ is.room.chosen; sums = is.room.sums; piece = is.room.piece };
+  room = record { starts = is.room.starts; some = is.room.some; few = is.room.few; near = is.room.near; far = is.room.far; as_much = is.room.as_much; chosen = as_many ∙ is.room.chosen; sums = is.room.sums; piece = is.room.piece };
   pending = is.pending;
   few = is.few;
 }
@@ -78,7 +86,7 @@ judged_ready every now work judged done ready judges =
 pub turned_work : (work turned : Work) → IsWork work → ReadsFar work turned → Fits work.table turned.room.far → turned.room.far.room ≡ work.room.far.room → IsWork turned
 turned_work work turned is far fits as_much =
     subst IsWork (sym far.rest) (record {
-      room = record { starts = is.room.starts; some = is.room.some; near = is.room.near; far = fits; as_much = as_much ∙ is.room.as_much; chosen = is.room.chosen; sums = far.sums ∙ is.room.sums; piece = is.room.piece };
+      room = record { starts = is.room.starts; some = is.room.some; few = is.room.few; near = is.room.near; far = fits; as_much = as_much ∙ is.room.as_much; chosen = is.room.chosen; sums = far.sums ∙ is.room.sums; piece = is.room.piece };
       pending = is.pending;
       few = is.few;
     })
@@ -86,7 +94,7 @@ turned_work work turned is far fits as_much =
 pub kept_work : (work saved : Work) → IsWork work → KeepsWork work saved → IsWork saved
 kept_work work saved is keeps =
     subst IsWork (sym keeps.rest) (record {
-      room = record { starts = is.room.starts; some = is.room.some; near = is.room.near; far = is.room.far; as_much = is.room.as_much; chosen = is.room.chosen; sums = is.room.sums; piece = keeps.piece ∙ is.room.piece };
+      room = record { starts = is.room.starts; some = is.room.some; few = is.room.few; near = is.room.near; far = is.room.far; as_much = is.room.as_much; chosen = is.room.chosen; sums = is.room.sums; piece = keeps.piece ∙ is.room.piece };
       pending = is.pending;
       few = is.few;
     })
@@ -97,7 +105,17 @@ swapped_of work = record work { room = record work.room { near = work.room.far; 
 
 swapped_work : (work : Work) → IsWork work → IsWork (swapped_of work)
 swapped_work work is = record {
-  room = record { starts = is.room.starts; some = omega (arith, is.room.some, is.room.as_much); near = is.room.far; far = is.room.near; as_much = sym is.room.as_much; chosen = is.room.chosen ∙ sym is.room.as_much; sums = is.room.sums; piece = is.room.piece };
+  room = record {
+    starts = is.room.starts;
+    some = omega (arith, is.room.some, is.room.as_much);
+    few = subst (λ (n : ℕ). n ≤ stripe_count (length work.table.columns) work.table.shape.block_size) (sym is.room.as_much) is.room.few;
+    near = is.room.far;
+    far = is.room.near;
+    as_much = sym is.room.as_much;
+    chosen = is.room.chosen ∙ sym is.room.as_much;
+    sums = is.room.sums;
+    piece = is.room.piece;
+  };
   pending = is.pending;
   few = is.few;
 }

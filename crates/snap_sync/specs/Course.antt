@@ -1,5 +1,5 @@
 -- What a sync leaves, and why it did not end.
-use Rattle.std.specs.Prelude.{◌≡◌, ℕ, ◌+◌, ◌<◌, ◌*◌, List, [], ◌++◌, length, Bool, true, false, IsTrue, IfSome}
+use Rattle.std.specs.Prelude.{◌≡◌, ℕ, ◌+◌, ◌<◌, ◌≤◌, ◌*◌, List, [], ◌++◌, length, Bool, true, false, IsTrue, IfSome}
 use Rattle.array_scan.specs.Layout.{pending_stripes}
 use Rattle.content_file.specs.Save.{HasSaved, HasNoDraft}
 use Rattle.content_file.specs.Spelling.{spelling}
@@ -27,6 +27,7 @@ use Rattle.snap_sync.specs.Closing.{closed, verified_in}
 use Rattle.stripe_findings.specs.Findings.{events_of}
 use Rattle.snap_sync.specs.Images.{MayStand, HasParityAfter}
 use Rattle.stripe_findings.specs.Reading.{StripeReading}
+use Rattle.stripe_reader.specs.WindowValue.{stripe_count}
 use Rattle.snap_sync.specs.Reading.{ReadsFirst}
 use Rattle.snap_sync.specs.Schedule.{save_after}
 use Rattle.snap_sync.specs.Work.{VaultBroke, more_findings}
@@ -96,11 +97,12 @@ pub record Ends {W R : Type 0} (view : W → SinkView) (standing : R → ReportV
   pub pending : end.synced + end.pending ≡ plan.all
   pub findings : end.findings ≡ more_findings 0 (length (events_of plan.start readings))
 
--- a sync that broke off once the vault was touched: a call of it failed
+-- A sync that broke off once the vault was touched: a call of it failed. The stripes that were read ahead are no more than one window has.
 pub record Breaks {W R : Type 0} (view : W → SinkView) (standing : R → ReportView) (stands : R → List Event → Type 0)
     (plan : SyncPlan) (old new : Outside W R) : Type 0 where
   pub readings : List StripeReading
   pub ahead : List StripeReading
+  pub few : length ahead ≤ stripe_count (length plan.start.columns) plan.start.shape.block_size
   pub course : Course view standing stands plan true readings ahead [] old new
 
 -- what is outside once the folders were listed: only the folders were asked

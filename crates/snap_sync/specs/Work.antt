@@ -12,16 +12,17 @@ use Rattle.parity_writer.specs.Keeps.{SameParities}
 use Rattle.parity_writer.specs.Parity.{HoldsRows}
 use Rattle.snap_report.specs.Answer.{Gained}
 use Rattle.stripe_reader.specs.Starts.{recorded_starts}
-use Rattle.stripe_reader.specs.WindowValue.{Fits}
+use Rattle.stripe_reader.specs.WindowValue.{Fits, stripe_count}
 use Rattle.snap_sync.specs.declared.room.Room.{Room}
 use Rattle.snap_sync.specs.Calls.{SyncPlan, piece_size, opening_calls, stripe_calls}
 use Rattle.snap_sync.specs.Images.{MayStand, HasParityAfter, table_after, rows_after}
 use Rattle.stripe_findings.specs.Reading.{StripeReading}
 
--- room for the windows of a table: each has room for as many stripes, and a piece for the drafts
+-- Room for the windows of a table: each has room for as many stripes, no more than one of any run over it, and a piece for the drafts.
 pub record IsRoomFor (table : TableValue) (room : Room) : Type 0 where
   pub starts : room.starts ≡ recorded_starts table
   pub some : 0 < room.near.room
+  pub few : room.near.room ≤ stripe_count (length table.columns) table.shape.block_size
   pub near : Fits table room.near
   pub far : Fits table room.far
   pub as_much : room.far.room ≡ room.near.room
