@@ -14,12 +14,18 @@ use Rattle.snap_report.specs.declared.events.Event.{Event}
 use Rattle.snap_report.specs.declared.pages.Lines.{Lines}
 use Rattle.stripe_findings.specs.Reading.{StripeReading, stripes_of}
 use Rattle.snap_scrub.specs.declared.verdict.Verdict.{Verdict}
-use Rattle.snap_scrub.specs.Course.{Course, TouchesVault, outside}
+use Rattle.snap_scrub.specs.declared.scrubbing.ScrubEnd.{ScrubEnd}
+use Rattle.snap_scrub.specs.Course.{Course, Outside, Scrubs, TouchesVault, outside}
 use Rattle.snap_scrub.specs.Findings.{events_of}
 use Rattle.snap_scrub.specs.Looking.{LooksOver, Scene}
 use Rattle.snap_scrub.specs.Marks.{scrubbed, with_marks}
 use Rattle.snap_scrub.specs.Plan.{plan_of}
 use Rattle.snap_scrub.specs.Reading.{ScrubReading, cells_of}
+
+-- the same end
+pub scrubs_as : {W R : Type 0} (view : W → SinkView) (standing : R → ReportView) (stands : R → List Event → Type 0) (table : TableValue) (way : ScrubWay) (now : ℕ) (old new : Outside W R) (end other : ScrubEnd) → end ≡ other
+    → Scrubs view standing stands table way now old new other → Scrubs view standing stands table way now old new end
+scrubs_as view standing stands table way now old new end other same scrubs = subst (λ (it : ScrubEnd). Scrubs view standing stands table way now old new it) (sym same) scrubs
 
 pub length_readings : (readings : List ScrubReading) → length (stripes_of (cells_of readings)) ≡ length readings
 length_readings readings = length-map (cells_of readings) (λ (it : StripeReading). it.stripe) ∙ length-map readings (λ (it : ScrubReading). it.cells)

@@ -10,7 +10,9 @@ mod ReadingLemmas
 mod LookingLemmas
 mod MarkLemmas
 mod OverLemmas
+mod PassingLemmas
 mod SavingLemmas
 mod EndLemmas
 mod LawLemmas
 mod UnreadLemmas
+mod IoLemmas

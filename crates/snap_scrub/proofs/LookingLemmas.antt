@@ -1,5 +1,5 @@
 -- Stripes are looked at, and then others.
-use Rattle.std.proofs.Common.{◌≡◌, ℕ, ◌+◌, ◌<◌, List, [], ◌∷◌, ◌++◌, length, map, Bool, true, false, refl, sym, ap, ap₂, ◌∙◌, subst, arith, append_assoc}
+use Rattle.std.proofs.Common.{◌≡◌, ℕ, ◌+◌, ◌<◌, List, [], ◌∷◌, ◌++◌, length, Bool, true, false, refl, sym, ap, ap₂, ◌∙◌, subst, arith}
 use Rattle.std.specs.Prelude.{if◌then◌else◌}
 use Rattle.std.proofs.lemmas.Bool.{ne_eqb, eq-eqb}
 use Rattle.std.proofs.lemmas.Grind.{flat_map-append}
@@ -15,6 +15,7 @@ use Rattle.stripe_findings.specs.Findings.{stripe_events}
 use Rattle.stripe_findings.specs.Reading.{StripeReading, is_verified, reading_at}
 use Rattle.stripe_findings.proofs.FindingLemmas.{verified_where_nothing}
 use Rattle.stripe_reader.specs.WindowValue.{WindowValue}
+use Rattle.snap_scrub.specs.declared.room.Sums.{Sums}
 use Rattle.snap_scrub.specs.declared.verdict.Verdict.{Verdict}
 use Rattle.snap_scrub.specs.declared.verdict.Found.{Found}
 use Rattle.snap_scrub.specs.Findings.{level_events, scrub_events, events_of}
@@ -23,6 +24,11 @@ use Rattle.snap_scrub.specs.Marks.{verdict_by, verdict_of, at_most}
 use Rattle.snap_scrub.specs.Reading.{ScrubReading, HasLevels}
 use Rattle.snap_scrub.proofs.ReadingLemmas.{levels_none, levels_then}
 use Rattle.snap_scrub.proofs.TellingLemmas.{told_as}
+
+-- one of some
+pub some_sums : (all : List Sums) (i : ℕ) → i < length all → Sums
+some_sums [] i below = absurd (omega (arith, below))
+some_sums (x ∷ all) i below = x
 
 nothing_in : (events : List Event) → length events ≡ 0 → events ≡ []
 nothing_in [] none = refl
@@ -64,12 +70,12 @@ module _ {W R : Type 0} (view : W → SinkView) (standing : R → ReportView) (s
   }
 
   -- before the first stripe of a window
-  pub into_none : (stripes : List ℕ) (window : WindowValue) (before verdicts : List Verdict) (s : Scene W R) → verdicts ≡ before → LooksInto view standing stands table stripes window 0 before verdicts 0 s s
-  into_none stripes window before verdicts s same = record {
+  pub into_none : (stripes : List ℕ) (window : WindowValue) (verdicts : List Verdict) (s : Scene W R) → verdicts ≡ [] → LooksInto view standing stands table stripes window 0 verdicts 0 s s
+  into_none stripes window verdicts s same = record {
     readings = [];
     cells_are = refl;
     looks = looks_none s;
-    verdicts_are = same ∙ sym (append-nil before);
+    verdicts_are = same;
     findings_are = refl;
   }
 
@@ -82,11 +88,11 @@ module _ {W R : Type 0} (view : W → SinkView) (standing : R → ReportView) (s
   }
 
   -- after so many, one stripe more
-  pub into_more : (stripes : List ℕ) (window : WindowValue) (i : ℕ) (before so_far after : List Verdict) (verdict : Verdict) (findings more : ℕ) (found : Found) (old mid new : Scene W R)
+  pub into_more : (stripes : List ℕ) (window : WindowValue) (i : ℕ) (so_far after : List Verdict) (verdict : Verdict) (findings more : ℕ) (found : Found) (old mid new : Scene W R)
       → after ≡ so_far ++ verdict ∷ [] → ((events : List Event) → AreFound events found → verdict ≡ verdict_by events) → more ≡ at_most (findings + found.count)
-      → LooksInto view standing stands table stripes window i before so_far findings old mid → LooksAtOne view standing stands table stripes window i found mid new
-      → LooksInto view standing stands table stripes window (i + 1) before after more old new
-  into_more stripes window i before so_far after verdict findings more found old mid new after_is verdict_is more_is into one =
+      → LooksInto view standing stands table stripes window i so_far findings old mid → LooksAtOne view standing stands table stripes window i found mid new
+      → LooksInto view standing stands table stripes window (i + 1) after more old new
+  into_more stripes window i so_far after verdict findings more found old mid new after_is verdict_is more_is into one =
       let xs = into.readings in
       let x = one.reading in
       let events : events_of table (xs ++ x ∷ []) ≡ events_of table xs ++ scrub_events table x = flat_map-append (scrub_events table) xs (x ∷ []) ∙ ap (λ (es : List Event). events_of table xs ++ es) (append-nil (scrub_events table x)) in
@@ -101,8 +107,7 @@ module _ {W R : Type 0} (view : W → SinkView) (standing : R → ReportView) (s
         verdicts_are =
             after_is
             ∙ ap₂ (λ (front : List Verdict) (it : Verdict). front ++ it ∷ []) into.verdicts_are (verdict_is (scrub_events table x) one.found_are)
-            ∙ append_assoc before (map (verdict_of table) xs) (verdict_of table x ∷ [])
-            ∙ ap (λ (vs : List Verdict). before ++ vs) (sym (map-append (verdict_of table) xs (x ∷ [])));
+            ∙ sym (map-append (verdict_of table) xs (x ∷ []));
         findings_are = omega (arith, more_is, into.findings_are, one.found_are.count, count);
       }
 

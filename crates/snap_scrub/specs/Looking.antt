@@ -1,5 +1,5 @@
 -- Stripes that a scrub looks at, one after another.
-use Rattle.std.specs.Prelude.{◌≡◌, ℕ, List, [], ◌∷◌, ◌++◌, length, map, All}
+use Rattle.std.specs.Prelude.{◌≡◌, ℕ, ◌<◌, List, [], ◌∷◌, length, map, All}
 use Rattle.std.specs.List.{range_with_len, list_any}
 use Rattle.disk_model.specs.Folder.{FolderView}
 use Rattle.disk_model.specs.Sink.{SinkView}
@@ -10,7 +10,7 @@ use Rattle.snap_report.specs.Told.{Told}
 use Rattle.snap_report.specs.declared.events.Event.{Event}
 use Rattle.snap_report.specs.declared.pages.Lines.{Lines}
 use Rattle.stripe_findings.specs.Reading.{AreRead, reading_at, stripes_of}
-use Rattle.stripe_reader.specs.WindowValue.{WindowValue}
+use Rattle.stripe_reader.specs.WindowValue.{WindowValue, Fits}
 use Rattle.snap_scrub.specs.declared.verdict.Verdict.{Verdict}
 use Rattle.snap_scrub.specs.declared.verdict.Found.{Found}
 use Rattle.snap_scrub.specs.Findings.{scrub_events, events_of}
@@ -38,6 +38,12 @@ pub record LooksAt {W R : Type 0} (view : W → SinkView) (standing : R → Repo
   pub levels : LevelsAreRead table readings old.vault new.vault
   pub told : Told view standing stands table.columns (events_of table readings) old.lines new.lines old.reports new.reports
 
+-- a window holds what was read of these stripes of a table
+pub record HoldsStripes (table : TableValue) (stripes : List ℕ) (window : WindowValue) : Type 0 where
+  pub fits : Fits table window
+  pub count : length stripes ≡ window.count
+  pub within : All (λ stripe. stripe < length table.infos) stripes
+
 -- A stripe of a window was looked at, as it was read into it.
 pub record LooksAtOne {W R : Type 0} (view : W → SinkView) (standing : R → ReportView) (stands : R → List Event → Type 0)
     (table : TableValue) (stripes : List ℕ) (window : WindowValue) (i : ℕ) (found : Found) (old new : Scene W R) : Type 0 where
@@ -48,14 +54,14 @@ pub record LooksAtOne {W R : Type 0} (view : W → SinkView) (standing : R → R
   pub told : Told view standing stands table.columns (scrub_events table reading) old.lines new.lines old.reports new.reports
   pub levels : LevelsAreRead table (reading ∷ []) old.vault new.vault
 
--- The first so many stripes of a window were looked at: their verdicts come after those before, and so many findings were told.
+-- The first so many stripes of a window were looked at: these are their verdicts, and so many findings were told.
 pub record LooksInto {W R : Type 0} (view : W → SinkView) (standing : R → ReportView) (stands : R → List Event → Type 0)
-    (table : TableValue) (stripes : List ℕ) (window : WindowValue) (count : ℕ) (before verdicts : List Verdict) (findings : ℕ)
+    (table : TableValue) (stripes : List ℕ) (window : WindowValue) (count : ℕ) (verdicts : List Verdict) (findings : ℕ)
     (old new : Scene W R) : Type 0 where
   pub readings : List ScrubReading
   pub cells_are : cells_of readings ≡ map (reading_at stripes window) (range_with_len 0 count)
   pub looks : LooksAt view standing stands table readings old new
-  pub verdicts_are : verdicts ≡ before ++ map (verdict_of table) readings
+  pub verdicts_are : verdicts ≡ map (verdict_of table) readings
   pub findings_are : findings ≡ at_most (length (events_of table readings))
 
 -- Stripes were read of the folders and looked at.

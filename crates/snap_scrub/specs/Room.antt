@@ -1,8 +1,9 @@
 -- The memory of a scrub.
-use Rattle.std.specs.Prelude.{◌≡◌, ℕ, ◌*◌, ◌<◌, length, All}
+use Rattle.std.specs.Prelude.{◌≡◌, ℕ, ◌*◌, ◌<◌, ◌≤◌, length, All}
 use Rattle.file_table.specs.Table.{TableValue}
 use Rattle.stripe_reader.specs.Starts.{recorded_starts}
 use Rattle.stripe_reader.specs.WindowValue.{Fits}
+use Rattle.snap_scrub.specs.declared.room.Check.{Check}
 use Rattle.snap_scrub.specs.declared.room.Room.{Room}
 use Rattle.snap_scrub.specs.declared.room.Sums.{Sums}
 use Rattle.snap_scrub.specs.declared.beginning.Work.{Work}
@@ -15,15 +16,35 @@ piece_size = 65536
 abbrev pub HaveSize : ℕ → Sums → Type 0
 HaveSize block_size sums = length sums.blocks.items ≡ 6 * block_size
 
--- room for the windows of a table, for its levels, for the sums of each stripe of a window, and for a piece of a draft
+-- room for the levels of a stripe of a table, and for the sums of some
+pub record IsCheckFor (table : TableValue) (check : Check) : Type 0 where
+  pub levels : check.levels.block_size ≡ table.shape.block_size
+  pub sums : All (HaveSize table.shape.block_size) check.sums.items
+
+-- it was used, and its sums stay
+pub record KeepsCheck (table : TableValue) (old new : Check) : Type 0 where
+  pub room : IsCheckFor table new
+  pub sums : new.sums ≡ old.sums
+
+-- it was used, and has as many sums as before
+pub record UsesCheck (table : TableValue) (old new : Check) : Type 0 where
+  pub room : IsCheckFor table new
+  pub as_many : length new.sums.items ≡ length old.sums.items
+
+-- room for two windows of a table, for what they are compared in, with sums for each stripe of either, and for a piece of a draft
 pub record IsRoomFor (table : TableValue) (room : Room) : Type 0 where
   pub starts : room.starts ≡ recorded_starts table
-  pub some : 0 < room.window.room
-  pub window : Fits table room.window
-  pub levels : room.levels.block_size ≡ table.shape.block_size
-  pub as_many : length room.sums.items ≡ room.window.room
-  pub sums : All (HaveSize table.shape.block_size) room.sums.items
+  pub near : Fits table room.near
+  pub far : Fits table room.far
+  pub check : IsCheckFor table room.check
+  pub near_sums : room.near.room ≤ length room.check.sums.items
+  pub far_sums : room.far.room ≤ length room.check.sums.items
   pub piece : length room.piece.items ≡ piece_size
+
+-- there is room to begin so many stripes with, and to go on with those that the near window has no room for
+pub record IsEnoughFor (stripes : ℕ) (room : Room) : Type 0 where
+  pub first : 0 < stripes → 0 < room.near.room
+  pub more : room.near.room < stripes → 0 < room.far.room
 
 -- stripes of a table, a verdict for each, and room
 pub record IsWorkFor (table : TableValue) (work : Work) : Type 0 where

@@ -2,12 +2,19 @@
 use Rattle.std.specs.Prelude.{ℕ, ◌<◌, length, slice_index_or}
 use Rattle.file_table.specs.Table.{TableValue}
 use Rattle.parity_writer.specs.WindowRow.{row_at}
-use Rattle.snap_scrub.specs.declared.room.Room.{Room}
+use Rattle.stripe_reader.specs.WindowValue.{WindowValue}
+use Rattle.snap_scrub.specs.declared.room.Check.{Check}
 use Rattle.snap_scrub.specs.declared.room.Sums.{Sums}
 use Rattle.snap_scrub.specs.Levels.{HoldSums}
+use Rattle.snap_scrub.specs.Room.{HaveSize}
 
--- the sums of the stripe of a number of the window stand in its place
-pub record HasSums (table : TableValue) (room : Room) (i : ℕ) : Type 0 where
-  pub there : i < length room.sums.items
+-- room for six blocks has the first levels of the stripe of a number of a window, where there is one
+pub record AreSums (window : WindowValue) (k levels : ℕ) (sums : Sums) : Type 0 where
+  pub size : HaveSize window.block_size sums
+  pub hold : k < window.count → HoldSums window.block_size (row_at window k) levels sums.blocks.items
+
+-- the sums of the stripe of a number of a window stand in its place
+pub record HasSums (table : TableValue) (window : WindowValue) (check : Check) (i : ℕ) : Type 0 where
+  pub there : i < length check.sums.items
   pub hold : (other : Sums) →
-      HoldSums table.shape.block_size (row_at room.window i) table.shape.levels (slice_index_or room.sums.items i other).blocks.items
+      HoldSums table.shape.block_size (row_at window i) table.shape.levels (slice_index_or check.sums.items i other).blocks.items

@@ -1,29 +1,75 @@
--- A scrub that goes from window to window.
-use Rattle.std.specs.Prelude.{◌≡◌, ℕ, List, length}
+-- A scrub that goes from window to window: one is looked at while the next one is read.
+use Rattle.std.specs.Prelude.{◌≡◌, ℕ, ◌+◌, ◌-◌, ◌<◌, ◌≤◌, ◌++◌, min, List, length, take, drop, All}
 use Rattle.disk_model.specs.Folder.{FolderView}
 use Rattle.disk_model.specs.Sink.{SinkView}
 use Rattle.file_table.specs.Table.{TableValue}
 use Rattle.snap_report.specs.Report.{ReportView}
 use Rattle.snap_report.specs.declared.events.Event.{Event}
 use Rattle.stripe_reader.specs.Columns.{ReadsWindow}
-use Rattle.stripe_reader.specs.Starts.{recorded_starts}
-use Rattle.stripe_reader.specs.WindowValue.{WindowValue}
+use Rattle.stripe_reader.specs.Starts.{StartsValue, StartsFit, recorded_starts}
+use Rattle.stripe_reader.specs.WindowValue.{WindowValue, Fits}
 use Rattle.snap_scrub.specs.declared.beginning.Work.{Work}
+use Rattle.snap_scrub.specs.declared.room.Check.{Check}
 use Rattle.snap_scrub.specs.declared.verdict.Verdict.{Verdict}
-use Rattle.snap_scrub.specs.Looking.{LooksInto, Scene}
-use Rattle.snap_scrub.specs.Room.{IsRoomFor}
+use Rattle.snap_scrub.specs.Looking.{HoldsStripes, LooksInto, LooksOver, Scene}
+use Rattle.snap_scrub.specs.Room.{IsCheckFor, IsRoomFor, IsWorkFor, UsesCheck}
+
+-- stripes of a window can be looked at: there is room for their sums, and for a verdict on each
+pub record CanLook (table : TableValue) (stripes : List ℕ) (window : WindowValue) (room : Check) (kept : List Verdict) : Type 0 where
+  pub holds : HoldsStripes table stripes window
+  pub check : IsCheckFor table room
+  pub sums : length stripes ≤ length room.sums.items
+  pub verdicts : length kept ≡ length stripes
+
+-- stripes of a table can be read into a window, of so many folders
+pub record CanRead (table : TableValue) (places : StartsValue) (stripes : List ℕ) (window : WindowValue) (many : ℕ) : Type 0 where
+  pub folders : many ≡ length table.columns
+  pub starts : StartsFit table places
+  pub within : All (λ stripe. stripe < length table.infos) stripes
+  pub fits : Fits table window
+  pub room : length stripes ≤ window.room
+
+-- the stripes of the near window, which stands after so many, and those that are read next
+abbrev pub stripes_near : Work → ℕ → List ℕ
+stripes_near work done = take work.room.near.count (drop done work.stripes.items)
+
+abbrev pub stripes_next : Work → ℕ → List ℕ
+stripes_next work done =
+    let next = done + work.room.near.count in
+    take (min (length work.stripes.items - next) work.room.far.room) (drop next work.stripes.items)
+
+-- The near window has the stripes that come after so many: one at least, if any is left. If more are left, the far one has room.
+pub record IsReady (table : TableValue) (work : Work) (done : ℕ) : Type 0 where
+  pub is_work : IsWorkFor table work
+  pub within : done + work.room.near.count ≤ length work.stripes.items
+  pub held : work.room.near.count ≤ work.room.near.room
+  pub some : done < length work.stripes.items → 0 < work.room.near.count
+  pub more : done + work.room.near.count < length work.stripes.items → 0 < work.room.far.room
 
 -- room was used, and verdicts were kept; the stripes stay
 pub record KeepsWork (table : TableValue) (old new : Work) : Type 0 where
-  pub rest : new ≡ record old { verdicts = new.verdicts; room = new.room }
+  pub stripes : new.stripes ≡ old.stripes
   pub room : IsRoomFor table new.room
-  pub as_large : new.room.window.room ≡ old.room.window.room
   pub verdicts : length new.verdicts.items ≡ length old.verdicts.items
 
--- Some stripes were read into the window and looked at.
-pub record LooksWindow {W R : Type 0} (view : W → SinkView) (standing : R → ReportView) (stands : R → List Event → Type 0)
-    (table : TableValue) (stripes : List ℕ) (before_window : WindowValue) (before verdicts : List Verdict) (findings : ℕ)
-    (olds news : List FolderView) (old new : Scene W R) : Type 0 where
-  pub window : WindowValue
-  pub read : ReadsWindow table (recorded_starts table) stripes before_window window olds news
-  pub looks : LooksInto view standing stands table stripes window (length stripes) before verdicts findings old new
+-- the far window, the check and the verdicts were used, and nothing else
+pub record Turns (table : TableValue) (old new : Work) : Type 0 where
+  pub rest : new ≡ record old { verdicts = new.verdicts; room = record old.room { far = new.room.far; check = new.room.check } }
+  pub check : UsesCheck table old.room.check new.room.check
+  pub verdicts : length new.verdicts.items ≡ length old.verdicts.items
+
+-- The stripes of the near window were looked at, which stands after so many: the verdicts on them follow those before.
+pub record LooksNear {W R : Type 0} (view : W → SinkView) (standing : R → ReportView) (stands : R → List Event → Type 0)
+    (table : TableValue) (work after : Work) (done findings : ℕ) (old new : Scene W R) : Type 0 where
+  pub verdicts : List Verdict
+  pub looks : LooksInto view standing stands table (stripes_near work done) work.room.near work.room.near.count verdicts findings old new
+  pub follow : take (done + work.room.near.count) after.verdicts.items ≡ take done work.verdicts.items ++ verdicts
+
+-- So many stripes were looked at, and those behind them were read into the near window.
+pub record IsUnderway {W R : Type 0} (view : W → SinkView) (standing : R → ReportView) (stands : R → List Event → Type 0)
+    (table : TableValue) (work : Work) (done findings : ℕ) (olds news : List FolderView) (old new : Scene W R) : Type 0 where
+  pub ready : IsReady table work done
+  pub before : WindowValue
+  pub mids : List FolderView
+  pub read : ReadsWindow table (recorded_starts table) (stripes_near work done) before work.room.near mids news
+  pub looks : LooksOver view standing stands table (take done work.stripes.items) (take done work.verdicts.items) findings olds mids old new

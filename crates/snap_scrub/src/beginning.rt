@@ -1,7 +1,7 @@
 // What comes before anything is read.
-ghost use Rattle.std.specs.Prelude.{◌≡◌, IfOk};
+ghost use Rattle.std.specs.Prelude.{◌≡◌, IfOk, length};
 ghost use Rattle.snap_scrub.specs.Plan.{plan_of};
-ghost use Rattle.snap_scrub.specs.Room.{IsWorkFor};
+ghost use Rattle.snap_scrub.specs.Room.{IsEnoughFor, IsWorkFor};
 
 use crate::planning::plan;
 use crate::room::Room;
@@ -28,10 +28,11 @@ pub(crate) fn begin(
 ) -> Result<Work, NoMemory>
     ensures plan { IfOk result (λ work. work.stripes.items ≡ plan_of table.now way.now now) }
     ensures work { IfOk result (IsWorkFor table.now) }
+    ensures enough { IfOk result (λ work. IsEnoughFor (length work.stripes.items) work.room) }
 {
     let stripes = plan(alloc, table, way, now)?;
     let verdicts = vec![in alloc; Verdict::Changed; stripes.len()]?;
-    let room = Room::make(alloc, table)?;
+    let room = Room::make(alloc, table, stripes.len())?;
     Ok(Work {
         stripes,
         verdicts,

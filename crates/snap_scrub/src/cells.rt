@@ -1,10 +1,9 @@
 // What is found in the cells of a stripe, told.
-ghost use Rattle.std.specs.Prelude.{◌≡◌, ◌<◌, ◌≤◌, All, length};
+ghost use Rattle.std.specs.Prelude.{◌<◌, ◌≤◌, length};
 ghost use Rattle.snap_report.specs.Told.{Told};
 ghost use Rattle.stripe_findings.specs.Findings.{events_at, stripe_events};
 ghost use Rattle.stripe_findings.specs.Reading.{reading_at};
-ghost use Rattle.stripe_reader.specs.WindowValue.{Fits};
-ghost use Rattle.snap_scrub.specs.Looking.{AreFound};
+ghost use Rattle.snap_scrub.specs.Looking.{AreFound, HoldsStripes};
 
 use crate::found::{both, nothing, one};
 use crate::verdict::Found;
@@ -24,9 +23,7 @@ fn tell_cell<W: Sink>(
     lines: &mut Lines<'_, W>,
     reports: &mut Vec<Box<dyn Report>>,
 ) -> Found
-    requires fits { Fits table.now window.now }
-    requires count { length stripes.now ≡ window.now.count }
-    requires stripes { All (λ stripe. stripe < length table.now.infos) stripes.now }
+    requires holds { HoldsStripes table.now stripes.now window.now }
     requires stripe { i < length stripes.now }
     requires column { d < length table.now.columns }
     ensures told { Told W.view standing stands table.now.columns
@@ -64,9 +61,7 @@ pub(crate) fn tell_cells<W: Sink>(
     lines: &mut Lines<'_, W>,
     reports: &mut Vec<Box<dyn Report>>,
 ) -> Found
-    requires fits { Fits table.now window.now }
-    requires count { length stripes.now ≡ window.now.count }
-    requires stripes { All (λ stripe. stripe < length table.now.infos) stripes.now }
+    requires holds { HoldsStripes table.now stripes.now window.now }
     requires stripe { i < length stripes.now }
     ensures told { Told W.view standing stands table.now.columns
         (stripe_events table.now (reading_at stripes.now window.now i))

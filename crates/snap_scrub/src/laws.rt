@@ -1,12 +1,15 @@
 //! What follows from the definitions of a scrub. The calls do nothing: their contracts are laws.
 ghost use Rattle.std.specs.Prelude.{◌≡◌, ◌<◌, ◌^◌, ℕ, List, Bool, length, count_by, sum_by};
+ghost use Rattle.disk_model.specs.Cause.{RoseBy};
 ghost use Rattle.disk_model.specs.Files.{Files};
+ghost use Rattle.disk_model.specs.Folder.{FolderView};
 ghost use Rattle.file_table.specs.Table.{TableValue, info_at};
 ghost use Rattle.file_table.specs.Valid.{IsValid};
 ghost use Rattle.parity_writer.specs.Sound.{Snapshot, Sound};
-ghost use Rattle.snap_report.specs.Answer.{is_parity_io};
+ghost use Rattle.snap_report.specs.Answer.{is_io_of, is_parity_io};
 ghost use Rattle.snap_config.specs.declared.options.ScrubWay.{ScrubWay};
-ghost use Rattle.stripe_findings.specs.Reading.{stripes_of};
+ghost use Rattle.stripe_findings.specs.Reading.{AreRead, stripes_of};
+ghost use Rattle.stripe_reader.specs.Columns.{folder_at};
 ghost use Rattle.snap_scrub.specs.Findings.{events_of};
 ghost use Rattle.snap_scrub.specs.Marks.{scrubbed};
 ghost use Rattle.snap_scrub.specs.Plan.{plan_of};
@@ -36,4 +39,12 @@ pub fn a_scrub_keeps_what_is_synced()
 pub fn each_unread_level_is_told()
     ensures { (table : TableValue) (readings : List ScrubReading) →
         count_by is_parity_io (events_of table readings) ≡ sum_by unread_levels readings }
+{}
+
+/// What is told of blocks that could not be read of a folder is told no more often than the folder failed: where its cells were
+/// read by a scrub, its count of faults rose by no less.
+pub fn no_more_unread_cells_are_told_than_failed()
+    ensures { (table : TableValue) (readings : List ScrubReading) (olds news : List FolderView) (d : ℕ) →
+        AreRead table (cells_of readings) olds news → d < length olds →
+        RoseBy (count_by (is_io_of d) (events_of table readings)) (folder_at olds d).faults (folder_at news d).faults }
 {}

@@ -18,10 +18,12 @@ mod levels;
 mod looking;
 mod marking;
 mod order;
+mod passing;
 mod planning;
 mod room;
 mod scrubbing;
 mod summing;
+mod turning;
 mod verdict;
 mod windows;
 

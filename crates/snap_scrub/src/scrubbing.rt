@@ -1,13 +1,16 @@
 // A scrub.
-ghost use Rattle.std.specs.Prelude.{◌≡◌, ◌≢◌, [], IfOk, IfErr, IsOk, length, map};
+ghost use Rattle.std.specs.Prelude.{◌≡◌, ◌≢◌, ◌<◌, ◌^◌, [], IfOk, IfErr, IsOk, length, map};
 ghost use Rattle.disk_model.specs.Vault.{SomeCalls};
+ghost use Rattle.snap_report.specs.EndLines.{scrub_text};
+ghost use Rattle.snap_report.specs.State.{Puts, state_of};
+ghost use Rattle.snap_report.specs.Telling.{Settled};
 ghost use Rattle.snap_scrub.specs.Course.{IsArray, Scrubs, ScrubsNot, outside};
 ghost use Rattle.snap_scrub.specs.Room.{piece_size};
 ghost use Rattle.snap_scrub.specs.Saving.{Saves};
 
 use crate::beginning::begin;
 use crate::marking::mark_all;
-use crate::windows::look_over;
+use crate::passing::look_over;
 use content_file::save;
 use disk_model::{Failed, Folder, Sink, Vault};
 use file_table::Table;
@@ -42,6 +45,22 @@ fn save_marked<V: Vault>(
         return Ok(());
     }
     save(vault, table, piece)
+}
+
+// The end of a scrub of these stripes: its last line is told.
+fn end<W: Sink>(table: Table, stripes: &[u32], findings: u64, lines: &mut Lines<'_, W>) -> ScrubEnd
+    requires few { length stripes.now < 2 ^ 32 }
+    ensures end { result ≡ record { table = table; checked = length stripes.now; findings = findings } }
+    ensures puts { Puts W.view (scrub_text (length stripes.now) findings) lines.old lines.new }
+    ensures settled { Settled (state_of W.view lines.new) }
+{
+    let checked = stripes.len() as u32;
+    lines.end_scrub(checked, findings);
+    ScrubEnd {
+        table,
+        checked,
+        findings,
+    }
 }
 
 /// Checks the stripes that `way` asks for, ascending: the cells of each are read, by so many readers at most, and where
@@ -86,11 +105,5 @@ pub fn scrub<R: Threads + Sync, F: Folder, V: Vault, W: Sink>(
     if saved.is_err() {
         return Err(RunFault::Vault);
     }
-    let checked = work.stripes.len() as u32;
-    lines.end_scrub(checked, findings);
-    Ok(ScrubEnd {
-        table,
-        checked,
-        findings,
-    })
+    Ok(end(table, &work.stripes, findings, lines))
 }

@@ -1,10 +1,9 @@
 // The sums of the stripes of a window, made side by side.
-ghost use Rattle.std.specs.Prelude.{◌≡◌, ℕ, ◌*◌, ◌<◌, ◌≤◌, All, length, slice_index_or};
+ghost use Rattle.std.specs.Prelude.{◌≡◌, ℕ, ◌<◌, ◌≤◌, All, length, slice_index_or};
 ghost use Rattle.std.specs.Thread.{IsSend, IsSync};
-ghost use Rattle.parity_writer.specs.WindowRow.{row_at};
 ghost use Rattle.snap_scrub.specs.declared.room.Sums.{Sums};
-ghost use Rattle.snap_scrub.specs.Levels.{HoldSums};
 ghost use Rattle.snap_scrub.specs.Room.{HaveSize};
+ghost use Rattle.snap_scrub.specs.Summing.{AreSums};
 
 use crate::room::Sums;
 use parity_writer::sum_levels;
@@ -16,9 +15,7 @@ fn sum_stripe(window: &Window, k: usize, levels: u32, own: &mut Sums)
     requires columns { length window.now.lanes ≤ 251 }
     requires levels { levels ≤ 6 }
     requires room { HaveSize window.now.block_size own.old }
-    ensures room { HaveSize window.now.block_size own.new }
-    ensures sums { k < window.now.count →
-        HoldSums window.now.block_size (row_at window.now k) levels own.new.blocks.items }
+    ensures sums { AreSums window.now k levels own.new }
 {
     if k < window.count() as usize {
         sum_levels(window, k as u32, levels, own.blocks.as_mut_slice());
@@ -37,16 +34,12 @@ pub(crate) fn sum_stripes<R: Threads + Sync>(
     requires levels { levels ≤ 6 }
     requires room { All (HaveSize window.now.block_size) sums.old }
     ensures count { length sums.new ≡ length sums.old }
-    ensures room { (k : ℕ) (other : Sums) → k < length sums.old →
-        HaveSize window.now.block_size (slice_index_or sums.new k other) }
-    ensures sums { (k : ℕ) (other : Sums) → k < length sums.old → k < window.now.count →
-        HoldSums window.now.block_size (row_at window.now k) levels (slice_index_or sums.new k other).blocks.items }
+    ensures sums { (k : ℕ) (other : Sums) → k < length sums.old →
+        AreSums window.now k levels (slice_index_or sums.new k other) }
 {
     let one = |k: usize, own: &mut Sums|
         requires { (length window.now.lanes ≤ 251) × (levels ≤ 6) × HaveSize window.now.block_size own.now }
-        ensures room { HaveSize window.entry.now.block_size own.exit.now }
-        ensures sums { k < window.entry.now.count →
-            HoldSums window.entry.now.block_size (row_at window.entry.now k) levels own.exit.now.blocks.items }
+        ensures { AreSums window.entry.now k levels own.exit.now }
     { sum_stripe(window, k, levels, own) };
     for_each_mut(rt, sums, threads.max(1) as usize, &one);
 }

@@ -7,5 +7,5 @@ pub returns-clause-work : goal.returns-clause-work
 returns-clause-work c = record {
   within = subst (λ (stripes : List ℕ). All (λ stripe. stripe < length c.args.table.now.infos) stripes) (sym c.in_ok-stripes.ensures) (planned_within c.args.table.now c.args.way.now c.args.now);
   verdicts = search rules;
-  room = c.in_ok-room.ensures;
+  room = c.in_ok-room.ensures.room;
 }

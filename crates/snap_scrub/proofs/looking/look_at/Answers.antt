@@ -10,7 +10,7 @@ use Rattle.snap_scrub.specs.Levels.{HoldSums, kept_events}
 use Rattle.snap_scrub.specs.Reading.{ScrubReading}
 use Rattle.snap_scrub.proofs.FoundLemmas.{found_as}
 use Rattle.snap_scrub.proofs.LevelLemmas.{levels_say, row_of_window}
-use Rattle.snap_scrub.proofs.LookingLemmas.{unread_events, unread_due, read_due, read_events}
+use Rattle.snap_scrub.proofs.LookingLemmas.{some_sums, unread_events, unread_due, read_due, read_events}
 use Rattle.snap_scrub.proofs.ReadingLemmas.{levels_unread, levels_read}
 use Rattle.snap_scrub.proofs.TellingLemmas.{told_as}
 use Rattle.snap_scrub.proofs.looking.look_at.Goals as goal
@@ -18,7 +18,7 @@ use Rattle.snap_scrub.proofs.looking.look_at.Goals as goal
 pub returns-then-found-gt0-clause-looks : goal.returns-then-found-gt0-clause-looks
 returns-then-found-gt0-clause-looks g c =
     let table = c.args.table.now in
-    let cells = reading_at c.args.stripes.now c.args.room.now.window c.args.i in
+    let cells = reading_at c.args.stripes.now c.args.window.now c.args.i in
     let found = c.tell_cells-found in
     record {
       reading = record { cells = cells; levels = [] };
@@ -29,19 +29,25 @@ returns-then-found-gt0-clause-looks g c =
       levels = levels_unread table cells _;
     }
 
+pub returns-then-found-gt0-clause-check : goal.returns-then-found-gt0-clause-check
+returns-then-found-gt0-clause-check g c = record { room = c.requires.check; sums = refl }
+
+pub returns-clause-check : goal.returns-clause-check
+returns-clause-check g c = record { room = record { levels = c.read_all.ensures.size; sums = c.requires.check.sums }; sums = refl }
+
 pub sums_of-sums-requires : goal.sums_of-sums-requires
 sums_of-sums-requires g c = omega (arith, c.requires.sums.there, ap length c.as_slice.ensures.value)
 
 pub tell_levels-requires-clause-sums : goal.tell_levels-requires-clause-sums
 tell_levels-requires-clause-sums g c =
-    let other : Sums = record { blocks = c.args.room.now.piece } in
+    let other : Sums = some_sums c.args.check.now.sums.items c.args.i c.requires.sums.there in
     let own = c.sums_of-sums.ensures other ∙ ap (λ (all : List Sums). (slice_index_or all c.args.i other).blocks.items) c.as_slice.ensures.value in
-    ap length own ∙ c.requires.room.sums c.args.i other c.requires.sums.there ∙ ap (λ (n : ℕ). 6 * n) (sym c.read_all.ensures.size)
+    ap length own ∙ c.requires.check.sums c.args.i other c.requires.sums.there ∙ ap (λ (n : ℕ). 6 * n) (sym c.read_all.ensures.size)
 
 pub returns-clause-looks : goal.returns-clause-looks
 returns-clause-looks g c =
     let table = c.args.table.now in
-    let window = c.args.room.now.window in
+    let window = c.args.window.now in
     let stripe = get_or c.args.stripes.now c.args.i 0 in
     let cells = reading_at c.args.stripes.now window c.args.i in
     let found = c.tell_cells-found in
@@ -53,7 +59,7 @@ returns-clause-looks g c =
     let size = c.read_all.ensures.size in
     let says = levels_say table.shape.block_size stripe table.shape.levels row levels _ _ reads table cells refl refl (sym (row_of_window c.args.stripes.now window c.args.i))
     ∙ ap (λ n. kept_events n stripe row levels table.shape.levels) (sym size) in
-    let other : Sums = record { blocks = c.args.room.now.piece } in
+    let other : Sums = some_sums c.args.check.now.sums.items c.args.i c.requires.sums.there in
     let own = c.sums_of-sums.ensures other ∙ ap (λ (all : List Sums). (slice_index_or all c.args.i other).blocks.items) c.as_slice.ensures.value in
     let sums : HoldSums levels.block_size row table.shape.levels c.sums_of-sums.result.now
     = subst (λ (n : ℕ). HoldSums n row table.shape.levels c.sums_of-sums.result.now) (sym size)
