@@ -1,10 +1,9 @@
--- The rows that a sync read are of bytes, where its folders tell their trees.
-use Rattle.std.proofs.Common.{◌≡◌, ℕ, zero, suc, ◌-◌, ◌*◌, ◌+◌, ◌<◌, ◌==◌, List, [], ◌∷◌, ◌++◌, length, map, take, drop, replicate, get_or, Bool, true, false, IsTrue, Option, None, Some, All, if◌then◌else◌, nat_le, refl, sym, ap, ◌∙◌, subst, arith}
+-- The rows that a sync read are of bytes.
+use Rattle.std.proofs.Common.{◌≡◌, ℕ, zero, suc, ◌-◌, ◌*◌, ◌+◌, ◌<◌, List, [], ◌∷◌, ◌++◌, length, map, take, drop, replicate, get_or, Bool, true, false, Option, None, Some, All, if◌then◌else◌, nat_le, refl, sym, ap, ◌∙◌, subst, arith}
 use Rattle.std.proofs.lemmas.List.{get_or-map, get_or_default, length-map}
 use Rattle.cauchy.specs.Recovery.{AreBytes as AreRowBytes}
-use Rattle.disk_model.specs.Bytes.{AreBytes, read_from, resized}
-use Rattle.disk_model.specs.Folder.{FolderView, IsFolder, quiet_folder-is_folder}
-use Rattle.disk_model.specs.Tree.{File, IsTree, Tree, file_of, meta_of, path_of}
+use Rattle.disk_model.specs.Bytes.{AreBytes, resized}
+use Rattle.disk_model.specs.Folder.{FolderView}
 use Rattle.disk_model.specs.declared.meta.Meta.{Meta}
 use Rattle.file_table.specs.Cells.{cell_in}
 use Rattle.file_table.specs.Table.{Column, Record, TableValue, column_at, record_in}
@@ -13,7 +12,7 @@ use Rattle.file_table.specs.declared.shape.Shape.{Shape}
 use Rattle.parity_writer.specs.WindowRow.{bytes_of}
 use Rattle.stripe_reader.specs.Column.{IsReadingOf, ReadsColumn, no_task}
 use Rattle.stripe_reader.specs.Columns.{folder_at}
-use Rattle.stripe_reader.specs.Reading.{CellReading, Beyond, Fetch, Gone, Known, NoBlock, Nowhere, Part, Task, Unread, Whole, block_length, came, cell_task, file_task, given_by, given_of, is_unread, task_at, tasks_at}
+use Rattle.stripe_reader.specs.Reading.{CellReading, Beyond, Fetch, Gone, IsFetched, IsReadingBy, Known, NoBlock, Nowhere, Part, Task, Unread, Whole, block_length, cell_task, file_task, task_at, tasks_at}
 use Rattle.stripe_reader.specs.Slot.{kept}
 use Rattle.stripe_reader.specs.SlotValue.{SlotValue}
 use Rattle.stripe_reader.specs.Starts.{recorded_starts, start_in, starts_at}
@@ -22,9 +21,8 @@ use Rattle.stripe_reader.specs.declared.starts.Place.{Place}
 use Rattle.stripe_reader.specs.declared.starts.Place.TheVariants as place
 use Rattle.stripe_reader.specs.declared.starts.Start.{Start}
 use Rattle.snap_sync.specs.Calls.{no_reading}
-use Rattle.snap_sync.specs.Part.{AllTell, IsListedRun, SyncRun}
+use Rattle.snap_sync.specs.Part.{IsListedRun, SyncRun}
 use Rattle.stripe_findings.specs.Reading.{AreRead, StripeReading, row_of, slot_of, stripes_of}
-use Rattle.snap_top.specs.Run.{Exit}
 
 -- ---- lists of bytes, by what is read of them: 0 behind their ends
 
@@ -57,7 +55,7 @@ zeros_bytes zero i = omega arith
 zeros_bytes (suc n) zero = omega arith
 zeros_bytes (suc n) (suc i) = zeros_bytes n i
 
--- ---- what a tree gives
+-- ---- what a cell gives
 
 -- what is known of a cell beforehand is no whole block
 abbrev IsAsked : Task → Type 0
@@ -84,27 +82,15 @@ cell_asked size column starts (Some cell) =
     let start : Start = start_in starts cell.rec in
     file_asked start.place start.size file.path (cell.index * size) (block_length size file.meta.size cell.index)
 
-came_bytes : (meta : Meta) (n : ℕ) (given : List ℕ) (seen : Meta) (bytes : List ℕ) → ReadsBytes given → came meta n given ≡ Whole seen bytes → ReadsBytes bytes
-came_bytes meta n given seen bytes all is = by (length given == n) is
-  where
-    by : (b : Bool) → (if b then Whole meta given else Part meta (length given)) ≡ Whole seen bytes → ReadsBytes bytes
-    by true it = let same : given ≡ bytes = cc in subst ReadsBytes same all
-    by false it = cc
-
-file_bytes : (found : Option File) (at n : ℕ) (seen : Meta) (bytes : List ℕ) → ((file : File) → found ≡ Some file → AreBytes file.bytes) → given_of found at n ≡ Whole seen bytes → ReadsBytes bytes
-file_bytes None at n seen bytes all is = cc
-file_bytes (Some file) at n seen bytes all is = came_bytes (meta_of file) n (read_from file.bytes at n) seen bytes (take_bytes n (drop at file.bytes) (drop_bytes at file.bytes (from_all file.bytes (all file refl)))) is
-
-given_bytes : (tree : Tree) → IsTree tree → (task : Task) → IsAsked task → (seen : Meta) (bytes : List ℕ) → given_by tree task ≡ Whole seen bytes → ReadsBytes bytes
-given_bytes tree is_tree (Known (Whole known had)) asked seen bytes is = absurd asked
-given_bytes tree is_tree (Known NoBlock) asked seen bytes is = cc
-given_bytes tree is_tree (Known Nowhere) asked seen bytes is = cc
-given_bytes tree is_tree (Known Beyond) asked seen bytes is = cc
-given_bytes tree is_tree (Known (Unread known)) asked seen bytes is = cc
-given_bytes tree is_tree (Known (Gone known)) asked seen bytes is = cc
-given_bytes tree is_tree (Known (Part known got)) asked seen bytes is = cc
-given_bytes tree is_tree (Fetch path lost at n) asked seen bytes is =
-    file_bytes (file_of tree (path_of path lost)) at n seen bytes (λ file there. (is_tree (path_of path lost) file there).bytes) is
+task_bytes : (task : Task) → IsAsked task → (cell : CellReading) → IsReadingBy task cell → (seen : Meta) (bytes : List ℕ) → cell ≡ Whole seen bytes → ReadsBytes bytes
+task_bytes (Known (Whole known had)) asked cell by seen bytes is = absurd asked
+task_bytes (Known NoBlock) asked cell by seen bytes is = let clash : NoBlock ≡ Whole seen bytes = sym by ∙ is in cc
+task_bytes (Known Nowhere) asked cell by seen bytes is = let clash : Nowhere ≡ Whole seen bytes = sym by ∙ is in cc
+task_bytes (Known Beyond) asked cell by seen bytes is = let clash : Beyond ≡ Whole seen bytes = sym by ∙ is in cc
+task_bytes (Known (Unread known)) asked cell by seen bytes is = let clash : Unread known ≡ Whole seen bytes = sym by ∙ is in cc
+task_bytes (Known (Gone known)) asked cell by seen bytes is = let clash : Gone known ≡ Whole seen bytes = sym by ∙ is in cc
+task_bytes (Known (Part known got)) asked cell by seen bytes is = let clash : Part known got ≡ Whole seen bytes = sym by ∙ is in cc
+task_bytes (Fetch path lost at n) asked cell by seen bytes is = let fetched : IsFetched n (Whole seen bytes) = subst (IsFetched n) is by in from_all bytes fetched.are_bytes
 
 -- what its slot keeps of it
 kept_bytes : (shape : Shape) (cell : CellReading) → ((seen : Meta) (bytes : List ℕ) → cell ≡ Whole seen bytes → ReadsBytes bytes) → ReadsBytes (bytes_of (kept shape cell))
@@ -125,8 +111,7 @@ row_bytes [] each c p = omega arith
 row_bytes (slot ∷ slots) each zero p = each 0 (omega arith) p
 row_bytes (slot ∷ slots) each (suc c) p = row_bytes slots (λ k within. each (suc k) (omega (arith, within))) c p
 
-module _ (table : TableValue) (readings : List StripeReading) (olds news : List FolderView) (read : AreRead table readings olds news) (all : length olds ≡ length table.columns)
-    (told : (d : ℕ) → d < length olds → IsTrue (folder_at olds d).tells) (trees : (d : ℕ) → d < length olds → IsTree (folder_at olds d).tree) where
+module _ (table : TableValue) (readings : List StripeReading) (olds news : List FolderView) (read : AreRead table readings olds news) (all : length olds ≡ length table.columns) where
   slot_bytes : (d i : ℕ) → d < length olds → i < length readings → ReadsBytes (bytes_of (slot_of d (get_or readings i no_reading)))
   slot_bytes d i d_in i_in =
       let column : ReadsColumn table.shape (tasks_at table (recorded_starts table) d (stripes_of readings)) (map (slot_of d) readings) (folder_at olds d) (folder_at news d) = read.each d d_in in
@@ -145,8 +130,7 @@ module _ (table : TableValue) (readings : List StripeReading) (olds news : List 
       ∙ ap (λ (slots : List SlotValue). get_or slots i no_slot) column.are_kept
       ∙ get_or-map (kept table.shape) column.readings i NoBlock no_slot i_cell in
       subst (λ (slot : SlotValue). ReadsBytes (bytes_of slot)) (sym slot_is)
-      (kept_bytes table.shape cell (λ seen bytes whole.
-      given_bytes (folder_at olds d).tree (trees d d_in) task asked seen bytes (sym (is_of.given (told d d_in) (ap is_unread whole)) ∙ whole)))
+      (kept_bytes table.shape cell (task_bytes task asked cell is_of.by))
 
   rows_of_bytes : All (λ (reading : StripeReading). AreRowBytes (row_of reading)) readings
   rows_of_bytes i none i_in =
@@ -154,33 +138,15 @@ module _ (table : TableValue) (readings : List StripeReading) (olds news : List 
       subst (λ (reading : StripeReading). AreRowBytes (row_of reading)) (sym same)
       (row_bytes (get_or readings i no_reading).slots (λ c within. slot_bytes c i (omega (arith, within, all, read.wide i no_reading i_in)) i_in))
 
--- ---- the folders of a sync
-
-abbrev pub AreFormed : Exit → Type 0
-AreFormed exit = (d : ℕ) → IsFolder (folder_at exit.after.folders d)
-
--- each of so many that is a folder
-pub folders_formed : {F : Type 0} (view : F → FolderView) → ((folder : F) → IsFolder (view folder)) → (folders : List F) (d : ℕ) → IsFolder (folder_at (map view folders) d)
-folders_formed view formed [] d = quiet_folder-is_folder 0 false
-folders_formed view formed (folder ∷ folders) zero = formed folder
-folders_formed view formed (folder ∷ folders) (suc d) = folders_formed view formed folders d
+-- ---- a sync
 
 first_of : (P : StripeReading → Type 0) (readings ahead : List StripeReading) → All P (readings ++ ahead) → All P readings
 first_of P [] ahead all k d within = absurd (omega (arith, within))
 first_of P (x ∷ xs) ahead all zero d within = all 0 d (omega arith)
 first_of P (x ∷ xs) ahead all (suc k) d within = first_of P xs ahead (λ j e below. all (suc j) e (omega (arith, below))) k d (omega (arith, within))
 
--- where they tell their trees, what it read are bytes
-pub sync_bytes : (run : SyncRun) → IsListedRun run → length run.plan.start.columns ≡ length run.loaded.columns → ((d : ℕ) → IsFolder (folder_at run.ended d)) → AllTell run.folders
-    → All (λ (reading : StripeReading). AreRowBytes (row_of reading)) run.readings
-sync_bytes run listed columns formed tell =
+-- what it read are bytes
+pub sync_bytes : (run : SyncRun) → IsListedRun run → length run.plan.start.columns ≡ length run.loaded.columns → All (λ (reading : StripeReading). AreRowBytes (row_of reading)) run.readings
+sync_bytes run listed columns =
     first_of (λ (reading : StripeReading). AreRowBytes (row_of reading)) run.readings run.ahead
-    (rows_of_bytes run.plan.start (run.readings ++ run.ahead) run.listed run.ended listed.reads.read (omega (arith, listed.as_many, listed.folders, columns)) told trees)
-  where
-    told : (d : ℕ) → d < length run.listed → IsTrue (folder_at run.listed d).tells
-    told d below = let here : d < length run.folders = omega (arith, below, listed.as_many) in (listed.listed.each d here).call.called.goes_on.tells ∙ tell d here
-
-    trees : (d : ℕ) → d < length run.listed → IsTree (folder_at run.listed d).tree
-    trees d below =
-        let column = listed.reads.read.each d below in
-        subst IsTree (column.folder.tree (told d below)) ((formed d).tree (column.folder.goes_on.tells ∙ told d below))
+    (rows_of_bytes run.plan.start (run.readings ++ run.ahead) run.listed run.ended listed.reads.read (omega (arith, listed.as_many, listed.folders, columns)))

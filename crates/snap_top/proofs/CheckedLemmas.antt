@@ -229,6 +229,7 @@ module _ {W R : Type 0} (standing : R → ReportView) (stands : R → List Event
               told_is = refl;
               named_is = refl;
               counted_is = checks.findings;
+              audited = checks.audited;
               prints = record { failed = lines_new.failed; told = told; answer_is = refl };
             }));
         changes = checks.levels.changes;

@@ -1,41 +1,32 @@
 -- What is promised of whatever stands after a history.
-use Rattle.std.proofs.Common.{◌≡◌, inl, inr, ⊎_elim, ℕ, ◌<◌, zero, suc, List, [], ◌∷◌, length, true, Ok, refl, sym, ap, ◌∙◌, subst, arith}
+use Rattle.std.proofs.Common.{◌≡◌, inl, inr, ⊎_elim, ℕ, ◌<◌, suc, List, [], ◌∷◌, length, true, Ok, refl, sym, ap, ◌∙◌, subst, arith}
 use Rattle.std.proofs.lemmas.List.{length-map}
-use Rattle.cauchy.specs.Matrix.{byte_of}
 use Rattle.disk_model.specs.Files.{Files}
 use Rattle.disk_model.specs.Folder.{FolderView}
-use Rattle.disk_model.specs.Opener.{OpenerView}
+use Rattle.disk_model.specs.Opener.{OpenerView, folder_held}
 use Rattle.disk_model.specs.Sink.{SinkView}
 use Rattle.disk_model.specs.Tree.{Tree}
 use Rattle.disk_model.specs.Vault.{VaultView, copies_of}
-use Rattle.parity_writer.specs.Sound.{Snapshot, Sound}
 use Rattle.snap_config.specs.declared.options.Command.TheVariants as commands
 use Rattle.snap_config.specs.declared.options.Options.{Options}
-use Rattle.snap_config.specs.declared.options.Selection.{Selection}
-use Rattle.snap_fix.specs.Fixing.{facts_of}
-use Rattle.snap_fix.specs.Genuine.{AreGenuine}
-use Rattle.snap_fix.specs.Mended.{has_lost}
-use Rattle.snap_fix.specs.Restored.{HoldsCell}
-use Rattle.snap_sync.specs.Images.{AtWork, Opening}
-use Rattle.snap_sync.specs.Part.{AllTell, tree_at, trees_of}
+use Rattle.snap_sync.specs.Images.{AtWork, Opening, StandsBy, rows_after}
+use Rattle.snap_sync.specs.Part.{AllTell, tree_at, trees_of, SyncRun, IsToldRun}
 use Rattle.stripe_reader.specs.Columns.{folder_at}
 use Rattle.snap_top.specs.Ended.{has_ended}
-use Rattle.snap_top.specs.Fix.{FixRun}
-use Rattle.snap_top.specs.Headline.{ArrivesAtItsEnd, FixesRestore, GoesOn, Headline, IsQuiet, IsSoundStanding}
-use Rattle.snap_top.specs.History.{AreSoundBy, synced_by}
-use Rattle.snap_top.specs.Moment.{IsDidOf, IsSoundAlways}
+use Rattle.snap_top.specs.Headline.{ArrivesAtItsEnd, FixesSpare, GoesOn, LeavesCopies, Headline, IsQuiet, IsSoundStanding, SyncsLast}
+use Rattle.snap_top.specs.History.{synced_by, LastSynced}
+use Rattle.snap_top.specs.Moment.{AreOfRun, IsDidOf, IsSoundAlways, EndsInPart}
 use Rattle.snap_top.specs.Opening.{asked_by}
-use Rattle.snap_top.specs.Restoring.{EndsFixed}
 use Rattle.snap_top.specs.Step.{ChangesFiles, EndsBy}
 use Rattle.snap_top.specs.Resumed.{RunOf}
 use Rattle.snap_top.specs.Run.{Entry, Exit}
-use Rattle.snap_top.specs.Standing.{BeginsOver, GoesOver, HasClosed, IsHistory, IsOrigin, LeavesTrees, MeetsNoChance, Stage, Standing, after_of, before_of}
-use Rattle.snap_top.specs.Task.{Did, fixes, folders_after, may_stand, reads_only, scrubs, syncs}
+use Rattle.snap_top.specs.Spared.{SparesBy, SparesCells}
+use Rattle.snap_top.specs.Standing.{BeginsOver, GoesOver, HasClosed, IsHistory, IsOrigin, LeavesTrees, Stage, Standing, after_of, before_of}
+use Rattle.snap_top.specs.Task.{Did, fixes, folders_after, may_stand, reads_only, scrubs, syncs, end_table}
 use Rattle.snap_top.specs.Views.{AllReadOnly}
 use Rattle.snap_top.proofs.CompleteLemmas.{same_ok}
 use Rattle.snap_top.proofs.EndedLemmas.{only_read}
 use Rattle.snap_top.proofs.MomentLemmas.{LayoutIsOfTrees}
-use Rattle.snap_top.proofs.OfFixLemmas.{loaded_sound}
 use Rattle.snap_top.proofs.OneSizeLemmas.{SavesValidTables}
 use Rattle.snap_top.proofs.ResumeLemmas.{FullKeepsShape}
 use Rattle.snap_top.proofs.ResumedRuns.{SyncsAreResumed}
@@ -43,7 +34,24 @@ use Rattle.snap_top.proofs.ResumingLemmas.{full_over, resumed_over}
 use Rattle.snap_top.proofs.StandingLemmas.{MomentsAreSoundByRows, history_is_sound, origin_sound}
 use Rattle.snap_top.proofs.OfScrubLemmas.{ScrubKeepsValid}
 use Rattle.snap_top.proofs.SyncedLemmas.{OneTable}
-use Rattle.snap_top.proofs.UndamagedLemmas.{WholeLevelsHold, restored_by_counting}
+use Rattle.snap_top.proofs.LostLemmas.{FactsAreGenuine}
+use Rattle.snap_top.proofs.RestoredLastLemmas.{FixFindsAsCheck, LevelsAreMended, restored_over, tree_of_folder}
+use Rattle.snap_top.proofs.SyncEndLemmas.{stands_then}
+use Rattle.snap_top.proofs.SyncedLastLemmas.{IsLaidAsItIs, WhatIsLeft, all_closed, row_given, some_content}
+use Rattle.snap_top.proofs.SparedLemmas.{cells_spared}
+use Rattle.snap_top.proofs.StoppingLemmas.{BytesAreSpared, ListedStandInPlace, NotSelectedStay, OthersStay}
+use Rattle.snap_top.proofs.UndamagedLemmas.{WholeLevelsHold}
+use Rattle.std.specs.Prelude.{Option, false, get_or, if◌then◌else◌, is_some}
+use Rattle.content_file.specs.Spelling.{spelling}
+use Rattle.snap_config.specs.declared.options.SyncWay.{SyncWay}
+use Rattle.stripe_findings.specs.Reading.{StripeReading}
+use Rattle.snap_sync.specs.Soundness.{changed_without, row_or, snapshot_with}
+use Rattle.content_file.specs.Save.{HasSaved}
+use Rattle.parity_writer.specs.Parity.{Row, Rows}
+
+-- what was last synced, with these rows
+abbrev last_with : LastSynced → Rows → LastSynced
+last_with last rows = record { snapshot = snapshot_with rows last.snapshot; is_changed = changed_without rows last.is_changed }
 
 module _ {O F V W : Type 0} (opener_view : O → OpenerView) (folder_view : F → FolderView) (vault_view : V → VaultView) (sink_view : W → SinkView) where
   abbrev begun : RunOf O F V W → Entry
@@ -65,63 +73,84 @@ module _ {O F V W : Type 0} (opener_view : O → OpenerView) (folder_view : F �
         subst (λ (did : Did). LeavesTrees did (begun run) (ended run) standing.trees next.trees) read goes.trees,
       )
 
-  -- ---- a fix
+  -- ---- a sync that went to its end
 
-  tree_of_folder : (folders : List FolderView) (d : ℕ) → tree_at (trees_of folders) d ≡ (folder_at folders d).tree
-  tree_of_folder [] d = refl
-  tree_of_folder (folder ∷ folders) zero = refl
-  tree_of_folder (folder ∷ folders) (suc d) = tree_of_folder folders d
-
-  -- what a run leaves that was asked for a fix and did not break off; it met no hash by chance
-  fixed_by : (before : Entry) (exit : Exit) (status : ℕ) (asked : Options) (selection : Selection) → asked_by before.texts ≡ Ok asked → asked.command ≡ commands.Fix selection → (snapshot : Snapshot) (did : Did)
-      → IsDidOf before exit did → MeetsNoChance did snapshot → has_ended did ≡ true → EndsBy did before exit status
-      → (ends : EndsFixed before exit status) × AreGenuine ends.run.plan snapshot (facts_of ends.run.stripes)
-  fixed_by before exit status asked selection words command snapshot reads_only is genuine done ends = absurd (only_read reads_only refl done)
-  fixed_by before exit status asked selection words command snapshot (syncs failed sync) is genuine done ends =
+  -- what a run leaves that was asked for a sync and did not break off
+  synced_by_did : (before : Entry) (exit : Exit) (status : ℕ) (asked : Options) (way : SyncWay) → asked_by before.texts ≡ Ok asked → asked.command ≡ commands.Sync way → (did : Did) → IsDidOf before exit did
+      → has_ended did ≡ true → EndsBy did before exit status → (ends : EndsInPart before exit status) × (did ≡ syncs false ends.run)
+  synced_by_did before exit status asked way words command reads_only is done ends = absurd (only_read reads_only refl done)
+  synced_by_did before exit status asked way words command (syncs true sync) is done ends = absurd cc
+  synced_by_did before exit status asked way words command (syncs false sync) is done ends = (ends.0, ap (λ (run : SyncRun). syncs false run) (sym ends.1))
+  synced_by_did before exit status asked way words command (fixes failed fix) is done ends =
       let same : is.configured.asked ≡ asked = same_ok (asked_by before.texts) is.configured.asked asked is.configured.read words in
-      let clash : commands.Sync is.way ≡ commands.Fix selection = is.configured.command_is ∙ ap (λ (a : Options). a.command) same ∙ command in
+      let clash : commands.Fix fix.selection ≡ commands.Sync way = is.configured.command_is ∙ ap (λ (a : Options). a.command) same ∙ command in
       absurd cc
-  fixed_by before exit status asked selection words command snapshot (fixes failed fix) is genuine done ends =
-      (ends.0, subst (λ (run : FixRun). AreGenuine run.plan snapshot (facts_of run.stripes)) (sym ends.1) genuine)
-  fixed_by before exit status asked selection words command snapshot (scrubs failed scrub) is genuine done ends =
+  synced_by_did before exit status asked way words command (scrubs failed scrub) is done ends =
       let same : is.configured.asked ≡ asked = same_ok (asked_by before.texts) is.configured.asked asked is.configured.read words in
-      let clash : commands.Scrub scrub.way ≡ commands.Fix selection = is.configured.command_is ∙ ap (λ (a : Options). a.command) same ∙ command in
+      let clash : commands.Scrub scrub.way ≡ commands.Sync way = is.configured.command_is ∙ ap (λ (a : Options). a.command) same ∙ command in
       absurd cc
 
-  restored_over : WholeLevelsHold → (standing : Standing) → IsSoundStanding standing → FixesRestore opener_view folder_view vault_view sink_view standing
-  restored_over holds standing sound run next goes fix at_end =
+  synced_over : WhatIsLeft → IsLaidAsItIs → LayoutIsOfTrees → SavesValidTables → OneTable → (standing : Standing) → SyncsLast opener_view folder_view vault_view sink_view standing
+  synced_over left laid_again laid saves_valid one_table standing run next goes well stand =
       let before : Entry = begun run in
       let exit : Exit = ended run in
       let over = goes.over in
       let step = goes.step in
-      let done : has_ended step.always.did ≡ true = step.done fix.asked fix.words (subst ChangesFiles (sym fix.command_is) tt) fix.well in
-      let both = fixed_by before exit run.status fix.asked fix.selection fix.words fix.command_is standing.last.snapshot step.always.did step.always.is_did goes.genuine done (step.at_end done) in
-      let ends : EndsFixed before exit run.status = both.0 in
-      let fixed : FixRun = ends.run in
-      let snapshot = standing.last.snapshot in
-      let is_changed = standing.last.is_changed in
-      let are : AreSoundBy (copies_of before.opener.vault) before.opener.vault.files standing.last
-      = subst (λ (k : ℕ). AreSoundBy k before.opener.vault.files standing.last) (sym over.copies) (subst (λ (fs : Files). AreSoundBy standing.copies fs standing.last) (sym over.files) sound.sound) in
-      let loaded : Sound fixed.loaded before.opener.vault.files snapshot is_changed
-      = loaded_sound (copies_of before.opener.vault) fixed.loaded before.opener.vault.files snapshot is_changed ends.is_fix.over.valid ends.is_fix.over.is_loaded are in
+      let did : Did = step.always.did in
+      let done : has_ended did ≡ true = step.done well.asked well.words (subst ChangesFiles (sym well.command_is) tt) well.well in
+      let both = synced_by_did before exit run.status well.asked well.way well.words well.command_is did step.always.is_did done (step.at_end done) in
+      let ends : EndsInPart before exit run.status = both.0 in
+      let its : SyncRun = ends.run in
+      let n : ℕ = length its.readings in
+      let copies : ℕ = copies_of before.opener.vault in
+      let is_sync = ends.is_sync in
+      let told : IsToldRun its = record { told = subst AllTell (sym is_sync.folders_are) over.tells.tells_folders; of_lists = is_sync.over.listed } in
+      let saved : HasSaved copies (spelling (end_table its)) next.files = stands_then (HasSaved copies (spelling (end_table its))) exit next.files ends.tells ends.saved stand in
+      let closed : StandsBy its.plan its.readings goes.count before.opener.vault.files next.files
+      = subst (λ (files : Files). StandsBy its.plan its.readings goes.count files next.files) (sym over.files) (subst (λ (d : Did). HasClosed d goes.count standing.files next.files) both.1 goes.closed) in
+      let contents : 0 < length its.setup.contents = some_content is_sync.configured.says.bytes is_sync.configured.asked.log its.setup is_sync.configured.says.says in
+      let some : 0 < copies = omega (arith, contents, is_sync.copies_are) in
+      let rows : rows_after its.plan its.readings goes.count ≡ rows_after its.plan its.readings n
+      = all_closed left laid_again laid saves_valid one_table its copies before.seed before.opener.vault.files next.files is_sync.over told is_sync.begins ends.all some saved goes.count closed in
+      let last_is : synced_by did goes.count standing.last ≡ synced_by did n standing.last
+      = subst (λ (d : Did). synced_by d goes.count standing.last ≡ synced_by d n standing.last) (sym both.1) (ap (last_with standing.last) rows) in
+      let last_rows : next.last ≡ last_with standing.last (rows_after its.plan its.readings n)
+      = goes.last ∙ last_is ∙ ap (λ (d : Did). synced_by d n standing.last) both.1 in
+      let given = row_given left laid_again laid saves_valid one_table its copies before.seed before.opener.vault.files next.files is_sync.over told is_sync.begins ends.all in
       record {
         ends = ends;
-        restores =
-            let restores = ends.restores snapshot is_changed loaded both.1 in
-            record {
-              restored = λ facts d cell is_intact reach tells enough.
-                  subst (λ (tree : Tree). HoldsCell fixed.plan.table d cell (has_lost fixed.plan fixed.stripes d cell.rec) (byte_of (snapshot facts.stripe) d) tree)
-                  (sym (ap (λ (ts : List Tree). tree_at ts d) at_end ∙ tree_of_folder exit.after.folders d ∙ ap (λ (folders : List FolderView). (folder_at folders d).tree) (sym ends.is_fix.ended_is)))
-                  (restores.restored facts d cell is_intact (record { is = reach.is; synced = reach.synced; bytes = sound.bytes facts.stripe; tells = tells }) reach.free enough);
-              counted = λ facts d cell reach enough.
-                  subst (λ (tree : Tree). HoldsCell fixed.plan.table d cell (has_lost fixed.plan fixed.stripes d cell.rec) (byte_of (snapshot facts.stripe) d) tree)
-                  (sym (ap (λ (ts : List Tree). tree_at ts d) at_end ∙ tree_of_folder exit.after.folders d ∙ ap (λ (folders : List FolderView). (folder_at folders d).tree) (sym ends.is_fix.ended_is)))
-                  (restored_by_counting holds before exit fixed ends.finishes snapshot is_changed facts d cell ends.is_fix over.tells.tells_vault loaded restores
-                  (record { is = reach.is; searched = reach.synced; free = reach.free; bytes = sound.bytes facts.stripe; enough = enough }));
-              named = λ facts d cell is_intact is synced tells.
-                  restores.named facts d cell is_intact (record { is = is; synced = synced; bytes = sound.bytes facts.stripe; tells = tells });
-            };
+        did_is = both.1;
+        saved = subst (λ (k : ℕ). HasSaved k (spelling (end_table its)) next.files) over.copies saved;
+        last = goes.last ∙ last_is;
+        rows = λ i d within is.
+            let reading : StripeReading = get_or its.readings i d in (
+              ap (λ (last : LastSynced). last.snapshot reading.stripe) last_rows ∙ ap (λ (found : Option Row). row_or found (standing.last.snapshot reading.stripe)) (given i d within is),
+              λ level. ap (λ (last : LastSynced). last.is_changed reading.stripe level) last_rows
+                  ∙ ap (λ (found : Option Row). if is_some found then false else standing.last.is_changed reading.stripe level) (given i d within is),
+            );
       }
+
+  -- ---- at each moment
+
+  copies_over : (standing : Standing) → LeavesCopies opener_view folder_view vault_view sink_view standing
+  copies_over standing run next goes =
+      let did : Did = goes.step.always.did in
+      subst (λ (n : ℕ). AreOfRun did n standing.files next.files) goes.over.copies
+      (subst (λ (files : Files). AreOfRun did (copies_of (begun run).opener.vault) files next.files) goes.over.files (goes.step.always.copies next.files goes.files))
+
+  spares_over : BytesAreSpared → NotSelectedStay → OthersStay → ListedStandInPlace → (standing : Standing) → FixesSpare opener_view folder_view vault_view sink_view standing
+  spares_over bytes not_selected others listed standing run next goes = by goes.step.always.did goes.step.always.is_did goes.trees
+    where
+      held_tree : (d : ℕ) → (folder_held (begun run).opener d).tree ≡ tree_at standing.trees d
+      held_tree d = sym (tree_of_folder (begun run).opener.folders d) ∙ ap (λ (trees : List Tree). tree_at trees d) goes.over.trees
+
+      by : (did : Did) → IsDidOf (begun run) (ended run) did → LeavesTrees did (begun run) (ended run) standing.trees next.trees → SparesBy did standing.trees next.trees
+      by reads_only is leaves = tt
+      by (syncs failed sync) is leaves = tt
+      by (scrubs failed scrub) is leaves = tt
+      by (fixes failed fix) is leaves = λ d below.
+          subst (λ (tree : Tree). SparesCells fix d tree (tree_at next.trees d)) (held_tree d)
+          (cells_spared bytes not_selected others listed (begun run) (ended run) fix d (tree_at next.trees d) is (leaves.1 d below))
 
   -- ---- what stands next
 
@@ -195,16 +224,20 @@ module _ {O F V W : Type 0} (opener_view : O → OpenerView) (folder_view : F �
 
   -- ---- all of it
 
-  pub headline_holds : MomentsAreSoundByRows → OneTable → LayoutIsOfTrees → SavesValidTables → ScrubKeepsValid → SyncsAreResumed → FullKeepsShape → WholeLevelsHold → (first standing : Standing) (stages : List (Stage O F V W)) → IsOrigin first
+  pub headline_holds : MomentsAreSoundByRows → OneTable → LayoutIsOfTrees → SavesValidTables → ScrubKeepsValid → SyncsAreResumed → FullKeepsShape → WholeLevelsHold → WhatIsLeft → IsLaidAsItIs
+      → FactsAreGenuine → LevelsAreMended → FixFindsAsCheck → BytesAreSpared → NotSelectedStay → OthersStay → ListedStandInPlace → (first standing : Standing) (stages : List (Stage O F V W)) → IsOrigin first
       → IsHistory opener_view folder_view vault_view sink_view first stages standing → Headline opener_view folder_view vault_view sink_view standing
-  headline_holds by_rows one_table laid saves_valid marks_valid resumed keeps holds first standing stages origin history =
+  headline_holds by_rows one_table laid saves_valid marks_valid resumed keeps holds left laid_again genuine mended as_check bytes not_selected others listed first standing stages origin history =
       let sound : IsSoundStanding standing = history_is_sound by_rows one_table saves_valid marks_valid opener_view folder_view vault_view sink_view first stages standing history (origin_sound first origin) in
       record {
         sound = sound;
         resumed = resumed_over opener_view folder_view vault_view sink_view resumed keeps standing sound;
         in_full = λ setup trees seed stages later again last loaded table now full.
             full_over opener_view folder_view vault_view sink_view laid one_table setup trees seed resumed keeps standing later again stages last loaded table now full sound;
-        restores = restored_over holds standing sound;
+        synced = synced_over left laid_again laid saves_valid one_table standing;
+        restores = restored_over opener_view folder_view vault_view sink_view holds genuine mended as_check standing sound;
+        spares = spares_over bytes not_selected others listed standing;
+        copies = copies_over standing;
         quiet = quiet_over standing;
         goes_on = goes_on_over standing;
         arrives = arrives_over standing;

@@ -14,11 +14,11 @@ use Rattle.parity_writer.specs.Parity.{Row, Rows, no_rows, with_row}
 use Rattle.parity_writer.specs.Sound.{Snapshot, Sound}
 use Rattle.snap_sync.specs.Closing.{rows_with}
 use Rattle.snap_sync.specs.Images.{rows_after}
-use Rattle.snap_sync.specs.Part.{AllTell}
 use Rattle.stripe_findings.specs.Reading.{StripeReading, is_verified, row_of}
 use Rattle.snap_sync.specs.Soundness.{AreSound, row_or}
-use Rattle.snap_top.specs.History.{AreSoundBy, Changes, IsChange, IsHistory, IsOfBytes, LastSynced, Runs, StaysSound, Step, synced_by}
-use Rattle.snap_top.specs.Moment.{IsDidOf, IsSoundAlways, IsSoundAtEnd, IsSupposed}
+use Rattle.snap_sync.specs.Part.{SyncRun}
+use Rattle.snap_top.specs.History.{AreSoundBy, Changes, EndsSoundBy, IsChange, IsSoundSynced, IsHistory, IsOfBytes, LastSynced, Runs, StaysSound, Step, synced_by}
+use Rattle.snap_top.specs.Moment.{EndsSound, IsDidOf, IsSoundAlways, IsSoundAtEnd, IsSupposed, StandsAfter}
 use Rattle.snap_top.specs.Resumed.{end_of, entry_of}
 use Rattle.snap_top.specs.Run.{Entry, Exit}
 use Rattle.snap_top.specs.Task.{Did, end_table, fixes, reads_only, scrubs, syncs}
@@ -65,15 +65,28 @@ snapshot_bytes None row has bytes = bytes
 snapshot_bytes (Some read) row has bytes = has
 
 -- a snapshot stays of bytes over a run
-pub stays_of_bytes : (before : Entry) (exit : Exit) (did : Did) (count : ℕ) (last : LastSynced) → IsDidOf before exit did → AllTell before.opener.folders → IsOfBytes last.snapshot → IsOfBytes (synced_by did count last).snapshot
-stays_of_bytes before exit reads_only count last is tell bytes stripe = bytes stripe
-stays_of_bytes before exit (fixes failed run) count last is tell bytes stripe = bytes stripe
-stays_of_bytes before exit (scrubs failed run) count last is tell bytes stripe = bytes stripe
-stays_of_bytes before exit (syncs failed run) count last is tell bytes stripe =
+pub stays_of_bytes : (before : Entry) (exit : Exit) (did : Did) (count : ℕ) (last : LastSynced) → IsDidOf before exit did → IsOfBytes last.snapshot → IsOfBytes (synced_by did count last).snapshot
+stays_of_bytes before exit reads_only count last is bytes stripe = bytes stripe
+stays_of_bytes before exit (fixes failed run) count last is bytes stripe = bytes stripe
+stays_of_bytes before exit (scrubs failed run) count last is bytes stripe = bytes stripe
+stays_of_bytes before exit (syncs failed run) count last is bytes stripe =
     snapshot_bytes (rows_after run.plan run.readings count stripe) (last.snapshot stripe)
     (rows_bytes run.plan.start (take count run.readings) no_rows
-    (All-take (λ (reading : StripeReading). AreBytes (row_of reading)) count run.readings (is.bytes (subst AllTell (sym is.folders_are) tell))) (λ s. tt) stripe)
+    (All-take (λ (reading : StripeReading). AreBytes (row_of reading)) count run.readings is.bytes) (λ s. tt) stripe)
     (bytes stripe)
+
+-- ---- the end of a sync
+
+-- by what a run did
+ends_by : (before : Entry) (exit : Exit) (status copies : ℕ) (left : Files) (last : LastSynced) (GoesOn : LastSynced → Type 0)
+    → ((ended : IsSoundAtEnd before exit status) → IsSoundSynced before exit status ended.run copies left last GoesOn)
+    → (did : Did) → EndsSound did before exit status → EndsSoundBy did before exit status copies left last GoesOn
+ends_by before exit status copies left last GoesOn synced reads_only ends = tt
+ends_by before exit status copies left last GoesOn synced (syncs true run) ends = tt
+ends_by before exit status copies left last GoesOn synced (syncs false run) ends =
+    subst (λ (its : SyncRun). IsSoundSynced before exit status its copies left last GoesOn) ends.1 (synced ends.0)
+ends_by before exit status copies left last GoesOn synced (fixes failed run) ends = tt
+ends_by before exit status copies left last GoesOn synced (scrubs failed run) ends = tt
 
 -- ---- a history
 
@@ -92,6 +105,24 @@ module _ {O F V W : Type 0} (opener_view : O → OpenerView) (folder_view : F �
       let here : AreSound (copies_of before.opener.vault) before.opener.vault.files last.snapshot last.is_changed
       = subst (λ (n : ℕ). AreSound n before.opener.vault.files last.snapshot last.is_changed) (sym runs.copies_are)
       (subst (λ (fs : Files). AreSound copies fs last.snapshot last.is_changed) (sym runs.files_are) are) in
+      let synced_of : (ended : IsSoundAtEnd before exit stop.run.status) → StandsAfter exit stop.left
+      → IsSoundSynced before exit stop.run.status ended.run copies stop.left last (StaysSound opener_view folder_view vault_view sink_view copies steps stop.left)
+      = λ ended stands.
+      let did : Did = syncs false ended.run in
+      let count : ℕ = length ended.run.readings in
+      let after : AreSoundBy copies stop.left (synced_by did count last)
+      = subst (λ (n : ℕ). AreSoundBy n stop.left (synced_by did count last)) runs.copies_are (ended.sound stop.left last.snapshot last.is_changed stands here) in
+      record {
+        is_sync = ended.is_sync;
+        all = ended.all;
+        saved = subst (λ (n : ℕ). HasSaved n (spelling (end_table ended.run)) stop.left) runs.copies_are (ended.saved stop.left stands);
+        clean = ended.clean;
+        once = record {
+          sound = after;
+          bytes = stays_of_bytes before exit did count last ended.is_sync;
+          goes_on = stays_sound copies steps stop.left (synced_by did count last) history.1 after;
+        };
+      } in
       record {
         did = always.did;
         is_did = always.is_did;
@@ -111,24 +142,9 @@ module _ {O F V W : Type 0} (opener_view : O → OpenerView) (folder_view : F �
                 goes_on = stays_sound copies steps stop.left (synced_by always.did next.count last) history.1 after;
               };
             };
-        synced = λ asked stands.
-            let ended : IsSoundAtEnd before exit stop.run.status = always.synced asked in
-            let did : Did = syncs false ended.run in
-            let count : ℕ = length ended.run.readings in
-            let after : AreSoundBy copies stop.left (synced_by did count last)
-            = subst (λ (n : ℕ). AreSoundBy n stop.left (synced_by did count last)) runs.copies_are (ended.sound stop.left last.snapshot last.is_changed stands here) in
-            record {
-              run = ended.run;
-              is_sync = ended.is_sync;
-              all = ended.all;
-              saved = subst (λ (n : ℕ). HasSaved n (spelling (end_table ended.run)) stop.left) runs.copies_are (ended.saved stop.left stands);
-              clean = ended.clean;
-              once = record {
-                sound = after;
-                bytes = stays_of_bytes before exit did count last ended.is_sync;
-                goes_on = stays_sound copies steps stop.left (synced_by did count last) history.1 after;
-              };
-            };
+        at_end = λ stands. ends_by before exit stop.run.status copies stop.left last (StaysSound opener_view folder_view vault_view sink_view copies steps stop.left)
+            (λ ended. synced_of ended stands) always.did always.at_end;
+        synced = λ asked stands. let ended : IsSoundAtEnd before exit stop.run.status = always.synced asked in (ended.run, synced_of ended stands);
         restores = λ ends genuine.
             let over = ends.is_fix.over in
             ends.restores last.snapshot last.is_changed

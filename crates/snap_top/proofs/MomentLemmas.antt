@@ -21,7 +21,7 @@ use Rattle.snap_sync.specs.Part.{AreOfPartSyncs, IsToldRun, SyncRun, layout_by, 
 use Rattle.snap_sync.specs.Soundness.{AreSound, changed_without, snapshot_with}
 use Rattle.snap_top.specs.Fix.{FixRun, MayStandFixed}
 use Rattle.snap_top.specs.End.{status_of}
-use Rattle.snap_top.specs.Moment.{EveryMomentIsSound, HoldsFresh, ChangesNothing, IsFixOf, IsScrubOf, IsSoundAlways, IsSoundAtEnd, IsSyncOf, StandsIn, SyncsToItsEnd}
+use Rattle.snap_top.specs.Moment.{EndsSound, EveryMomentIsSound, HoldsFresh, ChangesNothing, IsFixOf, IsScrubOf, IsSoundAlways, IsSoundAtEnd, IsSyncOf, StandsIn, SyncsToItsEnd}
 use Rattle.snap_top.specs.Opening.{asked_by}
 use Rattle.snap_top.specs.Run.{Entry, Exit, Ran}
 use Rattle.snap_top.specs.Scrub.{MayStandMarked, ScrubRun}
@@ -31,10 +31,10 @@ use Rattle.snap_top.specs.declared.end.End.TheVariants.{Refused, Worked}
 use Rattle.snap_config.specs.Setup.{setup_value}
 use Rattle.snap_config.specs.declared.options.Options.{Options}
 use Rattle.snap_top.proofs.CompleteLemmas.{same_ok}
+use Rattle.snap_top.proofs.EndsSoundLemmas.{ends_sound}
 use Rattle.snap_top.proofs.OfFixLemmas.{HasFix, HasScrub, HasSync, genuine_of, loaded_sound, run_did}
 use Rattle.snap_top.proofs.OfScrubLemmas.{ScrubKeepsSound, ScrubKeepsValid, scrub_sound}
 use Rattle.snap_top.proofs.OfSyncLemmas.{KeepsItsStripes}
-use Rattle.snap_top.proofs.BytesLemmas.{AreFormed}
 use Rattle.snap_top.proofs.RunLemmas.{stands_still}
 use Rattle.snap_top.proofs.SyncEndLemmas.{FindsWhatIsPending, sound_at_end, sync_ended}
 use Rattle.snap_top.proofs.SyncedLemmas.{MomentsAreSound, OneTable}
@@ -90,6 +90,7 @@ module _ (before : Entry) (exit : Exit) (status : ℕ) (fresh : HoldsFresh befor
       within = omega arith;
       sound = subst (λ (fs : Files). AreSound (copies_of before.opener.vault) fs snapshot is_changed) (sym (still files at)) are;
     };
+    at_end = tt;
     synced = synced;
   }
 
@@ -121,6 +122,7 @@ module _ (before : Entry) (exit : Exit) (status : ℕ) (fresh : HoldsFresh befor
                   = supposed.one_size copy table below valid spelled ∙ ap (λ (t : TableValue). t.shape.block_size) (sym over.plan_is.table_is) in
                   keeps_sound run.plan (starts_of run.loaded run.lists) run.listed old snapshot is_changed (facts_of run.stripes) table old files genuine size kept (are copy table below valid spelled);
             };
+        at_end = tt;
         synced = synced;
       }
 
@@ -143,13 +145,14 @@ module _ (before : Entry) (exit : Exit) (status : ℕ) (fresh : HoldsFresh befor
           sound = scrub_sound one_table keeps_valid keeps_sound run (copies_of before.opener.vault) old files snapshot is_changed over.in_time over.valid over.stripes
               (loaded_sound (copies_of before.opener.vault) run.loaded old snapshot is_changed over.valid over.is_loaded are) are (moments files at);
         };
+        at_end = tt;
         synced = synced;
       }
 
   module _ (laid : LayoutIsOfTrees) (of_parts : CopiesAreOfPartSyncs) (sound : MomentsAreSound) (keeps_sound : FixKeepsSound) (one_table : OneTable) (marks_valid : ScrubKeepsValid) (marks_sound : ScrubKeepsSound) where
     -- a sync
-    sound_syncing : (failed : Bool) (run : SyncRun) → IsSyncOf before exit run → ((files : Files) → StandsIn before exit files → MayStand run.plan run.readings old files) → IsSoundAlways before exit status
-    sound_syncing failed run is moments =
+    sound_syncing : (failed : Bool) (run : SyncRun) → IsSyncOf before exit run → EndsSound (syncs failed run) before exit status → ((files : Files) → StandsIn before exit files → MayStand run.plan run.readings old files) → IsSoundAlways before exit status
+    sound_syncing failed run is ends moments =
         let over = is.over in
         record {
           did = syncs failed run;
@@ -172,39 +175,41 @@ module _ (before : Entry) (exit : Exit) (status : ℕ) (fresh : HoldsFresh befor
                 within = after.within;
                 sound = subst (λ (n : ℕ). AreSound n files (snapshot_with rows snapshot) (changed_without rows is_changed)) over.copies_are after.sound;
               };
+          at_end = ends;
           synced = synced;
         }
 
     -- a run that opened its array
-    pub sound_run : (did : Did) → ChangesBy (may_stand did) before.opener.vault exit.after.vault → (did ≡ reads_only) ⊎ (HasSync before exit did ⊎ (HasFix before exit did ⊎ HasScrub before exit did)) → IsSoundAlways before exit status
-    sound_run did changes (inl read) = sound_reading (stands_by reads_only (subst (λ d. ChangesBy (may_stand d) before.opener.vault exit.after.vault) read changes))
-    sound_run did changes (inr (inl sync)) =
-        sound_syncing sync.failed sync.run sync.is_sync (stands_by (syncs sync.failed sync.run) (subst (λ d. ChangesBy (may_stand d) before.opener.vault exit.after.vault) sync.did_is changes))
-    sound_run did changes (inr (inr (inl fix))) =
+    pub sound_run : (did : Did) → EndsSound did before exit status → ChangesBy (may_stand did) before.opener.vault exit.after.vault → (did ≡ reads_only) ⊎ (HasSync before exit did ⊎ (HasFix before exit did ⊎ HasScrub before exit did)) → IsSoundAlways before exit status
+    sound_run did ends changes (inl read) = sound_reading (stands_by reads_only (subst (λ d. ChangesBy (may_stand d) before.opener.vault exit.after.vault) read changes))
+    sound_run did ends changes (inr (inl sync)) =
+        sound_syncing sync.failed sync.run sync.is_sync (subst (λ d. EndsSound d before exit status) sync.did_is ends) (stands_by (syncs sync.failed sync.run) (subst (λ d. ChangesBy (may_stand d) before.opener.vault exit.after.vault) sync.did_is changes))
+    sound_run did ends changes (inr (inr (inl fix))) =
         sound_fixing keeps_sound fix.failed fix.run fix.is_fix (stands_by (fixes fix.failed fix.run) (subst (λ d. ChangesBy (may_stand d) before.opener.vault exit.after.vault) fix.did_is changes))
-    sound_run did changes (inr (inr (inr scrub))) =
+    sound_run did ends changes (inr (inr (inr scrub))) =
         sound_scrubbing one_table marks_valid marks_sound scrub.failed scrub.run scrub.is_scrub
         (stands_by (scrubs scrub.failed scrub.run) (subst (λ d. ChangesBy (may_stand d) before.opener.vault exit.after.vault) scrub.did_is changes))
 
     -- it is by what the run did
-    pub run_did_is : (did : Did) (changes : ChangesBy (may_stand did) before.opener.vault exit.after.vault) (how : (did ≡ reads_only) ⊎ (HasSync before exit did ⊎ (HasFix before exit did ⊎ HasScrub before exit did))) → (sound_run did changes how).did ≡ did
+    pub run_did_is : (did : Did) (ends : EndsSound did before exit status) (changes : ChangesBy (may_stand did) before.opener.vault exit.after.vault) (how : (did ≡ reads_only) ⊎ (HasSync before exit did ⊎ (HasFix before exit did ⊎ HasScrub before exit did))) → (sound_run did ends changes how).did ≡ did
     unfolding sound_run sound_reading sound_syncing sound_fixing sound_scrubbing
-    run_did_is did changes (inl read) = sym read
-    run_did_is did changes (inr (inl sync)) = sym sync.did_is
-    run_did_is did changes (inr (inr (inl fix))) = sym fix.did_is
-    run_did_is did changes (inr (inr (inr scrub))) = sym scrub.did_is
+    run_did_is did ends changes (inl read) = sym read
+    run_did_is did ends changes (inr (inl sync)) = sym sync.did_is
+    run_did_is did ends changes (inr (inr (inl fix))) = sym fix.did_is
+    run_did_is did ends changes (inr (inr (inr scrub))) = sym scrub.did_is
 
 -- of each run
 pub every_moment : LayoutIsOfTrees → CopiesAreOfPartSyncs → MomentsAreSound → FixKeepsSound → ScrubKeepsValid → ScrubKeepsSound → KeepsItsStripes → OneTable → FindsWhatIsPending → (before : Entry) (exit : Exit) (end : End) (told : List Event) (status : ℕ)
-    → before.moment < 2 ^ 64 → AreFormed exit → status ≡ status_of end → Ran before exit end told → EveryMomentIsSound before exit status
-every_moment laid of_parts sound keeps_sound marks_valid marks_sound keeps one_table finds before exit end told status in_time formed is ran fresh = by end ran at_end
+    → before.moment < 2 ^ 64 → status ≡ status_of end → Ran before exit end told → EveryMomentIsSound before exit status
+every_moment laid of_parts sound keeps_sound marks_valid marks_sound keeps one_table finds before exit end told status in_time is ran fresh = by end is ran at_end
   where
     at_end : SyncsToItsEnd before exit status → IsSoundAtEnd before exit status
     at_end asked =
-        sound_at_end keeps before exit fresh.tells fresh.tells_vault in_time formed status (sync_ended before exit end told status fresh.tells is ran asked) one_table sound finds
+        sound_at_end keeps before exit fresh.tells fresh.tells_vault in_time status (sync_ended before exit end told status fresh.tells is ran asked) one_table sound finds
 
-    by : (end : End) → Ran before exit end told → (SyncsToItsEnd before exit status → IsSoundAtEnd before exit status) → IsSoundAlways before exit status
-    by (Refused why) ran synced = sound_reading before exit status fresh synced (stands_same before exit status fresh synced ran.vault)
-    by (Worked setup ending) ran synced =
-        sound_run before exit status fresh synced laid of_parts sound keeps_sound one_table marks_valid marks_sound ran.did (ran.changes fresh.tells)
-        (run_did before exit fresh.tells fresh.tells_vault keeps in_time formed (setup_value setup) ending told ran)
+    by : (end : End) → status ≡ status_of end → Ran before exit end told → (SyncsToItsEnd before exit status → IsSoundAtEnd before exit status) → IsSoundAlways before exit status
+    by (Refused why) is ran synced = sound_reading before exit status fresh synced (stands_same before exit status fresh synced ran.vault)
+    by (Worked setup ending) is ran synced =
+        sound_run before exit status fresh synced laid of_parts sound keeps_sound one_table marks_valid marks_sound ran.did
+        (ends_sound keeps one_table sound finds before exit fresh.tells fresh.tells_vault in_time status (setup_value setup) ending told ran is) (ran.changes fresh.tells)
+        (run_did before exit fresh.tells fresh.tells_vault keeps in_time (setup_value setup) ending told ran)

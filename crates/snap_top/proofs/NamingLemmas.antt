@@ -1,4 +1,4 @@
--- A check that is done tells which damaged cells are lost.
+-- A check that is done tells which damaged cells are lost, and an audit what is changed.
 use Rattle.std.proofs.Common.{◌≡◌, ◌↔◌, ⊎_elim, ℕ, ◌<◌, ◌&&◌, List, ◌++◌, length, get_or, count_by, Bool, true, false, IsTrue, Option, None, is_some, refl, sym, ap, ◌∙◌, subst, arith}
 use Rattle.std.specs.Prelude.{not}
 use Rattle.std.proofs.lemmas.Bool.{and_from, and_left, and_parts}
@@ -29,10 +29,12 @@ use Rattle.stripe_examiner.specs.Counts.{at_most}
 use Rattle.stripe_examiner.specs.Facts.{StripeFacts, gift_of, is_missing, slot_of}
 use Rattle.stripe_examiner.specs.Findings.{is_lost}
 use Rattle.stripe_examiner.specs.Present.{ArePresent}
+use Rattle.snap_fix.specs.Audited.{FindsNothing}
 use Rattle.snap_fix.specs.Genuine.{AreGenuine, AreGenuineOf, HasGenuineFacts, IsRestorableStripe, TellsIntactLevels}
 use Rattle.stripe_examiner.specs.Known.{AreFacts, IsTried}
 use Rattle.stripe_examiner.specs.Looking.{AreRead, numbers_of, unread_in}
 use Rattle.stripe_examiner.specs.Plan.{FixPlan, is_audit, is_searched, is_synced, selects_cell, starts_of}
+use Rattle.stripe_examiner.specs.declared.scope.Mode.{Mode}
 use Rattle.stripe_examiner.specs.declared.scope.Mode.TheVariants as modes
 use Rattle.snap_report.specs.Answer.{status_of as answer_status}
 use Rattle.snap_report.specs.EndLines.{check_text}
@@ -51,7 +53,7 @@ use Rattle.snap_top.specs.Ended.{IsEndStatus}
 use Rattle.snap_fix.specs.Restored.{IsDamagedCell}
 use Rattle.snap_top.specs.Lost.{IsToldLost, NamesLost, NamesPending}
 use Rattle.snap_top.specs.Moment.{TellsAll}
-use Rattle.snap_top.specs.Naming.{ChecksEnd, EndsChecked, IsCheckOf, events_found}
+use Rattle.snap_top.specs.Naming.{ChecksEnd, EndsAsAsked, EndsAudited, EndsChecked, HasChecked, IsCheckOf, command_in, events_found}
 use Rattle.snap_top.specs.Opening.{asked_by}
 use Rattle.snap_top.specs.Run.{Entry, Exit, IsAnswered, IsRun, Ran}
 use Rattle.snap_top.specs.Task.{Left}
@@ -59,7 +61,7 @@ use Rattle.snap_top.specs.Views.{view_of, world_of}
 use Rattle.snap_top.specs.declared.end.End.{End}
 use Rattle.snap_top.specs.declared.end.Ending.TheVariants.{Answered}
 use Rattle.snap_top.proofs.CompleteLemmas.{same_ok}
-use Rattle.snap_top.proofs.EndedLemmas.{IsDoneAnswer, done_status, goes_to_its_end, only_read, output_rose, well_as}
+use Rattle.snap_top.proofs.EndedLemmas.{GoesToItsEnd, IsDoneAnswer, done_status, goes_to_its_end, only_read, output_rose, well_as}
 use Rattle.snap_top.proofs.LostEvents.{lost_is_told, told_is_lost}
 use Rattle.snap_top.proofs.LostLemmas.{AreAscending, FactsAreGenuine, same_facts, stripes_ascending}
 use Rattle.snap_top.proofs.OfFixLemmas.{check_did, levels_held, levels_in}
@@ -131,8 +133,8 @@ not_known false never = refl
 
 module _ (rows : RowsAreKnown) (genuine_facts : FactsAreGenuine) (before : Entry) (exit : Exit) (tells : TellsAll before) where
   module _ (setup : SetupValue) (answer : Answer) (named : Option TableValue) (told : List Event) (ran : IsRun before exit setup (Answered answer named) told) (left : Left)
-      (one : IsAnswered ran.task ran.given (world_of exit.after) left ran.did) (selection : Selection) (command : ran.task.command ≡ commands.Check selection) (status : ℕ) (status_is : status ≡ answer_status left.answer)
-      (ends : CheckEnds modes.Check selection ran.task one.table one.start (world_of exit.after) left ran.did) where
+      (one : IsAnswered ran.task ran.given (world_of exit.after) left ran.did) (mode : Mode) (selection : Selection) (command : ran.task.command ≡ command_in mode selection) (status : ℕ) (status_is : status ≡ answer_status left.answer)
+      (ends : CheckEnds mode selection ran.task one.table one.start (world_of exit.after) left ran.did) where
     abbrev run : CheckRun
     run = record {
       selection = selection;
@@ -162,10 +164,10 @@ module _ (rows : RowsAreKnown) (genuine_facts : FactsAreGenuine) (before : Entry
     start_out : one.start.out ≡ before.out
     start_out = out_held before exit tells.tells tells.tells_vault setup (Answered answer named) told ran left one
 
-    is_check : IsCheckOf before exit run
+    is_check : IsCheckOf mode before exit run
     is_check = record {
       readers = ran.task.readers;
-      configured = configured_for before exit tells.tells tells.tells_vault setup (Answered answer named) told ran (commands.Check selection) command;
+      configured = configured_for before exit tells.tells tells.tells_vault setup (Answered answer named) told ran (command_in mode selection) command;
       folders_are = start_folders before exit tells.tells tells.tells_vault setup (Answered answer named) told ran left one;
       ended_is = refl;
       over = record {
@@ -200,25 +202,37 @@ module _ (rows : RowsAreKnown) (genuine_facts : FactsAreGenuine) (before : Entry
         well_as status ends.prints.failed (λ zero. none.0 (sym ends.counted_is ∙ zero), λ nothing. ends.counted_is ∙ none.1 nothing)
         (done_status left.counted status ends.prints.failed (status_is ∙ ap answer_status ends.prints.answer_is))
 
-    parity : is_audit run.plan.scope.mode ≡ false
-    parity = ap is_audit ends.plan_is.scope.mode_is
+    has_checked : HasChecked mode before exit status run
+    has_checked = record {
+      is_check = is_check;
+      unread_levels = unread_levels;
+      output_failed = ends.prints.failed;
+      printed = printed;
+      status_is = status_well;
+      output = output_rose before exit setup (Answered answer named) told ran left one ends.prints.failed ends.prints.answer_is;
+    }
+
+    -- ---- a check
+
+    parity : mode ≡ modes.Check → is_audit run.plan.scope.mode ≡ false
+    parity is = ap is_audit (ends.plan_is.scope.mode_is ∙ is)
 
     no_gift : (facts : StripeFacts) (d : ℕ) (cell : Cell) → IsDamagedCell run.plan run.stripes facts d cell → gift_of facts d ≡ None
     no_gift facts d cell it = All-contains (λ (other : StripeFacts). (k : ℕ) → gift_of other k ≡ None) run.stripes facts ends.no_gifts it.one d
 
-    told_where : (facts : StripeFacts) (d : ℕ) (cell : Cell) (it : IsDamagedCell run.plan run.stripes facts d cell) → is_some facts.row ≡ false → IsToldLost all facts d cell
-    told_where facts d cell it unknown =
-        lost_is_told run.plan run.stripes facts d cell it parity (lost_where run.plan run.stripes facts d cell it (no_gift facts d cell it) unknown)
+    told_where : mode ≡ modes.Check → (facts : StripeFacts) (d : ℕ) (cell : Cell) (it : IsDamagedCell run.plan run.stripes facts d cell) → is_some facts.row ≡ false → IsToldLost all facts d cell
+    told_where is facts d cell it unknown =
+        lost_is_told run.plan run.stripes facts d cell it (parity is) (lost_where run.plan run.stripes facts d cell it (no_gift facts d cell it) unknown)
 
-    pending : NamesPending run.plan run.stripes all
-    pending facts d cell it unsynced =
-        told_where facts d cell it (no_row run.plan facts (All-contains (AreFacts run.plan) run.stripes facts ends.are it.one) unsynced)
+    pending : mode ≡ modes.Check → NamesPending run.plan run.stripes all
+    pending is facts d cell it unsynced =
+        told_where is facts d cell it (no_row run.plan facts (All-contains (AreFacts run.plan) run.stripes facts ends.are it.one) unsynced)
 
     ascending : AreAscending (numbers_of run.stripes)
     ascending = subst AreAscending (sym ends.numbers) (stripes_ascending run.plan)
 
-    names : (snapshot : Snapshot) (is_changed : ℕ → ℕ → Bool) → Sound run.loaded old snapshot is_changed → AreGenuine run.plan snapshot run.stripes → NamesLost run.plan run.stripes snapshot all
-    names snapshot is_changed sound supposed facts d cell is_intact it = (not_told, few_told)
+    names : mode ≡ modes.Check → (snapshot : Snapshot) (is_changed : ℕ → ℕ → Bool) → Sound run.loaded old snapshot is_changed → AreGenuine run.plan snapshot run.stripes → NamesLost run.plan run.stripes snapshot all
+    names is snapshot is_changed sound supposed facts d cell is_intact it = (not_told, few_told)
       where
         table_is : run.loaded ≡ run.plan.table
         table_is = sym ends.plan_is.table_is
@@ -247,47 +261,80 @@ module _ (rows : RowsAreKnown) (genuine_facts : FactsAreGenuine) (before : Entry
             unknown_where run.plan lost.facts d lost.lost (ap (λ (other : StripeFacts). is_some other.row) same ∙ known.1 enough)
 
         few_told : ¬ (IsRestorableStripe run.plan facts is_intact) → IsToldLost all facts d cell
-        few_told few = told_where facts d cell it.is (not_known (is_some facts.row) (λ is. few (known.0 is)))
+        few_told few = told_where is facts d cell it.is (not_known (is_some facts.row) (λ found. few (known.0 found)))
 
-    ended_checked : EndsChecked before exit status
-    ended_checked = record {
+    ended_checked : mode ≡ modes.Check → EndsChecked before exit status
+    ended_checked is = record {
       run = run;
-      is_check = is_check;
-      unread_levels = unread_levels;
-      output_failed = ends.prints.failed;
-      printed = printed;
-      status_is = status_well;
-      output = output_rose before exit setup (Answered answer named) told ran left one ends.prints.failed ends.prints.answer_is;
-      pending = pending;
-      named = names;
+      has = subst (λ (m : Mode). HasChecked m before exit status run) is has_checked;
+      pending = pending is;
+      named = names is;
     }
+
+    -- ---- an audit
+
+    ended_audited : mode ≡ modes.Audit → EndsAudited before exit status
+    ended_audited is =
+        let none = none_left (count_by is_finding all) in
+        let clean : (left.counted ≡ 0) ↔ FindsNothing run.plan run.stripes = ends.audited is in
+        record {
+          run = run;
+          has = subst (λ (m : Mode). HasChecked m before exit status run) is has_checked;
+          clean = (λ nothing. clean.0 (ends.counted_is ∙ none.1 nothing), λ finds. none.0 (sym ends.counted_is ∙ clean.1 finds));
+        }
+
+    pub ended_in : (m : Mode) → mode ≡ m → EndsAsAsked (command_in m selection) before exit status
+    ended_in modes.Check is = ended_checked is
+    ended_in modes.Audit is = ended_audited is
+    ended_in modes.Fix is = tt
 
   -- by the answer
   by_answer : (setup : SetupValue) (answer : Answer) (named : Option TableValue) (told : List Event) (ran : IsRun before exit setup (Answered answer named) told) (left_answer : Answer) (left_named : Option TableValue) (counted : ℕ)
       → (let left : Left = record { answer = left_answer; named = left_named; counted = counted; told = told } in
-      (one : IsAnswered ran.task ran.given (world_of exit.after) left ran.did) (selection : Selection) (command : ran.task.command ≡ commands.Check selection) (status : ℕ) → status ≡ answer_status left_answer → IsDoneAnswer left_answer
-      → ChecksBy left_answer modes.Check selection ran.task one.table one.start (world_of exit.after) left ran.did → EndsChecked before exit status)
-  by_answer setup answer named told ran answers.Clean left_named counted one selection command status is done ends = ended_checked setup answer named told ran _ one selection command status is ends
-  by_answer setup answer named told ran answers.Found left_named counted one selection command status is done ends = ended_checked setup answer named told ran _ one selection command status is ends
-  by_answer setup answer named told ran answers.OutputFailed left_named counted one selection command status is done ends = ended_checked setup answer named told ran _ one selection command status is ends
-  by_answer setup answer named told ran (answers.Zeroed disk rec) left_named counted one selection command status is done ends = absurd done
-  by_answer setup answer named told ran (answers.Emptied disk) left_named counted one selection command status is done ends = absurd done
-  by_answer setup answer named told ran (answers.Full _ _) left_named counted one selection command status is done ends = absurd done
-  by_answer setup answer named told ran (answers.Broken (runs.Folder disk)) left_named counted one selection command status is done ends = absurd done
-  by_answer setup answer named told ran (answers.Broken runs.Vault) left_named counted one selection command status is done ends = absurd done
-  by_answer setup answer named told ran (answers.Broken runs.Memory) left_named counted one selection command status is done ends = absurd done
+      (one : IsAnswered ran.task ran.given (world_of exit.after) left ran.did) (mode : Mode) (selection : Selection) (command : ran.task.command ≡ command_in mode selection) (status : ℕ) → status ≡ answer_status left_answer → IsDoneAnswer left_answer
+      → ChecksBy left_answer mode selection ran.task one.table one.start (world_of exit.after) left ran.did → EndsAsAsked (command_in mode selection) before exit status)
+  by_answer setup answer named told ran answers.Clean left_named counted one mode selection command status is done ends = ended_in setup answer named told ran _ one mode selection command status is ends mode refl
+  by_answer setup answer named told ran answers.Found left_named counted one mode selection command status is done ends = ended_in setup answer named told ran _ one mode selection command status is ends mode refl
+  by_answer setup answer named told ran answers.OutputFailed left_named counted one mode selection command status is done ends = ended_in setup answer named told ran _ one mode selection command status is ends mode refl
+  by_answer setup answer named told ran (answers.Zeroed disk rec) left_named counted one mode selection command status is done ends = absurd done
+  by_answer setup answer named told ran (answers.Emptied disk) left_named counted one mode selection command status is done ends = absurd done
+  by_answer setup answer named told ran (answers.Full _ _) left_named counted one mode selection command status is done ends = absurd done
+  by_answer setup answer named told ran (answers.Broken (runs.Folder disk)) left_named counted one mode selection command status is done ends = absurd done
+  by_answer setup answer named told ran (answers.Broken runs.Vault) left_named counted one mode selection command status is done ends = absurd done
+  by_answer setup answer named told ran (answers.Broken runs.Memory) left_named counted one mode selection command status is done ends = absurd done
+
+  -- by the command
+  module _ (status : ℕ) (to : GoesToItsEnd before exit status) where
+    abbrev left : Left
+    left = record { answer = to.answer; named = to.named; counted = to.ran.goes.0; told = to.told }
+
+    abbrev one : IsAnswered to.ran.task to.ran.given (world_of exit.after) left to.ran.did
+    one = to.ran.goes.1
+
+    in_mode : (mode : Mode) (selection : Selection) → to.ran.task.command ≡ command_in mode selection
+        → ChecksBy to.answer mode selection to.ran.task one.table one.start (world_of exit.after) left to.ran.did → EndsAsAsked (command_in mode selection) before exit status
+    in_mode mode selection command does =
+        let reads = check_did to.answer mode selection to.ran.task one.table one.start (world_of exit.after) left to.ran.did does in
+        let done : IsDoneAnswer to.answer = ⊎_elim (λ done. done) (λ ended. absurd (only_read to.ran.did reads ended)) to.how in
+        by_answer to.setup to.answer to.named to.told to.ran to.answer to.named to.ran.goes.0 one mode selection command status to.status_is done does
+
+    pub by_command : (command : Command) → to.ran.task.command ≡ command → DoesCommand command to.ran.task one.table one.start (world_of exit.after) left to.ran.did → EndsAsAsked command before exit status
+    by_command commands.List command does = tt
+    by_command commands.Status command does = tt
+    by_command (commands.Sync way) command does = tt
+    by_command (commands.Check selection) command does = in_mode modes.Check selection command does
+    by_command (commands.Audit selection) command does = in_mode modes.Audit selection command does
+    by_command (commands.Fix selection) command does = tt
+    by_command (commands.Scrub way) command does = tt
 
 -- of each run
 pub checks_end : RowsAreKnown → FactsAreGenuine → (before : Entry) (exit : Exit) (end : End) (told : List Event) (status : ℕ) → status ≡ status_of end → Ran before exit end told → ChecksEnd before exit status
-checks_end rows genuine_facts before exit end told status is ran tells went asked selection words command =
+checks_end rows genuine_facts before exit end told status is ran tells went asked words =
     let to = goes_to_its_end before exit end told status tells.tells is ran went in
     let configured = to.ran.is_given.configured in
+    let same : configured.asked ≡ asked = same_ok (asked_by before.texts) configured.asked asked configured.read words in
+    let command_is : to.ran.task.command ≡ asked.command = configured.command_is ∙ ap (λ (a : Options). a.command) same in
     let left : Left = record { answer = to.answer; named = to.named; counted = to.ran.goes.0; told = to.told } in
     let one : IsAnswered to.ran.task to.ran.given (world_of exit.after) left to.ran.did = to.ran.goes.1 in
-    let same : configured.asked ≡ asked = same_ok (asked_by before.texts) configured.asked asked configured.read words in
-    let command_is : to.ran.task.command ≡ commands.Check selection = configured.command_is ∙ ap (λ (a : Options). a.command) same ∙ command in
-    let does : DoesCommand (commands.Check selection) to.ran.task one.table one.start (world_of exit.after) left to.ran.did
-    = subst (λ (c : Command). DoesCommand c to.ran.task one.table one.start (world_of exit.after) left to.ran.did) command_is one.does in
-    let reads = check_did to.answer modes.Check selection to.ran.task one.table one.start (world_of exit.after) left to.ran.did does in
-    let done : IsDoneAnswer to.answer = ⊎_elim (λ done. done) (λ ended. absurd (only_read to.ran.did reads ended)) to.how in
-    by_answer rows genuine_facts before exit tells to.setup to.answer to.named to.told to.ran to.answer to.named to.ran.goes.0 one selection command_is status to.status_is done does
+    by_command rows genuine_facts before exit tells status to asked.command command_is
+    (subst (λ (c : Command). DoesCommand c to.ran.task one.table one.start (world_of exit.after) left to.ran.did) command_is one.does)

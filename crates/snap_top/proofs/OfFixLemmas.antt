@@ -39,7 +39,6 @@ use Rattle.snap_top.specs.Task.{Task, Did, fixes, folders_after, reads_only, scr
 use Rattle.snap_top.specs.Views.{World, view_of, world_of}
 use Rattle.snap_top.specs.declared.end.Ending.{Ending}
 use Rattle.snap_top.specs.declared.end.Ending.TheVariants.{NotLoaded, NoTable, OtherArray, Answered}
-use Rattle.snap_top.proofs.BytesLemmas.{AreFormed}
 use Rattle.snap_top.proofs.OfScrubLemmas.{HasScrubCourse, reading_held, scrub_did, scrub_is}
 use Rattle.snap_top.proofs.OfSyncLemmas.{KeepsItsStripes, HasCourse, configured_for, given_files, given_folders, given_is, start_folders, sync_did, sync_of, table_among, table_begins, table_loaded}
 
@@ -111,7 +110,7 @@ abbrev WentOn : Command → Task → TableValue → World → World → Left →
 WentOn command task table before after left did =
     HasCourse command task table before after left did ⊎ (HasFixCourse command task table before after did ⊎ HasScrubCourse command task table before after left did)
 
-command_did : (command : Command) (task : Task) (table : TableValue) (before after : World) (left : Left) (did : Did) → DoesCommand command task table before after left did
+pub command_did : (command : Command) (task : Task) (table : TableValue) (before after : World) (left : Left) (did : Did) → DoesCommand command task table before after left did
     → (did ≡ reads_only) ⊎ WentOn command task table before after left did
 command_did commands.List task table before after left did does = inl does.did_is
 command_did commands.Status task table before after left did does = inl does.did_is
@@ -204,11 +203,11 @@ module _ (before : Entry) (exit : Exit) (tells : IsTrue before.opener.tells) (te
           from = table_begins before exit tells tells_vault setup ending told ran left one course_of.calls;
         }
 
-  pub run_did : KeepsItsStripes → before.moment < 2 ^ 64 → AreFormed exit → (setup : SetupValue) (ending : Ending) (told : List Event) (ran : IsRun before exit setup ending told) → (ran.did ≡ reads_only) ⊎ (HasSync before exit ran.did ⊎ (HasFix before exit ran.did ⊎ HasScrub before exit ran.did))
-  run_did keeps in_time formed setup (NotLoaded fault) told ran = inl ran.goes.0.1
-  run_did keeps in_time formed setup NoTable told ran = inl ran.goes.0.1
-  run_did keeps in_time formed setup (OtherArray difference content) told ran = inl ran.goes.0.1
-  run_did keeps in_time formed setup (Answered answer named) told ran =
+  pub run_did : KeepsItsStripes → before.moment < 2 ^ 64 → (setup : SetupValue) (ending : Ending) (told : List Event) (ran : IsRun before exit setup ending told) → (ran.did ≡ reads_only) ⊎ (HasSync before exit ran.did ⊎ (HasFix before exit ran.did ⊎ HasScrub before exit ran.did))
+  run_did keeps in_time setup (NotLoaded fault) told ran = inl ran.goes.0.1
+  run_did keeps in_time setup NoTable told ran = inl ran.goes.0.1
+  run_did keeps in_time setup (OtherArray difference content) told ran = inl ran.goes.0.1
+  run_did keeps in_time setup (Answered answer named) told ran =
       let left : Left = record { answer = answer; named = named; counted = ran.goes.0; told = told } in
       let one : IsAnswered ran.task ran.given (world_of exit.after) left ran.did = ran.goes.1 in
       ⊎_elim (λ read. inl read) (λ went. inr (⊎_elim
@@ -216,7 +215,7 @@ module _ (before : Entry) (exit : Exit) (tells : IsTrue before.opener.tells) (te
         failed = course_of.failed;
         run = _;
         did_is = course_of.course.did_is;
-        is_sync = sync_of before exit tells tells_vault setup (Answered answer named) told ran left one keeps in_time formed course_of;
+        is_sync = sync_of before exit tells tells_vault setup (Answered answer named) told ran left one keeps in_time course_of;
       }))
       (λ went. inr (⊎_elim
       (λ course_of. inl (record {

@@ -33,7 +33,7 @@ use Rattle.snap_top.specs.Syncing.{SyncCourse, SyncsBy, run_of}
 use Rattle.snap_top.specs.Task.{Task, Did, reads_only, Left}
 use Rattle.snap_top.specs.Views.{World, world_of, view_of}
 use Rattle.snap_top.specs.declared.end.Ending.{Ending}
-use Rattle.snap_top.proofs.BytesLemmas.{AreFormed, sync_bytes}
+use Rattle.snap_top.proofs.BytesLemmas.{sync_bytes}
 use Rattle.snap_top.proofs.CompleteLemmas.{are_held}
 
 -- what array_scan says of the stripes of a layout
@@ -179,7 +179,7 @@ module _ (before : Entry) (exit : Exit) (tells : IsTrue before.opener.tells) (te
 
     -- ---- the sync of a run: it is that which its command ran from the table that was loaded
 
-    module _ (keeps : KeepsItsStripes) (in_time : before.moment < 2 ^ 64) (formed : AreFormed exit) where
+    module _ (keeps : KeepsItsStripes) (in_time : before.moment < 2 ^ 64) where
       pub sync_of : (course_of : HasCourse ran.task.command ran.task one.table one.start (world_of exit.after) left ran.did)
           → (let course = course_of.course in
           IsSyncOf before exit (run_of ran.task course_of.way one.table one.start (world_of exit.after) course.start course.listed course.readings course.ahead))
@@ -216,6 +216,6 @@ module _ (before : Entry) (exit : Exit) (tells : IsTrue before.opener.tells) (te
             copies_are = sym given_copies ∙ ap length ran.is_given.state.drafts ∙ length-replicate (length setup.contents) Absent ∙ ap (λ (s : SetupValue). length s.contents) (sym ran.setup_is);
             over = over;
             begins = table_among;
-            bytes = sync_bytes run over.listed over.stands.keeps.columns formed;
+            bytes = sync_bytes run over.listed over.stands.keeps.columns;
             from = λ none. record { over = over; begins = table_begins course.vault.calls none };
           }

@@ -24,7 +24,6 @@ use Rattle.snap_top.specs.Run.{Entry, Exit, Ran}
 use Rattle.snap_top.specs.Task.{LeavesSynced, end_table}
 use Rattle.snap_top.specs.declared.end.End.{End}
 use Rattle.snap_top.specs.declared.end.Ending.TheVariants.{Answered}
-use Rattle.snap_top.proofs.BytesLemmas.{AreFormed}
 use Rattle.snap_top.proofs.EndedLemmas.{output_rose}
 use Rattle.snap_top.proofs.MomentLemmas.{LayoutIsOfTrees}
 use Rattle.snap_top.proofs.OfSyncLemmas.{KeepsItsStripes, start_out}
@@ -55,15 +54,15 @@ holds_on P Q v on has = record { reads = λ told. on v.files (has.reads told); l
 -- ---- a sync that went to its end
 
 module _ (laid : LayoutIsOfTrees) (part : ReadIsPartSync) (full : VerifiedIsFullSync) (given : ReadIsGiven) (finds : FindsWhatIsPending) (found : PendingIsFound) (keeps : KeepsItsStripes) (before : Entry) (exit : Exit) (tells : TellsAll before)
-    (in_time : before.moment < 2 ^ 64) (formed : AreFormed exit) (status : ℕ) (sync : HasEndedSync before exit status) where
+    (in_time : before.moment < 2 ^ 64) (status : ℕ) (sync : HasEndedSync before exit status) where
   abbrev run : SyncRun
-  run = run_ended keeps before exit tells.tells tells.tells_vault in_time formed status sync
+  run = run_ended keeps before exit tells.tells tells.tells_vault in_time status sync
 
   abbrev old : Files
   old = before.opener.vault.files
 
   is_sync : IsSyncOf before exit run
-  is_sync = sync_is keeps before exit tells.tells tells.tells_vault in_time formed status sync
+  is_sync = sync_is keeps before exit tells.tells tells.tells_vault in_time status sync
 
   told_run : IsToldRun run
   told_run = record {
@@ -72,10 +71,10 @@ module _ (laid : LayoutIsOfTrees) (part : ReadIsPartSync) (full : VerifiedIsFull
   }
 
   all : stripes_of run.readings ≡ pending_stripes run.plan.start.infos
-  all = all_of keeps before exit tells.tells tells.tells_vault in_time formed status sync
+  all = all_of keeps before exit tells.tells tells.tells_vault in_time status sync
 
   leaves : Holds (LeavesSynced run old) exit.after.vault
-  leaves = stands keeps before exit tells.tells tells.tells_vault in_time formed status sync
+  leaves = stands keeps before exit tells.tells tells.tells_vault in_time status sync
 
   abbrev whole : take (length run.readings) run.readings ≡ run.readings
   whole = take_all (length run.readings) run.readings (omega arith)
@@ -99,7 +98,7 @@ module _ (laid : LayoutIsOfTrees) (part : ReadIsPartSync) (full : VerifiedIsFull
   ended_in_part = record {
     run = run;
     is_sync = is_sync;
-    tells = still_tells keeps before exit tells.tells tells.tells_vault in_time formed status sync;
+    tells = still_tells keeps before exit tells.tells tells.tells_vault in_time status sync;
     all = all;
     laid = laid run told_run;
     given = λ none. given run told_run none ∙ ap (readings_by run.plan.start (run_trees run)) all;
@@ -112,7 +111,7 @@ module _ (laid : LayoutIsOfTrees) (part : ReadIsPartSync) (full : VerifiedIsFull
     full = λ all_verified. holds_on (LeavesSynced run old) _ exit.after.vault (λ new synced. full run old new told_run sync.ends.all all_verified synced.parity) leaves;
     output_failed = sync.ends.prints.failed;
     printed = printed;
-    status_is = status_well keeps before exit tells.tells tells.tells_vault in_time formed status sync finds;
+    status_is = status_well keeps before exit tells.tells tells.tells_vault in_time status sync finds;
     output = output_rose before exit sync.setup (Answered sync.answer sync.named) sync.told sync.ran sync.left sync.one sync.ends.prints.failed sync.ends.prints.answer_is;
   }
 
@@ -122,7 +121,7 @@ module _ (laid : LayoutIsOfTrees) (part : ReadIsPartSync) (full : VerifiedIsFull
 
 -- of each run
 pub syncs_end_in_part : LayoutIsOfTrees → ReadIsPartSync → VerifiedIsFullSync → ReadIsGiven → FindsWhatIsPending → PendingIsFound → KeepsItsStripes → (before : Entry) (exit : Exit) (end : End) (told : List Event) (status : ℕ)
-    → before.moment < 2 ^ 64 → AreFormed exit → status ≡ status_of end → Ran before exit end told → SyncsEndInPart before exit status
-syncs_end_in_part laid part full given finds found keeps before exit end told status in_time formed is ran tells went asked way words command =
-    ended_in_part laid part full given finds found keeps before exit tells in_time formed status
+    → before.moment < 2 ^ 64 → status ≡ status_of end → Ran before exit end told → SyncsEndInPart before exit status
+syncs_end_in_part laid part full given finds found keeps before exit end told status in_time is ran tells went asked way words command =
+    ended_in_part laid part full given finds found keeps before exit tells in_time status
     (sync_ended before exit end told status tells.tells is ran (record { asked = asked; way = way; words = words; command_is = command; went = went }))

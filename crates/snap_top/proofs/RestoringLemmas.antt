@@ -9,7 +9,7 @@ use Rattle.cauchy.specs.Recovery.{AreBytes}
 use Rattle.disk_model.specs.Cause.{RoseBy}
 use Rattle.disk_model.specs.Files.{Files}
 use Rattle.disk_model.specs.Folder.{FolderView}
-use Rattle.disk_model.specs.Vault.{Holds, copies_of}
+use Rattle.disk_model.specs.Vault.{Holds, copies_of, VaultState}
 use Rattle.file_table.specs.Table.{TableValue}
 use Rattle.file_table.specs.Valid.{IsValid}
 use Rattle.file_table.specs.declared.block.Cell.{Cell}
@@ -65,7 +65,7 @@ use Rattle.snap_top.proofs.CompleteLemmas.{same_ok}
 use Rattle.snap_top.proofs.EndedLemmas.{IsDoneAnswer, done_status, goes_to_its_end, only_read, output_rose, well_as}
 use Rattle.snap_top.proofs.LostLemmas.{AreAscending, FactsAreGenuine, same_facts, stripes_ascending}
 use Rattle.snap_top.proofs.OfFixLemmas.{HasFixCourse, all_looked_at, fix_of, genuine_by}
-use Rattle.snap_top.proofs.OfSyncLemmas.{start_files as files_held, start_out as out_held, start_tells as tells_held}
+use Rattle.snap_top.proofs.OfSyncLemmas.{given_is, start_files as files_held, start_out as out_held, start_tells as tells_held}
 
 -- ---- what snap_fix says of a fix that ended
 
@@ -283,6 +283,7 @@ module _ (restored : CellsAreRestored) (lost : CellsAreLost) (unknown_lost : Unk
     ended_fixed = record {
       run = run;
       is_fix = is_fix;
+      tells = ran.keeps.vault.goes_on.tells ∙ ap (λ (s : VaultState). s.tells) (given_is before exit tells.tells tells.tells_vault setup (Answered answer named) told ran) ∙ tells.tells_vault;
       finishes = ends.finishes;
       fixed = fixed;
       unread = ends.course.unread;

@@ -1,5 +1,5 @@
 -- What a scrub leaves, as a command that was carried out.
-use Rattle.std.proofs.Common.{◌≡◌, ◌≢◌, ℕ, ◌+◌, ◌==◌, List, [], ◌∷◌, ◌++◌, All, sum_by, count_by, Bool, true, false, if◌then◌else◌, None, refl, sym, ap, ◌∙◌, subst, arith, append_assoc}
+use Rattle.std.proofs.Common.{◌≡◌, ◌≢◌, ℕ, ◌+◌, ◌==◌, List, [], ◌∷◌, ◌++◌, All, sum_by, count_by, Bool, true, false, if◌then◌else◌, None, refl, sym, ap, ◌∙◌, subst, arith, append_assoc, length}
 use Rattle.std.specs.List.{flat_map}
 use Rattle.std.proofs.lemmas.List.{append-nil}
 use Rattle.std.proofs.lemmas.List.Elements.{All-nil}
@@ -142,7 +142,9 @@ module _ {W R : Type 0} (unread_are_told : UnreadAreTold) (standing : R → Repo
       let events = events_of table readings in
       let run : ScrubRun = scrub_of way task table before after readings in
       let did : Did = scrubs false run in
-      let told = printed_lines view (lines_of table.columns events ++ scrub_text end.checked end.findings) out out_new lines lines_new start_is last_is course.puts (λ settled. is.settled) in
+      let told : Tells (lines_of table.columns events ++ scrub_text (length readings) end.findings) (between false out) (between lines_new.failed out_new)
+      = subst (λ (n : ℕ). Tells (lines_of table.columns events ++ scrub_text n end.findings) (between false out) (between lines_new.failed out_new)) is.checked
+      (printed_lines view (lines_of table.columns events ++ scrub_text end.checked end.findings) out out_new lines lines_new start_is last_is course.puts (λ settled. is.settled)) in
       let left : Left = record { answer = done_answer end.findings lines_new.failed; named = None; counted = end.findings; told = events } in
       let saved : readings ≢ [] → Holds (HasSaved (copies_of vault) (spelling marked)) vault_new
       = λ some. subst (λ (t : TableValue). Holds (HasSaved (copies_of vault) (spelling t)) vault_new) is.table_is (is.saved some) in
@@ -165,8 +167,6 @@ module _ {W R : Type 0} (unread_are_told : UnreadAreTold) (standing : R → Repo
           no_draft = is.no_draft;
           named_is = refl;
           counted_is = is.findings;
-          checked = end.checked;
-          checked_is = is.checked;
           prints = record { failed = lines_new.failed; told = told; answer_is = refl };
         }));
         changes = course.vault.changes;

@@ -42,6 +42,7 @@ use Rattle.snap_top.proofs.OfScrubLemmas.{HasScrubCourse, scrub_is}
 use Rattle.snap_top.proofs.OfSyncLemmas.{start_out as out_held}
 use Rattle.snap_top.proofs.PartLemmas.{holds_on}
 use Rattle.snap_top.proofs.RestoringLemmas.{none_left, rose_from}
+use Rattle.snap_top.proofs.ScrubUnread.{unread_counted}
 use Rattle.snap_top.proofs.ScrubGiven.{stripes_given}
 
 -- a scrub that did not break off has an answer of an engine that is done
@@ -112,8 +113,8 @@ module _ (before : Entry) (exit : Exit) (tells : TellsAll before) (in_time : bef
     printed : Tells (lines_of run.loaded.columns all ++ scrub_text (length run.readings) (at_most (length all))) (between false before.out) (between ends.prints.failed exit.after.out)
     printed =
         subst (λ (text : List ℕ). Tells (lines_of run.loaded.columns all ++ text) (between false before.out) (between ends.prints.failed exit.after.out))
-        (ap (λ (n : ℕ). scrub_text n left.counted) ends.checked_is ∙ ap (scrub_text (length run.readings)) ends.counted_is)
-        (subst (λ out. Tells (lines_of run.loaded.columns all ++ scrub_text ends.checked left.counted) (between false out) (between ends.prints.failed exit.after.out)) start_out ends.prints.told)
+        (ap (scrub_text (length run.readings)) ends.counted_is)
+        (subst (λ out. Tells (lines_of run.loaded.columns all ++ scrub_text (length run.readings) left.counted) (between false out) (between ends.prints.failed exit.after.out)) start_out ends.prints.told)
 
     status_well : IsEndStatus status ends.prints.failed (all ≡ [])
     status_well =
@@ -126,6 +127,7 @@ module _ (before : Entry) (exit : Exit) (tells : TellsAll before) (in_time : bef
       run = run;
       is_scrub = is_scrub;
       given = given;
+      unread_cells_of = λ d below. unread_counted run.loaded (cells_of run.readings) run.folders run.ended ends.course.cells d (omega (arith, below, one.columns));
       unread_levels_of = unread;
       moment = moment;
       saved = saved;

@@ -91,7 +91,7 @@ module _ (by_rows : MomentsAreSoundByRows) (one_table : OneTable) (saves_valid :
         goes.genuine goes.count closed one are in
         record {
           sound = subst (λ (k : ℕ). AreSoundBy k next.files next.last) copies_are (subst (λ (l : LastSynced). AreSoundBy n next.files l) (sym goes.last) after);
-          bytes = λ stripe. subst (λ (l : LastSynced). IsOfBytes l.snapshot) (sym goes.last) (stays_of_bytes before exit always.did goes.count standing.last always.is_did over.tells.tells_folders sound.bytes) stripe;
+          bytes = λ stripe. subst (λ (l : LastSynced). IsOfBytes l.snapshot) (sym goes.last) (stays_of_bytes before exit always.did goes.count standing.last always.is_did sound.bytes) stripe;
           one_size = subst (λ (k : ℕ). HaveOneSize k next.files) copies_are
               (size_by before exit next.files standing.last always.did always.is_did (always.moments next.files goes.files) goes.count closed one);
         }

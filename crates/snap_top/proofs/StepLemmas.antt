@@ -23,7 +23,7 @@ use Rattle.snap_top.specs.End.{ending_status, status_of}
 use Rattle.snap_top.specs.Ended.{has_ended}
 use Rattle.snap_top.specs.Fix.{FixRun}
 use Rattle.snap_top.specs.Fixing.{FixEnds, FixesBy}
-use Rattle.snap_top.specs.Moment.{EndsInPart, HoldsFresh, IsSoundAlways, IsSoundAtEnd, StandsIn, SyncsToItsEnd, TellsAll}
+use Rattle.snap_top.specs.Moment.{EndsInPart, EndsSound, HoldsFresh, IsSoundAlways, IsSoundAtEnd, StandsIn, SyncsToItsEnd, TellsAll}
 use Rattle.snap_top.specs.Naming.{ChecksEnd}
 use Rattle.snap_top.specs.Opening.{asked_by}
 use Rattle.snap_top.specs.Restoring.{EndsFixed}
@@ -39,8 +39,8 @@ use Rattle.snap_top.specs.declared.end.End.{End}
 use Rattle.snap_top.specs.declared.end.End.TheVariants.{Refused, Worked}
 use Rattle.snap_top.specs.declared.end.Ending.{Ending}
 use Rattle.snap_top.specs.declared.end.Ending.TheVariants.{NotLoaded, NoTable, OtherArray, Answered}
-use Rattle.snap_top.proofs.BytesLemmas.{AreFormed}
 use Rattle.snap_top.proofs.CompleteLemmas.{same_ok}
+use Rattle.snap_top.proofs.EndsSoundLemmas.{ends_sound}
 use Rattle.snap_top.proofs.EndedLemmas.{IsDoneAnswer, IsDoneEnd, done_end, only_read}
 use Rattle.snap_top.proofs.LostLemmas.{FactsAreGenuine}
 use Rattle.snap_top.proofs.MomentLemmas.{CopiesAreOfPartSyncs, FixKeepsSound, LayoutIsOfTrees, reading_did, run_did_is, sound_reading, sound_run, stands_same}
@@ -104,7 +104,7 @@ scrub_ends_by (answers.Broken (runs.Folder disk)) way task table before after le
 scrub_ends_by (answers.Broken runs.Vault) way task table before after left did done does = absurd done
 scrub_ends_by (answers.Broken runs.Memory) way task table before after left did done does = absurd done
 
-module _ (says : BelowSays) (before : Entry) (exit : Exit) (tells : TellsAll before) (settled : IsSettled before.opener.vault) (in_time : before.moment < 2 ^ 64) (formed : AreFormed exit) (status : ℕ) where
+module _ (says : BelowSays) (before : Entry) (exit : Exit) (tells : TellsAll before) (settled : IsSettled before.opener.vault) (in_time : before.moment < 2 ^ 64) (status : ℕ) where
   -- ---- a command that was carried out
 
   module _ (setup : SetupValue) (answer : Answer) (named : Option TableValue) (told : List Event) (ran : IsRun before exit setup (Answered answer named) told) (is : status ≡ answer_status answer) where
@@ -133,9 +133,9 @@ module _ (says : BelowSays) (before : Entry) (exit : Exit) (tells : TellsAll bef
           status_is = is;
           ends = ends_by_answer answer ran.task way one.table one.start (world_of exit.after) left ran.did done does;
         } in (
-          ended_in_part says.laid says.part says.full says.given says.finds says.found says.keeps before exit tells in_time formed status sync,
+          ended_in_part says.laid says.part says.full says.given says.finds says.found says.keeps before exit tells in_time status sync,
           sync.ends.course.did_is ∙ ap (λ (run : SyncRun). syncs false run)
-              (sym (ended_run says.laid says.part says.full says.given says.finds says.found says.keeps before exit tells in_time formed status sync)),
+              (sym (ended_run says.laid says.part says.full says.given says.finds says.found says.keeps before exit tells in_time status sync)),
         )
 
     fixed_of : (selection : Selection) → ran.task.command ≡ commands.Fix selection → IsDoneAnswer answer → (ends : EndsFixed before exit status) × (ran.did ≡ fixes false ends.run)
@@ -221,11 +221,13 @@ module _ (says : BelowSays) (before : Entry) (exit : Exit) (tells : TellsAll bef
       }
   step_by (Worked setup ending) told is ran synced checked =
       let how : (ran.did ≡ reads_only) ⊎ (HasSync before exit ran.did ⊎ (HasFix before exit ran.did ⊎ HasScrub before exit ran.did))
-      = run_did before exit tells.tells tells.tells_vault says.keeps in_time formed (setup_value setup) ending told ran in
+      = run_did before exit tells.tells tells.tells_vault says.keeps in_time (setup_value setup) ending told ran in
+      let ends : EndsSound ran.did before exit status
+      = ends_sound says.keeps says.one_table says.moments says.finds before exit tells.tells tells.tells_vault in_time status (setup_value setup) ending told ran is in
       let always : IsSoundAlways before exit status
-      = sound_run before exit status fresh synced says.laid says.of_parts says.moments says.keeps_sound says.one_table says.marks_valid says.marks_sound ran.did (ran.changes tells.tells) how in
+      = sound_run before exit status fresh synced says.laid says.of_parts says.moments says.keeps_sound says.one_table says.marks_valid says.marks_sound ran.did ends (ran.changes tells.tells) how in
       let same : always.did ≡ ran.did
-      = run_did_is before exit status fresh synced says.laid says.of_parts says.moments says.keeps_sound says.one_table says.marks_valid says.marks_sound ran.did (ran.changes tells.tells) how in
+      = run_did_is before exit status fresh synced says.laid says.of_parts says.moments says.keeps_sound says.one_table says.marks_valid says.marks_sound ran.did ends (ran.changes tells.tells) how in
       record {
         always = always;
         folders = λ has. subst (λ (did : Did). folders_after did before.opener.folders exit.after.folders) (sym same)
@@ -244,8 +246,8 @@ module _ (says : BelowSays) (before : Entry) (exit : Exit) (tells : TellsAll bef
       done_ending (Answered answer named) done = done
 
 -- of each run
-pub every_run_steps : BelowSays → (before : Entry) (exit : Exit) (end : End) (told : List Event) (status : ℕ) → before.moment < 2 ^ 64 → AreFormed exit → status ≡ status_of end → Ran before exit end told → EveryRunSteps before exit status
-every_run_steps says before exit end told status in_time formed is ran tells settled =
-    step_by says before exit tells settled in_time formed status end told is ran
-    (λ asked. sound_at_end says.keeps before exit tells.tells tells.tells_vault in_time formed status (sync_ended before exit end told status tells.tells is ran asked) says.one_table says.moments says.finds)
+pub every_run_steps : BelowSays → (before : Entry) (exit : Exit) (end : End) (told : List Event) (status : ℕ) → before.moment < 2 ^ 64 → status ≡ status_of end → Ran before exit end told → EveryRunSteps before exit status
+every_run_steps says before exit end told status in_time is ran tells settled =
+    step_by says before exit tells settled in_time status end told is ran
+    (λ asked. sound_at_end says.keeps before exit tells.tells tells.tells_vault in_time status (sync_ended before exit end told status tells.tells is ran asked) says.one_table says.moments says.finds)
     (checks_end says.restorable says.genuine before exit end told status is ran)

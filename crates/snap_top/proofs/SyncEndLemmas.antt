@@ -36,7 +36,6 @@ use Rattle.snap_top.specs.Task.{Task, Did, LeavesSynced, Left, end_table, stands
 use Rattle.snap_top.specs.Views.{World, world_of}
 use Rattle.snap_top.specs.declared.end.End.{End}
 use Rattle.snap_top.specs.declared.end.Ending.TheVariants.{Answered}
-use Rattle.snap_top.proofs.BytesLemmas.{AreFormed}
 use Rattle.snap_top.proofs.CompleteLemmas.{same_ok}
 use Rattle.snap_top.proofs.EndedLemmas.{IsDoneAnswer, done_status, goes_to_its_end, only_read, well_as}
 use Rattle.snap_top.proofs.OfSyncLemmas.{KeepsItsStripes, HasCourse, given_is, sync_of}
@@ -130,7 +129,7 @@ sync_ended before exit end told status tells is ran sync =
 
 -- ---- its sync, and what it left
 
-module _ (keeps : KeepsItsStripes) (before : Entry) (exit : Exit) (tells : IsTrue before.opener.tells) (tells_vault : IsTrue before.opener.vault.tells) (in_time : before.moment < 2 ^ 64) (formed : AreFormed exit)
+module _ (keeps : KeepsItsStripes) (before : Entry) (exit : Exit) (tells : IsTrue before.opener.tells) (tells_vault : IsTrue before.opener.vault.tells) (in_time : before.moment < 2 ^ 64)
     (status : ℕ) (sync : HasEndedSync before exit status) where
   abbrev pub run : SyncRun
   run = run_of sync.ran.task sync.way sync.one.table sync.one.start (world_of exit.after) sync.ends.course.start sync.ends.course.listed sync.ends.course.readings sync.ends.course.ahead
@@ -142,7 +141,7 @@ module _ (keeps : KeepsItsStripes) (before : Entry) (exit : Exit) (tells : IsTru
   course_of = record { way = sync.way; command_is = sync.command; failed = false; course = sync.ends.course }
 
   pub is_sync : IsSyncOf before exit run
-  is_sync = sync_of before exit tells tells_vault sync.setup (Answered sync.answer sync.named) sync.told sync.ran sync.left sync.one keeps in_time formed course_of
+  is_sync = sync_of before exit tells tells_vault sync.setup (Answered sync.answer sync.named) sync.told sync.ran sync.left sync.one keeps in_time course_of
 
   pub all_of : stripes_of run.readings ≡ pending_stripes run.plan.start.infos
   all_of = all_read run.readings run.ahead (pending_stripes run.plan.start.infos) sync.ends.course.reads.stripes sync.ends.all
@@ -183,3 +182,7 @@ module _ (keeps : KeepsItsStripes) (before : Entry) (exit : Exit) (tells : IsTru
         (all_count one_table moments run (copies_of before.opener.vault) old files is_sync.over all_of (left_synced files stand) snapshot is_changed
         (subst (λ (n : ℕ). AreSound n old snapshot is_changed) (sym is_sync.over.copies_are) are));
   }
+
+  pub sound_run_is : (one_table : OneTable) (moments : MomentsAreSound) (finds : FindsWhatIsPending) → (sound_at_end one_table moments finds).run ≡ run
+  unfolding sound_at_end
+  sound_run_is one_table moments finds = refl

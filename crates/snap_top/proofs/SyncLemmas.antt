@@ -323,6 +323,7 @@ module _ {R : Type 0} (standing : R → ReportView) (stands : R → List Event �
               vault = touches_of plan true breaks.readings vault vault_new course.vault;
               told_is = refl;
             };
+            few = breaks.few;
             answer_is = refl;
             named_is = refl;
             counted_is = refl;

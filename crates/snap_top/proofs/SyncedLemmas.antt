@@ -45,11 +45,11 @@ OneTable = (a b : TableValue) → IsValid a → IsValid b → spelling a ≡ spe
 
 -- ---- the rows of readings of distinct stripes
 
-abbrev AreApart : ℕ → List StripeReading → Type 0
+abbrev pub AreApart : ℕ → List StripeReading → Type 0
 AreApart stripe readings = All (λ (reading : StripeReading). reading.stripe ≢ stripe) readings
 
 -- a stripe is that of one of the readings, or of none
-one_or_none : (readings : List StripeReading) (stripe : ℕ) → ((i : ℕ) × (i < length readings) × ((get_or readings i no_reading).stripe ≡ stripe)) ⊎ AreApart stripe readings
+pub one_or_none : (readings : List StripeReading) (stripe : ℕ) → ((i : ℕ) × (i < length readings) × ((get_or readings i no_reading).stripe ≡ stripe)) ⊎ AreApart stripe readings
 one_or_none [] stripe = inr (λ k d within. absurd (omega (arith, within)))
 one_or_none (reading ∷ readings) stripe = elim (cases_eq reading.stripe stripe) [
   | inl same ↦ inl (0, omega arith, same)
@@ -64,15 +64,15 @@ one_or_none (reading ∷ readings) stripe = elim (cases_eq reading.stripe stripe
     apart_more reading readings stripe other none (suc k) d within = none k d (omega (arith, within))
 
 module _ (start : TableValue) where
-  abbrev step : StripeReading → Rows → Rows
+  abbrev pub step : StripeReading → Rows → Rows
   step reading rows = if is_verified start reading then with_row reading.stripe (row_of reading) rows else rows
 
-  rows_append : (xs ys : List StripeReading) (rows : Rows) → rows_with start (xs ++ ys) rows ≡ rows_with start ys (rows_with start xs rows)
+  pub rows_append : (xs ys : List StripeReading) (rows : Rows) → rows_with start (xs ++ ys) rows ≡ rows_with start ys (rows_with start xs rows)
   rows_append [] ys rows = refl
   rows_append (x ∷ xs) ys rows = rows_append xs ys (step x rows)
 
   -- a stripe that was not read has the row that it had
-  row_apart : (readings : List StripeReading) (rows : Rows) (stripe : ℕ) → AreApart stripe readings → rows_with start readings rows stripe ≡ rows stripe
+  pub row_apart : (readings : List StripeReading) (rows : Rows) (stripe : ℕ) → AreApart stripe readings → rows_with start readings rows stripe ≡ rows stripe
   row_apart [] rows stripe apart = refl
   row_apart (x ∷ xs) rows stripe apart = row_apart xs (step x rows) stripe (λ k d within. apart (suc k) d (omega (arith, within))) ∙ by (is_verified start x)
     where
@@ -116,13 +116,13 @@ not_synced : (mark : Mark) → is_pending mark ≡ true → mark ≡ Synced → 
 not_synced mark is same = absurd (let clash : false ≡ true = ap is_pending (sym same) ∙ is in cc)
 
 module _ (start : TableValue) (readings : List StripeReading) (all : stripes_of readings ≡ pending_stripes start.infos) where
-  stripe_is : (i : ℕ) (d : StripeReading) → i < length readings → (get_or readings i d).stripe ≡ get_or (pending_stripes start.infos) i 0
+  pub stripe_is : (i : ℕ) (d : StripeReading) → i < length readings → (get_or readings i d).stripe ≡ get_or (pending_stripes start.infos) i 0
   stripe_is i d within = sym (get_or-map (λ (r : StripeReading). r.stripe) readings i d 0 within) ∙ ap (λ (ns : List ℕ). get_or ns i 0) all
 
-  many : length (pending_stripes start.infos) ≡ length readings
+  pub many : length (pending_stripes start.infos) ≡ length readings
   many = ap length (sym all) ∙ length-map readings (λ (r : StripeReading). r.stripe)
 
-  distinct : AllPairs (λ (a b : StripeReading). a.stripe ≢ b.stripe) readings
+  pub distinct : AllPairs (λ (a b : StripeReading). a.stripe ≢ b.stripe) readings
   distinct i j d less below same =
       AllPairs-filter (λ (a b : ℕ). a ≢ b) (λ (stripe : ℕ). is_pending (info_at start.infos stripe).mark) (range_with_len 0 (length start.infos)) (range_distinct (length start.infos)) i j 0 less (omega (arith, below, many))
       (sym (stripe_is i d (omega (arith, less, below))) ∙ same ∙ stripe_is j d below)
@@ -140,7 +140,7 @@ module _ (start : TableValue) (readings : List StripeReading) (all : stripes_of 
 rows_apart : (a b n : ℕ) → a < b → a * n + n ≤ b * n
 rows_apart a b n less = row_fits a n b n less (omega arith)
 
-outside : (n a b i : ℕ) → a ≢ b → b * n ≤ i → i < b * n + n → IsOutside n a i
+pub outside : (n a b i : ℕ) → a ≢ b → b * n ≤ i → i < b * n + n → IsOutside n a i
 outside n a b i other behind before = elim (cases_lt a b) [
   | inl less ↦ let fits : a * n + n ≤ b * n = rows_apart a b n less in inr (omega (arith, fits, behind))
   | inr more ↦ let less : b < a = omega (arith, other, more) in let fits : b * n + n ≤ a * n = rows_apart b a n less in inl (omega (arith, fits, before))

@@ -14,7 +14,7 @@ use Rattle.stripe_examiner.specs.Facts.{StripeFacts, gift_of}
 use Rattle.stripe_examiner.specs.Known.{AreFacts}
 use Rattle.stripe_examiner.specs.Looking.{AreAllLevelsOf, AreRead, numbers_of}
 use Rattle.stripe_examiner.specs.Plan.{FixPlan, names_of, starts_of, stripes_of}
-use Rattle.stripe_examiner.specs.declared.scope.Mode.TheVariants as modes
+use Rattle.stripe_examiner.specs.declared.scope.Mode.{Mode}
 use Rattle.snap_sync.specs.Soundness.{IsLoadedFrom}
 
 -- What it was asked for, and by which configuration; the table that it began with; what the folders listed, and the
@@ -35,13 +35,13 @@ pub record CheckRun : Type 0 where
 -- It was from a table that was loaded of so many copies of the vault's files; the folders were listed; all stripes that
 -- have something selected were looked at; and what is known of them is what was read of the folders and of the vault.
 -- No block came from elsewhere.
-pub record ChecksOver (copies : ℕ) (vault : VaultView) (run : CheckRun) : Type 0 where
+pub record ChecksOver (mode : Mode) (copies : ℕ) (vault : VaultView) (run : CheckRun) : Type 0 where
   pub valid : IsValid run.loaded
   pub is_loaded : IsLoadedFrom copies run.loaded vault.files
   pub columns : length run.folders ≡ length run.loaded.columns
   pub as_many : length run.listed ≡ length run.folders
   pub listed : ListsAll run.folders run.listed run.lists
-  pub plan_is : IsPlan modes.Check run.selection (names_of run.setup) run.loaded run.lists run.plan
+  pub plan_is : IsPlan mode run.selection (names_of run.setup) run.loaded run.lists run.plan
   pub numbers : numbers_of run.stripes ≡ stripes_of run.plan
   pub are : All (AreFacts run.plan) run.stripes
   pub read : AreRead run.plan (starts_of run.loaded run.lists) run.stripes run.listed run.ended

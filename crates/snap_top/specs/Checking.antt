@@ -1,5 +1,5 @@
 -- What the check of a run does, from the table that it begins with.
-use Rattle.std.specs.Prelude.{◌≡◌, ℕ, List, [], ◌++◌, length, All, None, count_by}
+use Rattle.std.specs.Prelude.{◌≡◌, ◌↔◌, ℕ, List, [], ◌++◌, length, All, None, count_by}
 use Rattle.array_scan.specs.Kept.{ListedFile}
 use Rattle.array_scan.specs.Listings.{ListsAll}
 use Rattle.disk_model.specs.Folder.{FolderView}
@@ -7,6 +7,7 @@ use Rattle.file_table.specs.Table.{TableValue}
 use Rattle.snap_config.specs.declared.options.Command.{Command}
 use Rattle.snap_config.specs.declared.options.Command.TheVariants as commands
 use Rattle.snap_config.specs.declared.options.Selection.{Selection}
+use Rattle.snap_fix.specs.Audited.{FindsNothing}
 use Rattle.snap_fix.specs.Beginning.{BeginsNot}
 use Rattle.stripe_examiner.specs.Counts.{at_most}
 use Rattle.snap_fix.specs.Course.{IsPlan, check_events}
@@ -46,6 +47,8 @@ pub record CheckEnds (mode : Mode) (selection : Selection) (task : Task) (table 
   pub told_is : left.told ≡ check_events plan stripes
   pub named_is : left.named ≡ None
   pub counted_is : left.counted ≡ at_most (count_by is_finding (check_events plan stripes))
+  -- what an audit without a finding has seen
+  pub audited : mode ≡ modes.Audit → (left.counted ≡ 0) ↔ FindsNothing plan stripes
   pub prints : Prints (lines_of table.columns (check_events plan stripes) ++ check_text left.counted) left.counted before.out after.out left.answer
 
 -- A check that did not begin: only the folders were asked for their listings.

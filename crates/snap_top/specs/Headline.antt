@@ -1,6 +1,5 @@
 -- What is promised of whatever stands after a history: it is sound, a stopped sync is resumed, and a fix restores what was last synced.
-use Rattle.std.specs.Prelude.{◌≡◌, ◌↔◌, ◌⊎◌, ℕ, ◌<◌, ◌≤◌, List, [], ◌∷◌, length, take, Bool, false, true, Some, Ok}
-use Rattle.cauchy.specs.Matrix.{byte_of}
+use Rattle.std.specs.Prelude.{◌≡◌, ◌⊎◌, ℕ, ◌<◌, ◌≤◌, List, [], ◌∷◌, length, take, Bool, true, Some, Ok}
 use Rattle.content_file.specs.Load.{HasFailed}
 use Rattle.content_file.specs.Save.{HasSaved}
 use Rattle.content_file.specs.Spelling.{spelling}
@@ -12,35 +11,25 @@ use Rattle.disk_model.specs.Tree.{Tree}
 use Rattle.disk_model.specs.Vault.{VaultView}
 use Rattle.file_table.specs.Table.{TableValue}
 use Rattle.file_table.specs.Valid.{IsValid}
-use Rattle.file_table.specs.declared.block.Cell.{Cell}
 use Rattle.snap_config.specs.Config.{read_setup}
 use Rattle.snap_config.specs.Setup.{SetupValue}
 use Rattle.snap_config.specs.declared.options.Command.TheVariants as commands
 use Rattle.snap_config.specs.declared.options.Options.{Options}
 use Rattle.snap_config.specs.declared.options.Selection.{Selection}
 use Rattle.snap_config.specs.declared.options.SyncWay.{SyncWay}
-use Rattle.snap_fix.specs.Ending.{Finishes}
-use Rattle.snap_fix.specs.Fixing.{facts_of}
-use Rattle.snap_fix.specs.Genuine.{IsRestorableStripe, TellsIntactLevels}
-use Rattle.snap_fix.specs.Mended.{has_lost}
-use Rattle.snap_fix.specs.Restored.{HoldsCell, IsDamagedCell}
-use Rattle.snap_sync.specs.Part.{IsFullSync, tree_at, trees_of}
+use Rattle.snap_sync.specs.Part.{IsFullSync, trees_of}
 use Rattle.snap_sync.specs.Resumed.{EndsAs}
-use Rattle.stripe_examiner.specs.Facts.{StripeFacts}
-use Rattle.stripe_examiner.specs.Plan.{entry_at, is_searched}
 use Rattle.snap_top.specs.Complete.{NothingBroke}
-use Rattle.snap_top.specs.Fix.{FixRun}
-use Rattle.snap_top.specs.History.{AreSoundBy, IsOfBytes, LastSynced}
-use Rattle.snap_top.specs.Lost.{IsToldLost}
-use Rattle.snap_top.specs.Moment.{ChangesNothing, StandsAfter, StandsIn}
+use Rattle.snap_top.specs.History.{AreSoundBy, IsOfBytes}
+use Rattle.snap_top.specs.Moment.{AreOfRun, ChangesNothing, StandsAfter, StandsIn}
 use Rattle.snap_top.specs.Opening.{asked_by}
-use Rattle.snap_top.specs.Restoring.{EndsFixed, events_in}
+use Rattle.snap_top.specs.RestoredLast.{IsRestored}
 use Rattle.snap_top.specs.Resumed.{EndAlike, RunOf}
-use Rattle.snap_top.specs.Run.{Entry, Exit}
+use Rattle.snap_top.specs.Spared.{SparesBy}
 use Rattle.snap_top.specs.Standing.{BeginsOver, Change, GoesOver, IsHistory, LeavesTrees, MeetsNoChance, Runs, Stage, Standing, after_of, before_of}
 use Rattle.snap_top.specs.Step.{RunStep}
 use Rattle.snap_top.specs.Sync.{BeginsFrom, HasNoCopy}
-use Rattle.snap_top.specs.Undamaged.{HasEnough}
+use Rattle.snap_top.specs.SyncedLast.{IsSyncedLast}
 
 -- ---- it is sound
 
@@ -50,8 +39,8 @@ HaveOneSize copies files = (one other : ℕ) (table other_table : TableValue) �
     → content_of files one ≡ Some (spelling table) → content_of files other ≡ Some (spelling other_table)
     → table.shape.block_size ≡ other_table.shape.block_size
 
--- Each copy that is a content file is sound by what was last synced: it calls only those stripes synced whose levels are the sums of the rows that
--- were last synced, but for what was changed from outside. These rows are of bytes.
+-- Each copy that is a content file is sound by what was last synced: it calls only those stripes synced whose levels are the sums of
+-- the rows that were last synced, but for what was changed from outside. These rows are of bytes.
 pub record IsSoundStanding (standing : Standing) : Type 0 where
   pub sound : AreSoundBy standing.copies standing.files standing.last
   pub bytes : IsOfBytes standing.last.snapshot
@@ -66,8 +55,8 @@ pub record EndsInFull (copies : ℕ) (is_changed : ℕ → ℕ → Bool) (table 
   pub alike : EndsAs table is_changed table other_table full files
 
 module _ {O F V W : Type 0} (opener_view : O → OpenerView) (folder_view : F → FolderView) (vault_view : V → VaultView) (sink_view : W → SinkView) where
-  -- A run over what stands was asked for a sync by this setup and over these trees, and the reading of no copy failed. The seed matters only where there
-  -- is no copy.
+  -- A run over what stands was asked for a sync by this setup and over these trees, and the reading of no copy failed. The seed matters
+  -- only where there is no copy.
   pub record IsAskedToSync (setup : SetupValue) (trees : List Tree) (seed : List ℕ) (standing : Standing) (run : RunOf O F V W) : Type 0 where
     pub asked : Options
     pub way : SyncWay
@@ -118,6 +107,25 @@ module _ {O F V W : Type 0} (opener_view : O → OpenerView) (folder_view : F �
       → ((run.status ≡ 2) ⊎ (run.status ≡ 5)) ⊎ ((asked : Options) × (asked_by run.texts ≡ Ok asked) × ChangesNothing asked.command)
       → (next.files ≡ standing.files) × (next.trees ≡ standing.trees)
 
+  -- ---- a sync that went to its end
+
+  -- A run was asked for a sync, and went to its end: its status is 0 or 1, or it is 3 and nothing failed but the output and readings.
+  pub record SyncsWell (run : RunOf O F V W) : Type 0 where
+    pub asked : Options
+    pub way : SyncWay
+    pub words : asked_by run.texts ≡ Ok asked
+    pub command_is : asked.command ≡ commands.Sync way
+    pub well : (run.status ≤ 1)
+        ⊎ ((run.status ≡ 3)
+        × NothingBroke (before_of opener_view folder_view vault_view sink_view run) (after_of opener_view folder_view vault_view sink_view run))
+
+  -- what was last synced then, where what stands is its end
+  abbrev pub SyncsLast : Standing → Type 0
+  SyncsLast standing = (run : RunOf O F V W) (next : Standing) → (goes : GoesOver opener_view folder_view vault_view sink_view run standing next)
+      → SyncsWell run → StandsAfter (after_of opener_view folder_view vault_view sink_view run) next.files
+      → IsSyncedLast (before_of opener_view folder_view vault_view sink_view run) (after_of opener_view folder_view vault_view sink_view run)
+      run.status goes.step.always.did standing next
+
   -- ---- a fix restores
 
   -- A run was asked for a fix, and went to its end: its status is 0 or 1, or it is 3 and nothing failed but the output and readings.
@@ -126,46 +134,30 @@ module _ {O F V W : Type 0} (opener_view : O → OpenerView) (folder_view : F �
     pub selection : Selection
     pub words : asked_by run.texts ≡ Ok asked
     pub command_is : asked.command ≡ commands.Fix selection
-    pub well : (run.status ≤ 1) ⊎ ((run.status ≡ 3) × NothingBroke (before_of opener_view folder_view vault_view sink_view run) (after_of opener_view folder_view vault_view sink_view run))
-
--- a selected damaged cell of a synced stripe, of a record that isn't blocked
-pub record IsInReach (run : FixRun) (facts : StripeFacts) (d : ℕ) (cell : Cell) : Type 0 where
-  pub is : IsDamagedCell run.plan (facts_of run.stripes) facts d cell
-  pub synced : is_searched run.plan facts.stripe ≡ true
-  pub free : (entry_at run.plan d cell.rec).blocked ≡ false
-
--- the block of a cell is in the trees again, byte for byte as it was last synced, under PATH or under PATH`.unrecoverable`
-abbrev pub HasLast : FixRun → LastSynced → List Tree → StripeFacts → ℕ → Cell → Type 0
-HasLast run last trees facts d cell =
-    HoldsCell run.plan.table d cell (has_lost run.plan run.stripes d cell.rec) (byte_of (last.snapshot facts.stripe) d) (tree_at trees d)
-
--- So is each such cell where no more cells of its stripe are missing than levels that were read whole hold the sums of the row that was last synced;
--- and so where no more are missing than levels were read and not changed from outside since then. Each selected damaged cell of a synced stripe, also
--- of a blocked record, is told to be lost exactly where more cells are missing than levels that were read whole hold those sums.
-pub record RestoresLast (run : FixRun) (finishes : Finishes) (last : LastSynced) (trees : List Tree) : Type 0 where
-  pub restored : (facts : StripeFacts) (d : ℕ) (cell : Cell) (is_intact : ℕ → Bool) → IsInReach run facts d cell
-      → TellsIntactLevels run.plan facts (last.snapshot facts.stripe) is_intact → IsRestorableStripe run.plan facts is_intact
-      → HasLast run last trees facts d cell
-  pub counted : (facts : StripeFacts) (d : ℕ) (cell : Cell) → IsInReach run facts d cell → HasEnough run last.is_changed facts
-      → HasLast run last trees facts d cell
-  pub named : (facts : StripeFacts) (d : ℕ) (cell : Cell) (is_intact : ℕ → Bool) → IsDamagedCell run.plan (facts_of run.stripes) facts d cell
-      → is_searched run.plan facts.stripe ≡ true → TellsIntactLevels run.plan facts (last.snapshot facts.stripe) is_intact
-      → IsToldLost (events_in run finishes) facts d cell ↔ ¬ (IsRestorableStripe run.plan facts is_intact)
-
--- so a fix ends
-pub record IsRestored (before : Entry) (exit : Exit) (status : ℕ) (last : LastSynced) (trees : List Tree) : Type 0 where
-  pub ends : EndsFixed before exit status
-  pub restores : RestoresLast ends.run ends.finishes last trees
+    pub well : (run.status ≤ 1)
+        ⊎ ((run.status ≡ 3)
+        × NothingBroke (before_of opener_view folder_view vault_view sink_view run) (after_of opener_view folder_view vault_view sink_view run))
 
 module _ {O F V W : Type 0} (opener_view : O → OpenerView) (folder_view : F → FolderView) (vault_view : V → VaultView) (sink_view : W → SinkView) where
   -- so each fix of what stands restores, that was not stopped
   abbrev pub FixesRestore : Standing → Type 0
-  FixesRestore standing = (run : RunOf O F V W) (next : Standing) → GoesOver opener_view folder_view vault_view sink_view run standing next
+  FixesRestore standing = (run : RunOf O F V W) (next : Standing) → (goes : GoesOver opener_view folder_view vault_view sink_view run standing next)
       → FixesToItsEnd opener_view folder_view vault_view sink_view run
       → next.trees ≡ trees_of (after_of opener_view folder_view vault_view sink_view run).after.folders
-      → IsRestored (before_of opener_view folder_view vault_view sink_view run) (after_of opener_view folder_view vault_view sink_view run) run.status standing.last next.trees
+      → IsRestored (before_of opener_view folder_view vault_view sink_view run) (after_of opener_view folder_view vault_view sink_view run)
+      run.status goes.step.always.did standing.last next.trees
+
+  -- Each fix of what stands, also one that is stopped at any moment, spares the cells that it leaves alone.
+  abbrev pub FixesSpare : Standing → Type 0
+  FixesSpare standing = (run : RunOf O F V W) (next : Standing) → (goes : GoesOver opener_view folder_view vault_view sink_view run standing next)
+      → SparesBy goes.step.always.did standing.trees next.trees
 
   -- ---- all of it
+
+  -- Each copy is as it was, or spells a table of that very run: of a part sync of what was laid out, or with the marks of a scrub.
+  abbrev pub LeavesCopies : Standing → Type 0
+  LeavesCopies standing = (run : RunOf O F V W) (next : Standing) → (goes : GoesOver opener_view folder_view vault_view sink_view run standing next)
+      → AreOfRun goes.step.always.did standing.copies standing.files next.files
 
   -- Whatever moment a run over what stands is stopped at, something stands next.
   abbrev pub GoesOn : Standing → Type 0
@@ -189,7 +181,10 @@ module _ {O F V W : Type 0} (opener_view : O → OpenerView) (folder_view : F �
     pub sound : IsSoundStanding standing
     pub resumed : IsResumed opener_view folder_view vault_view sink_view standing
     pub in_full : IsResumedInFull opener_view folder_view vault_view sink_view standing
+    pub synced : SyncsLast opener_view folder_view vault_view sink_view standing
     pub restores : FixesRestore standing
+    pub spares : FixesSpare standing
+    pub copies : LeavesCopies standing
     pub quiet : IsQuiet opener_view folder_view vault_view sink_view standing
     pub goes_on : GoesOn standing
     pub arrives : ArrivesAtItsEnd standing

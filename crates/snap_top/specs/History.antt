@@ -1,5 +1,5 @@
 -- Runs of any commands, one after another, each of which ended or was stopped at some moment, and what others do to the vault in between.
-use Rattle.std.specs.Prelude.{◌≡◌, ◌⊎◌, ℕ, ◌+◌, ◌*◌, ◌<◌, ◌≤◌, List, [], ◌∷◌, length, Bool, false, Some}
+use Rattle.std.specs.Prelude.{◌≡◌, ◌⊎◌, ℕ, ◌+◌, ◌*◌, ◌<◌, ◌≤◌, List, [], ◌∷◌, length, Bool, true, false, Some}
 use Rattle.array_scan.specs.Layout.{pending_stripes}
 use Rattle.cauchy.specs.Recovery.{AreBytes}
 use Rattle.content_file.specs.Save.{HasSaved}
@@ -15,7 +15,7 @@ use Rattle.parity_writer.specs.Keeps.{HasByte}
 use Rattle.parity_writer.specs.Sound.{Snapshot}
 use Rattle.snap_fix.specs.Fixing.{facts_of}
 use Rattle.snap_fix.specs.Genuine.{AreGenuine}
-use Rattle.snap_sync.specs.Part.{AllTell, AllVerified, SyncRun}
+use Rattle.snap_sync.specs.Part.{AllVerified, SyncRun}
 use Rattle.stripe_findings.specs.Reading.{stripes_of}
 use Rattle.snap_sync.specs.Soundness.{AreSound, changed_without, snapshot_with}
 use Rattle.snap_top.specs.Moment.{EveryMomentIsSound, HoldsFresh, IsDidOf, IsSupposed, IsSyncOf, StandsAfter, StandsIn, SyncsToItsEnd}
@@ -24,7 +24,7 @@ use Rattle.snap_top.specs.Restoring.{EndsFixed, Restores}
 use Rattle.snap_top.specs.Resumed.{StoppedRun, end_of, entry_of}
 use Rattle.snap_top.specs.Run.{Entry, Exit}
 use Rattle.snap_top.specs.Sync.{HoldsNoContent}
-use Rattle.snap_top.specs.Task.{Did, end_table, syncs}
+use Rattle.snap_top.specs.Task.{Did, end_table, fixes, reads_only, scrubs, syncs}
 
 -- The snapshot: of each stripe the row that was last synced. And which levels of which stripes were changed from outside since then.
 pub record LastSynced : Type 0 where
@@ -69,28 +69,35 @@ AreSoundBy copies files last = AreSound copies files last.snapshot last.is_chang
 abbrev pub IsOfBytes : Snapshot → Type 0
 IsOfBytes snapshot = (stripe : ℕ) → AreBytes (snapshot stripe)
 
--- Sound once a run read so many stripes, and then goes on so. Where its folders tell their trees, a snapshot of bytes stays one.
-pub record IsSoundOnce (before : Entry) (did : Did) (count copies : ℕ) (left : Files) (last : LastSynced) (GoesOn : LastSynced → Type 0) : Type 0 where
+-- Sound once a run read so many stripes, and then goes on so. A snapshot of bytes stays one.
+pub record IsSoundOnce (did : Did) (count copies : ℕ) (left : Files) (last : LastSynced) (GoesOn : LastSynced → Type 0) : Type 0 where
   pub sound : AreSoundBy copies left (synced_by did count last)
-  pub bytes : AllTell before.opener.folders → IsOfBytes last.snapshot → IsOfBytes (synced_by did count last).snapshot
+  pub bytes : IsOfBytes last.snapshot → IsOfBytes (synced_by did count last).snapshot
   pub goes_on : GoesOn (synced_by did count last)
 
 -- At a moment of a run this is some number, and which is open.
-pub record IsSoundThen (before : Entry) (did : Did) (copies : ℕ) (left : Files) (last : LastSynced) (GoesOn : LastSynced → Type 0) : Type 0 where
+pub record IsSoundThen (did : Did) (copies : ℕ) (left : Files) (last : LastSynced) (GoesOn : LastSynced → Type 0) : Type 0 where
   pub count : ℕ
   pub within : count ≤ stripes_read did
-  pub once : IsSoundOnce before did count copies left last GoesOn
+  pub once : IsSoundOnce did count copies left last GoesOn
 
 -- At the end of a sync it is all, and these are the pending stripes of its layout. Each copy spells the table that calls those synced whose rows
 -- count; with status 0 they are all.
-pub record IsSoundSynced (before : Entry) (exit : Exit) (status copies : ℕ) (left : Files) (last : LastSynced) (GoesOn : LastSynced → Type 0)
-    : Type 0 where
-  pub run : SyncRun
+pub record IsSoundSynced (before : Entry) (exit : Exit) (status : ℕ) (run : SyncRun) (copies : ℕ) (left : Files) (last : LastSynced)
+    (GoesOn : LastSynced → Type 0) : Type 0 where
   pub is_sync : IsSyncOf before exit run
   pub all : stripes_of run.readings ≡ pending_stripes run.plan.start.infos
   pub saved : HasSaved copies (spelling (end_table run)) left
   pub clean : status ≡ 0 → AllVerified run.plan.start run.readings
-  pub once : IsSoundOnce before (syncs false run) (length run.readings) copies left last GoesOn
+  pub once : IsSoundOnce (syncs false run) (length run.readings) copies left last GoesOn
+
+-- by what a run did: so it is of that very sync, where it did not break off
+abbrev pub EndsSoundBy : Did → Entry → Exit → ℕ → ℕ → Files → LastSynced → (LastSynced → Type 0) → Type 0
+EndsSoundBy reads_only before exit status copies left last GoesOn = Unit {0}
+EndsSoundBy (syncs true run) before exit status copies left last GoesOn = Unit {0}
+EndsSoundBy (syncs false run) before exit status copies left last GoesOn = IsSoundSynced before exit status run copies left last GoesOn
+EndsSoundBy (fixes failed run) before exit status copies left last GoesOn = Unit {0}
+EndsSoundBy (scrubs failed run) before exit status copies left last GoesOn = Unit {0}
 
 module _ {O F V W : Type 0} (opener_view : O → OpenerView) (folder_view : F → FolderView) (vault_view : V → VaultView) (sink_view : W → SinkView) where
   -- a run over a vault of so many copies, opened anew, that holds these files; it leaves others at some moment, or at its end
@@ -102,17 +109,21 @@ module _ {O F V W : Type 0} (opener_view : O → OpenerView) (folder_view : F �
     pub stands : StandsIn (entry_of opener_view sink_view stop.run) (end_of opener_view folder_view vault_view sink_view stop.run) stop.left
 
   -- Sound after a run. What it did is to read, to sync, to fix or to scrub. Unless a fix met a hash by chance, or a content file has blocks of another size, the
-  -- copies that it left are sound with the rows that it had closed by then, and so it goes on from there. Where it was asked for a sync and went to its
-  -- end, and this is what stands then, these are the rows of all that it closed, and each copy spells its table. A fix that went to its end, and met no
-  -- hash by chance, restores the blocks of the snapshot.
+  -- copies that it left are sound with the rows that it had closed by then, and so it goes on from there. Where it synced and did not break off, and this
+  -- is what stands then, these are the rows of all that it closed, and each copy spells its table (`at_end`). So it is also of each account of a sync
+  -- that shows that it went to its end (`synced`). Of each account of a fix that went to its end, and met no hash by chance: it restores the blocks of
+  -- the snapshot.
   pub record IsSoundAfter (copies : ℕ) (files : Files) (last : LastSynced) (stop : StoppedRun O F V W) (GoesOn : LastSynced → Type 0) : Type 0 where
     pub did : Did
     pub is_did : IsDidOf (entry_of opener_view sink_view stop.run) (end_of opener_view folder_view vault_view sink_view stop.run) did
-    pub sound : IsSupposed did copies files last.snapshot → IsSoundThen (entry_of opener_view sink_view stop.run) did copies stop.left last GoesOn
+    pub sound : IsSupposed did copies files last.snapshot → IsSoundThen did copies stop.left last GoesOn
+    pub at_end : StandsAfter (end_of opener_view folder_view vault_view sink_view stop.run) stop.left
+        → EndsSoundBy did (entry_of opener_view sink_view stop.run) (end_of opener_view folder_view vault_view sink_view stop.run) stop.run.status copies
+        stop.left last GoesOn
     pub synced : SyncsToItsEnd (entry_of opener_view sink_view stop.run) (end_of opener_view folder_view vault_view sink_view stop.run) stop.run.status
         → StandsAfter (end_of opener_view folder_view vault_view sink_view stop.run) stop.left
-        → IsSoundSynced (entry_of opener_view sink_view stop.run) (end_of opener_view folder_view vault_view sink_view stop.run) stop.run.status copies
-        stop.left last GoesOn
+        → (run : SyncRun) × IsSoundSynced (entry_of opener_view sink_view stop.run) (end_of opener_view folder_view vault_view sink_view stop.run)
+        stop.run.status run copies stop.left last GoesOn
     pub restores : (ends : EndsFixed (entry_of opener_view sink_view stop.run) (end_of opener_view folder_view vault_view sink_view stop.run) stop.run.status)
         → AreGenuine ends.run.plan last.snapshot (facts_of ends.run.stripes) → Restores ends.run ends.finishes last.snapshot
 

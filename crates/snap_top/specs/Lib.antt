@@ -1,3 +1,4 @@
+pub mod Alike
 pub mod Array
 pub mod Check
 pub mod Checking
@@ -14,16 +15,19 @@ pub mod Lost
 pub mod Moment
 pub mod Naming
 pub mod Opening
+pub mod RestoredLast
 pub mod Restoring
 pub mod Resumed
 pub mod Run
 pub mod Scrub
 pub mod Scrubbed
 pub mod Scrubbing
+pub mod Spared
 pub mod Standing
 pub mod Step
 pub mod Stopping
 pub mod Sync
+pub mod SyncedLast
 pub mod Syncing
 pub mod Task
 pub mod Undamaged

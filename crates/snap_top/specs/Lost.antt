@@ -1,11 +1,12 @@
--- Which damaged cells a check or a fix tells to be lost, by the events that it told of the stripes that it looked at.
-use Rattle.std.specs.Prelude.{◌≡◌, ◌↔◌, ℕ, List, Bool, true, false, Contains}
+-- Which damaged cells a check or a fix tells to be lost, and which stripes and records it names, by the events that it told.
+use Rattle.std.specs.Prelude.{◌≡◌, ◌↔◌, ℕ, ◌<◌, List, length, Bool, true, false, Contains}
 use Rattle.cauchy.specs.Recovery.{AreBytes}
+use Rattle.file_table.specs.Table.{records_in}
 use Rattle.file_table.specs.declared.block.Cell.{Cell}
 use Rattle.parity_writer.specs.Sound.{Snapshot}
 use Rattle.stripe_examiner.specs.Facts.{StripeFacts}
 use Rattle.snap_fix.specs.Genuine.{IsRestorableStripe, TellsIntactLevels}
-use Rattle.stripe_examiner.specs.Plan.{FixPlan, is_searched, is_synced}
+use Rattle.stripe_examiner.specs.Plan.{FixPlan, entry_at, has_selected_cell, is_searched, is_synced}
 use Rattle.snap_fix.specs.Restored.{IsDamagedCell}
 use Rattle.snap_report.specs.declared.events.Event.{Event}
 use Rattle.snap_report.specs.declared.events.Event.TheVariants as events
@@ -34,3 +35,24 @@ NamesLost plan stripes snapshot told = (facts : StripeFacts) (d : ℕ) (cell : C
 abbrev pub NamesPending : FixPlan → List StripeFacts → List Event → Type 0
 NamesPending plan stripes told = (facts : StripeFacts) (d : ℕ) (cell : Cell)
     → IsDamagedCell plan stripes facts d cell → is_synced plan facts.stripe ≡ false → IsToldLost told facts d cell
+
+-- a pending stripe that has a selected cell
+pub record IsPendingSelected (plan : FixPlan) (stripe : ℕ) : Type 0 where
+  pub within : stripe < length plan.table.infos
+  pub pending : is_synced plan stripe ≡ false
+  pub selected : has_selected_cell plan stripe ≡ true
+
+-- just such stripes are told to be unsynced
+abbrev pub NamesUnsynced : FixPlan → List Event → Type 0
+NamesUnsynced plan told = (stripe : ℕ) → Contains told (events.Unsynced stripe) ↔ IsPendingSelected plan stripe
+
+-- a record that is selected and blocked
+pub record IsSelectedBlocked (plan : FixPlan) (d i : ℕ) : Type 0 where
+  pub column : d < length plan.table.columns
+  pub within : i < length (records_in plan.table d)
+  pub selected : (entry_at plan d i).selected ≡ true
+  pub blocked : (entry_at plan d i).blocked ≡ true
+
+-- just such records are told to be blocked
+abbrev pub NamesBlocked : FixPlan → List Event → Type 0
+NamesBlocked plan told = (d i : ℕ) → Contains told (events.Blocked d i) ↔ IsSelectedBlocked plan d i

@@ -1,5 +1,5 @@
 -- What stands at each moment of a run, wherever it is stopped, and what a sync leaves at its end.
-use Rattle.std.specs.Prelude.{◌≡◌, ◌⊎◌, ℕ, ◌≤◌, ◌++◌, ◌-◌, length, All, Bool, false, IsTrue, Ok}
+use Rattle.std.specs.Prelude.{◌≡◌, ◌⊎◌, ℕ, ◌≤◌, ◌++◌, ◌-◌, length, All, Bool, false, IsTrue, Ok, true}
 use Rattle.array_scan.specs.Layout.{pending_stripes}
 use Rattle.cauchy.specs.Recovery.{AreBytes}
 use Rattle.content_file.specs.Load.{HasFailed}
@@ -35,9 +35,8 @@ use Rattle.snap_top.specs.Task.{Did, fixes, reads_only, scrubs, syncs, may_stand
 
 -- ---- what a run did
 
--- The sync of a run: it is by the configuration that was asked for, over the folders and the vault that the opener held. Where these folders tell
--- their trees, the rows that it read are of bytes. Where no copy's reading failed, the table that it loaded is that of the first copy that is a content
--- file.
+-- The sync of a run: it is by the configuration that was asked for, over the folders and the vault that the opener held. The rows that
+-- it read are of bytes. Where no copy's reading failed, the table that it loaded is that of the first copy that is a content file.
 pub record IsSyncOf (before : Entry) (exit : Exit) (run : SyncRun) : Type 0 where
   pub way : SyncWay
   pub readers : ℕ
@@ -48,7 +47,7 @@ pub record IsSyncOf (before : Entry) (exit : Exit) (run : SyncRun) : Type 0 wher
   pub copies_are : copies_of before.opener.vault ≡ length run.setup.contents
   pub over : SyncsOver (copies_of before.opener.vault) before.opener.vault.files run
   pub begins : BeginsAmong run.setup before.seed (copies_of before.opener.vault) before.opener.vault.files run.loaded
-  pub bytes : AllTell run.folders → All (λ (reading : StripeReading). AreBytes (row_of reading)) run.readings
+  pub bytes : All (λ (reading : StripeReading). AreBytes (row_of reading)) run.readings
   pub from : ((copy : ℕ) → ¬ (HasFailed before.opener.vault exit.after.vault copy))
       → SyncsFrom before.seed (copies_of before.opener.vault) before.opener.vault.files run
 
@@ -125,8 +124,8 @@ rows_closed (syncs failed run) count = rows_after run.plan run.readings count
 rows_closed (fixes failed run) count = no_rows
 rows_closed (scrubs failed run) count = no_rows
 
--- Sound once a run read so many stripes: with the rows of those that it has closed by then in the snapshot, and nothing of these stripes changed from
--- outside.
+-- Sound once a run read so many stripes: with the rows of those that it has closed by then in the snapshot, and nothing of these
+-- stripes changed from outside.
 abbrev pub IsSoundWith : Did → ℕ → ℕ → Files → Snapshot → (ℕ → ℕ → Bool) → Type 0
 IsSoundWith did count copies files snapshot is_changed =
     AreSound copies files (snapshot_with (rows_closed did count) snapshot) (changed_without (rows_closed did count) is_changed)
@@ -137,8 +136,8 @@ pub record IsSoundIn (did : Did) (copies : ℕ) (files : Files) (snapshot : Snap
   pub within : count ≤ stripes_read did
   pub sound : IsSoundWith did count copies files snapshot is_changed
 
--- What the copies hold at a moment of a run: what they held at its beginning or, where the folders tell their trees, the table of a part sync of
--- what was laid out of them. A scrub leaves each as it was, or with the table of its marks.
+-- What the copies hold at a moment of a run: what they held at its beginning or, where the folders tell their trees, the table of a
+-- part sync of what was laid out of them. A scrub leaves each as it was, or with the table of its marks.
 abbrev pub AreOfRun : Did → ℕ → Files → Files → Type 0
 AreOfRun reads_only copies old new = new ≡ old
 AreOfRun (syncs failed run) copies old new = AllTell run.folders →
@@ -161,8 +160,8 @@ pub record SyncsToItsEnd (before : Entry) (exit : Exit) (status : ℕ) : Type 0 
   pub command_is : asked.command ≡ commands.Sync way
   pub went : WentToItsEnd before exit status
 
--- Its sync read all pending stripes of its layout, and each copy that it left spells its table. With status 0 all of them are verified. Where all
--- copies were sound at its beginning, those that it left are with the rows of all that it closed.
+-- Its sync read all pending stripes of its layout, and each copy that it left spells its table. With status 0 all of them are verified.
+-- Where all copies were sound at its beginning, those that it left are with the rows of all that it closed.
 pub record IsSoundAtEnd (before : Entry) (exit : Exit) (status : ℕ) : Type 0 where
   pub run : SyncRun
   pub is_sync : IsSyncOf before exit run
@@ -174,9 +173,18 @@ pub record IsSoundAtEnd (before : Entry) (exit : Exit) (status : ℕ) : Type 0 w
       → AreSound (copies_of before.opener.vault) before.opener.vault.files snapshot is_changed
       → IsSoundWith (syncs false run) (length run.readings) (copies_of before.opener.vault) files snapshot is_changed
 
--- Where all copies are sound at the beginning of a run, they are at each moment of it, whatever it answers. What a run did is to read, to sync, to fix
--- or to scrub; of a fix this rests on that no hash was met by chance, and that all content files have blocks of its size. How many of its stripes a
--- sync has read at a moment is open; at its end it has read all.
+-- by what a run did: so it is of that very sync, where it did not break off
+abbrev pub EndsSound : Did → Entry → Exit → ℕ → Type 0
+EndsSound reads_only before exit status = Unit {0}
+EndsSound (syncs true run) before exit status = Unit {0}
+EndsSound (syncs false run) before exit status = (ends : IsSoundAtEnd before exit status) × (ends.run ≡ run)
+EndsSound (fixes failed run) before exit status = Unit {0}
+EndsSound (scrubs failed run) before exit status = Unit {0}
+
+-- Where all copies are sound at the beginning of a run, they are at each moment of it, whatever it answers. What a run did is to read,
+-- to sync, to fix or to scrub; of a fix this rests on that no hash was met by chance, and that all content files have blocks of its
+-- size. How many of its stripes a sync has read at a moment is open; at its end it has read all (`at_end`). So it is also of each
+-- account that shows that it went there (`synced`).
 pub record IsSoundAlways (before : Entry) (exit : Exit) (status : ℕ) : Type 0 where
   pub did : Did
   pub is_did : IsDidOf before exit did
@@ -188,6 +196,7 @@ pub record IsSoundAlways (before : Entry) (exit : Exit) (status : ℕ) : Type 0 
       → AreSound (copies_of before.opener.vault) before.opener.vault.files snapshot is_changed
       → IsSupposed did (copies_of before.opener.vault) before.opener.vault.files snapshot
       → IsSoundIn did (copies_of before.opener.vault) files snapshot is_changed
+  pub at_end : EndsSound did before exit status
   pub synced : SyncsToItsEnd before exit status → IsSoundAtEnd before exit status
 
 abbrev pub EveryMomentIsSound : Entry → Exit → ℕ → Type 0
@@ -201,10 +210,11 @@ pub record TellsAll (before : Entry) : Type 0 where
   pub tells_vault : IsTrue before.opener.vault.tells
   pub tells_folders : AllTell before.opener.folders
 
--- A sync that went to its end: all pending stripes of the layout were read, and where no folder's count of faults rose this gave what the trees
--- hold. It is the part sync of those that are verified, and every copy spells its table; in each that is not something was found. Where all are
--- verified, it is the full sync. So it stands as the vault reads, and in each image. It printed the lines of what was found and its last line, or a
--- prefix where the output failed. Its status is 0 exactly where all are verified and the output did not fail. A failure of the output is counted, and changes nothing else of this.
+-- A sync that went to its end: all pending stripes of the layout were read, and where no folder's count of faults rose this gave what
+-- the trees hold. It is the part sync of those that are verified, and every copy spells its table; in each that is not something was
+-- found. Where all are verified, it is the full sync. So it stands as the vault reads, and in each image. It printed the lines of what
+-- was found and its last line, or a prefix where the output failed. Its status is 0 exactly where all are verified and the output did
+-- not fail. A failure of the output is counted, and changes nothing else of this.
 pub record EndsInPart (before : Entry) (exit : Exit) (status : ℕ) : Type 0 where
   pub run : SyncRun
   pub is_sync : IsSyncOf before exit run

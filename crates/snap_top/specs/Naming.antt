@@ -1,16 +1,20 @@
 -- What a run tells that was asked to check an array.
-use Rattle.std.specs.Prelude.{◌≡◌, ℕ, List, ◌++◌, Bool, false, IsTrue, Ok, count_by}
+use Rattle.std.specs.Prelude.{◌≡◌, ◌↔◌, ℕ, List, ◌++◌, Bool, false, IsTrue, Ok, count_by}
 use Rattle.content_file.specs.Load.{HasFailed}
 use Rattle.disk_model.specs.Cause.{Rose, RoseBy}
 use Rattle.disk_model.specs.Vault.{copies_of}
 use Rattle.parity_writer.specs.Sound.{Snapshot, Sound}
+use Rattle.snap_config.specs.declared.options.Command.{Command}
 use Rattle.snap_config.specs.declared.options.Command.TheVariants as commands
 use Rattle.snap_config.specs.declared.options.Options.{Options}
 use Rattle.snap_config.specs.declared.options.Selection.{Selection}
 use Rattle.stripe_examiner.specs.Counts.{at_most}
+use Rattle.snap_fix.specs.Audited.{FindsNothing}
 use Rattle.snap_fix.specs.Course.{check_events}
 use Rattle.snap_fix.specs.Genuine.{AreGenuine}
 use Rattle.stripe_examiner.specs.Looking.{unread_in}
+use Rattle.stripe_examiner.specs.declared.scope.Mode.{Mode}
+use Rattle.stripe_examiner.specs.declared.scope.Mode.TheVariants as modes
 use Rattle.snap_report.specs.EndLines.{check_text}
 use Rattle.snap_report.specs.EventLines.{lines_of}
 use Rattle.snap_report.specs.Kind.{is_finding}
@@ -24,14 +28,20 @@ use Rattle.snap_top.specs.Opening.{IsConfigured, asked_by}
 use Rattle.snap_top.specs.Run.{Entry, Exit}
 use Rattle.snap_top.specs.Sync.{BeginsFrom}
 
--- The check of a run, by the configuration that was asked for, over the folders and the vault that the opener held.
--- Where no copy's reading failed, the table that it loaded is that of the first copy that is a content file.
-pub record IsCheckOf (before : Entry) (exit : Exit) (run : CheckRun) : Type 0 where
+-- the command of a run in a mode
+abbrev pub command_in : Mode → Selection → Command
+command_in modes.Check selection = commands.Check selection
+command_in modes.Audit selection = commands.Audit selection
+command_in modes.Fix selection = commands.Fix selection
+
+-- The check or the audit of a run, by the configuration that was asked for, over the folders and the vault that the
+-- opener held. Where no copy's reading failed, the table that it loaded is that of the first copy that is a content file.
+pub record IsCheckOf (mode : Mode) (before : Entry) (exit : Exit) (run : CheckRun) : Type 0 where
   pub readers : ℕ
-  pub configured : IsConfigured before.texts before.opener (commands.Check run.selection) readers run.setup
+  pub configured : IsConfigured before.texts before.opener (command_in mode run.selection) readers run.setup
   pub folders_are : run.folders ≡ before.opener.folders
   pub ended_is : run.ended ≡ exit.after.folders
-  pub over : ChecksOver (copies_of before.opener.vault) before.opener.vault run
+  pub over : ChecksOver mode (copies_of before.opener.vault) before.opener.vault run
   pub from : ((copy : ℕ) → ¬ (HasFailed before.opener.vault exit.after.vault copy))
       → BeginsFrom run.setup before.seed (copies_of before.opener.vault) before.opener.vault.files run.loaded
 
@@ -39,15 +49,12 @@ pub record IsCheckOf (before : Entry) (exit : Exit) (run : CheckRun) : Type 0 wh
 abbrev pub events_found : CheckRun → List Event
 events_found run = check_events run.plan run.stripes
 
--- A check that went to its end: it looked at all stripes with something selected. Each level that it could not read was
--- counted as a fault, and so was each cell (`ChecksOver.read`). It printed all lines, or a prefix where the output
--- failed; its status is 0 exactly where that did not and nothing was found. Each selected damaged cell of a pending
--- stripe is told to be lost. Where the table that it began with was sound, and no hash is met by chance, one of a
--- synced stripe is told to be lost exactly where the stripe isn't restorable. A failure of the output is counted, and
--- changes nothing else of this.
-pub record EndsChecked (before : Entry) (exit : Exit) (status : ℕ) : Type 0 where
-  pub run : CheckRun
-  pub is_check : IsCheckOf before exit run
+-- It went to its end: it looked at all stripes with something selected. Each level that it could not read was counted
+-- as a fault, and so was each cell (`ChecksOver.read`). It printed all lines, or a prefix where the output failed; its
+-- status is 0 exactly where that did not and nothing was found. A failure of the output is counted, and changes nothing
+-- else of this.
+pub record HasChecked (mode : Mode) (before : Entry) (exit : Exit) (status : ℕ) (run : CheckRun) : Type 0 where
+  pub is_check : IsCheckOf mode before exit run
   pub unread_levels : RoseBy (unread_in run.readings) before.opener.vault.faults exit.after.vault.faults
   pub output_failed : Bool
   pub printed : Tells
@@ -55,14 +62,32 @@ pub record EndsChecked (before : Entry) (exit : Exit) (status : ℕ) : Type 0 wh
       (between false before.out) (between output_failed exit.after.out)
   pub status_is : IsEndStatus status output_failed (count_by is_finding (events_found run) ≡ 0)
   pub output : IsTrue output_failed → Rose before.out.faults exit.after.out.faults
+
+-- A check that went to its end. Each selected damaged cell of a pending stripe is told to be lost. Where the table that
+-- it began with was sound, and no hash is met by chance, one of a synced stripe is told to be lost exactly where the
+-- stripe isn't restorable.
+pub record EndsChecked (before : Entry) (exit : Exit) (status : ℕ) : Type 0 where
+  pub run : CheckRun
+  pub has : HasChecked modes.Check before exit status run
   pub pending : NamesPending run.plan run.stripes (events_found run)
   pub named : (snapshot : Snapshot) (is_changed : ℕ → ℕ → Bool)
       → Sound run.loaded before.opener.vault.files snapshot is_changed
       → AreGenuine run.plan snapshot run.stripes → NamesLost run.plan run.stripes snapshot (events_found run)
 
--- So a check ends that was asked for and went to its end, whatever the output did. An audit looks at no parity, and
--- tells no cell to be lost: of it nothing is said here.
+-- An audit that went to its end. It looks at no parity, and found nothing exactly where each selected record is listed as
+-- it was recorded, and each selected cell of its stripes was read, with the recorded hash.
+pub record EndsAudited (before : Entry) (exit : Exit) (status : ℕ) : Type 0 where
+  pub run : CheckRun
+  pub has : HasChecked modes.Audit before exit status run
+  pub clean : (count_by is_finding (events_found run) ≡ 0) ↔ FindsNothing run.plan run.stripes
+
+-- by the command
+abbrev pub EndsAsAsked : Command → Entry → Exit → ℕ → Type 0
+EndsAsAsked (commands.Check selection) before exit status = EndsChecked before exit status
+EndsAsAsked (commands.Audit selection) before exit status = EndsAudited before exit status
+EndsAsAsked _ before exit status = Unit {0}
+
+-- So a check and an audit end that were asked for and went to their ends, whatever the output did.
 abbrev pub ChecksEnd : Entry → Exit → ℕ → Type 0
 ChecksEnd before exit status = TellsAll before → WentToItsEnd before exit status
-    → (asked : Options) (selection : Selection) → asked_by before.texts ≡ Ok asked
-    → asked.command ≡ commands.Check selection → EndsChecked before exit status
+    → (asked : Options) → asked_by before.texts ≡ Ok asked → EndsAsAsked asked.command before exit status

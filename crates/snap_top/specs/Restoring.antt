@@ -56,6 +56,7 @@ pub record Restores (run : FixRun) (finishes : Finishes) (snapshot : Snapshot) :
 pub record EndsFixed (before : Entry) (exit : Exit) (status : ℕ) : Type 0 where
   pub run : FixRun
   pub is_fix : IsFixOf before exit run
+  pub tells : IsTrue exit.after.vault.tells
   pub finishes : Finishes
   pub fixed : HasFixed run.plan (starts_of run.loaded run.lists) run.stripes finishes run.listed run.ended
   pub unread : (d : ℕ) → d < length run.plan.table.columns

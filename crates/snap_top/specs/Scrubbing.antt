@@ -1,5 +1,5 @@
 -- What the scrub of a run does, from the table that it begins with.
-use Rattle.std.specs.Prelude.{◌≡◌, ◌≢◌, ℕ, ◌+◌, List, [], ◌++◌, length, All, Bool, true, false, None, sum_by}
+use Rattle.std.specs.Prelude.{◌≡◌, ◌≢◌, ◌+◌, List, [], ◌++◌, length, All, Bool, true, false, None, sum_by}
 use Rattle.content_file.specs.Save.{HasSaved, HasNoDraft}
 use Rattle.content_file.specs.Spelling.{spelling}
 use Rattle.disk_model.specs.Cause.{RoseBy}
@@ -57,9 +57,7 @@ pub record ScrubEnds (way : ScrubWay) (task : Task) (table : TableValue) (before
   pub no_draft : course.readings ≢ [] → HasNoDraft (view_of after.vault)
   pub named_is : left.named ≡ None
   pub counted_is : left.counted ≡ at_most (length (events_of table course.readings))
-  pub checked : ℕ
-  pub checked_is : checked ≡ length course.readings
-  pub prints : Prints (lines_of table.columns (events_of table course.readings) ++ scrub_text checked left.counted) left.counted
+  pub prints : Prints (lines_of table.columns (events_of table course.readings) ++ scrub_text (length course.readings) left.counted) left.counted
       before.out after.out left.answer
 
 -- A scrub that broke off: it read and told all, and a call that saves the table failed. It printed the lines of what was found.

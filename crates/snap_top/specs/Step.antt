@@ -28,15 +28,15 @@ EndsBy (fixes failed run) before exit status = (ends : EndsFixed before exit sta
 EndsBy (scrubs failed run) before exit status = (ends : EndsScrubbed before exit status) × (ends.run ≡ run)
 EndsBy reads_only before exit status = Unit {0}
 
--- What a run did, and what stands at each moment of it. What was opened is only read, or changed as that says. With status 2 or 5 it only read. A sync, a
--- fix or a scrub with status 0 or 1 did not break off, nor does one with status 3 where nothing failed but the output and readings; and so it ends by that.
--- A check, not an audit, that went to its end names what is lost.
+-- What a run did, and what stands at each moment of it. What was opened is only read, or changed as that says. With status 2 or 5 it
+-- only read. A sync, a fix or a scrub with status 0 or 1 did not break off, nor does one with status 3 where nothing failed but the
+-- output and readings; and so it ends by that. A check that went to its end names what is lost, and an audit finds what is changed.
 pub record RunStep (before : Entry) (exit : Exit) (status : ℕ) : Type 0 where
   pub always : IsSoundAlways before exit status
   pub folders : exit.has_vault ≡ true → folders_after always.did before.opener.folders exit.after.folders
   pub refused : (status ≡ 2) ⊎ (status ≡ 5) → always.did ≡ reads_only
-  pub done : (asked : Options) → asked_by before.texts ≡ Ok asked → ChangesFiles asked.command → (status ≤ 1) ⊎ ((status ≡ 3) × NothingBroke before exit)
-      → has_ended always.did ≡ true
+  pub done : (asked : Options) → asked_by before.texts ≡ Ok asked → ChangesFiles asked.command
+      → (status ≤ 1) ⊎ ((status ≡ 3) × NothingBroke before exit) → has_ended always.did ≡ true
   pub at_end : has_ended always.did ≡ true → EndsBy always.did before exit status
   pub checked : ChecksEnd before exit status
 

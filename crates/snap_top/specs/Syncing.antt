@@ -1,5 +1,5 @@
 -- What the sync of a run does, from the table that it begins with.
-use Rattle.std.specs.Prelude.{◌≡◌, ℕ, ◌+◌, List, [], ◌++◌, length, Bool, true, false, Option, None, Some}
+use Rattle.std.specs.Prelude.{◌≡◌, ℕ, ◌+◌, ◌≤◌, List, [], ◌++◌, length, Bool, true, false, Option, None, Some}
 use Rattle.array_scan.specs.declared.fault.ScanFault.TheVariants as scans
 use Rattle.content_file.specs.Save.{HasSaved, HasNoDraft}
 use Rattle.content_file.specs.Spelling.{spelling}
@@ -26,6 +26,7 @@ use Rattle.snap_sync.specs.Reading.{ReadsFirst}
 use Rattle.snap_sync.specs.Work.{more_findings}
 use Rattle.snap_sync.specs.declared.fault.SyncFault.{SyncFault}
 use Rattle.snap_sync.specs.declared.fault.SyncFault.TheVariants.{Scan, Run}
+use Rattle.stripe_reader.specs.WindowValue.{stripe_count}
 use Rattle.snap_top.specs.Task.{Task, Did, reads_only, syncs, Left, Prints}
 use Rattle.snap_top.specs.Views.{World, AreAllOpen, view_of}
 
@@ -65,8 +66,8 @@ abbrev pub named_of : SyncFault → Option TableValue
 named_of (Scan fault table) = Some table
 named_of (Run _) = None
 
--- The folders were listed and laid out; these pending stripes were read, told and written as far as no call failed, and those ahead were read
--- besides. Just the calls of such a sync were made, and each image at each moment is one of theirs.
+-- The folders were listed and laid out; these pending stripes were read, told and written as far as no call failed, and those ahead
+-- were read besides. Just the calls of such a sync were made, and each image at each moment is one of theirs.
 pub record SyncCourse (task : Task) (way : SyncWay) (table : TableValue) (failed : Bool) (before after : World) (left : Left) (did : Did) : Type 0 where
   pub start : TableValue
   pub listed : List FolderView
@@ -78,8 +79,8 @@ pub record SyncCourse (task : Task) (way : SyncWay) (table : TableValue) (failed
   pub vault : TouchesVault (plan_for task way start before) failed readings (view_of before.vault) (view_of after.vault)
   pub told_is : left.told ≡ events_of start readings
 
--- A sync that ended: all pending stripes were read, those that are verified are synced in the table that every copy spells, and parity has their
--- sums. It printed the lines of its events and its last line.
+-- A sync that ended: all pending stripes were read, those that are verified are synced in the table that every copy spells, and parity
+-- has their sums. It printed the lines of its events and its last line.
 pub record SyncEnds (task : Task) (way : SyncWay) (table : TableValue) (before after : World) (left : Left) (did : Did) : Type 0 where
   pub course : SyncCourse task way table false before after left did
   pub all : length course.readings ≡ (plan_for task way course.start before).all
@@ -94,9 +95,11 @@ pub record SyncEnds (task : Task) (way : SyncWay) (table : TableValue) (before a
   pub counted_is : left.counted ≡ more_findings 0 (length (events_of course.start course.readings))
   pub prints : Prints (lines_of course.start.columns (events_of course.start course.readings) ++ sync_text synced pending) left.counted before.out after.out left.answer
 
--- A sync that broke off once the vault was touched: a call of the vault failed. It printed the lines of its events.
+-- A sync that broke off once the vault was touched: a call of the vault failed. The stripes that it read ahead are no more than one window has. It printed
+-- the lines of its events.
 pub record SyncBreaks (task : Task) (way : SyncWay) (table : TableValue) (before after : World) (left : Left) (did : Did) : Type 0 where
   pub course : SyncCourse task way table true before after left did
+  pub few : length course.ahead ≤ stripe_count (length course.start.columns) course.start.shape.block_size
   pub answer_is : left.answer ≡ answers.Broken runs.Vault
   pub named_is : left.named ≡ None
   pub counted_is : left.counted ≡ 0

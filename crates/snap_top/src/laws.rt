@@ -12,17 +12,23 @@ ghost use Rattle.snap_fix.specs.Ending.{Finishes};
 ghost use Rattle.stripe_examiner.specs.Facts.{StripeFacts};
 ghost use Rattle.snap_fix.specs.Genuine.{IsIntactLevel};
 ghost use Rattle.stripe_examiner.specs.Known.{whole_level};
+ghost use Rattle.stripe_examiner.specs.declared.scope.Mode.{Mode};
+ghost use Rattle.stripe_examiner.specs.declared.scope.Mode.TheVariants as modes;
 ghost use Rattle.snap_fix.specs.Mended.{Mended, has_lost};
 ghost use Rattle.snap_fix.specs.Restored.{HoldsCell};
 ghost use Rattle.snap_sync.specs.Part.{IsFullSync, SyncRun};
 ghost use Rattle.snap_sync.specs.Resumed.{EndsAs};
 ghost use Rattle.snap_sync.specs.Soundness.{AreSound};
+ghost use Rattle.snap_top.specs.Alike.{FindAlike, FixFindsAlike, ReadAlike, seen_by};
+ghost use Rattle.snap_top.specs.Check.{CheckRun};
 ghost use Rattle.snap_top.specs.Fix.{FixRun};
 ghost use Rattle.snap_top.specs.Headline.{Headline};
 ghost use Rattle.snap_top.specs.History.{AreSoundBy, IsHistory as IsHistoryOfRuns, LastSynced, StaysSound, Step};
-ghost use Rattle.snap_top.specs.Moment.{IsFixOf};
-ghost use Rattle.snap_top.specs.Restoring.{Restores};
+ghost use Rattle.snap_top.specs.Moment.{IsFixOf, TellsAll};
+ghost use Rattle.snap_top.specs.Naming.{HasChecked};
+ghost use Rattle.snap_top.specs.Restoring.{EndsFixed, Restores};
 ghost use Rattle.snap_top.specs.Resumed.{AreStoppedRuns, EndAlike, EndsClean, RunOf, StoppedRun, end_of, entry_of};
+ghost use Rattle.snap_top.specs.Spared.{SparesCells};
 ghost use Rattle.snap_top.specs.Standing.{IsHistory, IsOrigin, Stage, Standing};
 ghost use Rattle.snap_top.specs.Stopping.{FindsNoLess, FolderStandsIn, SparesFiles, stop_of};
 ghost use Rattle.snap_top.specs.Sync.{AreStopped, IsOfArray, Stop, SyncsFrom};
@@ -32,12 +38,16 @@ ghost use Rattle.snap_top.specs.Views.{folder_at};
 use content_file::laws::one_table_has_a_spelling;
 use disk_model::{Folder, Opener, Sink, Vault};
 use parity_writer::laws::a_whole_level_is_what_the_file_holds;
-use snap_fix::laws::a_stop_within_a_fix_changes_written_blocks_alone;
+use snap_fix::laws::{
+    a_check_finds_what_a_fix_finds, a_fix_keeps_what_is_sound,
+    a_stop_within_a_fix_changes_written_blocks_alone,
+};
 use snap_scrub::laws::a_scrub_keeps_what_is_synced;
 use snap_sync::laws::{
     a_moment_is_sound_with_its_rows, a_stopped_sync_is_resumed, a_sync_is_a_part_sync,
     every_moment_is_sound, there_is_a_full_sync, what_a_sync_saves_is_valid,
 };
+use stripe_examiner::laws::what_is_read_determines_what_is_found;
 
 /// Syncs by one configuration and over the same trees are stopped one after another, each at any moment; the copies of
 /// the vault were sound before the first of them, and no copy's reading failed. Then the full sync of what the last stop
@@ -88,9 +98,8 @@ pub fn stopped_runs_are_resumed<O: Opener, F: Folder, V: Vault, W: Sink>()
 /// long as no fix met a recorded hash by chance, and all content files had blocks of its size. In what a sync left at
 /// its end these are all that it closed, and each copy spells its table; with status 0 it closed all that were pending.
 /// Where it was stopped, it is open how many of them are. And each fix that went to its end, and met no hash by chance,
-/// restores the blocks of the snapshot of its time, where they are of bytes. Rows of bytes stay so over syncs whose
-/// folders tell their trees. What is said of each run `run` says of it: of its moments and of the end of a sync in its
-/// clause `sound`, of a fix in its clause `fixed`.
+/// restores the blocks of the snapshot of its time, where they are of bytes. Rows of bytes stay so. What is said of each
+/// run `run` says of it: of its moments and of the end of a sync in its clause `sound`, of a fix in its clause `fixed`.
 pub fn copies_stay_sound<O: Opener, F: Folder, V: Vault, W: Sink>()
     ensures { (copies : ℕ) (steps : List (Step O F V W)) (files : Files) (last : LastSynced) →
         IsHistoryOfRuns O.view F.view V.view W.view copies steps files → AreSoundBy copies files last →
@@ -99,8 +108,9 @@ pub fn copies_stay_sound<O: Opener, F: Folder, V: Vault, W: Sink>()
 
 /// Wherever the fix of a run is stopped, also within a write, the file that stood in the place of a record stands under one
 /// of its names with all bytes that it had, but in blocks that the fix writes, and behind the recorded end where no block
-/// is lost. The files of records that are blocked or not selected stay, and so do all that are no record's. Names, sizes
-/// and stamps of these files may have changed. The next fix that goes to its end restores the blocks of the same snapshot
+/// is lost. So the block of a cell that is not damaged, not selected, lost or of a blocked record keeps all bytes that it had
+/// there. The files of records that are blocked or not selected stay, and so do all that are no record's. Names, sizes and
+/// stamps of these files may have changed. The next fix that goes to its end restores the blocks of the same snapshot
 /// (`copies_stay_sound`): those of each stripe that has enough undamaged levels then (`undamaged_levels_restore`). It has
 /// enough if the first one had, where the next one misses no other cell and reads each level again: of the two fixes just
 /// these counts are compared. `run` says of a fix which calls it made of its folders, in its clauses `sound` and `fixed`.
@@ -109,6 +119,10 @@ pub fn a_stopped_fix_spares_and_is_resumed<O: Opener, F: Folder, V: Vault, W: Si
         IsFixOf (entry_of O.view W.view run) (end_of O.view F.view V.view W.view run) fix →
         FolderStandsIn (entry_of O.view W.view run) (end_of O.view F.view V.view W.view run) d left →
         SparesFiles (stop_of fix d (folder_held (entry_of O.view W.view run).opener d) left) }
+    ensures cells { (run : RunOf O F V W) (fix : FixRun) (d : ℕ) (left : Tree) →
+        IsFixOf (entry_of O.view W.view run) (end_of O.view F.view V.view W.view run) fix →
+        FolderStandsIn (entry_of O.view W.view run) (end_of O.view F.view V.view W.view run) d left →
+        SparesCells fix d (folder_held (entry_of O.view W.view run).opener d).tree left }
     ensures again { (first again : FixRun) (is_changed : ℕ → ℕ → Bool) (mended mended_again : Mended) →
         FindsNoLess first again mended mended_again →
         HasEnough first is_changed mended.facts → HasEnough again is_changed mended_again.facts }
@@ -141,12 +155,31 @@ pub fn undamaged_levels_restore<O: Opener, F: Folder, V: Vault, W: Sink>()
     a_whole_level_is_what_the_file_holds();
 }
 
+/// What a check or an audit read determines what it finds. So two of them that read the same of one array find the same, and
+/// a fix that reads what a check read finds what that found, and tells besides what it did. `run` says what each of them read
+/// and found, in its clauses `checked` and `fixed`.
+pub fn what_is_read_alike_is_found_alike<O: Opener, F: Folder, V: Vault, W: Sink>()
+    ensures checks { (mode : Mode) (run again : RunOf O F V W) (one other : CheckRun) →
+        HasChecked mode (entry_of O.view W.view run) (end_of O.view F.view V.view W.view run) run.status one →
+        HasChecked mode (entry_of O.view W.view again) (end_of O.view F.view V.view W.view again) again.status other →
+        ReadAlike one other → FindAlike one other }
+    ensures fix { (run again : RunOf O F V W) (one : CheckRun)
+        (ends : EndsFixed (entry_of O.view W.view again) (end_of O.view F.view V.view W.view again) again.status) →
+        HasChecked modes.Check (entry_of O.view W.view run) (end_of O.view F.view V.view W.view run) run.status one →
+        TellsAll (entry_of O.view W.view again) → ReadAlike one (seen_by ends.run) →
+        FixFindsAlike one ends.run ends.finishes }
+{
+    what_is_read_determines_what_is_found();
+    a_check_finds_what_a_fix_finds();
+}
+
 /// The headline. Whatever happened to an array since it had no content, by runs of any commands, each of which ended or was
 /// stopped at some moment, by edits, by damage to the vault and by other configurations: what stands then is sound; a sync
-/// that ends with status 0 after stopped ones leaves what one leaves that was never stopped; and a fix that goes to its end
-/// restores the blocks that were last synced of each stripe in which no more are missing than levels are intact, unless their
-/// record is blocked, and names those of stripes in which more are missing. Of each fix this supposes that it met no block
-/// that has a recorded hash by chance.
+/// that ends with status 0 after stopped ones leaves what one leaves that was never stopped; what was last synced after a sync
+/// that went to its end is what it read; and a fix that goes to its end restores the blocks that were last synced of each
+/// stripe in which no more are missing than levels are intact, unless their record is blocked, and names those of stripes in
+/// which more are missing. One that is stopped spares the cells that it leaves alone. Of each fix this supposes that it met no
+/// block that has a recorded hash by chance.
 pub fn headline<O: Opener, F: Folder, V: Vault, W: Sink>()
     ensures { (first standing : Standing) (stages : List (Stage O F V W)) → IsOrigin first →
         IsHistory O.view F.view V.view W.view first stages standing → Headline O.view F.view V.view W.view standing }
@@ -159,4 +192,8 @@ pub fn headline<O: Opener, F: Folder, V: Vault, W: Sink>()
     what_a_sync_saves_is_valid();
     a_scrub_keeps_what_is_synced();
     a_whole_level_is_what_the_file_holds();
+    a_stopped_sync_is_resumed();
+    a_fix_keeps_what_is_sound();
+    a_check_finds_what_a_fix_finds();
+    a_stop_within_a_fix_changes_written_blocks_alone();
 }

@@ -1,5 +1,4 @@
 use Rattle.std.proofs.Common.{arith}
-use Rattle.snap_top.proofs.BytesLemmas.{folders_formed}
 use Rattle.snap_top.proofs.CompleteLemmas.{smooth_is_done}
 use Rattle.snap_top.proofs.MomentLemmas.{every_moment}
 use Rattle.snap_top.proofs.NamingLemmas.{checks_end}
@@ -24,15 +23,13 @@ pub returns-clause-sound : goal.returns-clause-sound
 returns-clause-sound g c =
     let ran = c.work-end.ensures in
     let parts = c.a_sync_is_a_part_sync.ensures in
-    every_moment parts.laid parts.copies c.every_moment_is_sound.ensures c.a_fix_keeps_what_is_sound.ensures.sound c.a_scrub_keeps_what_is_synced.ensures.valid c.a_scrub_keeps_what_is_synced.ensures.sound c.a_layout_keeps_its_stripes.ensures c.one_table_has_a_spelling.ensures c.what_is_pending_is_found.ensures.findings _ _ c.work-end.result.end ran.told _ (omega arith)
-    (folders_formed g.O.Folder.Folder.view g.O.Folder.Folder.well_formed c.work-end.result.folders.items) c.status.ensures ran.ran
+    every_moment parts.laid parts.copies c.every_moment_is_sound.ensures c.a_fix_keeps_what_is_sound.ensures.sound c.a_scrub_keeps_what_is_synced.ensures.valid c.a_scrub_keeps_what_is_synced.ensures.sound c.a_layout_keeps_its_stripes.ensures c.one_table_has_a_spelling.ensures c.what_is_pending_is_found.ensures.findings _ _ c.work-end.result.end ran.told _ (omega arith) c.status.ensures ran.ran
 
 pub returns-clause-synced : goal.returns-clause-synced
 returns-clause-synced g c =
     let ran = c.work-end.ensures in
     let parts = c.a_sync_is_a_part_sync.ensures in
-    syncs_end_in_part parts.laid parts.part parts.full parts.given c.what_is_pending_is_found.ensures.findings c.what_is_pending_is_found.ensures.found c.a_layout_keeps_its_stripes.ensures _ _ c.work-end.result.end ran.told _ (omega arith)
-    (folders_formed g.O.Folder.Folder.view g.O.Folder.Folder.well_formed c.work-end.result.folders.items) c.status.ensures ran.ran
+    syncs_end_in_part parts.laid parts.part parts.full parts.given c.what_is_pending_is_found.ensures.findings c.what_is_pending_is_found.ensures.found c.a_layout_keeps_its_stripes.ensures _ _ c.work-end.result.end ran.told _ (omega arith) c.status.ensures ran.ran
 
 pub returns-clause-fixed : goal.returns-clause-fixed
 returns-clause-fixed g c =
@@ -76,5 +73,4 @@ returns-clause-step g c =
       restorable = c.a_known_row_is_the_snapshots.ensures.restorable;
       marks_valid = c.a_scrub_keeps_what_is_synced.ensures.valid;
       marks_sound = c.a_scrub_keeps_what_is_synced.ensures.sound;
-    }) _ _ c.work-end.result.end ran.told _ (omega arith)
-    (folders_formed g.O.Folder.Folder.view g.O.Folder.Folder.well_formed c.work-end.result.folders.items) c.status.ensures ran.ran
+    }) _ _ c.work-end.result.end ran.told _ (omega arith) c.status.ensures ran.ran
