@@ -229,7 +229,7 @@ pub fn folders(alloc: Global, array: Array) -> Result<Vec<MemFolder>, Fail> {
 }
 
 // Words of a command line.
-fn owned(alloc: Global, words: &[&str]) -> Result<Vec<String>, Fail> {
+pub(crate) fn owned(alloc: Global, words: &[&str]) -> Result<Vec<String>, Fail> {
     let mut line = Vec::new(alloc);
     for word in words {
         line.push(String::from_str(alloc, word)?)?;

@@ -15,11 +15,14 @@ pub struct Failing {
 }
 
 impl Failing {
-    /// The same for the call after the vault's, and the one after the folder's.
+    /// The same for the call after that of each object.
     pub fn later(self) -> Failing {
         let mut later = self;
+        later.opener = after(self.opener);
         later.vault = after(self.vault);
         later.folder = after(self.folder);
+        later.out = after(self.out);
+        later.err = after(self.err);
         later
     }
 }

@@ -2,11 +2,13 @@
 //!
 //! Start at `plays` in `cases.rt`: a test is a table of runs and of what each leaves. `run_over` in `arrays.rt` makes
 //! one run, `failing.rt` says which calls of it fail, `damage.rt` changes a vault between two, and `left.rt` compares
-//! what a run left. `next.rt` runs again where a run broke. `contents.rt` has the content files that such runs leave,
-//! spelled by hand.
+//! what a run left. `next.rt` runs again where a run broke, and `turns.rt` lets each call of an object fail in turn.
+//! `contents.rt` and `four.rt` have content files that such runs leave, spelled by hand.
+//! What the laws of `snap_top` suppose is met: `lived.rt` has histories, `resumed.rt` a sync that is resumed and a fix.
 //! A test is proved too, and costs more with each value that owns memory and is alive at a `?` or an `assert!`. So what
 //! a run leaves stays within the functions here, and a test hands over a `static` table.
-//! Proved: it never panics, and what it hands to a run is settled and without drafts. What a run does is `snap_top`'s.
+//! Proved: it never panics, and what it hands to a run is settled and without drafts. The runs of `lived.rt` and `resumed.rt`
+//! are such as `snap_top::laws::headline` speaks of. What a run does is `snap_top`'s.
 #![tactic(auto)]
 
 pub mod arrays;
@@ -14,5 +16,9 @@ pub mod cases;
 pub mod contents;
 pub mod damage;
 pub mod failing;
+pub mod four;
 pub mod left;
+pub mod lived;
 pub mod next;
+pub mod resumed;
+pub mod turns;

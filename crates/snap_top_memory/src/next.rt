@@ -3,7 +3,7 @@ use crate::arrays::{Left, Ran, run_asked};
 use crate::cases::{Case, follow};
 use crate::left::{compare_kept, compare_left};
 use disk_memory::{MemFolder, MemVault};
-use disk_model::{Folder, Vault};
+use disk_model::{Folder, Sink, Vault};
 use snap_top::Outcome;
 use std::alloc::Global;
 use std::test::Fail;
@@ -60,12 +60,25 @@ pub fn run_next<R: Threads + Sync>(
     next: &Case,
     choice: &[u8],
 ) -> Result<(), Fail> {
+    let mut again = run_then(rt, alloc, number, left, next, choice)?;
+    compare_kept(alloc, number, &mut again, whole, next)
+}
+
+/// The same, where nothing is kept.
+pub fn run_then<R: Threads + Sync>(
+    rt: &R,
+    alloc: Global,
+    number: u64,
+    left: Left,
+    next: &Case,
+    choice: &[u8],
+) -> Result<Left, Fail> {
     let mut again = run_again(rt, alloc, left, next, choice)?;
     if again.outcome.status != next.status {
         return Err(Fail::new(format_args!("case {number}: next status")));
     }
     compare_left(alloc, number, &mut again, next)?;
-    compare_kept(alloc, number, &mut again, whole, next)
+    Ok(again)
 }
 
 fn run_again<R: Threads + Sync>(
@@ -95,13 +108,15 @@ fn calmed(folders: Vec<MemFolder>) -> Vec<MemFolder> {
     folders
 }
 
-/// Whether a call of one of the objects failed.
+/// Whether a call of the vault, of a folder or of a stream failed.
 pub fn has_failed(left: &Left) -> bool {
     let vault = match &left.outcome.vault {
         Some(vault) => vault.faults() > 0,
         None => false,
     };
     vault
+        || left.out.faults() > 0
+        || left.err.faults() > 0
         || left
             .outcome
             .folders

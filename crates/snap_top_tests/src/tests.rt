@@ -3,6 +3,7 @@ mod configuration;
 mod contents;
 mod damage;
 mod faults;
+mod lived;
 mod matching;
 mod printing;
 mod usual;

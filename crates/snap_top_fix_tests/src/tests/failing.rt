@@ -6,8 +6,8 @@ use snap_top_memory::damage::Damage;
 use snap_top_memory::next::{TORN, WRITTEN, each_is_followed};
 use std::test::Fail;
 
-// The first level has a 0 in the place of its first byte.
-const LOST: Case = Case {
+/// The first two disks are lost, and the first level has a 0 in the place of its first byte.
+pub const LOST: Case = Case {
     array: EMPTIED,
     damage: Damage::Byte(0, 0, 7),
     out: "changed d1:a recorded 1 1.000000005 found nothing\n\

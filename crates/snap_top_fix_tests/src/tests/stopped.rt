@@ -1,5 +1,6 @@
-// A fix of several files on two disks that are lost, of which a call fails, or all from one on, and the next fix.
-use crate::tests::arrays::{FIX, WHOLE};
+// A fix of two disks that are lost, of which a call fails, or all from one on, and the next fix.
+use crate::tests::arrays::{BEFORE, FIX, FIXED, WHOLE};
+use crate::tests::failing::LOST;
 use snap_top_memory::arrays::{Array, Disk, Failing, Left, NONE};
 use snap_top_memory::cases::{Case, SYNCED, follow, run_after, vault_after};
 use snap_top_memory::damage::Damage;
@@ -25,7 +26,15 @@ const DISKS: &[Disk] = &[
     &[("y", Y, 1, 5)],
 ];
 
-static FIRST: Case = Case {
+// What is synced, a fix of what was lost of it, what the next fix leaves, and a file of a disk that was whole.
+struct Story<'a> {
+    first: Case<'a>,
+    broken: Case<'a>,
+    next: Case<'a>,
+    whole: (usize, &'a str, &'a [u8]),
+}
+
+const FIRST: Case = Case {
     array: Array {
         disks: DISKS,
         ..WHOLE
@@ -73,7 +82,7 @@ const BROKEN: Case = Case {
 };
 
 // What the next fix leaves: all as it was synced.
-static NEXT: Case = Case {
+const NEXT: Case = Case {
     words: FIX,
     array: WHOLE,
     keeps: true,
@@ -82,12 +91,38 @@ static NEXT: Case = Case {
     ..SYNCED
 };
 
+// Several files, some of them of several blocks.
+static SEVERAL: Story = Story {
+    first: FIRST,
+    broken: BROKEN,
+    next: NEXT,
+    whole: (2, "y", Y),
+};
+
+// One file of one block on each disk.
+static ONE_EACH: Story = Story {
+    first: BEFORE,
+    broken: Case {
+        keeps: true,
+        stays: Some(1),
+        ..LOST
+    },
+    next: FIXED,
+    whole: (2, "a", b"\x04"),
+};
+
 // More calls than an object gets.
 const MANY: u64 = 100;
 
 // Whether the disk that was whole has its bytes, under one of the two names.
-fn keeps_whole_disk(alloc: Global, left: &mut Left) -> Result<bool, Fail> {
-    Ok(has_bytes(alloc, left, 2, "y", Y)? || has_bytes(alloc, left, 2, "y.unrecoverable", Y)?)
+fn keeps_whole_disk(alloc: Global, left: &mut Left, story: &Story) -> Result<bool, Fail> {
+    let (disk, name, bytes) = story.whole;
+    let mut lost = String::from_str(alloc, name)?;
+    lost.push_str(".unrecoverable")?;
+    Ok(
+        has_bytes(alloc, left, disk, name, bytes)?
+            || has_bytes(alloc, left, disk, lost.as_str(), bytes)?,
+    )
 }
 
 // What a fix left of which a call failed: besides the whole disk, the content and the levels but for the wrong one.
@@ -96,13 +131,14 @@ fn break_fix<R: Threads + Sync>(
     alloc: Global,
     before: Left,
     case: &Case,
+    story: &Story,
 ) -> Result<Left, Fail> {
     let mut before = Some(before);
     let mut given = vault_after(alloc, &mut before, case)?;
     let mut left = run_after(rt, alloc, before, case)?;
     if has_failed(&left) {
         compare_kept(alloc, 0, &mut left, &mut given, case)?;
-        if !keeps_whole_disk(alloc, &mut left)? {
+        if !keeps_whole_disk(alloc, &mut left, story)? {
             return Err("a whole disk is changed".into());
         }
     }
@@ -114,18 +150,19 @@ fn break_fix<R: Threads + Sync>(
 fn ends<R: Threads + Sync>(
     rt: &R,
     alloc: Global,
+    story: &Story,
     failing: Failing,
     choice: &[u8],
 ) -> Result<bool, Fail> {
-    let before = follow(rt, alloc, 0, None, &FIRST)?;
+    let before = follow(rt, alloc, 0, None, &story.first)?;
     let mut whole = before.reopened()?;
-    let mut case = BROKEN;
+    let mut case = story.broken;
     case.failing = failing;
-    let left = break_fix(rt, alloc, before, &case)?;
+    let left = break_fix(rt, alloc, before, &case, story)?;
     if !has_failed(&left) {
         return Ok(left.is(0, case.out, ""));
     }
-    run_next(rt, alloc, 0, left, &mut whole, &NEXT, choice)?;
+    run_next(rt, alloc, 0, left, &mut whole, &story.next, choice)?;
     Ok(false)
 }
 
@@ -133,12 +170,13 @@ fn ends<R: Threads + Sync>(
 fn fail_in_turn<R: Threads + Sync>(
     rt: &R,
     alloc: Global,
+    story: &Story,
     first: Failing,
     choice: &[u8],
 ) -> Result<(), Fail> {
     let mut failing = first;
     for _ in 0..MANY {
-        if ends(rt, alloc, failing, choice)? {
+        if ends(rt, alloc, story, failing, choice)? {
             return Ok(());
         }
         failing = failing.later();
@@ -173,7 +211,9 @@ fn wherever_a_fix_stops_the_next_one_restores_all(rt: HostRuntime) -> Result<(),
         },
     ];
     for first in &STOPS {
-        fail_in_turn(&rt, rt.alloc(), *first, TORN)?;
+        fail_in_turn(&rt, rt.alloc(), &SEVERAL, *first, TORN)?;
+        fail_in_turn(&rt, rt.alloc(), &ONE_EACH, *first, TORN)?;
+        fail_in_turn(&rt, rt.alloc(), &ONE_EACH, *first, WRITTEN)?;
     }
     Ok(())
 }
@@ -195,7 +235,7 @@ fn whichever_call_of_a_fix_fails_the_next_one_restores_all(rt: HostRuntime) -> R
         },
     ];
     for first in &FAULTS {
-        fail_in_turn(&rt, rt.alloc(), *first, WRITTEN)?;
+        fail_in_turn(&rt, rt.alloc(), &SEVERAL, *first, WRITTEN)?;
     }
     Ok(())
 }

@@ -1,0 +1,172 @@
+-- A sync that was stopped and made again, and a fix of what stands after a history.
+use Rattle.std.proofs.Common.{◌≡◌, inl, ℕ, ◌≤◌, List, [], ◌∷◌, map, is_some, true, Option, Ok, refl, sym, ap, ◌∙◌, subst, arith}
+use Rattle.content_file.specs.Load.{HasFailed}
+use Rattle.disk_model.specs.Folder.{FolderView}
+use Rattle.disk_model.specs.Opener.{OpenerView}
+use Rattle.disk_model.specs.Sink.{SinkView}
+use Rattle.disk_model.specs.Tree.{Tree}
+use Rattle.disk_model.specs.Vault.{VaultView, copies_of}
+use Rattle.disk_memory.specs.Vault.{VaultValue, fresh_vault, view_of}
+use Rattle.snap_sync.specs.Part.{trees_of}
+use Rattle.snap_top.specs.Headline.{FixesToItsEnd, Headline, IsAskedToSync, SyncsClean}
+use Rattle.snap_top.specs.History.{LastSynced}
+use Rattle.snap_top.specs.Opening.{asked_by}
+use Rattle.snap_top.specs.Resumed.{RunOf}
+use Rattle.snap_top.specs.Run.{Entry, Exit, vault_in}
+use Rattle.snap_top.specs.Standing.{GoesOver, IsHistory, IsOrigin, Runs, Stage, Standing, after_of, before_of, nothing_synced}
+use Rattle.snap_top_memory.specs.Lived.{AskForFix, AskForNoFix, AskForSync, HasHistory, IsFixedAtLast, IsLeftOf, IsNoFix, IsResumedOnce, RunsOver, standing_of}
+use Rattle.snap_top_memory.proofs.BeginLemmas.{origin}
+use Rattle.snap_top_memory.proofs.LivedLemmas.{goes_with, no_chance, quiet_run, trees_kept}
+
+no_fix : (texts : List (List ℕ)) (config : List ℕ) → AskForSync texts config → AskForNoFix texts
+no_fix texts config asks = record { asked = asks.asked; words = asks.words; is_none = subst IsNoFix (sym asks.command_is) tt }
+
+module _ {O F V W : Type 0} (opener_view : O → OpenerView) (folder_view : F → FolderView) (vault_view : V → VaultView) (sink_view : W → SinkView) where
+  abbrev begun : RunOf O F V W → Entry
+  begun run = before_of opener_view folder_view vault_view sink_view run
+
+  abbrev ended : RunOf O F V W → Exit
+  ended run = after_of opener_view folder_view vault_view sink_view run
+
+  abbrev Goes : RunOf O F V W → Standing → Standing → Type 0
+  Goes run standing next = GoesOver opener_view folder_view vault_view sink_view run standing next
+
+  abbrev HoldsAlways : Type 0
+  HoldsAlways = (first standing : Standing) (stages : List (Stage O F V W)) → IsOrigin first → IsHistory opener_view folder_view vault_view sink_view first stages standing
+      → Headline opener_view folder_view vault_view sink_view standing
+
+  none_failed : (config : List ℕ) (texts : List (List ℕ)) (seed : List ℕ) (folders : List FolderView) (vault : VaultView) (status : ℕ) (left_folders : List F) (left : V)
+      → (runs : RunsOver opener_view folder_view vault_view sink_view config texts seed folders vault status left_folders left) → (vault_view left).faults ≡ 0
+      → (copy : ℕ) → ¬ (HasFailed (begun runs.run).opener.vault (ended runs.run).after.vault copy)
+  none_failed config texts seed folders vault status left_folders left runs calm copy failed =
+      let none : (ended runs.run).after.vault.faults ≡ 0 = ap (λ (v : Option V). (vault_in vault_view (opener_view runs.run.opener_new).vault v).faults) runs.vault_is ∙ calm in
+      absurd (omega (arith, failed.rose, none, runs.faults))
+
+  is_asked : (config : List ℕ) (texts : List (List ℕ)) (seed : List ℕ) (folders : List FolderView) (vault : VaultView) (last : LastSynced) (trees : List Tree) (status : ℕ) (left_folders : List F) (left : V)
+      → (runs : RunsOver opener_view folder_view vault_view sink_view config texts seed folders vault status left_folders left) → (vault_view left).faults ≡ 0
+      → (asks : AskForSync texts config) → trees_of folders ≡ trees
+      → IsAskedToSync opener_view folder_view vault_view sink_view asks.setup.setup trees seed (standing_of config folders vault last) runs.run
+  is_asked config texts seed folders vault last trees status left_folders left runs calm asks same =
+      record {
+        asked = asks.asked;
+        way = asks.way;
+        words = subst (λ (ts : List (List ℕ)). asked_by ts ≡ Ok asks.asked) (sym runs.texts_are) asks.words;
+        command_is = asks.command_is;
+        says = asks.setup.says;
+        trees_are = same;
+        seed_is = λ none. runs.seed_is;
+        reads_well = none_failed config texts seed folders vault status left_folders left runs calm;
+      }
+
+  -- a sync that ended with status 0
+  syncs_clean : (config : List ℕ) (texts : List (List ℕ)) (seed : List ℕ) (folders : List FolderView) (vault : VaultView) (last : LastSynced) (trees : List Tree) (status : ℕ) (left_folders : List F) (left : V)
+      → Headline opener_view folder_view vault_view sink_view (standing_of config folders vault last)
+      → (runs : RunsOver opener_view folder_view vault_view sink_view config texts seed folders vault status left_folders left) → (vault_view left).faults ≡ 0
+      → (asks : AskForSync texts config) → trees_of folders ≡ trees → status ≡ 0
+      → (next : Standing) × SyncsClean opener_view folder_view vault_view sink_view asks.setup.setup trees seed (standing_of config folders vault last) runs.run next
+  syncs_clean config texts seed folders vault last trees status left_folders left headline runs calm asks same zero =
+      let step = runs.step in
+      let has : (ended runs.run).has_vault ≡ true = ap (λ (v : Option V). is_some v) runs.vault_is in
+      let at_end = headline.arrives runs.run (runs.begins last) step has
+      (no_chance step.always.did (quiet_run opener_view folder_view vault_view sink_view config texts seed folders vault status left_folders left runs (no_fix texts config asks) step.always.did step.always.is_did) last.snapshot) in (
+        at_end.0,
+        record {
+          goes = at_end.3;
+          asked = is_asked config texts seed folders vault last trees status left_folders left runs calm asks same;
+          clean = runs.status_is ∙ zero;
+          stands = inl at_end.1;
+        },
+      )
+
+  begins_nothing : (config : List ℕ) (folders : List FolderView) (levels copies : ℕ) (value : VaultValue) → value ≡ fresh_vault levels copies
+      → IsOrigin (standing_of config folders (view_of value) nothing_synced)
+  begins_nothing config folders levels copies value fresh =
+      subst (λ (v : VaultValue). IsOrigin (standing_of config folders (view_of v) nothing_synced)) (sym fresh) (origin config folders levels copies)
+
+  -- what stands before two syncs of one array
+  same_first : (config : List ℕ) (folders others : List FolderView) (levels copies : ℕ) (value other : VaultValue) → value ≡ fresh_vault levels copies → other ≡ fresh_vault levels copies
+      → trees_of others ≡ trees_of folders → standing_of config others (view_of other) nothing_synced ≡ standing_of config folders (view_of value) nothing_synced
+  same_first config folders others levels copies value other fresh fresh_too same =
+      ap (λ (v : VaultValue). standing_of config others (view_of v) nothing_synced) (fresh_too ∙ sym fresh)
+      ∙ ap (λ (trees : List Tree). record { config = config; trees = trees; copies = copies_of (view_of value); files = (view_of value).files; last = nothing_synced }) same
+
+  pub resumed_once : (config : List ℕ) (texts : List (List ℕ)) (seed : List ℕ) (levels copies : ℕ) (value other : VaultValue) (folders : List FolderView) (made : VaultView)
+      (status status_then status_last : ℕ) (left_folders then_folders last_folders : List F) (left left_then left_last : V)
+      → HoldsAlways → value ≡ fresh_vault levels copies → other ≡ fresh_vault levels copies → AskForSync texts config
+      → RunsOver opener_view folder_view vault_view sink_view config texts seed folders (view_of value) status left_folders left → (vault_view left).faults ≡ 0 → status ≡ 0
+      → RunsOver opener_view folder_view vault_view sink_view config texts seed (map folder_view left_folders) (view_of other) status_then then_folders left_then → (vault_view left_then).faults ≡ 0
+      → IsLeftOf (vault_view left_then) made → copies_of made ≡ copies_of (view_of other)
+      → RunsOver opener_view folder_view vault_view sink_view config texts seed (map folder_view then_folders) made status_last last_folders left_last → (vault_view left_last).faults ≡ 0 → status_last ≡ 0
+      → IsResumedOnce opener_view folder_view vault_view sink_view
+  resumed_once config texts seed levels copies value other folders made status status_then status_last left_folders then_folders last_folders left left_then left_last
+      holds fresh fresh_too asks whole calm zero stopped calm_then left_of as_many last calm_last zero_last =
+      let first : Standing = standing_of config folders (view_of value) nothing_synced in
+      let first_too : Standing = standing_of config (map folder_view left_folders) (view_of other) nothing_synced in
+      let is_first : IsOrigin first = begins_nothing config folders levels copies value fresh in
+      let is_first_too : IsOrigin first_too = begins_nothing config (map folder_view left_folders) levels copies other fresh_too in
+      let trees : List Tree = trees_of folders in
+      let headline = holds first first [] is_first refl in
+      let headline_too = holds first_too first_too [] is_first_too refl in
+      let asks_no_fix = no_fix texts config asks in
+      let same : trees_of (map folder_view left_folders) ≡ trees = trees_kept opener_view folder_view vault_view sink_view config texts seed folders (view_of value) nothing_synced status left_folders left headline whole asks_no_fix in
+      let same_too : trees_of (map folder_view then_folders) ≡ trees
+      = trees_kept opener_view folder_view vault_view sink_view config texts seed (map folder_view left_folders) (view_of other) nothing_synced status_then then_folders left_then headline_too stopped asks_no_fix ∙ same in
+      let once = syncs_clean config texts seed folders (view_of value) nothing_synced trees status left_folders left headline whole calm asks refl zero in
+      let going = goes_with opener_view folder_view vault_view sink_view config texts seed (map folder_view left_folders) (view_of other) made nothing_synced status_then then_folders left_then headline_too stopped asks_no_fix left_of as_many in
+      let later : Standing = standing_of config (map folder_view then_folders) made going.0 in
+      let are_one : first_too ≡ first = same_first config folders (map folder_view left_folders) levels copies value other fresh fresh_too same in
+      let goes : Goes stopped.run first later = subst (λ (s : Standing). Goes stopped.run s later) are_one going.1 in
+      let asked = subst (λ (s : Standing). IsAskedToSync opener_view folder_view vault_view sink_view asks.setup.setup trees seed s stopped.run) are_one
+      (is_asked config texts seed (map folder_view left_folders) (view_of other) nothing_synced trees status_then then_folders left_then stopped calm_then asks same) in
+      let stages : List (Stage O F V W) = record { change = Runs stopped.run; next = later } ∷ [] in
+      let history : IsHistory opener_view folder_view vault_view sink_view first stages later = (goes, refl) in
+      let again = syncs_clean config texts seed (map folder_view then_folders) made going.0 trees status_last last_folders left_last (holds first later stages is_first history) last calm_last asks same_too zero_last in
+      record {
+        first = first;
+        later = later;
+        once = once.0;
+        again = again.0;
+        setup = asks.setup.setup;
+        trees = trees;
+        seed = seed;
+        stopped = stopped.run;
+        whole = whole.run;
+        last = last.run;
+        origin = is_first;
+        goes = goes;
+        asked = asked;
+        clean = once.1;
+        resumed = again.1;
+        alike = headline.resumed asks.setup.setup trees seed stages later once.0 again.0 whole.run last.run history (inl asked, tt) once.1 again.1;
+      }
+
+  pub fixed_at_last : (config : List ℕ) (texts : List (List ℕ)) (seed : List ℕ) (folders : List FolderView) (vault : VaultView) (statuses : List ℕ) (status : ℕ) (left_folders : List F) (left : V)
+      → HoldsAlways → HasHistory opener_view folder_view vault_view sink_view config folders vault statuses → AskForFix texts
+      → RunsOver opener_view folder_view vault_view sink_view config texts seed folders vault status left_folders left → status ≤ 1
+      → IsFixedAtLast opener_view folder_view vault_view sink_view status
+  fixed_at_last config texts seed folders vault statuses status left_folders left holds has asks runs well =
+      let standing : Standing = standing_of config folders vault has.last in
+      let headline = holds has.first standing has.stages has.origin has.history in
+      let given : (ended runs.run).has_vault ≡ true = ap (λ (v : Option V). is_some v) runs.vault_is in
+      let fixes : FixesToItsEnd opener_view folder_view vault_view sink_view runs.run = record {
+        asked = asks.asked;
+        selection = asks.selection;
+        words = subst (λ (ts : List (List ℕ)). asked_by ts ≡ Ok asks.asked) (sym runs.texts_are) asks.words;
+        command_is = asks.command_is;
+        well = inl (omega (arith, well, runs.status_is));
+      } in
+      record {
+        first = has.first;
+        standing = standing;
+        stages = has.stages;
+        run = runs.run;
+        origin = has.origin;
+        history = has.history;
+        status_is = runs.status_is;
+        begins = runs.begins has.last;
+        step = runs.step;
+        fixes = fixes;
+        restores = λ genuine.
+            let at_end = headline.arrives runs.run (runs.begins has.last) runs.step given genuine in
+            (at_end.0, at_end.3, at_end.2, headline.restores runs.run at_end.0 at_end.3 fixes at_end.2);
+      }

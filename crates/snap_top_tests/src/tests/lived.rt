@@ -1,0 +1,25 @@
+// Histories in memory: what the laws of `snap_top` suppose is proved of them, and here they are met.
+use snap_top_memory::arrays::{FIVE, SYNC};
+use snap_top_memory::lived::{Lived, Told, three_runs_from_nothing};
+use snap_top_memory::next::{TORN, WRITTEN};
+use snap_top_memory::resumed::{fix_at_last, stop_and_sync_again};
+use std::test::Fail;
+
+const SCRUB: &[&str] = &["snapraid", "scrub", "-c", "FILE", "-p", "full"];
+
+const FIX: &[&str] = &["snapraid", "fix", "-c", "FILE"];
+
+// What a stop after nine calls leaves, with other bytes wherever one was written and not handed to the disk.
+const WITHIN_A_WRITE: &[u8] = &[9, 0, 0, 0, 0, 0, 0, 0, 0xff, 0xff, 0xff, 0xff];
+
+#[test]
+fn a_history_of_a_stopped_sync_another_one_and_a_scrub(rt: HostRuntime) -> Result<(), Fail> {
+    static RUNS: [Told; 3] = [(SYNC, WITHIN_A_WRITE), (SYNC, TORN), (SCRUB, WRITTEN)];
+    let alloc = rt.alloc();
+    let lived = three_runs_from_nothing(&rt, alloc, FIVE, &RUNS)?;
+    let Lived { statuses, .. } = &lived;
+    assert!(rt; statuses.as_slice() == [0, 0, 0].as_slice());
+    assert!(rt; fix_at_last(&rt, alloc, lived, FIX)? == 0);
+    assert!(rt; stop_and_sync_again(&rt, alloc, FIVE, SYNC, WITHIN_A_WRITE)? == 0);
+    Ok(())
+}
