@@ -1,6 +1,8 @@
 """Arrays in memory-backed storage, for the benches that run whole commands."""
 import os
 import shutil
+import subprocess
+import sys
 
 TOP = os.path.dirname(os.path.dirname(os.path.abspath(__file__)))
 PROGRAM = os.path.join(TOP, "crates", "snapraid", "out", "snapraid")
@@ -10,6 +12,8 @@ DISKS, LEVELS = 6, 3
 def make_files(room, name, total, size):
     """Files of about this size, in folders of a hundred, until there are so many bytes. They have a stamp with nanoseconds."""
     count = max(1, total // size)
+    for disk in range(DISKS):
+        os.makedirs(os.path.join(room, name, f"d{disk}"))
     block = os.urandom(1 << 20)
     for number in range(count):
         folder = os.path.join(room, name, f"d{number % DISKS}", f"part{number // (100 * DISKS):05}")
@@ -25,12 +29,12 @@ def make_files(room, name, total, size):
     return count
 
 
-def configuration(room, name, tool, block=256):
-    """The path of a configuration with blocks of so many KiB."""
+def configuration(room, name, tool, block=256, levels=LEVELS):
+    """The path of a configuration with blocks of so many KiB, so many levels, and one copy of the content more."""
     lines = []
-    for level in range(LEVELS):
+    for level in range(levels):
         lines.append(f"{'' if level == 0 else str(level + 1) + '-'}parity {room}/{tool}-{name}.parity{level}")
-    for copy in range(LEVELS + 1):
+    for copy in range(levels + 1):
         lines.append(f"content {room}/{tool}-{name}.content{copy}")
     lines += [f"data d{disk} {room}/{name}/d{disk}/" for disk in range(DISKS)]
     lines.append(f"blocksize {block}")
@@ -48,3 +52,29 @@ def tools():
         # It wants each disk on a device of its own.
         found["real"] = [real, "--test-skip-device"]
     return found
+
+
+def heading(title, *first):
+    """The lines above a table of figures, each row of which begins with these columns."""
+    columns = [*first, "tool", "wall s", "processor s", "memory MiB"]
+    print(title)
+    print(f"| {' | '.join(columns)} |")
+    print("|---" * len(columns) + "|", flush=True)
+
+
+def row(*cells):
+    """A row of such a table: times have two digits behind the point."""
+    print(f"| {' | '.join(f'{cell:.2f}' if isinstance(cell, float) else str(cell) for cell in cells)} |", flush=True)
+
+
+def measured(command):
+    """Wall time, processor time and the most memory in KiB of one run, by a process of its own that waits for it, and what it printed. A
+    command that finds something ends with 1, so any status is taken."""
+    script = ("import resource, subprocess, sys, time; start = time.monotonic(); "
+              "said = subprocess.run(sys.argv[1:], stdout=subprocess.PIPE, stderr=subprocess.STDOUT).stdout; "
+              "wall = time.monotonic() - start; used = resource.getrusage(resource.RUSAGE_CHILDREN); sys.stdout.buffer.write(said); "
+              "print(); print(wall, used.ru_utime + used.ru_stime, used.ru_maxrss)")
+    said = subprocess.run([sys.executable, "-c", script, *command], stdout=subprocess.PIPE, check=True).stdout.decode(errors="replace")
+    text, _, figures = said.rstrip().rpartition("\n")
+    wall, spent, memory = figures.split()
+    return float(wall), float(spent), int(memory), text

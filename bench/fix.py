@@ -18,16 +18,6 @@ import arrays  # noqa: E402
 LOST = (1, 4)
 
 
-def measured(command):
-    """Wall time, processor time and the most memory of one run, by a process of its own that waits for it. A check ends with 1 where it
-    finds something, so any status is taken."""
-    script = ("import resource, subprocess, sys, time; start = time.monotonic(); "
-              "subprocess.run(sys.argv[1:], stdout=subprocess.DEVNULL, stderr=subprocess.DEVNULL); wall = time.monotonic() - start; "
-              "used = resource.getrusage(resource.RUSAGE_CHILDREN); print(wall, used.ru_utime + used.ru_stime, used.ru_maxrss // 1024)")
-    said = subprocess.run([sys.executable, "-c", script, *command], stdout=subprocess.PIPE, check=True).stdout.split()
-    return float(said[0]), float(said[1]), int(said[2])
-
-
 def differ(one, other):
     """The first file of a tree that another tree does not hold with the same bytes, size and time."""
     for folder, _, names in os.walk(one):
@@ -46,22 +36,20 @@ def main():
     with tempfile.TemporaryDirectory(dir="/dev/shm") as room:
         count = arrays.make_files(room, "files", total, 4 << 20)
         tree = os.path.join(room, "files")
-        print(f"{arrays.DISKS} disks, {arrays.LEVELS} levels, blocks of 256 KiB, {count} files; disks {LOST} are emptied")
-        print("| run | tool | wall s | processor s | memory MiB |")
-        print("|---|---|---|---|---|")
+        arrays.heading(f"{arrays.DISKS} disks, {arrays.LEVELS} levels, blocks of 256 KiB, {count} files; disks {LOST} are emptied", "run")
         for tool, words in arrays.tools().items():
             command = [*words, "-c", arrays.configuration(room, "files", tool)]
             subprocess.run([*command, "sync"], stdout=subprocess.DEVNULL, check=True)
-            rows = [("check, whole", measured([*command, "check"]))]
+            rows = [("check, whole", arrays.measured([*command, "check"]))]
             kept = os.path.join(room, "kept")
             os.makedirs(kept)
             for disk in LOST:
                 shutil.move(os.path.join(tree, f"d{disk}"), kept)
                 os.makedirs(os.path.join(tree, f"d{disk}"))
-            rows.append(("check, two lost", measured([*command, "check"])))
-            rows.append(("fix, two lost", measured([*command, "fix"])))
-            for name, (wall, spent, memory) in rows:
-                print(f"| {name} | {tool} | {wall:.2f} | {spent:.2f} | {memory} |", flush=True)
+            rows.append(("check, two lost", arrays.measured([*command, "check"])))
+            rows.append(("fix, two lost", arrays.measured([*command, "fix"])))
+            for name, (wall, spent, memory, _) in rows:
+                arrays.row(name, tool, wall, spent, memory // 1024)
             for disk in LOST:
                 wrong = differ(os.path.join(kept, f"d{disk}"), os.path.join(tree, f"d{disk}"))
                 if wrong is not None:

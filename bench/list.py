@@ -42,9 +42,7 @@ def main():
     files = int(sys.argv[1]) if len(sys.argv) > 1 else 200_000
     with tempfile.TemporaryDirectory(dir="/dev/shm") as room:
         count = arrays.make_files(room, "files", files * 512, 512)
-        print(f"{arrays.DISKS} disks, blocks of 1 KiB, {count} files, the middle of {RUNS} runs")
-        print("| tool | wall s | processor s | memory MiB |")
-        print("|---|---|---|---|")
+        arrays.heading(f"{arrays.DISKS} disks, blocks of 1 KiB, {count} files, the middle of {RUNS} runs")
         commands = {tool: [*words, "-c", arrays.configuration(room, "files", tool, 1)] for tool, words in arrays.tools().items()}
         for command in commands.values():
             subprocess.run([*command, "sync"], stdout=subprocess.DEVNULL, stderr=subprocess.DEVNULL, check=True)
@@ -58,7 +56,7 @@ def main():
                         sys.exit(f"{tool}: not all files are listed")
         for tool, row in rows.items():
             walls, spent, memory = zip(*row)
-            print(f"| {tool} | {statistics.median(walls):.2f} | {statistics.median(spent):.2f} | {max(memory):.0f} |")
+            arrays.row(tool, statistics.median(walls), statistics.median(spent), round(max(memory)))
 
 
 main()

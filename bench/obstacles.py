@@ -27,9 +27,12 @@ FIRST = "snapraid: disk 'd1' failed\nsnapraid: "
 VAULT = "snapraid: parity or content failed\nsnapraid: "
 NO_FILE = "': not a regular file\n"
 NO_ROOM = "': No space left on device\n"
-GONE = VAULT + "parity file '{room}/par/p' is not there: mount its disk, or rebuild it by 'fix -d parity'\n"
-# Seconds of the earliest file: none before 1970 can be set.
-EARLY = {"d1/first": 0}
+MISSING = "snapraid: parity file '{room}/par/p' is not there: mount its disk, or rebuild it by 'fix -d parity'\n"
+GONE = "snapraid: parity or content failed\n" + MISSING
+# Times of the earliest files, in nanoseconds since 1970. A fix can't set one before 1970.
+FIRST_OF_1970 = "d1/first"
+BEFORE_1970 = {"d2/before": -1, "d2/half": -500_000_000, "d2/oldest": -2**31 * 10**9}
+EARLY = {FIRST_OF_1970: 0, **BEFORE_1970}
 
 
 class Array:
@@ -45,9 +48,9 @@ class Array:
         self.put("d1/" + LONG, b"long name")
         self.put("d2/c", b"c" * 2_000)
         self.put("outside/b", b"outside")
-        for name, seconds in EARLY.items():
+        for name in EARLY:
             self.put(name, name.encode())
-            os.utime(self.at(name), ns=(5, round(seconds * 10**9)))
+        set_early_times(self)
         with open(self.at("conf"), "w", encoding="ascii") as out:
             out.write(CONFIG.format(room=room))
         if self.run("sync")[0] != 0:
@@ -63,7 +66,7 @@ class Array:
         os.utime(self.at(name), ns=(5, 1_000_000_005))
 
     def run(self, command):
-        done = subprocess.run([self.program, command, "-c", self.at("conf")], capture_output=True, text=True, check=False)
+        done = subprocess.run([self.program, *command.split(), "-c", self.at("conf")], capture_output=True, text=True, check=False)
         return done.returncode, done.stdout, done.stderr
 
     def files(self):
@@ -82,6 +85,11 @@ class Array:
                 elif not os.path.isdir(path):
                     seen[short] = "no file"
         return seen
+
+
+def set_early_times(array):
+    for name, time in EARLY.items():
+        os.utime(array.at(name), ns=(5, time))
 
 
 def replaced_by_link(name, target):
@@ -233,14 +241,18 @@ CASES = [
      "snapraid: read '{room}/par/p" + NO_FILE, "restored d2:c\nfix: 2 blocks and 0 parities fixed, 0 findings left\n", ("d2/c",),
      lambda array: os.rmdir(array.at("par/p"))),
     ("a folder in the place of the content file", folder_in_place("c/content"), 3, VAULT + "look at '{room}/c/content" + NO_FILE, "", (), None),
-    ("a file of the first moment of 1970 that is gone", removed(*EARLY), 0, "", "fix: 1 blocks and 0 parities fixed, 0 findings left\n", tuple(EARLY),
-     nothing),
+    ("a file of the first moment of 1970 that is gone", removed(FIRST_OF_1970), 0, "", "fix: 1 blocks and 0 parities fixed, 0 findings left\n",
+     (FIRST_OF_1970,), nothing),
+    ("files from before 1970 that are gone, until their times are set by hand", removed(*BEFORE_1970), 3,
+     "snapraid: disk 'd2' failed\nsnapraid: set the time of '{room}/d2/before': a time before 1970 can't be set\n", "", tuple(BEFORE_1970),
+     set_early_times),
 ]
 
 # What it is, the damage, the command, its status, what stands on standard error, and how the obstacle goes.
 OTHERS = [
     ("a parity disk that is not mounted", empty_mount, "sync", 3, GONE, without_mount("par")),
-    ("a parity file that is gone at a check", removed("par/p"), "check", 1, "", lambda array: array.run("fix")),
+    ("a parity file that is gone at a check", removed("par/p"), "check", 1, MISSING, lambda array: array.run("fix")),
+    ("a parity file that is gone at a scrub", removed("par/p"), "scrub -p full", 1, MISSING, lambda array: array.run("fix")),
     ("a parity file that is gone at a sync with nothing to do", removed("par/p"), "sync", 3, GONE, lambda array: array.run("fix")),
     ("a full disk under parity", full("par"), "sync", 3, VAULT + "write '{room}/par/p" + NO_ROOM, without_mount("par")),
     ("a full disk under content", full("c"), "sync", 3, VAULT + "write '{room}/c/content.tmp" + NO_ROOM, without_mount("c")),

@@ -2,8 +2,8 @@
 """Proves a program and all crates that it stands on, on all processors, and says how far it is.
 
 usage: bench/prove.py PROGRAM WIDE [WORD ..]     for ./demo: bench/prove.py snapraid snap_sync sync -c array.conf
-The crate WIDE stands on many others: they and it are proved first, side by side. The others above them stand on one another, so each
-of them is proved alone, by as many processes as there are processors. Crates whose proofs are kept take a second each. Where there is
+The crate WIDE stands on many others: they and it are proved first, side by side. Then each of the others is proved alone, on all
+processors, the lowest first. Crates whose proofs are kept take a second each. Where there is
 more to prove, the program is run unproved with these words meanwhile, so that it is seen at work within two minutes. How long the rest
 takes is guessed from the table of costs in CONTRIBUTING.md.
 """
@@ -117,7 +117,7 @@ def main():
         proving.join(PATIENCE)
     if words and proving.is_alive():
         minutes = sum(proving.cost.values()) // MINUTE
-        print(f"all of it took {minutes} processor minutes when it was measured; until then, this is the program as it stands:", flush=True)
+        print(f"the proofs took {minutes} processor minutes when they were measured; meanwhile this is the program as it stands:", flush=True)
         show_unproved(proving, words)
     while proving.is_alive():
         print(proving.how_far(), flush=True)

@@ -9,6 +9,7 @@ what checks and fixes print and what they leave, for any number of readers, and 
 import itertools
 import os
 import random
+import re
 import shutil
 import subprocess
 import sys
@@ -69,6 +70,16 @@ class Array:
     def run(self, command, *words):
         done = subprocess.run([self.program, command, "-c", f"{self.room}/conf", *words], capture_output=True, check=False)
         return done.returncode, done.stdout.decode(), done.stderr.decode()
+
+    def tells_missing(self, err, out):
+        """Whether standard error names levels that are gone alone, each once, and all of those that were found wrong."""
+        gone = {}
+        for i in range(self.count):
+            if not os.path.exists(f"{self.room}/p{i}"):
+                gone[f"snapraid: parity file '{self.room}/p{i}' is not there: mount its disk, or rebuild it by 'fix -d {KEYWORDS[i]}'\n"] = KEYWORDS[i]
+        wrong = {line for line, level in gone.items() if re.search(f"^wrong-parity [0-9]+ {level}$", out, re.MULTILINE)}
+        lines = err.splitlines(True)
+        return len(lines) == len(set(lines)) and wrong <= set(lines) <= set(gone)
 
     def stamp(self):
         return self.rnd.randint(1, 3) * 10**9 + self.rnd.randint(1, 10**9 - 1)
@@ -201,7 +212,7 @@ def compare(array, table, words, command):
     model = Model(table, trees, levels, words)
     model.run(command == "fix")
     status, out, err = array.run(command, *itertools.chain(*words))
-    if (status, out, err) != (model.status(), model.text(), ""):
+    if (status, out) != (model.status(), model.text()) or not array.tells_missing(err, out):
         return f"{command} {words}: {status}, {err!r}\n{out}--- wanted {model.status()}\n{model.text()}"
     for d in range(array.disks):
         if not same_tree(model.trees[d], array.tree(d)):

@@ -79,9 +79,9 @@ def scrubbed(array, table, plan, days, words):
     trees, levels = [array.tree(d) for d in range(array.disks)], [array.level(i) for i in range(array.count)]
     before, began = array.contents(), int(time.time())
     model = Scrub(table, trees, levels, planned(table, plan, days, began))
-    said = array.run("scrub", *words, "--readers", str(array.rnd.randint(1, 16)))
-    if said != (model.status(), model.text(), ""):
-        return f"scrub {words}: {said}\n--- wanted {model.status()}\n{model.text()}"
+    status, out, err = array.run("scrub", *words, "--readers", str(array.rnd.randint(1, 16)))
+    if (status, out) != (model.status(), model.text()) or not array.tells_missing(err, out):
+        return f"scrub {words}: {status}, {err!r}\n{out}--- wanted {model.status()}\n{model.text()}"
     if not all(same_tree(tree, array.tree(d)) for d, tree in enumerate(trees)):
         return f"scrub {words}: another tree"
     if levels != [array.level(i) for i in range(array.count)]:

@@ -22,19 +22,6 @@ ROTTEN = 100
 BLOCK = 256 << 10
 
 
-def measured(command):
-    """Wall time, processor time and the most memory in KiB of one run, by a process of its own that waits for it, and what it printed. A
-    scrub ends with 1 where it finds something, so any status is taken."""
-    script = ("import resource, subprocess, sys, time; start = time.monotonic(); "
-              "said = subprocess.run(sys.argv[1:], stdout=subprocess.PIPE, stderr=subprocess.STDOUT).stdout; "
-              "wall = time.monotonic() - start; used = resource.getrusage(resource.RUSAGE_CHILDREN); sys.stdout.buffer.write(said); "
-              "print(); print(wall, used.ru_utime + used.ru_stime, used.ru_maxrss)")
-    said = subprocess.run([sys.executable, "-c", script, *command], stdout=subprocess.PIPE, check=True).stdout.decode(errors="replace")
-    text, _, figures = said.rstrip().rpartition("\n")
-    wall, spent, memory = figures.split()
-    return float(wall), float(spent), int(memory), text
-
-
 def rot(tree):
     """Other bytes in the first block of each of some files, which keep their size and time. Gives what undoes it."""
     held = []
@@ -70,20 +57,18 @@ def whole_arrays(total):
     with tempfile.TemporaryDirectory(dir="/dev/shm") as room:
         count = arrays.make_files(room, "files", total, 4 << 20)
         tree = os.path.join(room, "files")
-        print(f"{arrays.DISKS} disks, {arrays.LEVELS} levels, blocks of 256 KiB, {count} files; a block rots in each of {ROTTEN}")
-        print("| run | tool | wall s | processor s | memory MiB |")
-        print("|---|---|---|---|---|")
+        arrays.heading(f"{arrays.DISKS} disks, {arrays.LEVELS} levels, blocks of 256 KiB, {count} files; a block rots in each of {ROTTEN}", "run")
         for tool, words in arrays.tools().items():
             command = [*words, "-c", arrays.configuration(room, "files", tool)]
             subprocess.run([*command, "sync"], stdout=subprocess.DEVNULL, check=True)
-            rows = [("scrub, whole", measured([*command, "-p", "full", "scrub"]), 0)]
+            rows = [("scrub, whole", arrays.measured([*command, "-p", "full", "scrub"]), 0)]
             held = rot(tree)
-            rows.append(("scrub, rotten", measured([*command, "-p", "full", "scrub"]), len(held)))
-            rows.append(("scrub, bad stripes", measured([*command, "-p", "bad", "scrub"]), len(held)))
+            rows.append(("scrub, rotten", arrays.measured([*command, "-p", "full", "scrub"]), len(held)))
+            rows.append(("scrub, bad stripes", arrays.measured([*command, "-p", "bad", "scrub"]), len(held)))
             for path, before in held:
                 changed(path, 1000, before)
             for name, (wall, spent, memory, text), rotten in rows:
-                print(f"| {name} | {tool} | {wall:.2f} | {spent:.2f} | {memory // 1024} |", flush=True)
+                arrays.row(name, tool, wall, spent, memory // 1024)
                 if found(tool, text) != rotten:
                     sys.exit(f"{tool}: {name}: {found(tool, text)} blocks found in place of {rotten}:\n{text[-2000:]}")
 
@@ -96,7 +81,7 @@ def plans(stripes):
         os.chdir(room)
         rows = []
         for words in (["status"], ["scrub", "-p", "0", "-o", "0"]):
-            rows.append(min(measured([arrays.PROGRAM, *words, "-c", "array.conf"]) for _ in range(5)))
+            rows.append(min(arrays.measured([arrays.PROGRAM, *words, "-c", "array.conf"]) for _ in range(5)))
         (status, _, held, said), (scrub, _, more, text) = rows
         if f"stripes {stripes}" not in said or "scrub: 0 stripes checked, 0 findings" not in text:
             sys.exit(f"not planned:\n{said}\n{text}")

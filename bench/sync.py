@@ -38,9 +38,7 @@ def main():
     with tempfile.TemporaryDirectory(dir="/dev/shm") as room:
         large = arrays.make_files(room, "large", total, 30 << 20)
         mixed = arrays.make_files(room, "mixed", total, 117 << 10)
-        print(f"{arrays.DISKS} disks, {arrays.LEVELS} levels, blocks of 256 KiB, {large} large and {mixed} mixed files")
-        print("| sync | tool | wall s | processor s | memory MiB |")
-        print("|---|---|---|---|---|")
+        arrays.heading(f"{arrays.DISKS} disks, {arrays.LEVELS} levels, blocks of 256 KiB, {large} large and {mixed} mixed files", "sync")
         for name, again in [("large", False), ("mixed", False), ("mixed", True)]:
             for tool, words in arrays.tools().items():
                 command = [*words, "-c", arrays.configuration(room, name, tool), "sync"]
@@ -50,7 +48,7 @@ def main():
                 else:
                     wall, spent = run(command)
                     memory = "-"
-                print(f"| {name}{', nothing to do' if again else ''} | {tool} | {wall:.2f} | {spent:.2f} | {memory} |", flush=True)
+                arrays.row(name + (", nothing to do" if again else ""), tool, wall, spent, memory)
 
 
 main()
