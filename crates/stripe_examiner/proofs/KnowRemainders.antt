@@ -1,12 +1,13 @@
 -- What is left of the levels, block by block.
-use Rattle.std.proofs.Common.{◌≡◌, ℕ, ◌+◌, ◌*◌, ◌/◌, ◌%◌, ◌<◌, ◌≤◌, Option, None, Some, List, [], ◌∷◌, ◌++◌, length, map, take, get_or, sym, ◌∙◌, ap, ap₂, subst, arith, zero-add}
+use Rattle.std.proofs.Common.{◌≡◌, ℕ, ◌+◌, ◌-◌, ◌*◌, ◌/◌, ◌%◌, ◌<◌, ◌≤◌, Option, None, Some, List, [], ◌∷◌, length, map, drop, get_or, sym, ◌∙◌, ap, ap₂, subst, arith, zero-add}
 use Rattle.std.specs.List.{range_with_len}
-use Rattle.std.proofs.lemmas.List.{get_or-take, get_or_append_left, get_or-append-add, length-take}
+use Rattle.std.proofs.lemmas.List.{get_or-drop, get_or-take}
 use Rattle.std.proofs.lemmas.List.Elements.{All-nil}
 use Rattle.std.proofs.lemmas.List.FromFn.{get_or-map-range_with_len, length-map-range_with_len, length-range_with_len}
 use Rattle.std.proofs.lemmas.List.Sums.{length-filter, count_by-le-length}
 use Rattle.std.proofs.lemmas.Nat.{div-mul-add}
 use Rattle.std.proofs.Math.Nat.{mul-add-mod_self_right, mod-eq_of_lt}
+use Rattle.cauchy.specs.Levels.{HoldsLevel}
 use Rattle.cauchy.specs.Matrix.{parity_byte, parity_of}
 use Rattle.cauchy.specs.System.{byte_in}
 use Rattle.gf256.specs.Field.{field_sum}
@@ -25,27 +26,14 @@ pub byte_of_level : (level size : ℕ) (row : Row) (p : ℕ) → p < size → ge
 unfolding parity_of
 byte_of_level level size row p below = get_or-map-range_with_len (parity_byte level row) 0 size p p 0 below (zero-add p)
 
--- ---- a block is put behind the blocks of so many levels
-
-module _ (size r : ℕ) (old new block : List ℕ) (room : r * size ≤ length old) (long : length block ≡ size)
-    (front : take (r * size + size) new ≡ take (r * size) old ++ block) where
-  here : length (take (r * size) old) ≡ r * size
-  here = omega (arith, length-take (r * size) old, room)
-
-  pub put_byte : (p : ℕ) → p < size → byte_in size new p r ≡ get_or block p 0
-  put_byte p below =
-      sym (get_or-take (r * size + size) new (r * size + p) 0 (omega (arith, below)))
-      ∙ ap (λ (xs : List ℕ). get_or xs (r * size + p) 0) front
-      ∙ ap (λ (n : ℕ). get_or (take (r * size) old ++ block) (n + p) 0) (sym here)
-      ∙ get_or-append-add (take (r * size) old) block p 0
-
-  pub earlier_byte : (k p : ℕ) → k < r → p < size → byte_in size new p k ≡ byte_in size old p k
-  earlier_byte k p earlier below =
-      let within : k * size + p < r * size = omega (arith, below, place_within size r k earlier) in
-      sym (get_or-take (r * size + size) new (k * size + p) 0 (omega (arith, within)))
-      ∙ ap (λ (xs : List ℕ). get_or xs (k * size + p) 0) front
-      ∙ get_or_append_left (take (r * size) old) block 0 (k * size + p) (omega (arith, within, here))
-      ∙ get_or-take (r * size) old (k * size + p) 0 within
+-- byte p of one of the levels of a row that stand end to end
+pub byte_of_sums : (size level : ℕ) (row : Row) (sums : List ℕ) (p : ℕ) → p < size → HoldsLevel size row level sums → byte_in size sums p level ≡ parity_byte level row p
+byte_of_sums size level row sums p below holds =
+    let start = level * size in
+    let n = start + size - start in
+    sym (get_or-take n (drop start sums) p 0 (omega (arith, below)) ∙ get_or-drop start sums p 0)
+    ∙ ap (λ (xs : List ℕ). get_or xs p 0) holds
+    ∙ byte_of_level level size row p below
 
 -- ---- there are remainders of any levels and any row
 

@@ -7,6 +7,8 @@ pub mod JudgedLemmas
 pub mod WindowShown
 pub mod FactsAlike
 pub mod FindLemmas
+pub mod FirstLemmas
+pub mod FirstRooms
 pub mod ShownEvents
 pub mod SearchChoices
 pub mod SearchBlocks

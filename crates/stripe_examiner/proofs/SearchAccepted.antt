@@ -6,7 +6,7 @@ use Rattle.std.proofs.lemmas.Grind.{same_number_lists}
 use Rattle.cauchy.specs.System.{IsChoice, IsSolution, SolvesBlocks, byte_in}
 use Rattle.file_table.specs.declared.shape.Shape.{Shape}
 use Rattle.stripe_examiner.specs.declared.search.Wanted.{Wanted}
-use Rattle.stripe_examiner.specs.Search.{block_in, columns_of, given, no_wanted, wanted_at, AreRightBlocks, IsAcceptable, IsAccepted, IsRightBlock}
+use Rattle.stripe_examiner.specs.Search.{block_in, columns_of, given, no_wanted, wanted_at, AreRightBlocks, IsAcceptable, IsRightBlock}
 use Rattle.stripe_examiner.proofs.SearchBlocks.{block_byte, length-block_in, length-given}
 
 -- what cauchy says of the blocks that follow from a choice
@@ -43,11 +43,11 @@ length-solved wanteds size remainders choice blocks is long solved =
 
 module _ (shape : Shape) (wanteds : List Wanted) (remainders choice blocks : List ℕ) (solved : SolvesBlocks (columns_of wanteds) choice shape.block_size (given shape.block_size remainders choice) blocks)
     (long : length blocks ≡ length wanteds * shape.block_size) where
-  pub accepted_at : AreRightBlocks shape wanteds blocks → (rest : List ℕ)
-      → IsAccepted shape wanteds remainders choice (take (length wanteds * shape.block_size) (blocks ++ rest))
-  accepted_at right rest =
-      subst (λ (found : List ℕ). IsAccepted shape wanteds remainders choice found) (sym (take_at blocks rest (length wanteds * shape.block_size) long))
-      record { solves = solved; right = right }
+  pub follows_at : (rest : List ℕ)
+      → SolvesBlocks (columns_of wanteds) choice shape.block_size (given shape.block_size remainders choice) (take (length wanteds * shape.block_size) (blocks ++ rest))
+  follows_at rest =
+      subst (λ (found : List ℕ). SolvesBlocks (columns_of wanteds) choice shape.block_size (given shape.block_size remainders choice) found)
+      (sym (take_at blocks rest (length wanteds * shape.block_size) long)) solved
 
   pub acceptable_right : HasOneSolution → IsChoice (columns_of wanteds) choice → IsAcceptable shape wanteds remainders choice → AreRightBlocks shape wanteds blocks
   acceptable_right only is some j hj =

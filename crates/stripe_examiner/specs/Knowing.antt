@@ -1,8 +1,5 @@
 -- What leads from the marks of a stripe to its row.
-use Rattle.std.specs.Prelude.{◌≡◌, ◌≢◌, ℕ, ◌*◌, ◌<◌, ◌≤◌, List, length, slice_index, is_some, true, All}
-use Rattle.gf256.specs.Field.{field_sum}
-use Rattle.cauchy.specs.Matrix.{parity_byte}
-use Rattle.parity_writer.specs.Parity.{Row}
+use Rattle.std.specs.Prelude.{◌≡◌, ◌≢◌, ℕ, ◌*◌, ◌<◌, ◌≤◌, List, length, is_some, true, All}
 use Rattle.stripe_reader.specs.WindowValue.{WindowValue, slot_at}
 use Rattle.stripe_examiner.specs.declared.marking.CellMark.{CellMark}
 use Rattle.stripe_examiner.specs.declared.search.Wanted.{Wanted}
@@ -14,12 +11,6 @@ abbrev pub HaveCells : FixPlan → ℕ → List CellMark → Type 0
 HaveCells plan stripe marks =
     (d : ℕ) → d < length plan.table.columns → is_marked_missing (mark_in marks d) ≡ true
     → is_some (seen_at plan stripe d) ≡ true
-
--- a block of a level, less the sum of a row
-abbrev pub IsRemainder : ℕ → Row → List ℕ → List ℕ → Type 0
-IsRemainder level row block remainder =
-    (p : ℕ) → p < length block
-    → slice_index remainder p ≡ field_sum (slice_index block p) (parity_byte level row p)
 
 -- blocks that were found stand end to end, and each has a column of a window and at most so many bytes there
 pub record CanPutFound (size : ℕ) (wanteds : List Wanted) (blocks : List ℕ) (window : WindowValue) : Type 0 where

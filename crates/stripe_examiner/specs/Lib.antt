@@ -21,6 +21,7 @@ pub mod Room
 pub mod Showing
 pub mod Shown
 pub mod Judged
+pub mod FirstChoice
 pub mod Finding
 pub mod MarkedWindow
 pub mod Examining

@@ -66,6 +66,12 @@ fn read_levels_of<V: Vault>(survey: &Survey<'_>, vault: &mut V, rooms: &mut [Str
     }
 }
 
+// How many readers are of use, of at most so many: no more than give each the fewest columns.
+fn readers_of_use(columns: u32, most: u32) -> u32 {
+    let each = columns.div_ceil(most.max(1)).max(1);
+    columns.div_ceil(each)
+}
+
 /// Reads the stripes of all columns into a window, and meanwhile their levels, where a recovery of their blocks is tried.
 pub(crate) fn read_beside<R: Threads + Sync, F: Folder, V: Vault>(
     rt: &R,
@@ -86,10 +92,11 @@ pub(crate) fn read_beside<R: Threads + Sync, F: Folder, V: Vault>(
         (V.view vault.old) (V.view vault.new) }
 {
     let (table, starts, stripes) = (survey.table, survey.starts, survey.stripes);
+    let readers = readers_of_use(table.disks(), survey.threads);
     let mut cells = ||
         requires { IsSync R.row × IsSend F.row × (length folders.now ≡ length table.now.columns) ×
             CanRead table.now starts.now stripes.now window.now }
-    { read_window(rt, folders, table, starts, stripes, survey.threads, window) };
+    { read_window(rt, folders, table, starts, stripes, readers, window) };
     let mut levels = ||
         requires { All (λ stripe. stripe < length survey.now.table.now.infos) survey.now.stripes.now ×
             ((V.view vault.now).levels ≡ survey.now.table.now.shape.levels) ×

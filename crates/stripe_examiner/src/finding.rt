@@ -3,6 +3,7 @@ ghost use Rattle.std.specs.Prelude.{◌≡◌, ◌*◌, ◌<◌, ◌≤◌, ℕ,
 ghost use Rattle.parity_writer.specs.Parity.{Row};
 ghost use Rattle.parity_writer.specs.WindowRow.{row_at};
 ghost use Rattle.stripe_examiner.specs.Finding.{CanFind, IsSearchRoom, row_with_found};
+ghost use Rattle.stripe_examiner.specs.FirstChoice.{HasFirst, IsFirstOf};
 ghost use Rattle.stripe_examiner.specs.Judged.{AreMissingIn};
 ghost use Rattle.stripe_examiner.specs.Known.{AreRemainders, IsKnown};
 ghost use Rattle.stripe_examiner.specs.Restorable.{filled};
@@ -10,7 +11,8 @@ ghost use Rattle.stripe_examiner.specs.Sharing.{AreSixBlocks, HasLevels};
 
 use crate::knowing::whole_levels;
 use crate::remainders::{fill_in_turn, is_whole};
-use crate::search::{Wanted, search};
+use crate::room::FirstChoice;
+use crate::search::{Wanted, follow, search_on};
 use cauchy::add_column;
 use file_table::Table;
 use gf256::laws::products;
@@ -84,9 +86,9 @@ fn take_found(
     }
 }
 
-/// Searches for the missing blocks of a stripe of the window by the levels that were read whole, and answers whether its row is known.
-/// What was found stands at the beginning of `blocks` then, and what is left of the levels is less the sums of that row.
-pub(crate) fn find(
+/// Makes the blocks that follow from the first levels of a stripe of the window that were read whole, where there are enough of them,
+/// and answers whether it did.
+pub(crate) fn make_first(
     table: &Table,
     i: u32,
     window: &Window,
@@ -96,7 +98,65 @@ pub(crate) fn find(
     blocks: &mut [u8],
 ) -> bool
     requires can { CanFind table.now i window.now levels.now wanted.now }
+    requires some { 0 < length wanted.now }
     requires room { IsSearchRoom table.now.shape.block_size remainders.old blocks.old }
+    ensures room { IsSearchRoom table.now.shape.block_size remainders.new blocks.new }
+    ensures made { result ≡ true → IsFirstOf table.now.shape wanted.now (row_at window.now i)
+        (take levels.now.count levels.now.levels) remainders.new blocks.new }
+{
+    let shape = table.shape();
+    let whole = whole_levels(levels, shape.levels);
+    if wanted.len() > whole.len() {
+        return false;
+    }
+    let size = shape.block_size as usize;
+    fill_in_turn(window, i, levels, shape.levels, size, remainders);
+    follow(shape, wanted, remainders, &whole[..wanted.len()], blocks);
+    true
+}
+
+// Makes what is left of the levels that were read whole, where it was not made before.
+fn fill(
+    window: &Window,
+    i: u32,
+    levels: &Levels,
+    count: u32,
+    size: usize,
+    is_made: bool,
+    remainders: &mut [u8],
+)
+    requires stripe { (i < window.now.count) × (length window.now.lanes ≤ 251) }
+    requires levels { HasLevels count levels.now }
+    requires sizes { (size ≡ window.now.block_size) × (size ≡ levels.now.block_size) }
+    requires remainders { AreSixBlocks size remainders.old }
+    requires made { is_made ≡ true → AreRemainders size (row_at window.now i)
+        (take levels.now.count levels.now.levels) remainders.old }
+    ensures are { AreRemainders size (row_at window.now i) (take levels.now.count levels.now.levels)
+        remainders.new }
+    ensures kept { is_made ≡ true → remainders.new ≡ remainders.old }
+{
+    if !is_made {
+        fill_in_turn(window, i, levels, count, size, remainders);
+    }
+}
+
+/// Searches for the missing blocks of a stripe of the window by the levels that were read whole, and answers whether its row is known.
+/// Those of the first choice may have been made before.
+/// What was found stands at the beginning of `blocks` then, and what is left of the levels is less the sums of that row.
+pub(crate) fn find(
+    table: &Table,
+    i: u32,
+    window: &Window,
+    levels: &Levels,
+    wanted: &[Wanted],
+    first: &FirstChoice,
+    remainders: &mut [u8],
+    blocks: &mut [u8],
+) -> bool
+    requires can { CanFind table.now i window.now levels.now wanted.now }
+    requires room { IsSearchRoom table.now.shape.block_size remainders.old blocks.old }
+    requires first { HasFirst table.now.shape wanted.now (row_at window.now i)
+        (take levels.now.count levels.now.levels) first.now remainders.old blocks.old }
     ensures room { IsSearchRoom table.now.shape.block_size remainders.new blocks.new }
     ensures known { IsKnown table.now.shape wanted.now (row_at window.now i)
         (take levels.now.count levels.now.levels)
@@ -107,12 +167,20 @@ pub(crate) fn find(
 {
     let shape = table.shape();
     let size = shape.block_size as usize;
-    fill_in_turn(window, i, levels, shape.levels, size, remainders);
+    fill(
+        window,
+        i,
+        levels,
+        shape.levels,
+        size,
+        first.is_made,
+        remainders,
+    );
     if wanted.is_empty() {
         return true;
     }
     let whole = whole_levels(levels, shape.levels);
-    if !search(shape, wanted, &whole, remainders, blocks) {
+    if !search_on(shape, wanted, first, &whole, remainders, blocks) {
         return false;
     }
     let found = &blocks[..wanted.len() * size];

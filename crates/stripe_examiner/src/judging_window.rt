@@ -1,6 +1,7 @@
 // The stripes of a window, judged side by side.
-ghost use Rattle.std.specs.Prelude.{◌≡◌, ◌<◌, ℕ, length, get_or, slice_index_or, true};
+ghost use Rattle.std.specs.Prelude.{◌≡◌, ◌+◌, ◌<◌, ◌≤◌, ℕ, length, slice_index_or, true};
 ghost use Rattle.stripe_examiner.specs.declared.room.StripeRoom.{StripeRoom};
+ghost use Rattle.stripe_examiner.specs.FirstChoice.{HasFirstIn, JudgesRoom};
 ghost use Rattle.stripe_examiner.specs.Judged.{CanJudge, JudgesStripe, KeepsRead};
 ghost use Rattle.stripe_examiner.specs.MarkedWindow.{number_at};
 ghost use Rattle.stripe_examiner.specs.Plan.{is_searched as is_searched_at};
@@ -8,19 +9,22 @@ ghost use Rattle.stripe_examiner.specs.Room.{IsStripeRoomFor};
 ghost use Rattle.stripe_examiner.specs.Surveyed.{plan_in};
 
 use crate::finding::find;
+use crate::first_choice::make_first_blocks;
+use crate::hashing::hash_together;
 use crate::judging::wrong_levels;
 use crate::knowing::{see_levels, wanted_blocks};
 use crate::room::StripeRoom;
 use crate::selecting::has_selected_level;
 use crate::survey::Survey;
-use crate::trying::is_searched;
-use std::thread::{Threads, for_each_mut};
+use crate::trying::{is_audit, is_searched};
+use std::thread::{Threads, for_each_chunk_mut};
 use stripe_reader::Window;
 
 // Judges a stripe whose levels were read. No sums are needed where nothing is missing and no level is selected.
 fn judge_searched(survey: &Survey<'_>, stripe: u32, i: u32, window: &Window, own: &mut StripeRoom)
     requires can { CanJudge (plan_in survey.now) stripe i window.now own.old }
     requires searched { is_searched_at (plan_in survey.now) stripe ≡ true }
+    requires first { HasFirstIn (plan_in survey.now) stripe i window.now own.old }
     ensures room { IsStripeRoomFor survey.now.table.now own.new }
     ensures kept { KeepsRead own.old own.new }
     ensures judged { JudgesStripe (plan_in survey.now) stripe i window.now own.new }
@@ -38,7 +42,16 @@ fn judge_searched(survey: &Survey<'_>, stripe: u32, i: u32, window: &Window, own
         return;
     }
     let (left, blocks) = (&mut own.remainders, &mut own.blocks);
-    let known = find(table, i, window, &own.levels, &wanted, left, blocks);
+    let known = find(
+        table,
+        i,
+        window,
+        &own.levels,
+        &wanted,
+        &own.first,
+        left,
+        blocks,
+    );
     own.known = known;
     if is_judged {
         own.wrong = wrong_levels(survey, stripe, known, &own.levels, &own.remainders);
@@ -49,9 +62,8 @@ fn judge_searched(survey: &Survey<'_>, stripe: u32, i: u32, window: &Window, own
 fn judge(survey: &Survey<'_>, k: usize, window: &Window, own: &mut StripeRoom)
     requires number { k < length survey.now.stripes.now }
     requires can { CanJudge (plan_in survey.now) (number_at survey.now.stripes.now k) k window.now own.old }
-    ensures room { IsStripeRoomFor survey.now.table.now own.new }
-    ensures kept { KeepsRead own.old own.new }
-    ensures judged { JudgesStripe (plan_in survey.now) (number_at survey.now.stripes.now k) k window.now own.new }
+    requires first { HasFirstIn (plan_in survey.now) (number_at survey.now.stripes.now k) k window.now own.old }
+    ensures { JudgesRoom (plan_in survey.now) (number_at survey.now.stripes.now k) k window.now own.old own.new }
 {
     // A number of a stripe of a window is below its count.
     let _count = window.count();
@@ -63,7 +75,60 @@ fn judge(survey: &Survey<'_>, k: usize, window: &Window, own: &mut StripeRoom)
     judge_searched(survey, stripe, k as u32, window, own);
 }
 
-/// Judges each stripe of a window in its own room, by at most so many threads, and at least by one.
+// Judges the stripes of these numbers, from `start` on, one after another in their rooms.
+fn judge_in_turn(survey: &Survey<'_>, start: usize, window: &Window, rooms: &mut [StripeRoom])
+    requires within { start + length rooms.old ≤ length survey.now.stripes.now }
+    requires can { (k : ℕ) (other : StripeRoom) → k < length rooms.old →
+        CanJudge (plan_in survey.now) (number_at survey.now.stripes.now (start + k)) (start + k) window.now
+        (slice_index_or rooms.old k other) }
+    requires first { (k : ℕ) (other : StripeRoom) → k < length rooms.old →
+        HasFirstIn (plan_in survey.now) (number_at survey.now.stripes.now (start + k)) (start + k) window.now
+        (slice_index_or rooms.old k other) }
+    ensures { (k : ℕ) (other : StripeRoom) → k < length rooms.old →
+        JudgesRoom (plan_in survey.now) (number_at survey.now.stripes.now (start + k)) (start + k) window.now
+        (slice_index_or rooms.old k other) (slice_index_or rooms.new k other) }
+{
+    for k in 0..rooms.len() {
+        judge(survey, start + k, window, &mut rooms[k]);
+    }
+}
+
+// Judges them, after the blocks of their first choices were made and hashed together.
+fn judge_part(survey: &Survey<'_>, start: usize, window: &Window, rooms: &mut [StripeRoom])
+    requires within { start + length rooms.old ≤ length survey.now.stripes.now }
+    requires can { (k : ℕ) (other : StripeRoom) → k < length rooms.old →
+        CanJudge (plan_in survey.now) (number_at survey.now.stripes.now (start + k)) (start + k) window.now
+        (slice_index_or rooms.old k other) }
+    ensures { (k : ℕ) (other : StripeRoom) → k < length rooms.old →
+        JudgesRoom (plan_in survey.now) (number_at survey.now.stripes.now (start + k)) (start + k) window.now
+        (slice_index_or rooms.old k other) (slice_index_or rooms.new k other) }
+{
+    make_first_blocks(survey, start, window, rooms);
+    hash_together(survey.table.shape(), rooms);
+    judge_in_turn(survey, start, window, rooms);
+}
+
+// A thread is not started for fewer bytes of cells: its start takes as long.
+const LEAST_PART: usize = 1 << 20;
+
+// How many stripes a thread has: an even share, but not too few. An audit judges none.
+fn part_size(survey: &Survey<'_>, stripes: usize) -> usize
+    ensures { 0 < result }
+{
+    if is_audit(survey.scope.mode) {
+        return stripes.max(1);
+    }
+    let table = survey.table;
+    let row = (table.disks() as usize).saturating_mul(table.shape().block_size as usize);
+    let least = LEAST_PART / row.max(1);
+    stripes
+        .div_ceil(survey.threads.max(1) as usize)
+        .max(least)
+        .max(1)
+}
+
+/// Judges each stripe of a window in its own room, by at most so many threads, and at least by one. Each thread has stripes that follow
+/// one another.
 pub(crate) fn judge_stripes<R: Threads + Sync>(
     rt: &R,
     survey: &Survey<'_>,
@@ -75,21 +140,19 @@ pub(crate) fn judge_stripes<R: Threads + Sync>(
         CanJudge (plan_in survey.now) (number_at survey.now.stripes.now k) k window.now
         (slice_index_or rooms.old k other) }
     ensures count { length rooms.new ≡ length rooms.old }
-    ensures kept { (k : ℕ) (other : StripeRoom) → k < length survey.now.stripes.now →
-        KeepsRead (slice_index_or rooms.old k other) (slice_index_or rooms.new k other) }
-    ensures room { (k : ℕ) (other : StripeRoom) → k < length survey.now.stripes.now →
-        IsStripeRoomFor survey.now.table.now (slice_index_or rooms.new k other) }
     ensures judged { (k : ℕ) (other : StripeRoom) → k < length survey.now.stripes.now →
-        JudgesStripe (plan_in survey.now) (number_at survey.now.stripes.now k) k window.now
-        (slice_index_or rooms.new k other) }
+        JudgesRoom (plan_in survey.now) (number_at survey.now.stripes.now k) k window.now
+        (slice_index_or rooms.old k other) (slice_index_or rooms.new k other) }
 {
-    let one = |k: usize, own: &mut StripeRoom|
-        requires { (k < length survey.now.stripes.now) ×
-            CanJudge (plan_in survey.now) (get_or survey.now.stripes.now k 0) k window.now own.now }
-        ensures room { IsStripeRoomFor survey.entry.now.table.now own.exit.now }
-        ensures kept { KeepsRead own.entry.now own.exit.now }
-        ensures judged { JudgesStripe (plan_in survey.entry.now) (get_or survey.entry.now.stripes.now k 0) k
-            window.entry.now own.exit.now }
-    { judge(survey, k, window, own) };
-    for_each_mut(rt, rooms, survey.threads.max(1) as usize, &one);
+    let size = part_size(survey, rooms.len());
+    let part = |start: usize, some: &mut [StripeRoom]|
+        requires { (start + length some.now ≤ length survey.now.stripes.now) ×
+            ((k : ℕ) (other : StripeRoom) → k < length some.now →
+            CanJudge (plan_in survey.now) (number_at survey.now.stripes.now (start + k)) (start + k) window.now
+            (slice_index_or some.now k other)) }
+        ensures { (k : ℕ) (other : StripeRoom) → k < length some.entry.now →
+            JudgesRoom (plan_in survey.entry.now) (number_at survey.entry.now.stripes.now (start + k)) (start + k)
+            window.entry.now (slice_index_or some.entry.now k other) (slice_index_or some.exit.now k other) }
+    { judge_part(survey, start, window, some) };
+    for_each_chunk_mut(rt, rooms, size, &part);
 }

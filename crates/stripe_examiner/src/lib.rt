@@ -7,7 +7,8 @@
 //!    the spare for the blocks of damaged ones).
 //! 3. The stripes are judged side by side (`judging_window.rt`): the missing blocks are searched for by what is left of the levels
 //!    less the sums of the row (`finding.rt`, `remainders.rt`, `search.rt`), and what is left then tells which levels are wrong
-//!    (`judging.rt`).
+//!    (`judging.rt`). The blocks of the first choice of levels are made before (`first_choice.rt`), and those of several stripes
+//!    are hashed together (`hashing.rt`).
 //! 4. What was found is put into the window (`putting.rt`).
 //!
 //! Then each stripe is told by its room (`telling/stripe.rt`). That what was read determines what is found is a law (`laws.rt`).
@@ -19,6 +20,8 @@ mod beside;
 mod counts;
 mod entry;
 mod finding;
+mod first_choice;
+mod hashing;
 mod judging;
 mod judging_window;
 mod knowing;
@@ -42,7 +45,7 @@ pub use counts::Counts;
 pub use entry::{Entries, Entry};
 pub use marking::CellMark;
 pub use places::place_all;
-pub use room::{Room, StripeRoom};
+pub use room::{FirstChoice, Room, StripeRoom};
 pub use scope::{Mode, Scope};
 pub use selecting::{scope_of, selects_cell, stripes_to_look_at};
 pub use spare::{NoSpare, Spare};

@@ -3,10 +3,9 @@ ghost use Rattle.std.specs.Prelude.{◌≡◌, ℕ, ◌<◌, ◌≤◌, length, 
 ghost use Rattle.gf256.specs.Field.{field_sum};
 ghost use Rattle.parity_writer.specs.WindowRow.{row_at};
 ghost use Rattle.stripe_examiner.specs.Known.{AreRemainders, is_whole as is_whole_by};
-ghost use Rattle.stripe_examiner.specs.Knowing.{IsRemainder};
 ghost use Rattle.stripe_examiner.specs.Sharing.{AreSixBlocks, HasLevels};
 
-use parity_writer::{LevelRead, Levels, sum_row};
+use parity_writer::{LevelRead, Levels, sum_levels};
 use stripe_reader::Window;
 
 /// Whether a level was read whole.
@@ -28,21 +27,7 @@ fn add_block(block: &[u8], out: &mut [u8])
     }
 }
 
-// What is left of a level, less the sum of the row of a stripe of the window.
-fn fill_remainder(window: &Window, i: u32, r: u32, level: &[u8], out: &mut [u8])
-    requires stripe { i < window.now.count }
-    requires columns { length window.now.lanes ≤ 251 }
-    requires level { r < 6 }
-    requires block { length level.now ≡ window.now.block_size }
-    requires size { length out.old ≡ window.now.block_size }
-    ensures size { length out.new ≡ length out.old }
-    ensures value { IsRemainder r (row_at window.now i) level.now out.new }
-{
-    sum_row(window, i, r, out);
-    add_block(level, out);
-}
-
-/// What is left of the levels that were read whole, of so many.
+/// What is left of the levels that were read whole, of so many: their sums are made at once, in one pass over the row.
 pub fn fill_in_turn(
     window: &Window,
     i: u32,
@@ -60,16 +45,11 @@ pub fn fill_in_turn(
     ensures { AreRemainders size (row_at window.now i) (take levels.now.count levels.now.levels)
         remainders.new }
 {
+    sum_levels(window, i, count, remainders);
     for r in 0..count {
         if is_whole(levels.state(r)) {
             let start = r as usize * size;
-            fill_remainder(
-                window,
-                i,
-                r,
-                levels.block(r),
-                &mut remainders[start..start + size],
-            );
+            add_block(levels.block(r), &mut remainders[start..start + size]);
         }
     }
 }

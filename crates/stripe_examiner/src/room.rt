@@ -3,12 +3,33 @@ ghost use Rattle.std.specs.Prelude.{◌≡◌, All, IfOk, length};
 ghost use Rattle.stripe_examiner.specs.Room.{IsRoomFor, IsStripeRoomFor};
 
 use crate::marking::CellMark;
+use block_hash::Digest16;
 use disk_model::NoMemory;
 use file_table::Table;
 use parity_writer::Levels;
 use snap_report::events::Event;
 use std::alloc::Global;
 use stripe_reader::{Window, stripe_count};
+
+/// The blocks of a stripe that follow from the first choice of its levels: they are made before any other choice is tried.
+#[derive(Clone, Copy, Debug, PartialEq, Eq)]
+pub struct FirstChoice {
+    /// Whether they stand at the beginning of the room for blocks.
+    pub is_made: bool,
+    /// Which of them are as long as a block of the array, so that they are hashed together with others.
+    pub full: [bool; 6],
+    /// The digests of those that were hashed together.
+    pub digests: [Option<Digest16>; 6],
+}
+
+impl FirstChoice {
+    /// No blocks.
+    pub const NONE: FirstChoice = FirstChoice {
+        is_made: false,
+        full: [false; 6],
+        digests: [None; 6],
+    };
+}
 
 /// What is known of one stripe of a window, in buffers that are taken once.
 #[derive(Drop)]
@@ -23,6 +44,8 @@ pub struct StripeRoom {
     pub remainders: Vec<u8>,
     /// The blocks that are tried, and then those that were found: six.
     pub blocks: Vec<u8>,
+    /// What was made of the first choice of its levels.
+    pub first: FirstChoice,
     /// Whether its row is known.
     pub known: bool,
     /// Which of its selected levels are wrong.
@@ -42,6 +65,7 @@ impl StripeRoom {
             levels: Levels::make(alloc, block_size)?,
             remainders: vec![in alloc; 0u8; 6 * block_size as usize]?,
             blocks: vec![in alloc; 0u8; 6 * block_size as usize]?,
+            first: FirstChoice::NONE,
             known: false,
             wrong: [false; 6],
         })

@@ -7,6 +7,7 @@ use Rattle.parity_writer.specs.WindowRow.{row_at}
 use Rattle.stripe_examiner.specs.Judged.{AreMissingIn}
 use Rattle.stripe_examiner.specs.Marks.{wanted_marked}
 use Rattle.stripe_examiner.specs.Surveyed.{plan_in}
+use Rattle.stripe_examiner.proofs.FirstRooms.{first_as}
 use Rattle.stripe_examiner.proofs.JudgedLemmas.{judges, judges_as_found, judges_whole, missing_in_row, none_wrong}
 use Rattle.stripe_examiner.proofs.JudgingLemmas.{none_selected}
 use Rattle.stripe_examiner.proofs.KnowRemainders.{none_of_many}
@@ -58,6 +59,14 @@ find-known-requires-clause-can c =
           (sym (c.deref-2.ensures.0 ∙ c.in-Some.ensures.value ∙ ap (wanted_marked plan c.args.stripe) c.deref.ensures.value))
           (missing_in_row plan c.args.stripe c.args.i c.args.window.now c.args.own.now c.requires.can);
     }
+
+pub find-known-requires-clause-first : goal.find-known-requires-clause-first
+find-known-requires-clause-first c =
+    let plan = plan_in c.args.survey.now in
+    let own = c.args.own.now in
+    first_as plan c.args.stripe c.args.i c.args.window.now own c.deref-2.result.now _ _
+    (c.deref-2.ensures.0 ∙ c.in-Some.ensures.value ∙ ap (wanted_marked plan c.args.stripe) c.deref.ensures.value)
+    c.deref_mut.ensures.value c.deref_mut-2.ensures.value c.requires.first
 
 pub returns-then-is_judged-clause-judged : goal.returns-then-is_judged-clause-judged
 returns-then-is_judged-clause-judged c =

@@ -42,7 +42,7 @@ put_stripes-requires-clause-can g c k other below =
     (c.requires.can.read.within k 0 below) (omega (arith, below, marks.marks.large.count, c.read_beside.ensures.cells.count))
     (marks.marks.rooms_are.each k other (omega (arith, below, marks.marks.rooms_are.as_many, c.read_beside.ensures.rooms.as_many, c.requires.can.as_many, length-take (length c.args.survey.now.stripes.now) c.args.all.now)))
     (marks.marks.marked k other below) (marks.marks.levels k other below) (c.read_beside.ensures.levels.counts k other below))
-    (judged.kept k other below) (judged.room k other below)
+    (judged.judged k other below).kept (judged.judged k other below).room
 
 pub returns-clause-examined : goal.returns-clause-examined
 returns-clause-examined g c =
@@ -73,12 +73,12 @@ returns-clause-examined g c =
     (c.requires.can.read.within k 0 below) (omega (arith, below, marks.marks.large.count, reads.cells.count))
     (marks.marks.rooms_are.each k other (omega (arith, below, marks.marks.rooms_are.as_many, reads.rooms.as_many, c.requires.can.as_many, length-take (length numbers) c.args.all.now)))
     (marks.marks.marked k other below) (marks.marks.levels k other below) (reads.levels.counts k other below))
-    (judged.kept k other below) (judged.room k other below) in
+    (judged.judged k other below).kept (judged.judged k other below).room in
     let each : (k : ℕ) (other : StripeRoom) → k < length stripes → ShowsStripe plan (facts_at stripes k) k final (get_or rooms k other) = λ k other below.
     let within : k < length numbers = omega (arith, below, long) in
     subst (λ (facts : StripeFacts). ShowsStripe plan facts k final (get_or rooms k other)) (sym (fact k other within))
     (stripe_shown plan (number_at numbers k) k read marked final (get_or noted k other) (get_or rooms k other) (can k other within) most lanes
-    (judged.kept k other within).found (judged.kept k other within).marks (marks.marks.marked k other within) (judged.judged k other within) (puts.put k other within)) in
+    (judged.judged k other within).kept.found (judged.judged k other within).kept.marks (marks.marks.marked k other within) (judged.judged k other within).judged (puts.put k other within)) in
     record {
       stripes = stripes;
       numbers_are = numbers_from plan read final 0 numbers rooms many;
@@ -89,11 +89,11 @@ returns-clause-examined g c =
       each = λ k other below.
           subst (ShowsStripe plan (facts_at stripes k) k final) (sym (get_or_append_left rooms rest other k (omega (arith, below, long, many)))) (each k other below);
       levels = levels_shown plan numbers read marked final noted rooms many first _ _ reads.levels
-          (λ k other below. (judged.kept k other below).levels ∙ marks.marks.levels k other below);
+          (λ k other below. (judged.judged k other below).kept.levels ∙ marks.marks.levels k other below);
       asked = asked_shown plan numbers read marked final noted rooms many _ _ marks.asks
-          (λ k other below. (judged.kept k other below).marks) puts.put;
+          (λ k other below. (judged.judged k other below).kept.marks) puts.put;
       as_many = omega (arith, many, length-append rooms rest);
-      rooms_are = All-append (IsStripeRoomFor table) rooms rest (λ k other within. judged.room k other (omega (arith, within, many)))
+      rooms_are = All-append (IsStripeRoomFor table) rooms rest (λ k other within. (judged.judged k other (omega (arith, within, many))).room)
           (λ k other inside.
           subst (IsStripeRoomFor table) (sym (get_or-drop (length numbers) c.args.all.now k other))
           (c.requires.can.each (length numbers + k) other (omega (arith, inside, c.requires.can.as_many, length-drop (length numbers) c.args.all.now))));
