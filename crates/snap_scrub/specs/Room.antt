@@ -41,6 +41,11 @@ pub record IsRoomFor (table : TableValue) (room : Room) : Type 0 where
   pub far_sums : room.far.room ≤ length room.check.sums.items
   pub piece : length room.piece.items ≡ piece_size
 
+-- the far window was used, and the check, and nothing else
+pub record UsesRoom (table : TableValue) (old new : Room) : Type 0 where
+  pub rest : new ≡ record old { far = new.far; check = new.check }
+  pub check : UsesCheck table old.check new.check
+
 -- there is room to begin so many stripes with, and to go on with those that the near window has no room for
 pub record IsEnoughFor (stripes : ℕ) (room : Room) : Type 0 where
   pub first : 0 < stripes → 0 < room.near.room

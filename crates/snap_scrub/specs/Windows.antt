@@ -21,6 +21,12 @@ pub record CanLook (table : TableValue) (stripes : List ℕ) (window : WindowVal
   pub sums : length stripes ≤ length room.sums.items
   pub verdicts : length kept ≡ length stripes
 
+-- all stripes of a window were looked at, and their sums were made: these are their verdicts, and so many findings were told
+abbrev pub UsesAndLooks : {W R : Type 0} → (W → SinkView) → (R → ReportView) → (R → List Event → Type 0) → TableValue → List ℕ
+    → WindowValue → Check → Check → List Verdict → ℕ → Scene W R → Scene W R → Type 0
+UsesAndLooks view standing stands table stripes window before after kept findings old new = UsesCheck table before after
+    × LooksInto view standing stands table stripes window (length stripes) (take (length stripes) kept) findings old new
+
 -- stripes of a table can be read into a window, of so many folders
 pub record CanRead (table : TableValue) (places : StartsValue) (stripes : List ℕ) (window : WindowValue) (many : ℕ) : Type 0 where
   pub folders : many ≡ length table.columns

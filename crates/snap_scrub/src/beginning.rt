@@ -11,12 +11,13 @@ use file_table::Table;
 use snap_config::ScrubWay;
 use std::alloc::Global;
 
-/// The stripes that a scrub checks, ascending, what it makes of each, and all memory that it needs.
+/// The stripes that a scrub checks, ascending, what it makes of each, all memory that it needs, and by how many readers at most.
 #[derive(Drop)]
 pub(crate) struct Work {
     pub stripes: Vec<u32>,
     pub verdicts: Vec<Verdict>,
     pub room: Room,
+    pub readers: u32,
 }
 
 /// Plans a scrub, and takes all memory.
@@ -25,6 +26,7 @@ pub(crate) fn begin(
     table: &Table,
     way: &ScrubWay,
     now: u64,
+    readers: u32,
 ) -> Result<Work, NoMemory>
     ensures plan { IfOk result (λ work. work.stripes.items ≡ plan_of table.now way.now now) }
     ensures work { IfOk result (IsWorkFor table.now) }
@@ -37,5 +39,6 @@ pub(crate) fn begin(
         stripes,
         verdicts,
         room,
+        readers,
     })
 }

@@ -10,11 +10,11 @@ use crate::cells::tell_cells;
 use crate::levels::tell_levels;
 use crate::room::{Check, Sums};
 use crate::verdict::Found;
+use crate::windows::Batch;
 use disk_model::{Sink, Vault};
 use file_table::Table;
 use parity_writer::{Levels, read_levels};
 use snap_report::{Lines, Report};
-use stripe_reader::Window;
 
 // Reads the levels of a stripe of a table.
 fn read_all<V: Vault>(table: &Table, stripe: u32, vault: &mut V, levels: &mut Levels)
@@ -40,25 +40,25 @@ fn sums_of(sums: &[Sums], i: u32) -> &[u8]
 
 /// Tells what is found in a stripe of a window. Its levels are read where nothing is found in its cells.
 pub(crate) fn look_at<V: Vault, W: Sink>(
-    table: &Table,
-    stripes: &[u32],
-    window: &Window,
+    batch: &Batch<'_>,
     i: u32,
     check: &mut Check,
     vault: &mut V,
     lines: &mut Lines<'_, W>,
     reports: &mut Vec<Box<dyn Report>>,
 ) -> Found
-    requires holds { HoldsStripes table.now stripes.now window.now }
-    requires stripe { i < length stripes.now }
-    requires check { IsCheckFor table.now check.old }
-    requires sums { HasSums table.now window.now check.old i }
-    requires levels { (V.view vault.old).levels ≡ table.now.shape.levels }
-    ensures check { KeepsCheck table.now check.old check.new }
-    ensures looks { LooksAtOne W.view standing stands table.now stripes.now window.now i result
+    requires holds { HoldsStripes batch.now.table.now batch.now.stripes.now batch.now.window.now }
+    requires stripe { i < length batch.now.stripes.now }
+    requires check { IsCheckFor batch.now.table.now check.old }
+    requires sums { HasSums batch.now.table.now batch.now.window.now check.old i }
+    requires levels { (V.view vault.old).levels ≡ batch.now.table.now.shape.levels }
+    ensures check { KeepsCheck batch.now.table.now check.old check.new }
+    ensures looks { LooksAtOne W.view standing stands batch.now.table.now batch.now.stripes.now batch.now.window.now
+        i result
         (scene (V.view vault.old) lines.old reports.old.items) (scene (V.view vault.new) lines.new reports.new.items) }
 {
-    let found = tell_cells(table, stripes, window, i, lines, reports);
+    let (table, stripes) = (batch.table, batch.stripes);
+    let found = tell_cells(table, stripes, batch.window, i, lines, reports);
     if found.count > 0 {
         return found;
     }

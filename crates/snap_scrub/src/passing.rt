@@ -7,7 +7,7 @@ ghost use Rattle.snap_scrub.specs.Room.{IsEnoughFor, IsWorkFor};
 ghost use Rattle.snap_scrub.specs.Windows.{IsReady, KeepsWork, LooksNear, Turns, stripes_near, stripes_next};
 
 use crate::beginning::Work;
-use crate::turning::turn;
+use crate::turning::{Round, turn};
 use disk_model::{Folder, Sink, Vault};
 use file_table::Table;
 use snap_report::{Lines, Report};
@@ -20,7 +20,6 @@ fn read_first<R: Threads + Sync, F: Folder>(
     rt: &R,
     table: &Table,
     work: &mut Work,
-    readers: u32,
     folders: &mut [F],
 )
     requires work { IsWorkFor table.now work.old }
@@ -41,19 +40,18 @@ fn read_first<R: Threads + Sync, F: Folder>(
         table,
         &room.starts,
         stripes,
-        readers,
+        work.readers,
         &mut room.near,
     );
 }
 
 // Looks at the stripes of the near window, which stands after so many, and meanwhile reads the next ones into the far
-// window. Each side has so many threads at most.
+// window.
 fn turn_window<R: Threads + Sync, F: Folder, V: Vault, W: Sink>(
     rt: &R,
     table: &Table,
     work: &mut Work,
     done: usize,
-    readers: u32,
     folders: &mut [F],
     vault: &mut V,
     lines: &mut Lines<'_, W>,
@@ -63,29 +61,25 @@ fn turn_window<R: Threads + Sync, F: Folder, V: Vault, W: Sink>(
     requires folders { length folders.old ≡ length table.now.columns }
     requires levels { (V.view vault.old).levels ≡ table.now.shape.levels }
     ensures work { Turns table.now work.old work.new }
-    ensures read { ReadsWindow table.now (recorded_starts table.now)
-        (stripes_next work.old done) work.old.room.far work.new.room.far
-        (map F.view folders.old) (map F.view folders.new) }
+    ensures read { ReadsWindow table.now (recorded_starts table.now) (stripes_next work.old done)
+        work.old.room.far work.new.room.far (map F.view folders.old) (map F.view folders.new) }
     ensures looks { LooksNear W.view standing stands table.now work.old work.new done result
         (scene (V.view vault.old) lines.old reports.old.items) (scene (V.view vault.new) lines.new reports.new.items) }
 {
-    let room = &mut work.room;
-    let next = done + room.near.count() as usize;
-    let more = (work.stripes.len() - next).min(room.far.room() as usize);
-    let stripes = &work.stripes[done..next];
-    let ahead = &work.stripes[next..next + more];
+    let next = done + work.room.near.count() as usize;
+    let more = (work.stripes.len() - next).min(work.room.far.room() as usize);
+    let round = Round {
+        table,
+        stripes: &work.stripes[done..next],
+        ahead: &work.stripes[next..next + more],
+        threads: work.readers,
+    };
     let verdicts = &mut work.verdicts[done..next];
     turn(
         rt,
-        table,
-        &room.starts,
-        stripes,
-        &room.near,
-        ahead,
-        readers,
-        &mut room.far,
+        &round,
+        &mut work.room,
         folders,
-        &mut room.check,
         vault,
         lines,
         reports,
@@ -106,13 +100,12 @@ fn swap_windows(work: &mut Work)
     swap(&mut room.near, &mut room.far);
 }
 
-/// Looks at all stripes of a scrub: a window of them is read, by so many readers at most, and then each is looked at, while
+/// Looks at all stripes of a scrub: a window of them is read, and then each is looked at, while
 /// the next window is read.
 pub(crate) fn look_over<R: Threads + Sync, F: Folder, V: Vault, W: Sink>(
     rt: &R,
     table: &Table,
     work: &mut Work,
-    readers: u32,
     folders: &mut [F],
     vault: &mut V,
     lines: &mut Lines<'_, W>,
@@ -127,14 +120,12 @@ pub(crate) fn look_over<R: Threads + Sync, F: Folder, V: Vault, W: Sink>(
         (map F.view folders.old) (map F.view folders.new)
         (scene (V.view vault.old) lines.old reports.old.items) (scene (V.view vault.new) lines.new reports.new.items) }
 {
-    read_first(rt, table, work, readers, folders);
+    read_first(rt, table, work, folders);
     let mut findings = 0u64;
     let mut done = 0;
     while done < work.stripes.len() {
         let count = work.room.near.count();
-        let more = turn_window(
-            rt, table, work, done, readers, folders, vault, lines, reports,
-        );
+        let more = turn_window(rt, table, work, done, folders, vault, lines, reports);
         findings = findings.saturating_add(more);
         done += count as usize;
         swap_windows(work);

@@ -93,12 +93,10 @@ pub fn scrub<R: Threads + Sync, F: Folder, V: Vault, W: Sink>(
 {
     // A table has fewer stripes than 2^32.
     let _count = table.length();
-    let Ok(mut work) = begin(alloc, &table, way, now) else {
+    let Ok(mut work) = begin(alloc, &table, way, now, readers) else {
         return Err(RunFault::Memory);
     };
-    let findings = look_over(
-        rt, &table, &mut work, readers, folders, vault, lines, reports,
-    );
+    let findings = look_over(rt, &table, &mut work, folders, vault, lines, reports);
     let mut table = table;
     mark_all(&mut table, &work.stripes, &work.verdicts, now);
     let saved = save_marked(vault, &table, &work.stripes, work.room.piece.as_mut_slice());

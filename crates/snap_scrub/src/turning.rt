@@ -3,61 +3,69 @@ ghost use Rattle.std.specs.Prelude.{◌≡◌, length, map, take};
 ghost use Rattle.std.specs.Thread.{IsSend, IsSync};
 ghost use Rattle.stripe_reader.specs.Columns.{ReadsWindow};
 ghost use Rattle.snap_scrub.specs.Looking.{LooksInto, scene};
-ghost use Rattle.snap_scrub.specs.Room.{UsesCheck};
-ghost use Rattle.snap_scrub.specs.Windows.{CanLook, CanRead};
+ghost use Rattle.snap_scrub.specs.Room.{UsesRoom};
+ghost use Rattle.snap_scrub.specs.Windows.{CanLook, CanRead, UsesAndLooks};
 
-use crate::room::Check;
+use crate::room::Room;
 use crate::verdict::Verdict;
-use crate::windows::look_window;
+use crate::windows::{Batch, look_window};
 use disk_model::{Folder, Sink, Vault};
 use file_table::Table;
 use snap_report::{Lines, Report};
 use std::thread::{Threads, join_mut};
-use stripe_reader::{Starts, Window, read_window};
+use stripe_reader::read_window;
 
-/// Looks at the stripes of a window, and meanwhile reads the stripes ahead into another. Each side has so many threads at most.
+/// One round of a scrub: the stripes that are looked at, those that are read ahead meanwhile, and how many threads each side has
+/// at most.
+#[derive(Clone, Copy)]
+pub(crate) struct Round<'a> {
+    pub table: &'a Table,
+    pub stripes: &'a [u32],
+    pub ahead: &'a [u32],
+    pub threads: u32,
+}
+
+/// Looks at the stripes of the near window, and meanwhile reads the stripes ahead into the far one.
 pub(crate) fn turn<R: Threads + Sync, F: Folder, V: Vault, W: Sink>(
     rt: &R,
-    table: &Table,
-    starts: &Starts,
-    stripes: &[u32],
-    near: &Window,
-    ahead: &[u32],
-    readers: u32,
-    far: &mut Window,
+    round: &Round<'_>,
+    room: &mut Room,
     folders: &mut [F],
-    check: &mut Check,
     vault: &mut V,
     lines: &mut Lines<'_, W>,
     reports: &mut Vec<Box<dyn Report>>,
     verdicts: &mut [Verdict],
 ) -> u64
-    requires near { CanLook table.now stripes.now near.now check.old verdicts.old }
-    requires far { CanRead table.now starts.now ahead.now far.old (length folders.old) }
-    requires levels { (V.view vault.old).levels ≡ table.now.shape.levels }
-    ensures read { ReadsWindow table.now starts.now ahead.now far.old far.new
+    requires near { CanLook round.now.table.now round.now.stripes.now room.old.near room.old.check verdicts.old }
+    requires far { CanRead round.now.table.now room.old.starts round.now.ahead.now room.old.far (length folders.old) }
+    requires levels { (V.view vault.old).levels ≡ round.now.table.now.shape.levels }
+    ensures room { UsesRoom round.now.table.now room.old room.new }
+    ensures read { ReadsWindow round.now.table.now room.old.starts round.now.ahead.now room.old.far room.new.far
         (map F.view folders.old) (map F.view folders.new) }
-    ensures check { UsesCheck table.now check.old check.new }
-    ensures looks { LooksInto W.view standing stands table.now stripes.now near.now (length stripes.now)
-        (take (length stripes.now) verdicts.new) result
+    ensures looks { LooksInto W.view standing stands round.now.table.now round.now.stripes.now room.old.near
+        (length round.now.stripes.now) (take (length round.now.stripes.now) verdicts.new) result
         (scene (V.view vault.old) lines.old reports.old.items) (scene (V.view vault.new) lines.new reports.new.items) }
 {
-    let threads = readers;
+    let (table, ahead, threads) = (round.table, round.ahead, round.threads);
+    let (starts, stripes, window) = (&room.starts, round.stripes, &room.near);
+    let (far, check) = (&mut room.far, &mut room.check);
     let mut reading = ||
         requires { IsSync R.row × IsSend F.row × CanRead table.now starts.now ahead.now far.now (length folders.now) }
-    { read_window(rt, folders, table, starts, ahead, readers, far) };
+    { read_window(rt, folders, table, starts, ahead, threads, far) };
     let mut looking = || -> u64
-        requires { IsSync R.row × CanLook table.now stripes.now near.now check.now verdicts.now ×
+        requires { IsSync R.row × CanLook table.now stripes.now window.now check.now verdicts.now ×
             ((V.view vault.now).levels ≡ table.now.shape.levels) }
-        ensures check { UsesCheck table.entry.now check.entry.now check.exit.now }
-        ensures looks { LooksInto W.view standing stands table.entry.now stripes.entry.now near.entry.now
-            (length stripes.entry.now) (take (length stripes.entry.now) verdicts.exit.now) result
+        ensures { UsesAndLooks W.view standing stands table.entry.now stripes.entry.now window.entry.now
+            check.entry.now check.exit.now verdicts.exit.now result
             (scene (V.view vault.entry.now) lines.entry.now reports.entry.now.items)
             (scene (V.view vault.exit.now) lines.exit.now reports.exit.now.items) }
     {
-        look_window(
-            rt, table, stripes, near, threads, check, vault, lines, reports, verdicts,
-        )
+        let batch = Batch {
+            table,
+            stripes,
+            window,
+        };
+        look_window(rt, &batch, threads, check, vault, lines, reports, verdicts)
     };
     let ((), findings) = join_mut(rt, &mut reading, &mut looking);
     findings

@@ -16,30 +16,37 @@ use snap_report::{Lines, Report};
 use std::thread::Threads;
 use stripe_reader::Window;
 
+/// Stripes of a table that were read into a window: their numbers, and the window that holds them.
+#[derive(Clone, Copy)]
+pub(crate) struct Batch<'a> {
+    pub table: &'a Table,
+    pub stripes: &'a [u32],
+    pub window: &'a Window,
+}
+
 // Looks at the stripes of a window, whose sums are made, keeps the verdict on each, and counts the findings.
 fn look_into<V: Vault, W: Sink>(
-    table: &Table,
-    stripes: &[u32],
-    window: &Window,
+    batch: &Batch<'_>,
     check: &mut Check,
     verdicts: &mut [Verdict],
     vault: &mut V,
     lines: &mut Lines<'_, W>,
     reports: &mut Vec<Box<dyn Report>>,
 ) -> u64
-    requires holds { HoldsStripes table.now stripes.now window.now }
-    requires check { IsCheckFor table.now check.old }
-    requires sums { (i : ℕ) → i < length stripes.now → HasSums table.now window.now check.old i }
-    requires verdicts { length verdicts.old ≡ length stripes.now }
-    requires levels { (V.view vault.old).levels ≡ table.now.shape.levels }
-    ensures check { KeepsCheck table.now check.old check.new }
-    ensures looks { LooksInto W.view standing stands table.now stripes.now window.now (length stripes.now)
-        (take (length stripes.now) verdicts.new) result
+    requires holds { HoldsStripes batch.now.table.now batch.now.stripes.now batch.now.window.now }
+    requires check { IsCheckFor batch.now.table.now check.old }
+    requires sums { (i : ℕ) → i < length batch.now.stripes.now →
+        HasSums batch.now.table.now batch.now.window.now check.old i }
+    requires verdicts { length verdicts.old ≡ length batch.now.stripes.now }
+    requires levels { (V.view vault.old).levels ≡ batch.now.table.now.shape.levels }
+    ensures check { KeepsCheck batch.now.table.now check.old check.new }
+    ensures looks { LooksInto W.view standing stands batch.now.table.now batch.now.stripes.now batch.now.window.now
+        (length batch.now.stripes.now) (take (length batch.now.stripes.now) verdicts.new) result
         (scene (V.view vault.old) lines.old reports.old.items) (scene (V.view vault.new) lines.new reports.new.items) }
 {
     let mut findings = 0u64;
-    for i in 0..window.count() {
-        let found = look_at(table, stripes, window, i, check, vault, lines, reports);
+    for i in 0..batch.window.count() {
+        let found = look_at(batch, i, check, vault, lines, reports);
         verdicts[i as usize] = verdict(found);
         findings = findings.saturating_add(u64::from(found.count));
     }
@@ -50,9 +57,7 @@ fn look_into<V: Vault, W: Sink>(
 /// counts the findings.
 pub(crate) fn look_window<R: Threads + Sync, V: Vault, W: Sink>(
     rt: &R,
-    table: &Table,
-    stripes: &[u32],
-    window: &Window,
+    batch: &Batch<'_>,
     threads: u32,
     check: &mut Check,
     vault: &mut V,
@@ -60,16 +65,14 @@ pub(crate) fn look_window<R: Threads + Sync, V: Vault, W: Sink>(
     reports: &mut Vec<Box<dyn Report>>,
     verdicts: &mut [Verdict],
 ) -> u64
-    requires look { CanLook table.now stripes.now window.now check.old verdicts.old }
-    requires levels { (V.view vault.old).levels ≡ table.now.shape.levels }
-    ensures check { UsesCheck table.now check.old check.new }
-    ensures looks { LooksInto W.view standing stands table.now stripes.now window.now (length stripes.now)
-        (take (length stripes.now) verdicts.new) result
+    requires look { CanLook batch.now.table.now batch.now.stripes.now batch.now.window.now check.old verdicts.old }
+    requires levels { (V.view vault.old).levels ≡ batch.now.table.now.shape.levels }
+    ensures check { UsesCheck batch.now.table.now check.old check.new }
+    ensures looks { LooksInto W.view standing stands batch.now.table.now batch.now.stripes.now batch.now.window.now
+        (length batch.now.stripes.now) (take (length batch.now.stripes.now) verdicts.new) result
         (scene (V.view vault.old) lines.old reports.old.items) (scene (V.view vault.new) lines.new reports.new.items) }
 {
-    let levels = table.shape().levels;
-    sum_stripes(rt, window, levels, threads, check.sums.as_mut_slice());
-    look_into(
-        table, stripes, window, check, verdicts, vault, lines, reports,
-    )
+    let levels = batch.table.shape().levels;
+    sum_stripes(rt, batch.window, levels, threads, check.sums.as_mut_slice());
+    look_into(batch, check, verdicts, vault, lines, reports)
 }

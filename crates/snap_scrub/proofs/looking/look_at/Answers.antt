@@ -17,8 +17,8 @@ use Rattle.snap_scrub.proofs.looking.look_at.Goals as goal
 
 pub returns-then-found-gt0-clause-looks : goal.returns-then-found-gt0-clause-looks
 returns-then-found-gt0-clause-looks g c =
-    let table = c.args.table.now in
-    let cells = reading_at c.args.stripes.now c.args.window.now c.args.i in
+    let table = c.args.batch.now.table.now in
+    let cells = reading_at c.args.batch.now.stripes.now c.args.batch.now.window.now c.args.i in
     let found = c.tell_cells-found in
     record {
       reading = record { cells = cells; levels = [] };
@@ -46,10 +46,10 @@ tell_levels-requires-clause-sums g c =
 
 pub returns-clause-looks : goal.returns-clause-looks
 returns-clause-looks g c =
-    let table = c.args.table.now in
-    let window = c.args.window.now in
-    let stripe = get_or c.args.stripes.now c.args.i 0 in
-    let cells = reading_at c.args.stripes.now window c.args.i in
+    let table = c.args.batch.now.table.now in
+    let window = c.args.batch.now.window.now in
+    let stripe = get_or c.args.batch.now.stripes.now c.args.i 0 in
+    let cells = reading_at c.args.batch.now.stripes.now window c.args.i in
     let found = c.tell_cells-found in
     let levels = c.read_all.new.levels in
     let reads = c.read_all.ensures.read in
@@ -57,7 +57,7 @@ returns-clause-looks g c =
     let row = row_at window c.args.i in
     let zero : found.result.count ≡ 0 = omega (arith, c.if-found-gt0.false) in
     let size = c.read_all.ensures.size in
-    let says = levels_say table.shape.block_size stripe table.shape.levels row levels _ _ reads table cells refl refl (sym (row_of_window c.args.stripes.now window c.args.i))
+    let says = levels_say table.shape.block_size stripe table.shape.levels row levels _ _ reads table cells refl refl (sym (row_of_window c.args.batch.now.stripes.now window c.args.i))
     ∙ ap (λ n. kept_events n stripe row levels table.shape.levels) (sym size) in
     let other : Sums = some_sums c.args.check.now.sums.items c.args.i c.requires.sums.there in
     let own = c.sums_of-sums.ensures other ∙ ap (λ (all : List Sums). (slice_index_or all c.args.i other).blocks.items) c.as_slice.ensures.value in

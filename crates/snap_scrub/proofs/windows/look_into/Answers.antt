@@ -17,13 +17,13 @@ loop-i-init g c = record {
 pub look_at-found-requires-clause-sums : goal.look_at-found-requires-clause-sums
 look_at-found-requires-clause-sums g c κs lives =
     let i = c.loop-i.i in
-    let table = c.args.table.now in
-    let below : i < length c.args.stripes.now = omega (arith, c.requires.holds.count, c.count-i-end.ensures, c.loop-i-test.true) in
+    let table = c.args.batch.now.table.now in
+    let below : i < length c.args.batch.now.stripes.now = omega (arith, c.requires.holds.count, c.count-i-end.ensures, c.loop-i-test.true) in
     let has = c.requires.sums i below in
     let same : c.loop-i.check.sums.items ≡ c.args.check.now.sums.items = ap (λ sums. sums.items) c.loop-i.invariant.check.sums in
     record {
       there = omega (arith, has.there, ap length same);
-      hold = λ other. subst (λ (all : List Sums). HoldSums table.shape.block_size (row_at c.args.window.now i) table.shape.levels (get_or all i other).blocks.items) (sym same) (has.hold other);
+      hold = λ other. subst (λ (all : List Sums). HoldSums table.shape.block_size (row_at c.args.batch.now.window.now i) table.shape.levels (get_or all i other).blocks.items) (sym same) (has.hold other);
     }
 
 pub loop-i-preserved : goal.loop-i-preserved
@@ -36,7 +36,7 @@ loop-i-preserved g c =
     let one = c.look_at-found.ensures.looks in
     let kept = c.look_at-found.ensures.check in
     record {
-      looks = into_more _ _ _ _ c.args.stripes.now c.args.window.now i (take i verdicts) (take (i + 1) (set verdicts i verdict)) verdict
+      looks = into_more _ _ _ _ c.args.batch.now.stripes.now c.args.batch.now.window.now i (take i verdicts) (take (i + 1) (set verdicts i verdict)) verdict
           c.loop-i.findings c.saturating_add-findings.result c.look_at-found.result _ _ _
           (take_more_set verdicts i verdict within)
           c.verdict.ensures (omega (arith, c.saturating_add-findings.ensures, c.from.ensures)) so_far.looks one;

@@ -7,9 +7,9 @@ abbrev pub invariant-loop-i : goal.invariant-loop-i
 invariant-loop-i g l =
     record {
       looks : LooksInto g.W.Sink.view (λ b. (goal.Report-dyn g (b.vtable, b.value)).standing b.value) (λ b. (goal.Report-dyn g (b.vtable, b.value)).stands b.value)
-          l.table l.stripes l.window l.i (take l.i l.verdicts) l.findings
+          l.batch.table.now l.batch.stripes.now l.batch.window.now l.i (take l.i l.verdicts) l.findings
           (scene (g.V.Vault.view l.fn.vault) l.fn.lines l.fn.reports.items) (scene (g.V.Vault.view l.vault) l.lines l.reports.items);
-      check : KeepsCheck l.table l.fn.check l.check;
+      check : KeepsCheck l.batch.table.now l.fn.check l.check;
       many : length l.verdicts ≡ length l.fn.verdicts;
-      levels : (g.V.Vault.view l.vault).levels ≡ l.table.shape.levels;
+      levels : (g.V.Vault.view l.vault).levels ≡ l.batch.table.now.shape.levels;
     }

@@ -10,7 +10,7 @@ use Rattle.snap_scrub.proofs.windows.look_window.Goals as goal
 pub sum_stripes-requires-clause-room : goal.sum_stripes-requires-clause-room
 sum_stripes-requires-clause-room g c κs lives =
     let look = c.requires.look in
-    subst (λ (all : List Sums). All (HaveSize c.args.window.now.block_size) all) (sym c.as_mut_slice.ensures.value)
+    subst (λ (all : List Sums). All (HaveSize c.args.batch.now.window.now.block_size) all) (sym c.as_mut_slice.ensures.value)
     (subst (λ (n : ℕ). All (HaveSize n) c.args.check.now.sums.items) (sym look.holds.fits.block_size) look.check.sums)
 
 pub look_into-requires-clause-check : goal.look_into-requires-clause-check
@@ -20,7 +20,7 @@ look_into-requires-clause-check g c κs lives =
     let back = whole_back c.args.check.now.sums.len c.args.check.now.sums.items new (c.sum_stripes.ensures.count ∙ c.as_mut_slice.ensures.len) in
     record {
       levels = look.check.levels;
-      sums = subst (λ (all : List Sums). All (HaveSize c.args.table.now.shape.block_size) all) (sym back)
+      sums = subst (λ (all : List Sums). All (HaveSize c.args.batch.now.table.now.shape.block_size) all) (sym back)
           (λ k other below. subst (λ (n : ℕ). HaveSize n (get_or new k other)) look.holds.fits.block_size (c.sum_stripes.ensures.sums k other (omega (arith, below, c.sum_stripes.ensures.count))).size);
     }
 
@@ -28,8 +28,8 @@ pub look_into-requires-clause-sums : goal.look_into-requires-clause-sums
 look_into-requires-clause-sums g c κs lives =
     λ i below.
     let look = c.requires.look in
-    let table = c.args.table.now in
-    let window = c.args.window.now in
+    let table = c.args.batch.now.table.now in
+    let window = c.args.batch.now.window.now in
     let new = c.sum_stripes.new.sums in
     let levels = ap (λ (it : Shape). it.levels) c.shape-levels.ensures.shape in
     let back = whole_back c.args.check.now.sums.len c.args.check.now.sums.items new (c.sum_stripes.ensures.count ∙ c.as_mut_slice.ensures.len) in
