@@ -1,7 +1,7 @@
 -- The checkpoint behind a window, where one is due.
 use Rattle.std.proofs.Common.{◌≡◌, ℕ, List, length, Bool, true, false, IsTrue, Ok, Err, sym, ap₂, ◌∙◌, subst}
 use Rattle.disk_model.specs.declared.fault.Failed.{Failed}
-use Rattle.disk_model.specs.Vault.{VaultView, IsWellFormed}
+use Rattle.disk_model.specs.Vault.{VaultView, IsWellFormed, SomeCalls}
 use Rattle.file_table.specs.Table.{TableValue}
 use Rattle.snap_sync.specs.Calls.{SyncPlan, piece_size, saves_after}
 use Rattle.snap_sync.specs.Closing.{closed}
@@ -35,3 +35,9 @@ module _ {plan : SyncPlan} {readings : List StripeReading} {c all done : ℕ} {t
       → IsStopped plan readings old.vault new
   stopped_behind true fault is saves rests = underway_stopped_saving plan readings c piece_size setting.piece_is table table_is old.vault mid new setting.for formed (sym behind_is ∙ is) written (saves_not table fault mid new (saves is))
   stopped_behind false fault is saves rests = absurd (let clash : false ≡ true = rests is in cc)
+
+  -- it was begun
+  pub calls_behind : (b : Bool) (fault : Failed) → saves_behind plan.every all done ≡ b → (IsTrue (saves_behind plan.every all done) → Saves {T = Unit {0}} table (Err fault) mid new) → (saves_behind plan.every all done ≡ false → IsTrue false)
+      → SomeCalls mid new
+  calls_behind true fault is saves rests = (saves is).calls
+  calls_behind false fault is saves rests = absurd (let clash : false ≡ true = rests is in cc)

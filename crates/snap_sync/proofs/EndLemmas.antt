@@ -1,5 +1,6 @@
 -- The last checkpoint, and the last line.
 use Rattle.std.proofs.Common.{◌≡◌, ℕ, ◌+◌, ◌*◌, ◌≤◌, List, [], ◌++◌, length, take, drop, true, false, Option, sym, ap, ap₂, ◌∙◌, subst, arith}
+use Rattle.std.proofs.lemmas.List.{append-nil}
 use Rattle.std.proofs.lemmas.List.Sums.{count_by-le-length}
 use Rattle.array_scan.specs.Layout.{pending_stripes}
 use Rattle.content_file.specs.Save.{HasSaved, HasNoDraft}
@@ -32,7 +33,7 @@ use Rattle.stripe_findings.specs.Reading.{StripeReading, readings_in, is_verifie
 use Rattle.snap_sync.specs.Reading.{ReadsFirst}
 use Rattle.snap_sync.specs.Run.{readings_near, plan_for, HasSynced}
 use Rattle.stripe_reader.specs.WindowValue.{stripe_count}
-use Rattle.snap_sync.proofs.RunLemmas.{IsSetting, breaks_with}
+use Rattle.snap_sync.proofs.RunLemmas.{IsSetting, broke_in, breaks_with}
 use Rattle.snap_sync.proofs.UnderwayLemmas.{IsSaved, SavesNot, underway_ended, underway_stopped_ending}
 
 module _ {W R : Type 0} {view : W → SinkView} {standing : R → ReportView} {stands : R → List Event → Type 0} {plan : SyncPlan} {progress : Progress} {work : Work} {old mid : Outside W R}
@@ -55,6 +56,7 @@ module _ {W R : Type 0} {view : W → SinkView} {standing : R → ReportView} {s
     breaks_ending saves =
         breaks_with view standing stands plan so_far.readings (readings_near work progress.done) old (outside mid.folders new mid.lines mid.reports) so_far.reads
         (subst (λ (its : List StripeReading). length its ≤ stripe_count (length plan.start.columns) plan.start.shape.block_size) (sym nothing_near) (omega arith))
+        (broke_in plan so_far.readings so_far.readings [] old.vault mid.vault new (sym (append-nil so_far.readings)) (omega arith) so_far.vault.ran saves.calls)
         (underway_stopped_ending plan so_far.readings so_far.saved piece (setting.piece_is ∙ piece_is) work.table so_far.table old.vault mid.vault new setting.for formed all_read so_far.vault saves) so_far.told
 
     -- it did not fail, and the last line was told

@@ -21,8 +21,7 @@ use Rattle.snap_report.proofs.ToldLemmas.{told_then}
 use Rattle.stripe_reader.specs.Columns.{ReadsWindow}
 use Rattle.stripe_reader.specs.Reading.{tasks_at}
 use Rattle.stripe_reader.specs.Starts.{StartsValue, recorded_starts}
-use Rattle.file_table.specs.declared.shape.Shape.{Shape}
-use Rattle.stripe_reader.specs.WindowValue.{WindowValue, Fits, stripe_count}
+use Rattle.stripe_reader.specs.WindowValue.{WindowValue, stripe_count}
 use Rattle.snap_sync.specs.declared.beginning.Work.{Work}
 use Rattle.snap_sync.specs.declared.judging.Counts.{Counts}
 use Rattle.snap_sync.specs.declared.stripes.Progress.{Progress}
@@ -45,9 +44,9 @@ use Rattle.snap_sync.proofs.PendingLemmas.{none_within}
 use Rattle.stripe_findings.proofs.ReadLemmas.{are_read_by, window_are_read, stripes_of_window, length_of_window, length_after}
 use Rattle.snap_sync.proofs.StandLemmas.{IsStopped, IsWritten}
 use Rattle.snap_sync.proofs.UnderwayLemmas.{ComesNext, underway_written, underway_stopped_writing, writing_broke}
-use Rattle.snap_sync.proofs.WorkLemmas.{judged_ready, window_few, window_within, window_some, swapped_of, turned_is, near_is, turn_ready}
+use Rattle.snap_sync.proofs.WorkLemmas.{judged_ready, few_of, window_few, window_within, window_some, swapped_of, turned_is, near_is, turn_ready}
 use Rattle.snap_sync.proofs.NextLemmas.{distinct_of, reads_more}
-use Rattle.snap_sync.proofs.RunLemmas.{IsSetting, told_by, breaks_with}
+use Rattle.snap_sync.proofs.RunLemmas.{IsSetting, broke_in, told_by, breaks_with}
 
 -- ---- counts
 
@@ -247,30 +246,30 @@ module _ {W R : Type 0} {view : W → SinkView} {standing : R → ReportView} {s
     few_ahead : length ahead ≤ stripe_count (length plan.start.columns) plan.start.shape.block_size
     few_ahead =
         let stripes = stripes_next plan.every judged progress.done in
-        let shape = (differs-closed plan.now plan.start judged_so_far).shape in
-        let width = (differs-closed plan.now plan.start judged_so_far).columns in
-        let table_width : length judged.table.columns ≡ length plan.start.columns = ap (λ (table : TableValue). length table.columns) judged_table ∙ width in
-        let table_shape : judged.table.shape ≡ plan.start.shape = ap (λ (table : TableValue). table.shape) judged_table ∙ shape in
         let long : length ahead ≡ length stripes = length-map (range_with_len 0 (length stripes)) (reading_at stripes far) ∙ length-range_with_len 0 (length stripes) in
         let many : length stripes ≡ many_ahead = length_after judged.pending.items (progress.done + judged.room.near.count) many_ahead ahead_within in
         let room : many_ahead ≤ judged.room.near.room = window_few plan.every judged.room.near.room (all_of judged) (progress.done + judged.room.near.count) in
-        subst (λ (n : ℕ). length ahead ≤ stripe_count n plan.start.shape.block_size) table_width
-        (subst (λ (s : Shape). length ahead ≤ stripe_count (length judged.table.columns) s.block_size) table_shape
-        (le_through (length ahead) judged.room.near.room (stripe_count (length judged.table.columns) judged.table.shape.block_size) (omega (arith, long, many, room)) window.ready.is_work.room.few))
-      where
-        le_through : (a b c : ℕ) → a ≤ b → b ≤ c → a ≤ c
-        le_through a b c one two = omega (arith, one, two)
+        few_of plan.now plan.start judged.table judged_so_far (length ahead) judged.room.near.room judged_table (omega (arith, long, many, room)) window.ready.is_work.room.few
+
+    -- nor are those that were judged last
+    few_judged : length ws ≤ stripe_count (length plan.start.columns) plan.start.shape.block_size
+    few_judged =
+        let room : work.room.near.count ≤ work.room.near.room = omega (arith, window.so_far.ready.near, window_few plan.every work.room.near.room (all_of work) progress.done) in
+        few_of plan.now plan.start work.table xs (length ws) work.room.near.room window.so_far.table
+        (omega (arith, length_of_window (stripes_near work progress.done) work.room.near, stripes_many, room)) window.so_far.ready.is_work.room.few
 
     -- a call failed
-    pub breaks_turned : {vault : VaultView} → IsStopped plan judged_so_far old.vault vault → Breaks view standing stands plan old (outside folders vault lines reports)
-    breaks_turned {vault} stopped = breaks_with view standing stands plan judged_so_far ahead old (outside folders vault lines reports) reads_turned few_ahead stopped told_judged
+    pub breaks_turned : {vault : VaultView} → SomeCalls mid.vault vault → IsStopped plan judged_so_far old.vault vault → Breaks view standing stands plan old (outside folders vault lines reports)
+    breaks_turned {vault} calls stopped =
+        breaks_with view standing stands plan judged_so_far ahead old (outside folders vault lines reports) reads_turned few_ahead
+        (broke_in plan judged_so_far xs ws old.vault mid.vault vault refl few_judged window.so_far.vault.ran calls) stopped told_judged
 
     -- none failed
     pub synced_more : {turned saved swapped : Work} {more : Progress} {counts : Counts} {c : ℕ} {vault : VaultView} → AreCounts work.table ws counts → ReadsFar judged turned → turned.room.far ≡ far
-        → Fits judged.table turned.room.far → KeepsWork turned saved → swapped ≡ swapped_of saved → more.done ≡ progress.done + turned.room.near.count → more.synced ≡ progress.synced + counts.synced
+        → KeepsWork turned saved → swapped ≡ swapped_of saved → more.done ≡ progress.done + turned.room.near.count → more.synced ≡ progress.synced + counts.synced
         → more.findings ≡ more_findings progress.findings counts.findings → IsUnderway plan judged_so_far c (length judged_so_far) old.vault vault
         → HasSynced view standing stands plan more swapped old (outside folders vault lines reports)
-    synced_more {turned} {saved} {swapped} {more} {counts} {c} {vault} counted reads_far far_is fits keeps swap done synced findings under =
+    synced_more {turned} {saved} {swapped} {more} {counts} {c} {vault} counted reads_far far_is keeps swap done synced findings under =
         let all = turned_is judged turned saved swapped reads_far keeps swap in
         let near : turned.room.near ≡ judged.room.near = ap (λ (it : Work). it.room.near) reads_far.rest in
         let done_is : more.done ≡ progress.done + judged.room.near.count = done ∙ ap (λ (it : WindowValue). progress.done + it.count) near in
@@ -283,7 +282,7 @@ module _ {W R : Type 0} {view : W → SinkView} {standing : R → ReportView} {s
           readings = judged_so_far;
           count = length_judged ∙ ap (λ (it : WindowValue). progress.done + it.count) (sym near_kept) ∙ sym done_is;
           pending = ap (λ it. it.items) all.pending ∙ ap (λ (it : Work). it.pending.items) window.judges.rest ∙ window.so_far.pending;
-          ready = subst (IsReady plan.every swapped) (sym done_is) (turn_ready plan.every judged turned saved swapped progress.done mid.folders folders window.ready reads_far fits read_far keeps swap);
+          ready = subst (IsReady plan.every swapped) (sym done_is) (turn_ready plan.every judged turned saved swapped progress.done mid.folders folders window.ready reads_far read_far keeps swap);
           reads = subst (λ (its : List StripeReading). ReadsFirst plan.start (judged_so_far ++ its) old.folders folders) (sym ahead_is) reads_turned;
           table = all.table ∙ judged_table;
           told = told_judged;

@@ -15,6 +15,7 @@ pub mod PendingLemmas
 pub mod StandLemmas
 pub mod WrittenLemmas
 pub mod SavedLemmas
+pub mod CheckpointLemmas
 pub mod UnderwayLemmas
 pub mod BeginLemmas
 pub mod SliceLemmas

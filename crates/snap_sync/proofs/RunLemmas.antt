@@ -1,10 +1,11 @@
 -- What a sync begins with, how far it is before the first window is judged, and what it leaves where a call failed.
-use Rattle.std.proofs.Common.{◌≡◌, ℕ, ◌+◌, ◌<◌, ◌≤◌, List, [], ◌++◌, length, take, true, IfSome, Result, Ok, Err, OnErr, refl, sym, ap, ap₂, ◌∙◌, subst, arith}
+use Rattle.std.proofs.Common.{◌≡◌, ℕ, ◌+◌, ◌<◌, ◌≤◌, List, [], ◌++◌, length, take, true, IfSome, IsTrue, Result, Ok, Err, OnErr, refl, sym, ap, ap₂, ◌∙◌, subst, arith}
 use Rattle.std.proofs.lemmas.List.{append-nil}
 use Rattle.array_scan.specs.Layout.{pending_stripes}
 use Rattle.disk_model.specs.Folder.{FolderView}
 use Rattle.disk_model.specs.Sink.{SinkView}
-use Rattle.disk_model.specs.Vault.{VaultView}
+use Rattle.disk_model.specs.Ran.{RanAll, log_of}
+use Rattle.disk_model.specs.Vault.{VaultView, SomeCalls, state_of}
 use Rattle.file_table.specs.Table.{TableValue}
 use Rattle.snap_report.specs.EventLines.{lines_of}
 use Rattle.snap_report.specs.Report.{ReportView, AllGiven}
@@ -18,8 +19,8 @@ use Rattle.stripe_reader.specs.Starts.{recorded_starts}
 use Rattle.snap_sync.specs.declared.beginning.Work.{Work}
 use Rattle.snap_sync.specs.declared.stripes.Pace.{Pace}
 use Rattle.snap_sync.specs.declared.stripes.Progress.{Progress}
-use Rattle.snap_sync.specs.Calls.{SyncPlan, piece_size}
-use Rattle.snap_sync.specs.Course.{Outside, TouchesVault, TellsThese, Breaks, outside}
+use Rattle.snap_sync.specs.Calls.{SyncPlan, opening_calls, stripe_calls, piece_size}
+use Rattle.snap_sync.specs.Course.{Outside, TouchesVault, TellsThese, BreaksInWindow, Breaks, outside}
 use Rattle.stripe_findings.specs.Findings.{events_of}
 use Rattle.stripe_findings.specs.Reading.{StripeReading, AreRead}
 use Rattle.snap_sync.specs.Reading.{ReadsFirst}
@@ -55,6 +56,24 @@ pub on_err : {T E : Type 0} (result : Result T E) {P : Type 0} → P → OnErr r
 on_err (Ok x) p = tt
 on_err (Err e) p = p
 
+-- ---- the window in which a call failed
+
+-- all calls for the stripes before it went well
+pub broke_in : (plan : SyncPlan) (readings before last : List StripeReading) (old mid new : VaultView) → readings ≡ before ++ last → length last ≤ stripe_count (length plan.start.columns) plan.start.shape.block_size
+    → (IsTrue old.tells → RanAll (opening_calls plan old.files ++ stripe_calls plan before (length before)) (log_of (state_of old)) (log_of (state_of mid))) → SomeCalls mid new
+    → BreaksInWindow plan readings (state_of old) (state_of new)
+broke_in plan readings before last old mid new are few ran calls = record {
+  before = before;
+  last = last;
+  are = are;
+  few = few;
+  ran = λ some told. record { mid = log_of (state_of mid); first = ran told; rest = calls.done; more = calls.goes_on.calls };
+}
+
+-- no stripe was told
+broke_before : (plan : SyncPlan) (old new : VaultView) → BreaksInWindow plan [] (state_of old) (state_of new)
+broke_before plan old new = record { before = []; last = []; are = refl; few = omega arith; ran = λ some. absurd (some refl) }
+
 -- ---- what was told
 
 module _ {W R : Type 0} (view : W → SinkView) (standing : R → ReportView) (stands : R → List Event → Type 0) where
@@ -81,12 +100,13 @@ module _ {W R : Type 0} (view : W → SinkView) (standing : R → ReportView) (s
 
   -- a sync that broke off
   pub breaks_with : (plan : SyncPlan) (readings ahead : List StripeReading) (old new : Outside W R) → ReadsFirst plan.start (readings ++ ahead) old.folders new.folders
-      → length ahead ≤ stripe_count (length plan.start.columns) plan.start.shape.block_size → IsStopped plan readings old.vault new.vault
+      → length ahead ≤ stripe_count (length plan.start.columns) plan.start.shape.block_size → BreaksInWindow plan readings (state_of old.vault) (state_of new.vault) → IsStopped plan readings old.vault new.vault
       → Told view standing stands plan.start.columns (events_of plan.start readings) old.lines new.lines old.reports new.reports → Breaks view standing stands plan old new
-  breaks_with plan readings ahead old new reads few stopped told = record {
+  breaks_with plan readings ahead old new reads few window stopped told = record {
     readings = readings;
     ahead = ahead;
     few = few;
+    window = window;
     course = record { reads = reads; vault = touches plan readings old.vault new.vault stopped; tells = tells_these plan.start readings old new told };
   }
 
@@ -96,6 +116,7 @@ module _ {W R : Type 0} (view : W → SinkView) (standing : R → ReportView) (s
       breaks_with plan [] [] old new
       (record { stripes = refl; read = subst (λ (news : List FolderView). AreRead plan.start [] old.folders news) (sym folders) (are_read_start plan.start old.folders) })
       (omega arith)
+      (broke_before plan old.vault new.vault)
       stopped
       (subst (λ (its : Lines W). Told view standing stands plan.start.columns [] old.lines its old.reports new.reports) (sym lines)
       (subst (λ (its : List R). Told view standing stands plan.start.columns [] old.lines old.lines old.reports its) (sym reports) (told_nothing view standing stands plan.start.columns old.lines old.reports)))

@@ -10,7 +10,7 @@ use Rattle.file_table.specs.Table.{TableValue, info_at}
 use Rattle.file_table.specs.Valid.{most_blocks}
 use Rattle.stripe_reader.specs.Columns.{ReadsWindow}
 use Rattle.file_table.specs.declared.shape.Shape.{Shape}
-use Rattle.stripe_reader.specs.WindowValue.{WindowValue, Fits, stripe_count}
+use Rattle.stripe_reader.specs.WindowValue.{WindowValue, stripe_count}
 use Rattle.snap_sync.specs.declared.beginning.Work.{Work}
 use Rattle.snap_sync.specs.declared.room.Room.{Room}
 use Rattle.snap_sync.specs.Closing.{closed}
@@ -35,6 +35,18 @@ window_few (Some every) room all count = omega arith
 pub window_some : (every : Option ℕ) (room all count : ℕ) → IfSome every (λ every. 0 < every) → 0 < room → count < all → 0 < window_count every room all count
 window_some None room all count some has more = omega arith
 window_some (Some every) room all count some has more = omega arith
+
+-- as many as one window has, by a table in which stripes are closed
+pub few_of : (now : ℕ) (start table : TableValue) (readings : List StripeReading) (count room : ℕ) → table ≡ closed now start readings → count ≤ room → room ≤ stripe_count (length table.columns) table.shape.block_size
+    → count ≤ stripe_count (length start.columns) start.shape.block_size
+few_of now start table readings count room is few within =
+    let width : length table.columns ≡ length start.columns = ap (λ (t : TableValue). length t.columns) is ∙ (differs-closed now start readings).columns in
+    let shape : table.shape ≡ start.shape = ap (λ (t : TableValue). t.shape) is ∙ (differs-closed now start readings).shape in
+    subst (λ (n : ℕ). count ≤ stripe_count n start.shape.block_size) width
+    (subst (λ (s : Shape). count ≤ stripe_count (length table.columns) s.block_size) shape (le_through count room (stripe_count (length table.columns) table.shape.block_size) few within))
+  where
+    le_through : (a b c : ℕ) → a ≤ b → b ≤ c → a ≤ c
+    le_through a b c one two = omega (arith, one, two)
 
 -- ---- a window was judged
 
@@ -83,10 +95,10 @@ judged_ready every now work judged done ready judges =
 
 -- ---- the next window was read
 
-pub turned_work : (work turned : Work) → IsWork work → ReadsFar work turned → Fits work.table turned.room.far → turned.room.far.room ≡ work.room.far.room → IsWork turned
-turned_work work turned is far fits as_much =
+pub turned_work : (work turned : Work) → IsWork work → ReadsFar work turned → turned.room.far.room ≡ work.room.far.room → IsWork turned
+turned_work work turned is far as_much =
     subst IsWork (sym far.rest) (record {
-      room = record { starts = is.room.starts; some = is.room.some; few = is.room.few; near = is.room.near; far = fits; as_much = as_much ∙ is.room.as_much; chosen = is.room.chosen; sums = far.sums ∙ is.room.sums; piece = is.room.piece };
+      room = record { starts = is.room.starts; some = is.room.some; few = is.room.few; near = is.room.near; far = far.fits; as_much = as_much ∙ is.room.as_much; chosen = is.room.chosen; sums = far.sums ∙ is.room.sums; piece = is.room.piece };
       pending = is.pending;
       few = is.few;
     })
@@ -164,11 +176,11 @@ module _ (every : Option ℕ) (judged new : Work) (done : ℕ) (far window : Win
   }
 
 -- as the code has it
-pub turn_ready : (every : Option ℕ) (judged turned saved swapped : Work) (done : ℕ) (folders news : List FolderView) → IsReady every judged done → ReadsFar judged turned → Fits judged.table turned.room.far
+pub turn_ready : (every : Option ℕ) (judged turned saved swapped : Work) (done : ℕ) (folders news : List FolderView) → IsReady every judged done → ReadsFar judged turned
     → ReadsWindow judged.table judged.room.starts (stripes_next every judged done) judged.room.far turned.room.far folders news → KeepsWork turned saved → swapped ≡ swapped_of saved
     → IsReady every swapped (done + judged.room.near.count)
-turn_ready every judged turned saved swapped done folders news ready far fits read keeps swap =
-    let is = kept_work turned saved (turned_work judged turned ready.is_work far fits read.room) keeps in
+turn_ready every judged turned saved swapped done folders news ready far read keeps swap =
+    let is = kept_work turned saved (turned_work judged turned ready.is_work far read.room) keeps in
     new_ready every judged swapped done judged.room.far turned.room.far folders news ready (turned_is judged turned saved swapped far keeps swap) read (read.room ∙ ready.is_work.room.as_much)
     (subst IsWork (sym swap) (swapped_work saved is))
 

@@ -1,12 +1,13 @@
 -- What a sync leaves, and why it did not end.
-use Rattle.std.specs.Prelude.{◌≡◌, ℕ, ◌+◌, ◌<◌, ◌≤◌, ◌*◌, List, [], ◌++◌, length, Bool, true, false, IsTrue, IfSome}
+use Rattle.std.specs.Prelude.{◌≡◌, ◌≢◌, ℕ, ◌+◌, ◌<◌, ◌≤◌, ◌*◌, List, [], ◌++◌, length, Bool, true, false, IsTrue, IfSome}
 use Rattle.array_scan.specs.Layout.{pending_stripes}
 use Rattle.content_file.specs.Save.{HasSaved, HasNoDraft}
 use Rattle.content_file.specs.Spelling.{spelling}
+use Rattle.disk_model.specs.Cause.{Grows}
 use Rattle.disk_model.specs.Folder.{FolderView}
-use Rattle.disk_model.specs.Ran.{RanLog, log_of}
+use Rattle.disk_model.specs.Ran.{Log, RanAll, RanLog, log_of}
 use Rattle.disk_model.specs.Sink.{SinkView}
-use Rattle.disk_model.specs.Vault.{VaultView, ChangesBy, Holds, SomeCalls, copies_of, state_of}
+use Rattle.disk_model.specs.Vault.{VaultView, VaultState, VaultCall, VaultDone, ChangesBy, Holds, SomeCalls, copies_of, state_of}
 use Rattle.file_table.specs.Table.{TableValue}
 use Rattle.snap_config.specs.Setup.{SetupValue}
 use Rattle.snap_config.specs.declared.options.SyncWay.{SyncWay}
@@ -22,7 +23,7 @@ use Rattle.snap_sync.specs.declared.fault.SyncFault.{SyncFault}
 use Rattle.snap_sync.specs.declared.fault.SyncFault.TheVariants.{Run}
 use Rattle.snap_sync.specs.declared.syncing.SyncEnd.{SyncEnd}
 use Rattle.snap_sync.specs.Beginning.{LaysOut, BeginsNot}
-use Rattle.snap_sync.specs.Calls.{SyncPlan, sync_vault_calls, piece_size}
+use Rattle.snap_sync.specs.Calls.{SyncPlan, opening_calls, stripe_calls, sync_vault_calls, piece_size}
 use Rattle.snap_sync.specs.Closing.{closed, verified_in}
 use Rattle.stripe_findings.specs.Findings.{events_of}
 use Rattle.snap_sync.specs.Images.{MayStand, HasParityAfter}
@@ -97,12 +98,31 @@ pub record Ends {W R : Type 0} (view : W → SinkView) (standing : R → ReportV
   pub pending : end.synced + end.pending ≡ plan.all
   pub findings : end.findings ≡ more_findings 0 (length (events_of plan.start readings))
 
--- A sync that broke off once the vault was touched: a call of it failed. The stripes that were read ahead are no more than one window has.
+-- these calls were made before all others, in this order, and none of them failed
+pub record RanFirst (calls : List VaultCall) (old new : Log) : Type 0 where
+  pub mid : Log
+  pub first : RanAll calls old mid
+  pub rest : List VaultDone
+  pub more : Grows mid.tells mid.calls new.tells new.calls rest
+
+-- Where a sync broke off: the last stripes that it told are no more than one window has, and all calls for the stripes before them went
+-- well. So the call that failed is for one of the last ones, or saves behind them. While the vault is opened no stripe is told.
+pub record BreaksInWindow (plan : SyncPlan) (readings : List StripeReading) (old new : VaultState) : Type 0 where
+  pub before : List StripeReading
+  pub last : List StripeReading
+  pub are : readings ≡ before ++ last
+  pub few : length last ≤ stripe_count (length plan.start.columns) plan.start.shape.block_size
+  pub ran : readings ≢ [] → IsTrue old.tells
+      → RanFirst (opening_calls plan old.files ++ stripe_calls plan before (length before)) (log_of old) (log_of new)
+
+-- A sync that broke off once the vault was touched: a call of it failed, for the last window that was told. The stripes that were read
+-- ahead are no more than one window has.
 pub record Breaks {W R : Type 0} (view : W → SinkView) (standing : R → ReportView) (stands : R → List Event → Type 0)
     (plan : SyncPlan) (old new : Outside W R) : Type 0 where
   pub readings : List StripeReading
   pub ahead : List StripeReading
   pub few : length ahead ≤ stripe_count (length plan.start.columns) plan.start.shape.block_size
+  pub window : BreaksInWindow plan readings (state_of old.vault) (state_of new.vault)
   pub course : Course view standing stands plan true readings ahead [] old new
 
 -- what is outside once the folders were listed: only the folders were asked

@@ -7,6 +7,7 @@ pub mod Images
 pub mod Work
 pub mod Beginning
 pub mod Course
+pub mod Window
 pub mod Run
 pub mod Part
 pub mod Soundness

@@ -1,7 +1,7 @@
 -- A sync that goes from window to window: which stripes stand in the near window, what it is ready for, and what a window changes.
-use Rattle.std.specs.Prelude.{◌≡◌, ℕ, ◌+◌, ◌^◌, ◌<◌, ◌≤◌, ◌&&◌, ◌==◌, ◌++◌, not, List, length, map, take, drop, All, Bool, Option, Result, OnOk, OnErr}
+use Rattle.std.specs.Prelude.{◌≡◌, ℕ, ◌+◌, ◌^◌, ◌<◌, ◌≤◌, ◌&&◌, ◌==◌, ◌++◌, not, List, length, map, take, drop, All, Bool, Option, Result, IfSome, OnOk, OnErr}
 use Rattle.array_scan.specs.Layout.{pending_stripes}
-use Rattle.content_file.specs.Save.{HasSaved, piecewise_calls}
+use Rattle.content_file.specs.Save.{HasSaved, HasNoDraft, piecewise_calls}
 use Rattle.content_file.specs.Spelling.{spelling}
 use Rattle.disk_model.specs.Ran.{Ran}
 use Rattle.disk_model.specs.Sink.{SinkView}
@@ -14,6 +14,7 @@ use Rattle.parity_writer.specs.Keeps.{SameParities}
 use Rattle.snap_report.specs.Report.{ReportView}
 use Rattle.snap_report.specs.Told.{Told}
 use Rattle.snap_report.specs.declared.events.Event.{Event}
+use Rattle.stripe_reader.specs.WindowValue.{Fits}
 use Rattle.snap_sync.specs.declared.beginning.Work.{Work}
 use Rattle.snap_sync.specs.declared.judging.Counts.{Counts}
 use Rattle.snap_sync.specs.declared.stripes.Pace.{Pace}
@@ -56,6 +57,12 @@ pub record IsWork (work : Work) : Type 0 where
   pub pending : All (λ stripe. stripe < length work.table.infos) work.pending.items
   pub few : all_of work < 2 ^ 32
 
+-- Work of a sync at its beginning: all pending stripes of its table. If it saves besides at its end, then after one stripe at least.
+pub record IsBegun (saves : Option ℕ) (work : Work) : Type 0 where
+  pub is_work : IsWork work
+  pub pending : work.pending.items ≡ pending_stripes work.table.infos
+  pub every : IfSome saves (λ every. 0 < every)
+
 -- ready for the window after so many stripes: it was read into the near room
 pub record IsReady (every : Option ℕ) (work : Work) (done : ℕ) : Type 0 where
   pub is_work : IsWork work
@@ -81,6 +88,7 @@ pub record Judges (now : ℕ) (old new : Work) (done : ℕ) : Type 0 where
 -- the next window was read into the far room
 pub record ReadsFar (old new : Work) : Type 0 where
   pub sums : length new.room.sums.items ≡ length old.room.sums.items
+  pub fits : Fits old.table new.room.far
   pub rest : new ≡ record old { room = record old.room { sums = new.room.sums; far = new.room.far } }
 
 -- a piece was written to drafts, and all else stays
@@ -99,6 +107,7 @@ pub record Saves {T : Type 0} (table : TableValue) (result : Result T Failed) (o
   pub changes : ChangesBy (MaySettle old.levels old.files (spelling table)) old new
   pub settled : OnOk result (Holds (SameParities old.levels old.files) new)
   pub saved : OnOk result (Holds (HasSaved (copies_of old) (spelling table)) new)
+  pub no_draft : OnOk result (HasNoDraft new)
   pub broke : OnErr result (VaultBroke old new)
 
 -- the plan of this work

@@ -1,8 +1,8 @@
 // What a sync does once all its memory is taken.
-ghost use Rattle.std.specs.Prelude.{◌≡◌, ◌<◌, IfSome, IfOk, OnErr, length, map};
-ghost use Rattle.array_scan.specs.Layout.{pending_stripes};
+ghost use Rattle.std.specs.Prelude.{IfOk, OnErr, length, map};
 ghost use Rattle.snap_sync.specs.Course.{outside, Ends, Breaks};
-ghost use Rattle.snap_sync.specs.Run.{plan_for, IsWork};
+ghost use Rattle.snap_sync.specs.Run.{plan_for, IsBegun};
+ghost use Rattle.snap_sync.specs.Window.{AreDisksOf};
 
 use crate::SyncEnd;
 use crate::beginning::Work;
@@ -22,11 +22,8 @@ pub(crate) fn carry_out<R: Threads + Sync, F: Folder, V: Vault, W: Sink>(
     lines: &mut Lines<'_, W>,
     reports: &mut Vec<Box<dyn Report>>,
 ) -> Result<SyncEnd, Failed>
-    requires work { IsWork work }
-    requires pending { work.pending.items ≡ pending_stripes work.table.infos }
-    requires every { IfSome pace.every (λ every. 0 < every) }
-    requires folders { length folders.old ≡ length work.table.columns }
-    requires levels { (V.view vault.old).levels ≡ work.table.shape.levels }
+    requires begun { IsBegun pace.every work }
+    requires disks { AreDisksOf work.table (length folders.old) (V.view vault.old) }
     ensures ends { IfOk result (Ends W.view standing stands (plan_for work pace (V.view vault.old))
         (outside (map F.view folders.old) (V.view vault.old) lines.old reports.old.items)
         (outside (map F.view folders.new) (V.view vault.new) lines.new reports.new.items)) }

@@ -1,10 +1,11 @@
 // A window that was read: what is found in it, and which of its stripes are verified and closed.
-ghost use Rattle.std.specs.Prelude.{◌≡◌, ◌<◌, ◌+◌, ◌^◌, ◌==◌, if◌then◌else◌, All, length, map};
+ghost use Rattle.std.specs.Prelude.{◌≡◌, ◌<◌, ◌+◌, ◌^◌, ◌==◌, if◌then◌else◌, length, map};
 ghost use Rattle.snap_report.specs.Told.{Told};
-ghost use Rattle.stripe_reader.specs.WindowValue.{Fits};
-ghost use Rattle.snap_sync.specs.Closing.{closed, verified_in};
+ghost use Rattle.snap_sync.specs.Closing.{closed};
 ghost use Rattle.stripe_findings.specs.Findings.{events_of};
 ghost use Rattle.stripe_findings.specs.Reading.{readings_in, is_verified};
+ghost use Rattle.snap_sync.specs.Run.{AreCounts};
+ghost use Rattle.snap_sync.specs.Window.{HoldsStripes};
 ghost use Rattle.snap_sync.specs.Work.{more_findings};
 
 mod closing;
@@ -53,17 +54,13 @@ fn look_over<W: Sink>(
     lines: &mut Lines<'_, W>,
     reports: &mut Vec<Box<dyn Report>>,
 ) -> Counts
-    requires fits { Fits table.now window.now }
-    requires count { length stripes.now ≡ window.now.count }
+    requires holds { HoldsStripes table.now stripes.now window.now }
     requires chosen { length chosen.old ≡ length stripes.now }
-    requires stripes { All (λ stripe. stripe < length table.now.infos) stripes.now }
     ensures chosen { chosen.new ≡ map (is_verified table.now) (readings_in stripes.now window.now) }
     ensures told { Told W.view standing stands table.now.columns
         (events_of table.now (readings_in stripes.now window.now))
         lines.old lines.new reports.old.items reports.new.items }
-    ensures synced { result.synced ≡ verified_in table.now (readings_in stripes.now window.now) }
-    ensures findings { result.findings
-        ≡ more_findings 0 (length (events_of table.now (readings_in stripes.now window.now))) }
+    ensures counts { AreCounts table.now (readings_in stripes.now window.now) result }
 {
     let mut counts = Counts {
         synced: 0,
@@ -88,18 +85,14 @@ pub(crate) fn judge<W: Sink>(
     lines: &mut Lines<'_, W>,
     reports: &mut Vec<Box<dyn Report>>,
 ) -> Counts
-    requires fits { Fits table.old window.now }
-    requires count { length stripes.now ≡ window.now.count }
+    requires holds { HoldsStripes table.old stripes.now window.now }
     requires chosen { length chosen.old ≡ length stripes.now }
-    requires stripes { All (λ stripe. stripe < length table.old.infos) stripes.now }
     ensures chosen { chosen.new ≡ map (is_verified table.old) (readings_in stripes.now window.now) }
     ensures table { table.new ≡ closed now table.old (readings_in stripes.now window.now) }
     ensures told { Told W.view standing stands table.old.columns
         (events_of table.old (readings_in stripes.now window.now))
         lines.old lines.new reports.old.items reports.new.items }
-    ensures synced { result.synced ≡ verified_in table.old (readings_in stripes.now window.now) }
-    ensures findings { result.findings
-        ≡ more_findings 0 (length (events_of table.old (readings_in stripes.now window.now))) }
+    ensures counts { AreCounts table.old (readings_in stripes.now window.now) result }
 {
     let counts = look_over(table, stripes, window, chosen, lines, reports);
     close_chosen(table, stripes, window, chosen, now);

@@ -1,25 +1,20 @@
 // The pending stripes of a sync, window by window.
-ghost use Rattle.std.specs.Prelude.{◌≡◌, ◌<◌, ◌≤◌, ◌+◌, ◌^◌, All, IfSome, IfOk, OnOk, OnErr, IsOk, IsTrue, length, map, take, false};
-ghost use Rattle.disk_model.specs.Ran.{Ran};
-ghost use Rattle.disk_model.specs.Vault.{SomeCalls, ChangesBy, Reads, Holds, copies_of, state_of};
-ghost use Rattle.parity_writer.specs.Chosen.{IsChosen, rows_with, window_calls};
-ghost use Rattle.parity_writer.specs.Parity.{Rows, HoldsRows, WritesBlocks};
+ghost use Rattle.std.specs.Prelude.{◌≡◌, ◌<◌, ◌≤◌, ◌+◌, ◌^◌, IfSome, IfOk, OnErr, IsOk, IsTrue, length, map, take, false};
 ghost use Rattle.snap_report.specs.Told.{Told};
 ghost use Rattle.stripe_reader.specs.Columns.{ReadsWindow};
-ghost use Rattle.stripe_reader.specs.WindowValue.{Fits};
-ghost use Rattle.array_scan.specs.Layout.{pending_stripes};
 ghost use Rattle.snap_sync.specs.Closing.{closed};
 ghost use Rattle.snap_sync.specs.Course.{outside, Breaks};
 ghost use Rattle.stripe_findings.specs.Findings.{events_of};
 ghost use Rattle.stripe_findings.specs.Reading.{readings_in, is_verified};
-ghost use Rattle.snap_sync.specs.Run.{all_of, stripes_near, stripes_next, readings_near, choice_near, plan_for, AreCounts, IsWork, IsReady, Judges, ReadsFar, KeepsWork, Saves, HasSynced, saves_behind};
-ghost use Rattle.snap_sync.specs.Work.{IsRoomFor, more_findings};
+ghost use Rattle.snap_sync.specs.Run.{all_of, stripes_near, stripes_next, readings_near, choice_near, plan_for, AreCounts, IsWork, IsBegun, IsReady, Judges, ReadsFar, KeepsWork, Saves, HasSynced, saves_behind};
+ghost use Rattle.snap_sync.specs.Window.{AreDisksOf, HoldsStripes, WritesWindow};
+ghost use Rattle.snap_sync.specs.Work.{more_findings};
 
 use crate::beginning::Work;
 use crate::judging::{Counts, judge};
 use crate::opening::{checkpoint, open};
 use crate::schedule::{is_checkpoint, window_count};
-use crate::turning::turn;
+use crate::turning::{Ahead, Judged, turn};
 use disk_model::{Failed, Folder, Sink, Vault};
 use file_table::Table;
 use snap_report::{Lines, Report};
@@ -74,10 +69,8 @@ fn judge_first<W: Sink>(
     lines: &mut Lines<'_, W>,
     reports: &mut Vec<Box<dyn Report>>,
 ) -> Counts
-    requires fits { Fits table.old window.now }
-    requires count { length stripes.now ≡ window.now.count }
+    requires holds { HoldsStripes table.old stripes.now window.now }
     requires chosen { length stripes.now ≤ length chosen.old }
-    requires stripes { All (λ stripe. stripe < length table.old.infos) stripes.now }
     ensures chosen { take (length stripes.now) chosen.new ≡ map (is_verified table.old) (readings_in stripes.now window.now) }
     ensures table { table.new ≡ closed now table.old (readings_in stripes.now window.now) }
     ensures told { Told W.view standing stands table.old.columns (events_of table.old (readings_in stripes.now window.now))
@@ -134,49 +127,32 @@ fn turn_window<R: Threads + Sync, F: Folder, V: Vault>(
 ) -> Result<(), Failed>
     requires ready { IsReady pace.every work.old done }
     requires every { IfSome pace.every (λ every. 0 < every) }
-    requires levels { (V.view vault.old).levels ≡ work.old.table.shape.levels }
-    requires folders { length folders.old ≡ length work.old.table.columns }
+    requires disks { AreDisksOf work.old.table (length folders.old) (V.view vault.old) }
     ensures far { ReadsFar work.old work.new }
-    ensures fits { Fits work.old.table work.new.room.far }
     ensures read { ReadsWindow work.old.table work.old.room.starts
         (stripes_next pace.every work.old done) work.old.room.far work.new.room.far
         (map F.view folders.old) (map F.view folders.new) }
-    ensures calls { SomeCalls (V.view vault.old) (V.view vault.new) }
-    ensures ran { Ran (window_calls (V.view vault.old).levels work.old.room.near (choice_near work.old done) work.old.room.near.count)
-        result (state_of (V.view vault.old)) (state_of (V.view vault.new)) }
-    ensures changes { ChangesBy (WritesBlocks work.old.room.near.block_size (IsChosen (choice_near work.old done)))
+    ensures writes { WritesWindow work.old.room.near (choice_near work.old done) result
         (V.view vault.old) (V.view vault.new) }
-    ensures written { OnOk result ((rows : Rows) →
-        Reads (HoldsRows (V.view vault.old).levels work.old.room.near.block_size rows) (V.view vault.old) →
-        Reads (HoldsRows (V.view vault.old).levels work.old.room.near.block_size
-        (rows_with work.old.room.near (choice_near work.old done) work.old.room.near.count rows)) (V.view vault.new)) }
 {
     let room = &mut work.room;
     let count = room.near.count();
-    let first = done as usize;
-    let next = first + count as usize;
-    let more = window_count(
-        pace.every,
-        room.near.room(),
-        work.pending.len() as u32,
-        done + count,
-    );
-    let stripes = &work.pending[first..next];
-    let ahead = &work.pending[next..next + more as usize];
-    turn(
-        rt,
-        &work.table,
-        &room.starts,
-        stripes,
-        &room.near,
-        &room.chosen[..count as usize],
-        ahead,
-        pace.readers,
-        room.sums.as_mut_slice(),
-        vault,
-        folders,
-        &mut room.far,
-    )
+    let (first, next) = (done as usize, (done + count) as usize);
+    let all = work.pending.len() as u32;
+    let more = window_count(pace.every, room.near.room(), all, done + count);
+    let near = Judged {
+        window: &room.near,
+        stripes: &work.pending[first..next],
+        chosen: &room.chosen[..count as usize],
+    };
+    let ahead = Ahead {
+        table: &work.table,
+        starts: &room.starts,
+        stripes: &work.pending[next..next + more as usize],
+        readers: pace.readers,
+    };
+    let sums = room.sums.as_mut_slice();
+    turn(rt, &near, sums, vault, &ahead, folders, &mut room.far)
 }
 
 // Reads the first window into the near room.
@@ -251,11 +227,8 @@ pub(crate) fn sync_stripes<R: Threads + Sync, F: Folder, V: Vault, W: Sink>(
     lines: &mut Lines<'_, W>,
     reports: &mut Vec<Box<dyn Report>>,
 ) -> Result<Progress, Failed>
-    requires work { IsWork work.old }
-    requires pending { work.old.pending.items ≡ pending_stripes work.old.table.infos }
-    requires every { IfSome pace.every (λ every. 0 < every) }
-    requires folders { length folders.old ≡ length work.old.table.columns }
-    requires levels { (V.view vault.old).levels ≡ work.old.table.shape.levels }
+    requires begun { IsBegun pace.every work.old }
+    requires disks { AreDisksOf work.old.table (length folders.old) (V.view vault.old) }
     ensures all { IfOk result (λ progress. progress.done ≡ all_of work.old) }
     ensures synced { IfOk result (λ progress. HasSynced W.view standing stands
         (plan_for work.old pace (V.view vault.old)) progress work.new

@@ -1,10 +1,10 @@
 // Stripes that are verified, closed in a table.
-ghost use Rattle.std.specs.Prelude.{◌≡◌, ◌<◌, All, length, map, get_or, slice_set};
+ghost use Rattle.std.specs.Prelude.{◌≡◌, ◌<◌, length, map, get_or, slice_set};
 ghost use Rattle.file_table.specs.Cells.{column_closed};
 ghost use Rattle.file_table.specs.Table.{column_at};
 ghost use Rattle.file_table.specs.Valid.{IsHashedAt};
-ghost use Rattle.stripe_reader.specs.WindowValue.{Fits};
 ghost use Rattle.snap_sync.specs.Closing.{HasDigests, closed, with_closed, with_hashes};
+ghost use Rattle.snap_sync.specs.Window.{HoldsStripes};
 ghost use Rattle.stripe_findings.specs.Reading.{is_verified, reading_at, readings_in};
 
 use block_hash::Digest16;
@@ -26,9 +26,7 @@ fn hash_cell(table: &mut Table, stripe: u32, d: u32, hash: Option<Digest16>)
 
 // Gives the cells of a stripe the digests of the blocks that came.
 fn hash_stripe(table: &mut Table, stripes: &[u32], window: &Window, i: u32)
-    requires fits { Fits table.old window.now }
-    requires count { length stripes.now ≡ window.now.count }
-    requires stripes { All (λ stripe. stripe < length table.old.infos) stripes.now }
+    requires holds { HoldsStripes table.old stripes.now window.now }
     requires stripe { i < length stripes.now }
     ensures table { table.new ≡ with_hashes (reading_at stripes.now window.now i) table.old }
     ensures hashed { HasDigests table.old (reading_at stripes.now window.now i) →
@@ -41,9 +39,7 @@ fn hash_stripe(table: &mut Table, stripes: &[u32], window: &Window, i: u32)
 
 // Closes a stripe whose blocks came whole.
 fn close_stripe(table: &mut Table, stripes: &[u32], window: &Window, i: u32, now: u64)
-    requires fits { Fits table.old window.now }
-    requires count { length stripes.now ≡ window.now.count }
-    requires stripes { All (λ stripe. stripe < length table.old.infos) stripes.now }
+    requires holds { HoldsStripes table.old stripes.now window.now }
     requires stripe { i < length stripes.now }
     requires digests { HasDigests table.old (reading_at stripes.now window.now i) }
     ensures { table.new ≡ with_closed now (reading_at stripes.now window.now i) table.old }
@@ -66,9 +62,7 @@ pub(super) fn close_chosen(
     chosen: &[bool],
     now: u64,
 )
-    requires fits { Fits table.old window.now }
-    requires count { length stripes.now ≡ window.now.count }
-    requires stripes { All (λ stripe. stripe < length table.old.infos) stripes.now }
+    requires holds { HoldsStripes table.old stripes.now window.now }
     requires chosen { chosen.now ≡ map (is_verified table.old) (readings_in stripes.now window.now) }
     ensures { table.new ≡ closed now table.old (readings_in stripes.now window.now) }
 {

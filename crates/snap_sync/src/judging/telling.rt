@@ -1,9 +1,9 @@
 // What is found in a stripe, told.
-ghost use Rattle.std.specs.Prelude.{◌≡◌, ◌<◌, All, length};
-ghost use Rattle.stripe_reader.specs.WindowValue.{Fits};
+ghost use Rattle.std.specs.Prelude.{◌≡◌, ◌<◌, length};
 ghost use Rattle.snap_report.specs.Told.{Told};
 ghost use Rattle.stripe_findings.specs.Findings.{events_at, stripe_events};
 ghost use Rattle.stripe_findings.specs.Reading.{reading_at};
+ghost use Rattle.snap_sync.specs.Window.{HoldsStripes};
 
 use disk_model::Sink;
 use file_table::Table;
@@ -21,9 +21,7 @@ fn tell_cell<W: Sink>(
     lines: &mut Lines<'_, W>,
     reports: &mut Vec<Box<dyn Report>>,
 ) -> u32
-    requires fits { Fits table.now window.now }
-    requires count { length stripes.now ≡ window.now.count }
-    requires stripes { All (λ stripe. stripe < length table.now.infos) stripes.now }
+    requires holds { HoldsStripes table.now stripes.now window.now }
     requires stripe { i < length stripes.now }
     requires column { d < length table.now.columns }
     ensures told { Told W.view standing stands table.now.columns
@@ -61,9 +59,7 @@ pub(super) fn tell_stripe<W: Sink>(
     lines: &mut Lines<'_, W>,
     reports: &mut Vec<Box<dyn Report>>,
 ) -> u32
-    requires fits { Fits table.now window.now }
-    requires count { length stripes.now ≡ window.now.count }
-    requires stripes { All (λ stripe. stripe < length table.now.infos) stripes.now }
+    requires holds { HoldsStripes table.now stripes.now window.now }
     requires stripe { i < length stripes.now }
     ensures told { Told W.view standing stands table.now.columns
         (stripe_events table.now (reading_at stripes.now window.now i))

@@ -1,5 +1,7 @@
-use Rattle.std.proofs.Common.{◌≡◌, ℕ, ◌<◌, eqb, length, ap, arith}
+use Rattle.std.proofs.Common.{◌≡◌, ℕ, ◌<◌, eqb, length, ap, sym, ◌∙◌, arith}
 use Rattle.stripe_findings.specs.Findings.{events_of}
+use Rattle.snap_sync.specs.Closing.{verified_in}
+use Rattle.snap_sync.specs.Work.{more_findings}
 use Rattle.stripe_findings.proofs.SlotLemmas.{readings_to}
 use Rattle.snap_sync.proofs.TellingLemmas.{told_as, told_stripe_more}
 use Rattle.snap_sync.proofs.LookingLemmas.{one_at_most, chosen_more, synced_more, findings_more}
@@ -12,7 +14,7 @@ loop-i-preserved g c =
     let window = c.args.window.now in
     let i = c.loop-i.i in
     let found = c.tell_stripe-found.result in
-    let within : i < length c.loop-i.chosen = omega (arith, c.requires.count, c.requires.chosen, c.count-i-end.ensures, c.loop-i.auto.chosen) in
+    let within : i < length c.loop-i.chosen = omega (arith, c.requires.holds.count, c.requires.chosen, c.count-i-end.ensures, c.loop-i.auto.chosen) in
     let so_far = c.loop-i.invariant in
     let counted = c.tell_stripe-found.ensures.count in
     let counts = c.with-counts.result in
@@ -28,5 +30,16 @@ pub returns-clause-told : goal.returns-clause-told
 returns-clause-told g c =
     let table = c.args.table.now in
     let stripes = c.args.stripes.now in
-    let all : length stripes ≡ c.loop-i.i = omega (arith, c.requires.count, c.count-i-end.ensures) in
+    let all : length stripes ≡ c.loop-i.i = omega (arith, c.requires.holds.count, c.count-i-end.ensures) in
     told_as _ _ _ _ _ _ _ _ _ _ (ap (λ (n : ℕ). events_of table (readings_to stripes c.args.window.now n)) all) c.loop-i.invariant.told
+
+pub returns-clause-counts : goal.returns-clause-counts
+returns-clause-counts g c =
+    let table = c.args.table.now in
+    let stripes = c.args.stripes.now in
+    let window = c.args.window.now in
+    let all : length stripes ≡ c.loop-i.i = omega (arith, c.requires.holds.count, c.count-i-end.ensures) in
+    record {
+      synced = c.loop-i.invariant.synced ∙ ap (λ (n : ℕ). verified_in table (readings_to stripes window n)) (sym all);
+      findings = c.loop-i.invariant.findings ∙ ap (λ (n : ℕ). more_findings 0 (length (events_of table (readings_to stripes window n)))) (sym all);
+    }

@@ -1,5 +1,5 @@
 -- The folders were listed and the table laid out: then it is carried out.
-use Rattle.std.proofs.Common.{◌*◌, ℕ, length, map, sym, ap, ap₂, ◌∙◌}
+use Rattle.std.proofs.Common.{◌*◌, ℕ, length, sym, ap, ap₂, ◌∙◌}
 use Rattle.std.proofs.lemmas.List.{length-map}
 use Rattle.array_scan.specs.Kept.{kept_lists}
 use Rattle.file_table.specs.Table.{TableValue}
@@ -11,17 +11,21 @@ use Rattle.snap_sync.proofs.EndLemmas.{plan_is, syncs_with, breaks_off}
 use Rattle.snap_sync.proofs.WorkLemmas.{work_begun}
 use Rattle.snap_sync.proofs.syncing.sync.Goals as goal
 
-pub carry_out-requires-clause-work : goal.carry_out-requires-clause-work
-carry_out-requires-clause-work g c κs within =
-    work_begun c.in_ok-work.work c.in_ok-work.ensures.room c.in_ok-work.ensures.pending c.in_ok-work.ensures.laid.valid.short
+pub carry_out-requires-clause-begun : goal.carry_out-requires-clause-begun
+carry_out-requires-clause-begun g c κs within = record {
+  is_work = work_begun c.in_ok-work.work c.in_ok-work.ensures.room c.in_ok-work.ensures.pending c.in_ok-work.ensures.laid.valid.short;
+  pending = c.in_ok-work.ensures.pending;
+  every = c.save_after.ensures.some;
+}
 
-pub carry_out-requires-clause-folders : goal.carry_out-requires-clause-folders
-carry_out-requires-clause-folders g c κs within =
+pub carry_out-requires-clause-disks : goal.carry_out-requires-clause-disks
+carry_out-requires-clause-disks g c κs within =
     let laid = c.in_ok-work.ensures.laid in
-    let olds = map g.F.Folder.view c.args.folders.now in
-    let news = map g.F.Folder.view c.begin.new.folders in
-    sym (length-map c.begin.new.folders g.F.Folder.view) ∙ laid.as_many ∙ c.requires.folders_are
-    ∙ sym (ap (λ (table : TableValue). length table.columns) laid.start_is ∙ layout_width c.args.old (kept_lists (setup_value c.args.setup.now) laid.lists))
+    record {
+      columns = sym (length-map c.begin.new.folders g.F.Folder.view) ∙ laid.as_many ∙ c.requires.folders_are
+          ∙ sym (ap (λ (table : TableValue). length table.columns) laid.start_is ∙ layout_width c.args.old (kept_lists (setup_value c.args.setup.now) laid.lists));
+      levels = c.requires.levels ∙ sym (ap (λ (table : TableValue). table.shape.levels) laid.start_is);
+    }
 
 pub returns-in-Ok-clause-done : goal.returns-in-Ok-clause-done
 returns-in-Ok-clause-done g c =

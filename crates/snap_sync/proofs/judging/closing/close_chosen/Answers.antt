@@ -14,24 +14,25 @@ bounds-chosen-i c =
     let as_many =
     ap length c.requires.chosen ∙ length-map (readings_in stripes window) (is_verified c.args.table.now)
     ∙ length-map-range_with_len (reading_at stripes window) 0 (length stripes) in
-    omega (arith, as_many, c.requires.count, c.count-i-end.ensures)
+    omega (arith, as_many, c.requires.holds.count, c.count-i-end.ensures)
 
-pub close_stripe-requires-clause-fits : goal.close_stripe-requires-clause-fits
-close_stripe-requires-clause-fits c =
+pub close_stripe-requires-clause-holds : goal.close_stripe-requires-clause-holds
+close_stripe-requires-clause-holds c =
     let window = c.args.window.now in
-    fits-differs c.args.table.now c.loop-i.table window (in_hand c.args.table.now c.args.now c.args.stripes.now window c.loop-i.i c.loop-i.table c.loop-i.invariant) c.requires.fits
-
-pub close_stripe-requires-clause-stripes : goal.close_stripe-requires-clause-stripes
-close_stripe-requires-clause-stripes c = λ k d within.
-    let differs = in_hand c.args.table.now c.args.now c.args.stripes.now c.args.window.now c.loop-i.i c.loop-i.table c.loop-i.invariant in
-    omega (arith, differs.stripes, c.requires.stripes k d within)
+    let holds = c.requires.holds in
+    let differs = in_hand c.args.table.now c.args.now c.args.stripes.now window c.loop-i.i c.loop-i.table c.loop-i.invariant in
+    record {
+      fits = fits-differs c.args.table.now c.loop-i.table window differs holds.fits;
+      count = holds.count;
+      within = λ k d within. omega (arith, differs.stripes, holds.within k d within);
+    }
 
 pub close_stripe-requires-clause-digests : goal.close_stripe-requires-clause-digests
 close_stripe-requires-clause-digests c =
     let table = c.args.table.now in
     let stripes = c.args.stripes.now in
     let window = c.args.window.now in
-    let within : c.loop-i.i < length stripes = omega (arith, c.requires.count, c.count-i-end.ensures) in
+    let within : c.loop-i.i < length stripes = omega (arith, c.requires.holds.count, c.count-i-end.ensures) in
     let verified = sym (chosen_at table stripes window c.args.chosen.now c.loop-i.i false within c.requires.chosen) ∙ c.if-chosen-i.true in
     digests_in_hand table c.args.now stripes window c.loop-i.i c.loop-i.table verified c.loop-i.invariant
 
@@ -41,7 +42,7 @@ loop-i-preserved c =
     let stripes = c.args.stripes.now in
     let window = c.args.window.now in
     let i = c.loop-i.i in
-    let within : i < length stripes = omega (arith, c.requires.count, c.count-i-end.ensures) in
+    let within : i < length stripes = omega (arith, c.requires.holds.count, c.count-i-end.ensures) in
     let at = sym (chosen_at table stripes window c.args.chosen.now i false within c.requires.chosen) in
     elim c.if-chosen-i.branch [
       | then-chosen-i w ↦

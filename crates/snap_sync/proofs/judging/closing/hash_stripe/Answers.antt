@@ -20,7 +20,7 @@ loop-d-preserved c =
     let window = c.args.window.now in
     let reading = reading_at c.args.stripes.now window c.args.i in
     let within : c.loop-d.d < length table.columns = omega (arith, c.disks-d-end.ensures.count) in
-    let given : c.loop-d.d < length reading.slots = omega (arith, length-map window.lanes (slot_in c.args.i), c.requires.fits.lanes, within) in
+    let given : c.loop-d.d < length reading.slots = omega (arith, length-map window.lanes (slot_in c.args.i), c.requires.holds.fits.lanes, within) in
     hashed_more table c.loop-d.table c.hash_cell.new.table reading c.loop-d.d c.digest.result within given
     (digest_here c.args.stripes.now window c.args.i c.loop-d.d c.digest.result c.digest.ensures) c.loop-d.invariant c.hash_cell.ensures
 
