@@ -3,7 +3,6 @@ use Rattle.std.proofs.Common.{◌≡◌, ◌⊎◌, inl, inr, ℕ, ◌+◌, ◌-
 use Rattle.std.proofs.Math.ListN.{get_or-map as get_or-map-at}
 use Rattle.std.proofs.Math.Seq.{take-add, take-append_seam}
 use Rattle.std.proofs.lemmas.Bool.{cases_lt}
-use Rattle.std.proofs.lemmas.List.Elements.{Contains-append_left}
 use Rattle.std.proofs.lemmas.List.{map-append, append-nil, drop_all, length-map, length-append, length-take-le, get_or_append_left, get_or-append_right, take-append-le, take-append-drop}
 use Rattle.file_table.proofs.ListFacts.{AllPairs-take}
 use Rattle.file_table.proofs.PrefixLemmas.{All-left, All-right}
@@ -24,7 +23,7 @@ use Rattle.stripe_reader.specs.Slot.{kept}
 use Rattle.stripe_reader.specs.WindowValue.{WindowValue}
 use Rattle.snap_fix.specs.declared.fixing.Totals.{Totals}
 use Rattle.stripe_examiner.specs.Facts.{StripeFacts, slot_of}
-use Rattle.snap_fix.specs.FixRun.{AreAscending, BreaksFolders, BreaksInLast, BreaksInto, BreaksStripes, FixesAll, FixesInto, FixesStripes, HasBroken, HasBrokenInto, MendsAll, with_folders}
+use Rattle.snap_fix.specs.FixRun.{AreAscending, BreaksFolders, BreaksInLast, BreaksInto, BreaksStripes, FixesInto, FixesStripes, HasBroken, HasBrokenInto, with_folders}
 use Rattle.snap_fix.specs.Fixing.{AreReadThen, AreTotals, FixScene, IsReadThen, SceneFits, facts_of, mended_at, no_mended, unwritten}
 use Rattle.stripe_examiner.specs.Asking.{AsksSpare}
 use Rattle.stripe_examiner.specs.Known.{AreFacts}
@@ -36,39 +35,20 @@ use Rattle.snap_fix.specs.Reads.{AreAllRead, AreReadBy, FolderReads}
 use Rattle.file_restorer.specs.State.{AnyCall, FolderMakes, FolderMakesBy}
 use Rattle.snap_fix.specs.Underway.{AreFixable, AreStripeCalls, AreUnderway, IsStripeCall}
 use Rattle.snap_fix.proofs.AskedLemmas.{asks_then}
-use Rattle.snap_fix.proofs.FixAllLemmas.{answered_then, breaks_in_last, facts_append, facts_beside, facts_then, fixes_none, fixes_then, levels_then, parity_io_rose, precede, tells_first, tells_then, unread_then}
+use Rattle.snap_fix.proofs.FixAllLemmas.{answered_then, breaks_in_last, facts_append, facts_beside, facts_then, fixes_then, levels_then, parity_io_rose, precede, tells_first, tells_then, unread_then}
 use Rattle.snap_fix.proofs.FixCountLemmas.{count_append, io_in_cells}
 use Rattle.snap_fix.proofs.FixIntoLemmas.{count_first, folder_gained, vault_gained}
 use Rattle.snap_fix.proofs.FixReadLemmas.{cell_read, cells_unread, near, slot_read, underway_read, window_makes, window_reads}
 use Rattle.snap_fix.proofs.KeptStartsLemmas.{files_any, files_then, well_then}
 use Rattle.snap_fix.proofs.MendedVaultLemmas.{Precede, levels_before}
-use Rattle.snap_fix.proofs.ReadsLemmas.{all_looked, read_append, read_until, reads_on, reads_then, reads_wider, stripes_unread}
+use Rattle.snap_fix.proofs.ReadsLemmas.{all_looked, read_append, read_until, reads_on, reads_then, reads_wider}
 use Rattle.snap_fix.proofs.StartsKeptLemmas.{keeps_starts_same}
 use Rattle.snap_fix.proofs.WindowsLemmas.{all_full, fill_more}
 use Rattle.snap_fix.specs.Windows.{FillWindows, IsFull, window_size}
-
--- the first numbers ascend as all do
-front_ascending : (front back : List ℕ) → AreAscending (front ++ back) → AreAscending front
-front_ascending front back ascending = subst AreAscending (take-append_seam front back) (AllPairs-take (λ (a b : ℕ). a < b) (length front) (front ++ back) ascending)
-
--- of ascending stripes the first ones come before those behind the next ones
-precede_ahead : (xs ys zs : List StripeFacts) → AreAscending ((numbers_of xs ++ numbers_of ys) ++ numbers_of zs) → Precede xs zs
-precede_ahead xs ys zs ascending one other first second =
-    precede (xs ++ ys) zs (subst (λ (its : List ℕ). AreAscending (its ++ numbers_of zs)) (sym (map-append (λ (it : StripeFacts). it.stripe) xs ys)) ascending)
-    one other (Contains-append_left xs ys one first) second
+use Rattle.snap_fix.proofs.AscendingLemmas.{front_ascending, precede_ahead}
+use Rattle.snap_fix.proofs.FixSinceLemmas.{since_read}
 
 module _ {W R : Type 0} (view : W → SinkView) (standing : R → ReportView) (stands : R → List Event → Type 0) (plan : FixPlan) where
-  pub stripes_none : (totals : Totals) (s : FixScene W R) → SceneFits plan s → AreTotals plan [] totals → FixesStripes view standing stands plan [] s s totals
-  stripes_none totals s fits none = record {
-    stripes = [];
-    numbers_are = refl;
-    fixes = fixes_none view standing stands plan totals s fits none;
-    read = λ firsts fixable is k below. absurd (omega (arith, below));
-    unread = λ d below. omega arith;
-    io = λ d below. omega arith;
-    reads = λ d below. stripes_unread plan s.starts d (folder_at s.folders d);
-  }
-
   module _ (numbers : List ℕ) (before window : WindowValue) (mid : FixScene W R) (mids : List FolderView) (read : ReadsWindow plan.table mid.starts numbers before window mid.folders mids)
       (fits : SceneFits plan mid) where
     -- the calls of the reading
@@ -77,36 +57,6 @@ module _ {W R : Type 0} (view : W → SinkView) (standing : R → ReportView) (s
 
     told_as : (d : ℕ) → d < length plan.table.columns → (folder_at mids d).tells ≡ (folder_at mid.folders d).tells
     told_as d below = (reads d below).goes_on.tells
-
-    -- what was done after the window was read was done since before it
-    mends_read : (stripes : List Mended) (totals : Totals) (new : FixScene W R) → MendsAll view standing stands plan stripes (with_folders mid mids) new totals → MendsAll view standing stands plan stripes mid new totals
-    mends_read stripes totals new mends = record {
-      fits = mends.fits;
-      told = mends.told;
-      totals_are = mends.totals_are;
-      written = mends.written;
-      answered = λ k none within d below told. mends.answered k none within d below (told_as d below ∙ told);
-      stood = mends.stood;
-      vault = mends.vault;
-      zeros = mends.zeros;
-      holds = mends.holds;
-      makes = λ d below. well_then plan mid.starts mid.starts (keeps_starts_same mid.starts) d [] stripes (reads d below) (mends.makes d below);
-      underway = λ earlier firsts fixable is. mends.underway earlier firsts fixable
-          (underway_read plan mid.starts numbers before window mid.folders mids read fits.folders earlier firsts mid.starts mid.states is);
-    }
-
-    since_read : (stripes : List Mended) (totals : Totals) (new : FixScene W R) → FixesAll view standing stands plan stripes (with_folders mid mids) new totals → FixesAll view standing stands plan stripes mid new totals
-    since_read stripes totals new fixes = record {
-      are = fixes.are;
-      mends = mends_read stripes totals new fixes.mends;
-      windows = fixes.windows;
-      readings = fixes.readings;
-      windows_are = fixes.windows_are;
-      read = fixes.read;
-      unread = fixes.unread;
-      ran = fixes.ran;
-      spare = fixes.spare;
-    }
 
     -- These stripes of the window were looked at, after those before it.
     module _ (first : List ℕ) (one : Totals) (old : FixScene W R) (so_far : FixesStripes view standing stands plan first old mid one) (ys : List Mended) (behind : List ℕ)
@@ -246,7 +196,7 @@ module _ {W R : Type 0} (view : W → SinkView) (standing : R → ReportView) (s
           numbers_are = numbers_append first one old so_far ys [] all_here into.slots
               ∙ sym (append-nil (numbers_of (facts_of xs) ++ numbers_of (facts_of ys))) ∙ numbers_both first one old so_far ys [] all_here into.slots items done count refl numbers_is;
           fixes = fixes_then view standing stands plan xs ys one two both old mid new
-              (precede (facts_of xs) (facts_of ys) (ascend first one old so_far ys [] all_here into.slots items done count ascending refl numbers_is)) and so_far.fixes (windows_full first one old so_far items done within fill refl) (since_read ys two new into.fixes);
+              (precede (facts_of xs) (facts_of ys) (ascend first one old so_far ys [] all_here into.slots items done count ascending refl numbers_is)) and so_far.fixes (windows_full first one old so_far items done within fill refl) (since_read view standing stands plan numbers before window mid mids read fits ys two new into.fixes);
           read = read_more first one old so_far ys [] all_here into.slots;
           reads = λ d below.
               reads_wider (AreReadBy plan old.starts mid.starts d (facts_of (xs ++ ys))) (AreReadBy plan old.starts new.starts d (facts_of (xs ++ ys)))

@@ -17,6 +17,7 @@ pub mod MendedFactsLemmas
 pub mod RepairLemmas
 pub mod RepairMarkLemmas
 pub mod RepairCellLemmas
+pub mod RepairWrittenLemmas
 pub mod RepairWriteLemmas
 pub mod FlagLemmas
 pub mod RepairFilesLemmas
@@ -39,12 +40,16 @@ pub mod FixAllLemmas
 pub mod FixIntoLemmas
 pub mod FixWindowLemmas
 pub mod FixReadLemmas
+pub mod PlacedLemmas
 pub mod PresentCellLemmas
 pub mod PresentLemmas
 pub mod FixCallLemmas
 pub mod StoppedCellLemmas
 pub mod StoppedLemmas
+pub mod AscendingLemmas
+pub mod FixSinceLemmas
 pub mod FixStripesLemmas
+pub mod AgainLemmas
 pub mod AnswerLemmas
 mod FixTreeLemmas
 mod FixStartLemmas
@@ -52,6 +57,8 @@ mod FixEndLemmas
 mod FixEventLemmas
 mod FixVaultLemmas
 mod FixFilesLemmas
+mod FixStartedLemmas
+mod FixBrokenLemmas
 mod FixCourseLemmas
 pub mod GenuineCells
 pub mod GenuineLemmas

@@ -58,7 +58,6 @@ module _ (stop : FixStop) (stops : IsStop stop) (cell : Cell) (spared : IsCellSp
 
   pub cell_stands : (before : File) → StandsSpared stop cell.rec before → StandsInCell stop cell before
   cell_stands before stands = record {
-    lost = stands.lost;
     after = stands.after;
     there = stands.there;
     bytes = λ p b less has.

@@ -1,11 +1,11 @@
 -- What surely stands of the files of a folder, wherever a fix is stopped or breaks off.
-use Rattle.std.proofs.Common.{◌≡◌, ◌≢◌, ◌⊎◌, inl, inr, ⊎_elim, ℕ, ◌+◌, ◌<◌, ◌≤◌, ◌&&◌, not, List, [], length, get_or, IfSome, Bool, true, false, Option, None, Some, IsTrue, refl, sym, ap, ◌∙◌, subst, arith}
+use Rattle.std.proofs.Common.{◌≡◌, ◌≢◌, ◌⊎◌, inl, inr, ⊎_elim, ℕ, ◌+◌, ◌<◌, ◌≤◌, ◌&&◌, not, List, [], length, get_or, IfSome, Bool, true, false, Option, None, Some, IsTrue, refl, sym, ap, ap₂, ◌∙◌, subst, arith}
 use Rattle.std.proofs.lemmas.Bool.{cases_eq, cases_lt}
 use Rattle.std.proofs.lemmas.List.{get_or-map}
 use Rattle.std.proofs.lemmas.List.FromFn.{get_or-map-range_with_len}
 use Rattle.array_scan.specs.Kept.{ListedFile}
 use Rattle.disk_model.specs.Folder.{FolderCall, FolderDone, ListFiles, Look, ReadAt, Make, WriteAt, SetSize, SetStamp, Rename}
-use Rattle.disk_model.specs.Stopped.{EachCall, IsOwnOrApart, IsUntouchedBy, KeepsPlace, LeavesAlone, MayBeLeft, StandsKept, written_path}
+use Rattle.disk_model.specs.Stopped.{EachCall, IsOwnOrApart, IsUntouchedBy, KeepsPlace, LeavesAlone, written_path}
 use Rattle.disk_model.specs.Tree.{Tree, File, file_of, listing_of, path_of}
 use Rattle.file_table.specs.Table.{Record, no_record, record_at, records_in}
 use Rattle.stripe_reader.specs.Starts.{StartsValue, no_start, start_in, starts_at}
@@ -22,6 +22,7 @@ use Rattle.snap_fix.specs.Stopped.{FixStop, IsNoneOf, IsSpared, IsStop, StandInP
 use Rattle.snap_fix.specs.Underway.{WritesOneOf}
 use Rattle.snap_fix.proofs.FixCallLemmas.{for_cell}
 use Rattle.snap_fix.proofs.FixTreeLemmas.{untouched}
+use Rattle.snap_fix.proofs.PlacedLemmas.{StandsPlaced, UnnamedStay, lost_stays, plain_stays}
 use Rattle.file_restorer.proofs.RecordPathsLemmas.{ArePaths, names_distinct, table_paths}
 
 -- ---- where the files stood that a folder listed
@@ -189,25 +190,20 @@ module _ (stop : FixStop) (stops : IsStop stop) where
         by (SetStamp other stamp) is = tt
         by (Rename other lost) is = tt
 
-    stands_spared : (file : File) → StandsKept path calls file stop.left → StandsSpared stop i file
-    stands_spared file is = record { lost = is.lost; after = is.after; there = is.there; bytes = λ byte below spared. is.keeps byte below (untouched_by byte spared) }
+    stands_spared : (file : File) → StandsPlaced path calls file stop.left → StandsSpared stop i file
+    stands_spared file is = record { after = is.after; there = is.there; bytes = λ byte below spared. is.keeps byte below (untouched_by byte spared) }
 
     -- by what is kept of a file under PATH, and of one under its other name where PATH is free
-    pub bytes_stand : (file : File)
-        → (file_of first (path_of path false) ≡ Some file → EachCall (IsOwnOrApart path) calls → EachCall (KeepsPlace path false) calls
-        → MayBeLeft stop.keeps_stamps calls first stop.left → StandsKept path calls file stop.left)
-        → (file_of first (path_of path true) ≡ Some file → file_of first (path_of path false) ≡ None → EachCall (IsOwnOrApart path) calls → EachCall (KeepsPlace path true) calls
-        → MayBeLeft stop.keeps_stamps calls first stop.left → StandsKept path calls file stop.left)
-        → file_placed first path ≡ Some file → StandsSpared stop i file
-    bytes_stand file place_kept lost_kept placed = by (file_of first (path_of path false)) (file_of first (path_of path true)) refl refl placed
+    pub bytes_stand : (file : File) → UnnamedStay → file_placed first path ≡ Some file → StandsSpared stop i file
+    bytes_stand file unnamed placed = by (file_of first (path_of path false)) (file_of first (path_of path true)) refl refl
       where
-        by : (one other : Option File) → file_of first (path_of path false) ≡ one → file_of first (path_of path true) ≡ other → file_or one other ≡ Some file
-            → StandsSpared stop i file
-        by (Some found) other one_is other_is is =
+        by : (one other : Option File) → file_of first (path_of path false) ≡ one → file_of first (path_of path true) ≡ other → StandsSpared stop i file
+        by (Some found) other one_is other_is =
             let place : place_in first path ≡ Plain = ap (λ (f : Option File). place_by f (file_of first (path_of path true))) one_is in
-            stands_spared file (place_kept (one_is ∙ is) own_or_apart
+            stands_spared file (plain_stays unnamed stop.keeps_stamps path calls first stop.left file placed own_or_apart
             (keeps_place false (λ gone. let clash : Plain ≡ Nowhere = sym place ∙ gone in cc) (λ no lost. let clash : Plain ≡ Lost = sym place ∙ lost in cc)) stops.left)
-        by None other one_is other_is is =
-            let place : place_in first path ≡ Lost = ap (λ (f : Option File). place_by f (file_of first (path_of path true))) one_is ∙ ap (place_by None) (other_is ∙ is) in
-            stands_spared file (lost_kept (other_is ∙ is) one_is own_or_apart
+        by None (Some found) one_is other_is =
+            let place : place_in first path ≡ Lost = ap (λ (f : Option File). place_by f (file_of first (path_of path true))) one_is ∙ ap (place_by None) other_is in
+            stands_spared file (lost_stays unnamed stop.keeps_stamps path calls first stop.left file placed one_is own_or_apart
             (keeps_place true (λ gone. let clash : Lost ≡ Nowhere = sym place ∙ gone in cc) (λ no. absurd cc)) stops.left)
+        by None None one_is other_is = absurd (let clash : None ≡ Some file = sym (ap₂ file_or one_is other_is) ∙ placed in cc)

@@ -1,3 +1,4 @@
+pub mod Again
 pub mod Beginning
 pub mod Reads
 pub mod Checking
@@ -19,6 +20,7 @@ pub mod FixRun
 pub mod Handed
 pub mod FixCourse
 pub mod FixBreaking
+pub mod FixBegun
 pub mod ByMode
 pub mod Genuine
 pub mod Stopped

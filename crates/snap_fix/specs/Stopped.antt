@@ -80,11 +80,10 @@ pub record IsSpared (stop : FixStop) (i byte : ℕ) : Type 0 where
   pub unwritten : ¬ (IsInWritten stop (path_at stop i) byte)
   pub within : has_lost stop.plan stop.stripes stop.d i ≡ false → byte < (record_at stop.plan.table.columns stop.d i).meta.size
 
--- under one of the names of a record stands a file with each spared byte of the one that stood in its place
+-- in the place of a record stands a file with each spared byte of the one that stood there
 pub record StandsSpared (stop : FixStop) (i : ℕ) (before : File) : Type 0 where
-  pub lost : Bool
   pub after : File
-  pub there : file_of stop.left (path_of (path_at stop i) lost) ≡ Some after
+  pub there : file_placed stop.left (path_at stop i) ≡ Some after
   pub bytes : (byte : ℕ) → byte < length before.bytes → IsSpared stop i byte
       → (byte < length after.bytes) × (slice_index after.bytes byte ≡ slice_index before.bytes byte)
 
@@ -101,11 +100,10 @@ pub record IsCellSpared (stop : FixStop) (cell : Cell) : Type 0 where
 abbrev pub cell_length : FixStop → Cell → ℕ
 cell_length stop cell = block_length stop.plan.table.shape.block_size (record_at stop.plan.table.columns stop.d cell.rec).meta.size cell.index
 
--- under one of the names of its record stands a file with each byte of its block that stood in the place of the record's file
+-- in the place of its record stands a file with each byte of its block that the file there had
 pub record StandsInCell (stop : FixStop) (cell : Cell) (before : File) : Type 0 where
-  pub lost : Bool
   pub after : File
-  pub there : file_of stop.left (path_of (path_at stop cell.rec) lost) ≡ Some after
+  pub there : file_placed stop.left (path_at stop cell.rec) ≡ Some after
   pub bytes : (p b : ℕ) → p < cell_length stop cell → HasByte before.bytes (block_start stop.plan.table cell + p) b
       → HasByte after.bytes (block_start stop.plan.table cell + p) b
 

@@ -6,15 +6,17 @@ ghost use Rattle.snap_report.specs.Told.{Told};
 ghost use Rattle.stripe_examiner.specs.Counts.{AreCounts};
 ghost use Rattle.snap_fix.specs.Ending.{CanFinishAll, FinishesAll, FinishesNotAll, IsLevelSettled, SyncsWritten, SyncsNot, Syncs, finish_news, sync_if, written_syncs};
 ghost use Rattle.snap_fix.specs.EndingSteps.{CanEndRecord, EndsRecord, EndsNotRecord, CanEndColumn, EndsColumn, EndsNotColumn, column_outside, done_news, unstamped_news};
-ghost use Rattle.stripe_examiner.specs.Plan.{EntriesFit, plan_of};
+ghost use Rattle.stripe_examiner.specs.Plan.{EntriesFit};
+ghost use Rattle.snap_fix.specs.Handed.{seen};
 ghost use Rattle.snap_fix.specs.Repairing.{outside};
 
+use crate::plan::{Plan, Progress};
 use disk_model::{Failed, Folder, Sink, Vault};
 use file_restorer::{Finish, States, finish_record};
 use file_table::Table;
 use snap_report::events::Event;
 use snap_report::{Lines, Report};
-use stripe_examiner::{Counts, Entries, Entry, Scope, tell_found};
+use stripe_examiner::{Counts, Entry, tell_found};
 use stripe_reader::Starts;
 
 // Syncs a level, if it was written.
@@ -95,9 +97,7 @@ fn is_finished(entry: Entry) -> bool
 
 // Finishes the file of a record, if it is selected and isn't blocked, and tells what was done.
 fn end_record<F: Folder, W: Sink>(
-    scope: Scope,
-    table: &Table,
-    entries: &Entries,
+    plan: &Plan<'_>,
     d: u32,
     i: u32,
     starts: &mut Starts,
@@ -106,28 +106,26 @@ fn end_record<F: Folder, W: Sink>(
     lines: &mut Lines<'_, W>,
     reports: &mut Vec<Box<dyn Report>>,
 ) -> Result<Counts, Failed>
-    requires entries { EntriesFit table.now entries.now }
-    requires can { CanEndRecord (plan_of scope table.now entries.now) d i starts.old states.old (F.view folder.old) }
-    ensures ended { IfOk result (EndsRecord W.view standing stands (plan_of scope table.now entries.now) d i
+    requires entries { EntriesFit plan.now.table.now plan.now.entries.now }
+    requires can { CanEndRecord (seen plan.now) d i starts.old states.old (F.view folder.old) }
+    ensures ended { IfOk result (EndsRecord W.view standing stands (seen plan.now) d i
         (column_outside starts.old states.old (F.view folder.old) lines.old reports.old.items)
         (column_outside starts.new states.new (F.view folder.new) lines.new reports.new.items)) }
-    ensures failed { IfErr result (λ _. EndsNotRecord W.view standing stands (plan_of scope table.now entries.now) d i
+    ensures failed { IfErr result (λ _. EndsNotRecord W.view standing stands (seen plan.now) d i
         (column_outside starts.old states.old (F.view folder.old) lines.old reports.old.items)
         (column_outside starts.new states.new (F.view folder.new) lines.new reports.new.items)) }
 {
-    let entry = entries.at(d, i);
+    let entry = plan.entries.at(d, i);
     if !is_finished(entry) {
         return Ok(Counts::NONE);
     }
-    let finish = finish_record(table, d, i, entry.listed, starts, states, folder)?;
-    Ok(tell_finish(table, d, i, finish, lines, reports))
+    let finish = finish_record(plan.table, d, i, entry.listed, starts, states, folder)?;
+    Ok(tell_finish(plan.table, d, i, finish, lines, reports))
 }
 
 // Finishes the files of the selected records of a column that aren't blocked, in order, and tells what was done.
 fn end_column<F: Folder, W: Sink>(
-    scope: Scope,
-    table: &Table,
-    entries: &Entries,
+    plan: &Plan<'_>,
     d: u32,
     starts: &mut Starts,
     states: &mut States,
@@ -135,19 +133,17 @@ fn end_column<F: Folder, W: Sink>(
     lines: &mut Lines<'_, W>,
     reports: &mut Vec<Box<dyn Report>>,
 ) -> Result<Counts, Failed>
-    requires { CanEndColumn (plan_of scope table.now entries.now) d starts.old states.old (F.view folder.old) }
-    ensures ended { IfOk result (EndsColumn W.view standing stands (plan_of scope table.now entries.now) d
+    requires { CanEndColumn (seen plan.now) d starts.old states.old (F.view folder.old) }
+    ensures ended { IfOk result (EndsColumn W.view standing stands (seen plan.now) d
         (column_outside starts.old states.old (F.view folder.old) lines.old reports.old.items)
         (column_outside starts.new states.new (F.view folder.new) lines.new reports.new.items)) }
-    ensures failed { IfErr result (λ _. EndsNotColumn W.view standing stands (plan_of scope table.now entries.now) d
+    ensures failed { IfErr result (λ _. EndsNotColumn W.view standing stands (seen plan.now) d
         (column_outside starts.old states.old (F.view folder.old) lines.old reports.old.items)
         (column_outside starts.new states.new (F.view folder.new) lines.new reports.new.items)) }
 {
     let mut counts = Counts::NONE;
-    for i in 0..table.records(d) {
-        let more = end_record(
-            scope, table, entries, d, i, starts, states, folder, lines, reports,
-        )?;
+    for i in 0..plan.table.records(d) {
+        let more = end_record(plan, d, i, starts, states, folder, lines, reports)?;
         counts = counts.and(more);
     }
     Ok(counts)
@@ -156,29 +152,26 @@ fn end_column<F: Folder, W: Sink>(
 /// Finishes the file of each selected record that isn't blocked, in order of column and record, and tells what was done. It fails
 /// by the folder of a column, which is answered.
 pub(crate) fn finish_all<F: Folder, W: Sink>(
-    scope: Scope,
-    table: &Table,
-    entries: &Entries,
-    starts: &mut Starts,
-    states: &mut States,
+    plan: &Plan<'_>,
+    progress: &mut Progress,
     folders: &mut [F],
     lines: &mut Lines<'_, W>,
     reports: &mut Vec<Box<dyn Report>>,
 ) -> Result<Counts, u32>
-    requires { CanFinishAll (plan_of scope table.now entries.now) starts.old states.old (map F.view folders.old) }
-    ensures finished { IfOk result (FinishesAll W.view standing stands (plan_of scope table.now entries.now)
-        (outside starts.old states.old (map F.view folders.old) lines.old reports.old.items)
-        (outside starts.new states.new (map F.view folders.new) lines.new reports.new.items)) }
-    ensures failed { IfErr result (FinishesNotAll W.view standing stands (plan_of scope table.now entries.now)
-        (outside starts.old states.old (map F.view folders.old) lines.old reports.old.items)
-        (outside starts.new states.new (map F.view folders.new) lines.new reports.new.items)) }
+    requires { CanFinishAll (seen plan.now) progress.old.starts progress.old.states (map F.view folders.old) }
+    ensures finished { IfOk result (FinishesAll W.view standing stands (seen plan.now)
+        (outside progress.old.starts progress.old.states (map F.view folders.old) lines.old reports.old.items)
+        (outside progress.new.starts progress.new.states (map F.view folders.new) lines.new reports.new.items)) }
+    ensures failed { IfErr result (FinishesNotAll W.view standing stands (seen plan.now)
+        (outside progress.old.starts progress.old.states (map F.view folders.old) lines.old reports.old.items)
+        (outside progress.new.starts progress.new.states (map F.view folders.new) lines.new reports.new.items)) }
 {
+    let starts = &mut progress.starts;
+    let states = &mut progress.states;
     let mut counts = Counts::NONE;
-    for d in 0..table.disks() {
+    for d in 0..plan.table.disks() {
         let folder = &mut folders[d as usize];
-        let Ok(more) = end_column(
-            scope, table, entries, d, starts, states, folder, lines, reports,
-        ) else {
+        let Ok(more) = end_column(plan, d, starts, states, folder, lines, reports) else {
             return Err(d);
         };
         counts = counts.and(more);

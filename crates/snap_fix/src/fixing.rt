@@ -73,8 +73,7 @@ pub(crate) fn fix_stripe<F: Folder, V: Vault, W: Sink>(
         (beside F.view V.view progress.new folders.new vault.new lines.new reports.new.items)) }
 {
     let (scope, table, entries) = (plan.scope, plan.table, plan.entries);
-    let starts = &mut progress.starts;
-    let states = &mut progress.states;
+    let (starts, states) = (&mut progress.starts, &mut progress.states);
     let found = tell_stripe(scope, table, entries, one.stripe, one.own, lines, reports);
     let repaired = match mend_files(plan, one, starts, states, folders, lines, reports) {
         Ok(repaired) => repaired,

@@ -22,10 +22,11 @@ ghost use Rattle.stripe_reader.specs.Starts.{StartsValue};
 ghost use Rattle.stripe_reader.specs.declared.starts.Place.TheVariants as place;
 ghost use Rattle.file_restorer.specs.declared.finishing.Finish.{Finish};
 ghost use Rattle.stripe_examiner.specs.declared.scope.Mode.TheVariants as mode;
+ghost use Rattle.snap_fix.specs.Again.{IsFoundAgain, IsFoundIn, IsLookedAt};
 ghost use Rattle.snap_fix.specs.Audited.{FindsNothing};
 ghost use Rattle.snap_fix.specs.Course.{IsPlan, check_events};
 ghost use Rattle.snap_fix.specs.Ending.{is_finished};
-ghost use Rattle.stripe_examiner.specs.Facts.{StripeFacts, gift_of, is_missing};
+ghost use Rattle.stripe_examiner.specs.Facts.{StripeFacts, damaged_at, gift_of, is_missing};
 ghost use Rattle.stripe_examiner.specs.Findings.{is_lost};
 ghost use Rattle.snap_fix.specs.FixCourse.{fix_events};
 ghost use Rattle.snap_fix.specs.Fixing.{facts_of};
@@ -45,7 +46,7 @@ ghost use Rattle.snap_fix.specs.Windows.{AreWindows, FixWindow};
 ghost use Rattle.parity_writer.specs.LevelReading.{LevelReading};
 
 use cauchy::laws::one_solution;
-use disk_model::laws::{a_file_that_no_call_names_stays, bytes_that_no_call_touches_stay};
+use disk_model::laws::a_file_that_no_call_names_stays;
 use gf256::laws::products;
 
 /// The row with accepted blocks in its lost columns has the levels that they follow from. It is as it was in all other
@@ -107,7 +108,7 @@ pub fn a_stripe_is_restorable_by_counting()
     one_solution();
 }
 
-/// Wherever a fix is stopped or breaks off, the file that stood in the place of a record stands under one of its names
+/// Wherever a fix is stopped or breaks off, the file that stood in the place of a record stands there, under one of its names,
 /// with all bytes that it had, but in blocks that are written, and behind the recorded end where no block is lost. The
 /// files of records that are blocked or not selected stay, and so do all that are no record's. This is of all calls of a
 /// run, the listing included, wherever it is stopped: a stop after some of the calls is among what all of them may leave
@@ -129,7 +130,16 @@ pub fn a_stop_within_a_fix_changes_written_blocks_alone()
         d < length plan.table.columns → get_or lists d [] ≡ listing_of first →
         StandInPlace plan (starts_of plan.table lists) d first }
 {
-    bytes_that_no_call_touches_stay();
+    a_file_that_no_call_names_stays();
+}
+
+/// A cell that a fix found right is right wherever the fix is stopped: another fix of the same table that looks at its stripe
+/// then, and whose reading of it does not fail, finds it right. So of each stripe no more cells are damaged than before.
+pub fn a_stopped_fix_misses_no_more()
+    ensures { (stop : FixStop) (plan : FixPlan) (facts again : StripeFacts) → IsStop stop → IsLookedAt stop facts →
+        IsFoundIn stop.plan stop.d stop.first facts → damaged_at stop.plan facts stop.d ≡ false →
+        IsFoundAgain stop plan facts again → damaged_at plan again stop.d ≡ false }
+{
     a_file_that_no_call_names_stays();
 }
 

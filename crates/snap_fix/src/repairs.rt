@@ -2,6 +2,11 @@
 ghost use Rattle.std.specs.Prelude.{◌≡◌, IfOk, IfErr, length, map};
 ghost use Rattle.snap_config.specs.Setup.{setup_value};
 ghost use Rattle.snap_fix.specs.Course.{IsArray, outside};
+ghost use Rattle.snap_report.specs.EndLines.{fix_text};
+ghost use Rattle.snap_report.specs.State.{Puts, state_of};
+ghost use Rattle.snap_report.specs.Telling.{Settled};
+ghost use Rattle.snap_fix.specs.Beginning.{BeginsNot};
+ghost use Rattle.snap_fix.specs.FixBegun.{BeginsFix, BreaksBegun, FixesBegun, HasBegun, IsFirst};
 ghost use Rattle.snap_fix.specs.FixBreaking.{FixesNot};
 ghost use Rattle.snap_fix.specs.FixCourse.{AreOpen, Fixes};
 ghost use Rattle.stripe_examiner.specs.Plan.{names_of};
@@ -11,6 +16,7 @@ use crate::beginning::{Work, begin};
 use crate::checks::FixEnd;
 use crate::ending::{finish_all, sync_levels};
 use crate::fixes::fix_stripes;
+use crate::fixing::Totals;
 use crate::plan::{Plan, Progress};
 use disk_model::{Folder, NoMemory, Sink, Vault};
 use file_restorer::{FileState, States};
@@ -19,8 +25,19 @@ use snap_config::{Selection, Setup};
 use snap_report::{Lines, Report, RunFault};
 use std::alloc::Global;
 use std::thread::Threads;
-use stripe_examiner::{Mode, Spare, tell_opening};
+use stripe_examiner::{Counts, Entries, Mode, Room, Scope, Spare, tell_opening};
 use stripe_reader::{Start, Starts};
+
+/// What a fix works with: what it is for, what is known of the files, the stripes that are looked at, all memory that it
+/// needs, and how far it is.
+#[derive(Drop)]
+pub(crate) struct Begun {
+    pub scope: Scope,
+    pub entries: Entries,
+    pub stripes: Vec<u32>,
+    pub room: Room,
+    pub progress: Progress,
+}
 
 // The states of the files of a column when a fix begins.
 fn states_of_column(alloc: Global, starts: &[Start]) -> Result<Vec<FileState>, NoMemory>
@@ -57,6 +74,115 @@ fn states_before(alloc: Global, starts: &Starts) -> Result<States, NoMemory>
     Ok(States { columns })
 }
 
+// How far a fix is when it begins: no file and no level was written.
+fn progress_before(alloc: Global, table: &Table, starts: Starts) -> Result<Progress, NoMemory>
+    ensures starts { IfOk result (λ progress. progress.starts ≡ starts) }
+    ensures first { IfOk result (IsFirst table.now) }
+{
+    let states = states_before(alloc, &starts)?;
+    let written = vec![in alloc; false; table.shape().levels as usize]?;
+    Ok(Progress {
+        starts,
+        states,
+        written,
+    })
+}
+
+// Lists each folder once, and takes all that a fix works with.
+fn begin_fix<F: Folder>(
+    alloc: Global,
+    selection: &Selection,
+    setup: &Setup,
+    folders: &mut [F],
+    table: &Table,
+) -> Result<Begun, RunFault>
+    requires { (length folders.old ≡ length table.now.columns) × (length setup.now.disks ≡ length table.now.columns) }
+    ensures begun { IfOk result (λ begun. BeginsFix selection.now (names_of (setup_value setup.now)) table.now begun
+        (map F.view folders.old) (map F.view folders.new)) }
+    ensures failed { IfErr result (BeginsNot (map F.view folders.old) (map F.view folders.new)) }
+{
+    let work = begin(alloc, Mode::Fix, selection, setup, folders, table)?;
+    let Work {
+        scope,
+        entries,
+        starts,
+        stripes,
+        room,
+    } = work;
+    let Ok(progress) = progress_before(alloc, table, starts) else {
+        return Err(RunFault::Memory);
+    };
+    Ok(Begun {
+        scope,
+        entries,
+        stripes,
+        room,
+        progress,
+    })
+}
+
+// The end of a fix: the last line is written, which counts what was done.
+fn end_with<W: Sink>(totals: Totals, counts: Counts, lines: &mut Lines<'_, W>) -> FixEnd
+    ensures puts { Puts W.view (fix_text totals.blocks totals.parities counts.left) lines.old lines.new }
+    ensures settled { Settled (state_of W.view lines.new) }
+    ensures end { result ≡ record {
+      blocks = totals.blocks;
+      parities = totals.parities;
+      findings = counts.found;
+      left = counts.left;
+    } }
+{
+    lines.end_fix(totals.blocks, totals.parities, counts.left);
+    FixEnd {
+        blocks: totals.blocks,
+        parities: totals.parities,
+        findings: counts.found,
+        left: counts.left,
+    }
+}
+
+// Tells and writes anew what a fix that began is for, syncs the levels that were written, and only then finishes files.
+fn fix_begun<R: Threads + Sync, F: Folder, V: Vault, P: Spare, W: Sink>(
+    rt: &R,
+    table: &Table,
+    begun: &mut Begun,
+    readers: u32,
+    folders: &mut [F],
+    vault: &mut V,
+    spare: &mut P,
+    lines: &mut Lines<'_, W>,
+    reports: &mut Vec<Box<dyn Report>>,
+) -> Result<FixEnd, RunFault>
+    requires { HasBegun table.now begun.old (map F.view folders.old) (V.view vault.old) (P.holding spare.old) }
+    ensures fixes { IfOk result (FixesBegun W.view standing stands table.now begun.old
+        (outside (map F.view folders.old) (V.view vault.old) (P.holding spare.old) lines.old reports.old.items)
+        (outside (map F.view folders.new) (V.view vault.new) (P.holding spare.new) lines.new reports.new.items)) }
+    ensures broke { IfErr result (BreaksBegun W.view standing stands table.now begun.old
+        (outside (map F.view folders.old) (V.view vault.old) (P.holding spare.old) lines.old reports.old.items)
+        (outside (map F.view folders.new) (V.view vault.new) (P.holding spare.new) lines.new reports.new.items)) }
+{
+    let plan = Plan {
+        scope: begun.scope,
+        table,
+        entries: &begun.entries,
+    };
+    let stripes = begun.stripes.as_slice();
+    let (room, progress) = (&mut begun.room, &mut begun.progress);
+    let opening = tell_opening(plan.scope, table, plan.entries, lines, reports);
+    let totals = fix_stripes(
+        rt, &plan, stripes, readers, room, progress, folders, vault, spare, lines, reports,
+    )?;
+    if sync_levels(progress.written.as_slice(), vault).is_err() {
+        return Err(RunFault::Vault);
+    }
+    let news = match finish_all(&plan, progress, folders, lines, reports) {
+        Ok(news) => news,
+        Err(disk) => return Err(RunFault::Folder { disk }),
+    };
+    let counts = opening.and(totals.counts.and(news));
+    Ok(end_with(totals, counts, lines))
+}
+
 /// Writes what is damaged and known anew, and tells it. It fails where a folder can't be listed or memory runs out, and
 /// then no parity was read and nothing written; and where a folder or parity can't be written. At the end the levels that
 /// were written are synced, and only then files are finished.
@@ -86,66 +212,8 @@ pub(crate) fn fix<R: Threads + Sync, F: Folder, V: Vault, P: Spare, W: Sink>(
         (outside (map F.view folders.new) (V.view vault.new) (P.holding spare.new) lines.new reports.new.items)
         ((vault.new ≡ vault.old) × (spare.new ≡ spare.old) × (lines.new ≡ lines.old) × (reports.new ≡ reports.old))) }
 {
-    let work = begin(alloc, Mode::Fix, selection, setup, folders, table)?;
-    let Ok(states) = states_before(alloc, &work.starts) else {
-        return Err(RunFault::Memory);
-    };
-    let Ok(written) = vec![in alloc; false; table.shape().levels as usize] else {
-        return Err(RunFault::Memory);
-    };
-    let Work {
-        scope,
-        entries,
-        starts,
-        stripes,
-        mut room,
-    } = work;
-    let mut progress = Progress {
-        starts,
-        states,
-        written,
-    };
-    let plan = Plan {
-        scope,
-        table,
-        entries: &entries,
-    };
-    let opening = tell_opening(scope, table, &entries, lines, reports);
-    let totals = fix_stripes(
-        rt,
-        &plan,
-        &stripes,
-        readers,
-        &mut room,
-        &mut progress,
-        folders,
-        vault,
-        spare,
-        lines,
-        reports,
-    )?;
-    if sync_levels(progress.written.as_slice(), vault).is_err() {
-        return Err(RunFault::Vault);
-    }
-    let news = match finish_all(
-        scope,
-        table,
-        &entries,
-        &mut progress.starts,
-        &mut progress.states,
-        folders,
-        lines,
-        reports,
-    ) {
-        Ok(news) => news,
-        Err(disk) => return Err(RunFault::Folder { disk }),
-    };
-    let counts = opening.and(totals.counts.and(news));
-    lines.end_fix(totals.blocks, totals.parities, counts.left);
-    Ok(FixEnd {
-        blocks: totals.blocks,
-        parities: totals.parities,
-        findings: counts.found,
-        left: counts.left,
-    })
+    let mut begun = begin_fix(alloc, selection, setup, folders, table)?;
+    fix_begun(
+        rt, table, &mut begun, readers, folders, vault, spare, lines, reports,
+    )
 }

@@ -94,7 +94,7 @@ module _ (mode : Mode) (selection : Selection) (names : List (List ℕ)) (table 
   abbrev plan_of : Mode → Bool → List Bool → TableValue → List (List PlanEntry) → FixPlan
   plan_of m bad levels t entries = record { scope = record { mode = m; only_bad = bad; levels = levels }; table = t; entries = entries }
 
-  one_plan : plan ≡ other
+  pub one_plan : plan ≡ other
   one_plan =
       ap (λ (m : Mode). plan_of m plan.scope.only_bad plan.scope.levels plan.table plan.entries) (is.scope.mode_is ∙ sym is_then.scope.mode_is)
       ∙ ap (λ (bad : Bool). plan_of other.scope.mode bad plan.scope.levels plan.table plan.entries) (is.scope.only_bad ∙ sym is_then.scope.only_bad)

@@ -13,14 +13,18 @@ use Rattle.snap_sync.specs.Images.{AtWork, Opening, StandsBy, rows_after}
 use Rattle.snap_sync.specs.Part.{AllTell, tree_at, trees_of, SyncRun, IsToldRun}
 use Rattle.stripe_reader.specs.Columns.{folder_at}
 use Rattle.snap_top.specs.Ended.{has_ended}
-use Rattle.snap_top.specs.Headline.{ArrivesAtItsEnd, FixesSpare, GoesOn, LeavesCopies, Headline, IsQuiet, IsSoundStanding, SyncsLast}
+use Rattle.snap_top.specs.Headline.{ArrivesAtItsEnd, FixesAreResumed, FixesSpare, GoesOn, LeavesCopies, Headline, IsQuiet, IsSoundStanding, SyncsLast}
 use Rattle.snap_top.specs.History.{synced_by, LastSynced}
-use Rattle.snap_top.specs.Moment.{AreOfRun, IsDidOf, IsSoundAlways, EndsInPart}
+use Rattle.snap_top.specs.Fix.{FixRun}
+use Rattle.snap_top.specs.NextFix.{IsNextFix}
+use Rattle.snap_top.specs.Undamaged.{HasEnough}
+use Rattle.snap_top.specs.Moment.{AreOfRun, IsFixOf, IsDidOf, IsSoundAlways, EndsInPart}
 use Rattle.snap_top.specs.Opening.{asked_by}
 use Rattle.snap_top.specs.Step.{ChangesFiles, EndsBy}
 use Rattle.snap_top.specs.Resumed.{RunOf}
 use Rattle.snap_top.specs.Run.{Entry, Exit}
 use Rattle.snap_top.specs.Spared.{SparesBy, SparesCells}
+use Rattle.snap_top.specs.Stopping.{FindsNoLess, FolderStandsIn, SparesFiles, stop_of}
 use Rattle.snap_top.specs.Standing.{BeginsOver, GoesOver, HasClosed, IsHistory, IsOrigin, LeavesTrees, Stage, Standing, after_of, before_of}
 use Rattle.snap_top.specs.Task.{Did, fixes, folders_after, may_stand, reads_only, scrubs, syncs, end_table}
 use Rattle.snap_top.specs.Views.{AllReadOnly}
@@ -38,10 +42,11 @@ use Rattle.snap_top.proofs.LostLemmas.{FactsAreGenuine}
 use Rattle.snap_top.proofs.RestoredLastLemmas.{FixFindsAsCheck, LevelsAreMended, restored_over, tree_of_folder}
 use Rattle.snap_top.proofs.SyncEndLemmas.{stands_then}
 use Rattle.snap_top.proofs.SyncedLastLemmas.{IsLaidAsItIs, WhatIsLeft, all_closed, row_given, some_content}
-use Rattle.snap_top.proofs.SparedLemmas.{cells_spared}
-use Rattle.snap_top.proofs.StoppingLemmas.{BytesAreSpared, ListedStandInPlace, NotSelectedStay, OthersStay}
+use Rattle.snap_top.proofs.SparedLemmas.{cells_spared, levels_spared}
+use Rattle.snap_top.proofs.MissesLemmas.{finds_no_less}
+use Rattle.snap_top.proofs.StoppingLemmas.{SaysOfStops, enough_again, stop_spares}
 use Rattle.snap_top.proofs.UndamagedLemmas.{WholeLevelsHold}
-use Rattle.std.specs.Prelude.{Option, false, get_or, if◌then◌else◌, is_some}
+use Rattle.std.specs.Prelude.{Bool, Contains, Option, false, get_or, if◌then◌else◌, is_some}
 use Rattle.content_file.specs.Spelling.{spelling}
 use Rattle.snap_config.specs.declared.options.SyncWay.{SyncWay}
 use Rattle.stripe_findings.specs.Reading.{StripeReading}
@@ -138,19 +143,52 @@ module _ {O F V W : Type 0} (opener_view : O → OpenerView) (folder_view : F �
       subst (λ (n : ℕ). AreOfRun did n standing.files next.files) goes.over.copies
       (subst (λ (files : Files). AreOfRun did (copies_of (begun run).opener.vault) files next.files) goes.over.files (goes.step.always.copies next.files goes.files))
 
-  spares_over : BytesAreSpared → NotSelectedStay → OthersStay → ListedStandInPlace → (standing : Standing) → FixesSpare opener_view folder_view vault_view sink_view standing
-  spares_over bytes not_selected others listed standing run next goes = by goes.step.always.did goes.step.always.is_did goes.trees
+  spares_over : SaysOfStops → (standing : Standing) → FixesSpare opener_view folder_view vault_view sink_view standing
+  spares_over says standing run next goes = by goes.step.always.did goes.step.always.is_did goes.trees
+      (subst (λ (files : Files). may_stand goes.step.always.did files next.files) goes.over.files (goes.step.always.moments next.files goes.files))
     where
       held_tree : (d : ℕ) → (folder_held (begun run).opener d).tree ≡ tree_at standing.trees d
       held_tree d = sym (tree_of_folder (begun run).opener.folders d) ∙ ap (λ (trees : List Tree). tree_at trees d) goes.over.trees
 
-      by : (did : Did) → IsDidOf (begun run) (ended run) did → LeavesTrees did (begun run) (ended run) standing.trees next.trees → SparesBy did standing.trees next.trees
-      by reads_only is leaves = tt
-      by (syncs failed sync) is leaves = tt
-      by (scrubs failed scrub) is leaves = tt
-      by (fixes failed fix) is leaves = λ d below.
-          subst (λ (tree : Tree). SparesCells fix d tree (tree_at next.trees d)) (held_tree d)
-          (cells_spared bytes not_selected others listed (begun run) (ended run) fix d (tree_at next.trees d) is (leaves.1 d below))
+      by : (did : Did) → IsDidOf (begun run) (ended run) did → LeavesTrees did (begun run) (ended run) standing.trees next.trees → may_stand did standing.files next.files → SparesBy did standing next
+      by reads_only is leaves moment = tt
+      by (syncs failed sync) is leaves moment = tt
+      by (scrubs failed scrub) is leaves moment = tt
+      by (fixes failed fix) is leaves moment = record {
+        cells = λ d below.
+            subst (λ (tree : Tree). SparesCells fix d tree (tree_at next.trees d)) (held_tree d)
+            (cells_spared says (begun run) (ended run) fix d (tree_at next.trees d) is (leaves.1 d below));
+        files = λ d below.
+            subst (λ (tree : Tree). SparesFiles (stop_of fix d tree (tree_at next.trees d))) (held_tree d)
+            (stop_spares says (begun run) (ended run) fix d (tree_at next.trees d) is (leaves.1 d below));
+        levels = levels_spared fix standing.files next.files moment;
+        vault = moment;
+      }
+
+  -- ---- the next fix
+
+  resumes_over : SaysOfStops → (standing : Standing) → FixesAreResumed opener_view folder_view vault_view sink_view standing
+  resumes_over says standing run again next later failed fix fix_again goes goes_again did_is did_then loaded well mended mended_again one one_then stripe enough =
+      let before : Entry = begun run in
+      let exit : Exit = ended run in
+      let before_then : Entry = begun again in
+      let exit_then : Exit = ended again in
+      let is : IsFixOf before exit fix = subst (IsDidOf before exit) did_is goes.step.always.is_did in
+      let leaves : LeavesTrees (fixes failed fix) before exit standing.trees next.trees = subst (λ (did : Did). LeavesTrees did before exit standing.trees next.trees) did_is goes.trees in
+      let held : length before.opener.folders ≡ length standing.trees = sym (length-map before.opener.folders (λ (folder : FolderView). folder.tree)) ∙ ap length goes.over.trees in
+      let ends : EndsBy (fixes false fix_again) before_then exit_then again.status = subst (λ (did : Did). EndsBy did before_then exit_then again.status) did_then (goes_again.step.at_end (ap has_ended did_then)) in
+      let over_left : IsNextFix before exit fix before_then exit_then ends.0.run = record {
+        tells = goes.over.tells;
+        tells_then = goes_again.over.tells;
+        left = λ d below. subst (λ (trees : List Tree). FolderStandsIn before exit d (tree_at trees d)) (sym goes_again.over.trees) (leaves.1 d (omega (arith, below, held)));
+        loaded = ap (λ (its : FixRun). its.loaded) ends.1 ∙ loaded;
+        well = well;
+      } in
+      let no_less : FindsNoLess fix fix_again mended mended_again = subst (λ (its : FixRun). FindsNoLess fix its mended mended_again) ends.1
+      (finds_no_less says before before_then exit exit_then again.status fix is ends.0 over_left mended mended_again one (subst (λ (its : FixRun). Contains its.stripes mended_again) (sym ends.1) one_then) stripe) in
+      let changed : next.last.is_changed ≡ standing.last.is_changed = ap (λ (last : LastSynced). last.is_changed) goes.last ∙ ap (λ (did : Did). (synced_by did goes.count standing.last).is_changed) did_is in
+      subst (λ (is_changed : ℕ → ℕ → Bool). HasEnough fix_again is_changed mended_again.facts) (sym changed)
+      (enough_again fix fix_again standing.last.is_changed mended mended_again no_less enough)
 
   -- ---- what stands next
 
@@ -225,9 +263,9 @@ module _ {O F V W : Type 0} (opener_view : O → OpenerView) (folder_view : F �
   -- ---- all of it
 
   pub headline_holds : MomentsAreSoundByRows → OneTable → LayoutIsOfTrees → SavesValidTables → ScrubKeepsValid → SyncsAreResumed → FullKeepsShape → WholeLevelsHold → WhatIsLeft → IsLaidAsItIs
-      → FactsAreGenuine → LevelsAreMended → FixFindsAsCheck → BytesAreSpared → NotSelectedStay → OthersStay → ListedStandInPlace → (first standing : Standing) (stages : List (Stage O F V W)) → IsOrigin first
+      → FactsAreGenuine → LevelsAreMended → FixFindsAsCheck → SaysOfStops → (first standing : Standing) (stages : List (Stage O F V W)) → IsOrigin first
       → IsHistory opener_view folder_view vault_view sink_view first stages standing → Headline opener_view folder_view vault_view sink_view standing
-  headline_holds by_rows one_table laid saves_valid marks_valid resumed keeps holds left laid_again genuine mended as_check bytes not_selected others listed first standing stages origin history =
+  headline_holds by_rows one_table laid saves_valid marks_valid resumed keeps holds left laid_again genuine mended as_check says first standing stages origin history =
       let sound : IsSoundStanding standing = history_is_sound by_rows one_table saves_valid marks_valid opener_view folder_view vault_view sink_view first stages standing history (origin_sound first origin) in
       record {
         sound = sound;
@@ -236,7 +274,8 @@ module _ {O F V W : Type 0} (opener_view : O → OpenerView) (folder_view : F �
             full_over opener_view folder_view vault_view sink_view laid one_table setup trees seed resumed keeps standing later again stages last loaded table now full sound;
         synced = synced_over left laid_again laid saves_valid one_table standing;
         restores = restored_over opener_view folder_view vault_view sink_view holds genuine mended as_check standing sound;
-        spares = spares_over bytes not_selected others listed standing;
+        spares = spares_over says standing;
+        resumes = resumes_over says standing;
         copies = copies_over standing;
         quiet = quiet_over standing;
         goes_on = goes_on_over standing;

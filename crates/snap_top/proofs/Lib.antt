@@ -10,6 +10,7 @@ pub mod FixStatesLemmas
 pub mod FixedLemmas
 pub mod FolderLemmas
 pub mod HeadlineLemmas
+pub mod HeldLemmas
 pub mod HistoryLemmas
 pub mod UndamagedLemmas
 pub mod KeptLemmas
@@ -18,11 +19,13 @@ pub mod LoadLemmas
 pub mod LostEvents
 pub mod LostLemmas
 pub mod MatchingLemmas
+pub mod MissesLemmas
 pub mod MomentLemmas
 pub mod NamingLemmas
 pub mod OfFixLemmas
 pub mod OfScrubLemmas
 pub mod OfSyncLemmas
+pub mod OneArrayLemmas
 pub mod OneSizeLemmas
 pub mod OpeningLemmas
 pub mod PartLemmas
@@ -37,6 +40,7 @@ pub mod ScrubGiven
 pub mod ScrubLemmas
 pub mod ScrubUnread
 pub mod ScrubbedLemmas
+pub mod SeenLemmas
 pub mod SilentLemmas
 pub mod SparedLemmas
 pub mod StandingLemmas

@@ -20,14 +20,14 @@ use Rattle.stripe_reader.specs.Starts.{recorded_starts}
 use Rattle.stripe_reader.specs.WindowValue.{no_slot}
 
 -- one of a list counts
-one_counted : {X : Type 0} (p : X → Bool) (xs : List X) (k : ℕ) (d : X) → k < length xs → p (get_or xs k d) ≡ true → 1 ≤ count_by p xs
+pub one_counted : {X : Type 0} (p : X → Bool) (xs : List X) (k : ℕ) (d : X) → k < length xs → p (get_or xs k d) ≡ true → 1 ≤ count_by p xs
 one_counted p [] k d within is = absurd (omega (arith, within))
 one_counted p (x ∷ xs) zero d within is =
     let one : count_by p (x ∷ []) ≡ 1 = ap (λ (b : Bool). 0 + cond b 1 0) is in
     omega (arith, count_cons p x xs, one)
 one_counted p (x ∷ xs) (suc k) d within is = let more = one_counted p xs k d (omega (arith, within)) is in omega (arith, count_cons p x xs, more)
 
-not_true : (b : Bool) → (b ≡ true → ⊥) → b ≡ false
+pub not_true : (b : Bool) → (b ≡ true → ⊥) → b ≡ false
 not_true true never = absurd (never refl)
 not_true false never = refl
 

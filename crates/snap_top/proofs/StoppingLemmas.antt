@@ -10,12 +10,14 @@ use Rattle.disk_model.specs.Stopped.{MayBeLeft}
 use Rattle.disk_model.specs.Tree.{File, Tree, file_of, listing_of, path_of}
 use Rattle.file_table.specs.Table.{TableValue}
 use Rattle.file_table.specs.Valid.{IsValid}
+use Rattle.file_table.specs.declared.block.Cell.{Cell}
+use Rattle.snap_fix.specs.Again.{IsFoundAgain, IsFoundIn, IsLookedAt}
 use Rattle.snap_fix.specs.Ending.{is_finished}
-use Rattle.stripe_examiner.specs.Facts.{is_missing}
+use Rattle.stripe_examiner.specs.Facts.{StripeFacts, damaged_at, is_missing}
 use Rattle.snap_fix.specs.Mended.{Mended}
 use Rattle.stripe_examiner.specs.Plan.{FixPlan, starts_of}
 use Rattle.file_restorer.specs.State.{AnyCall, FolderMakes}
-use Rattle.snap_fix.specs.Stopped.{FixStop, IsNoneOf, IsStop, StandInPlace, StandsSpared, file_placed, path_at, records_of}
+use Rattle.snap_fix.specs.Stopped.{FixStop, IsCellSpared, IsNoneOf, IsStop, StandInPlace, StandsInCell, StandsSpared, file_placed, path_at, records_of}
 use Rattle.snap_top.specs.Fix.{FixRun, IsRunCall}
 use Rattle.snap_top.specs.Moment.{IsFixOf}
 use Rattle.snap_top.specs.Run.{Entry, Exit}
@@ -35,8 +37,24 @@ NotSelectedStay = (stop : FixStop) (i : ℕ) (lost : Bool) → IsStop stop → i
 abbrev pub OthersStay : Type 0
 OthersStay = (stop : FixStop) (name : List ℕ) → IsStop stop → IsNoneOf stop name → file_of stop.left name ≡ file_of stop.first name
 
+abbrev pub CellsAreSpared : Type 0
+CellsAreSpared = (stop : FixStop) (cell : Cell) (file : File) → IsStop stop → IsCellSpared stop cell → cell.rec < length (records_of stop) → file_placed stop.first (path_at stop cell.rec) ≡ Some file
+    → StandsInCell stop cell file
+
 abbrev pub ListedStandInPlace : Type 0
 ListedStandInPlace = (plan : FixPlan) (lists : List (List ListedFile)) (d : ℕ) (first : Tree) → d < length plan.table.columns → get_or lists d [] ≡ listing_of first → StandInPlace plan (starts_of plan.table lists) d first
+
+abbrev pub RightAgain : Type 0
+RightAgain = (stop : FixStop) (plan : FixPlan) (facts again : StripeFacts) → IsStop stop → IsLookedAt stop facts → IsFoundIn stop.plan stop.d stop.first facts → damaged_at stop.plan facts stop.d ≡ false
+    → IsFoundAgain stop plan facts again → damaged_at plan again stop.d ≡ false
+
+pub record SaysOfStops : Type 0 where
+  pub bytes : BytesAreSpared
+  pub cells : CellsAreSpared
+  pub not_selected : NotSelectedStay
+  pub others : OthersStay
+  pub listed : ListedStandInPlace
+  pub again : RightAgain
 
 -- ---- a stop within the fix of a run
 
@@ -48,9 +66,9 @@ left_within P old new left makes at_end tells (inr at) =
     let calls : calls_since old new ≡ makes.done = ap (drop (length old.calls)) (makes.goes_on.calls.more at.0) ∙ drop-append_seam old.calls makes.done in
     subst (λ (done : List FolderDone). MayBeLeft old.keeps_stamps done old.tree left) calls at.1
 
-pub stop_spares : BytesAreSpared → NotSelectedStay → OthersStay → ListedStandInPlace → (before : Entry) (exit : Exit) (run : FixRun) (d : ℕ) (left : Tree) → IsFixOf before exit run → FolderStandsIn before exit d left
-    → SparesFiles (stop_of run d (folder_held before.opener d) left)
-stop_spares bytes not_selected others listed before exit run d left is at =
+pub stop_is : ListedStandInPlace → (before : Entry) (exit : Exit) (run : FixRun) (d : ℕ) (left : Tree) → IsFixOf before exit run → FolderStandsIn before exit d left
+    → IsStop (stop_of run d (folder_held before.opener d).tree left)
+stop_is listed before exit run d left is at =
     let old : FolderView = folder_held before.opener d in
     let new : FolderView = folder_at exit.after.folders d in
     let makes : FolderMakes (AnyCall (IsRunCall run d)) old new = is.makes.each d at.within in
@@ -62,19 +80,25 @@ stop_spares bytes not_selected others listed before exit run d left is at =
     let lists = (over.listed.each d within).found in
     let found : get_or run.lists d [] ≡ listing_of old.tree
     = subst (λ (folder : FolderView). IsTrue folder.tells → get_or run.lists d [] ≡ listing_of folder.tree) held lists at.tells in
-    let stop : FixStop = stop_of run d old left in
-    let is_stop : IsStop stop = record {
+    record {
       valid = subst IsValid (sym table) over.valid;
       column = below;
       places = subst (λ (t : TableValue). StandInPlace run.plan (starts_of t run.lists) d old.tree) table (listed run.plan run.lists d old.tree below found);
       calls = makes.done;
       each = makes.each;
-      left = left_within (AnyCall (IsRunCall run d)) old new left makes (λ told. makes.left told at.is_tree) at.tells at.stands;
-    } in
+      left = subst (λ (keeps : Bool). MayBeLeft keeps makes.done old.tree left) (sym (ap (λ (folder : FolderView). folder.keeps_stamps) held))
+          (left_within (AnyCall (IsRunCall run d)) old new left makes (λ told. makes.left told at.is_tree) at.tells at.stands);
+    }
+
+pub stop_spares : SaysOfStops → (before : Entry) (exit : Exit) (run : FixRun) (d : ℕ) (left : Tree) → IsFixOf before exit run → FolderStandsIn before exit d left
+    → SparesFiles (stop_of run d (folder_held before.opener d).tree left)
+stop_spares says before exit run d left is at =
+    let stop : FixStop = stop_of run d (folder_held before.opener d).tree left in
+    let is_stop : IsStop stop = stop_is says.listed before exit run d left is at in
     record {
-      bytes = λ i file there. bytes stop i file is_stop there;
-      not_selected = λ i lost there. not_selected stop i lost is_stop there;
-      others = λ name. others stop name is_stop;
+      bytes = λ i file there. says.bytes stop i file is_stop there;
+      not_selected = λ i lost there. says.not_selected stop i lost is_stop there;
+      others = λ name. says.others stop name is_stop;
     }
 
 -- ---- counting

@@ -324,6 +324,7 @@ module _ {R : Type 0} (standing : R → ReportView) (stands : R → List Event �
               told_is = refl;
             };
             few = breaks.few;
+            window = breaks.window;
             answer_is = refl;
             named_is = refl;
             counted_is = refl;

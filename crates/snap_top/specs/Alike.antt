@@ -1,15 +1,25 @@
--- Two checks, or a check and a fix, that read the same of one array.
-use Rattle.std.specs.Prelude.{◌≡◌, ℕ, ◌<◌, length, filter}
+-- Two checks, or a check and a fix, that read the same of one array, or that find the same array.
+use Rattle.std.specs.Prelude.{◌≡◌, ◌≢◌, ℕ, ◌<◌, length, filter, map, Ok}
+use Rattle.disk_model.specs.Cause.{Rose}
+use Rattle.disk_model.specs.Vault.{copies_of}
+use Rattle.snap_config.specs.declared.options.Options.{Options}
+use Rattle.snap_config.specs.declared.options.Selection.{Selection}
 use Rattle.snap_fix.specs.Ending.{Finishes}
 use Rattle.snap_fix.specs.Fixing.{facts_of}
 use Rattle.snap_report.specs.Kind.{is_finding}
+use Rattle.snap_sync.specs.Part.{NoneRose, trees_of}
 use Rattle.stripe_examiner.specs.Facts.{StripeFacts}
 use Rattle.stripe_examiner.specs.Looking.{facts_at}
 use Rattle.stripe_examiner.specs.Plan.{names_of}
+use Rattle.stripe_examiner.specs.declared.scope.Mode.{Mode}
 use Rattle.snap_top.specs.Check.{CheckRun}
 use Rattle.snap_top.specs.Fix.{FixRun}
-use Rattle.snap_top.specs.Naming.{events_found}
+use Rattle.snap_top.specs.Moment.{TellsAll}
+use Rattle.snap_top.specs.Naming.{command_in, events_found}
+use Rattle.snap_top.specs.Opening.{asked_by}
 use Rattle.snap_top.specs.Restoring.{events_in}
+use Rattle.snap_top.specs.Run.{Entry, Exit}
+use Rattle.snap_top.specs.Sync.{HasNoCopy}
 
 -- what a fix has seen, said as of a check
 abbrev pub seen_by : FixRun → CheckRun
@@ -48,4 +58,46 @@ pub record FindAlike (one other : CheckRun) : Type 0 where
 -- a fix tells besides what it did
 pub record FixFindsAlike (one : CheckRun) (fix : FixRun) (finishes : Finishes) : Type 0 where
   pub facts : one.stripes ≡ facts_of fix.stripes
+  pub events : filter is_finding (events_in fix finishes) ≡ events_found one
+
+-- ---- two runs over one array
+
+-- Two runs begin over the same: their openers tell all, and hold the same configuration, trees, and files of as many copies. Where there is no
+-- copy, their seeds are the same.
+pub record HoldAlike (one other : Entry) : Type 0 where
+  pub tells : TellsAll one
+  pub tells_then : TellsAll other
+  pub config : one.opener.config ≡ other.opener.config
+  pub trees : trees_of one.opener.folders ≡ trees_of other.opener.folders
+  pub copies : copies_of one.opener.vault ≡ copies_of other.opener.vault
+  pub files : one.opener.vault.files ≡ other.opener.vault.files
+  pub seed : HasNoCopy (copies_of one.opener.vault) one.opener.vault.files → one.seed ≡ other.seed
+
+-- They were asked for the same, each in its mode: of the same selection, and with the same log.
+pub record AskAlike (mode mode_then : Mode) (one other : Entry) : Type 0 where
+  pub asked : Options
+  pub asked_then : Options
+  pub selection : Selection
+  pub words : asked_by one.texts ≡ Ok asked
+  pub words_then : asked_by other.texts ≡ Ok asked_then
+  pub command_is : asked.command ≡ command_in mode selection
+  pub command_then : asked_then.command ≡ command_in mode_then selection
+  pub log : asked.log ≡ asked_then.log
+
+-- the count of faults of no folder rose, and not that of the vault
+pub record NothingRose (before : Entry) (exit : Exit) : Type 0 where
+  pub folders : NoneRose before.opener.folders exit.after.folders
+  pub vault : ¬ (Rose before.opener.vault.faults exit.after.vault.faults)
+
+-- so two checks or audits have the same lines and, where the output of neither failed, the same status
+pub record CheckAlike (one other : CheckRun) (status status_then : ℕ) : Type 0 where
+  pub loaded : one.loaded ≡ other.loaded
+  pub rows : map (λ (facts : StripeFacts). facts.row) one.stripes ≡ map (λ (facts : StripeFacts). facts.row) other.stripes
+  pub events : events_found one ≡ events_found other
+  pub statuses : status ≢ 3 → status_then ≢ 3 → status ≡ status_then
+
+-- and a fix knows the same rows as a check, and finds the same; it tells besides what it did
+pub record FixAlike (one : CheckRun) (fix : FixRun) (finishes : Finishes) : Type 0 where
+  pub loaded : one.loaded ≡ fix.loaded
+  pub rows : map (λ (facts : StripeFacts). facts.row) one.stripes ≡ map (λ (facts : StripeFacts). facts.row) (facts_of fix.stripes)
   pub events : filter is_finding (events_in fix finishes) ≡ events_found one

@@ -1,5 +1,5 @@
 -- What is promised of whatever stands after a history: it is sound, a stopped sync is resumed, and a fix restores what was last synced.
-use Rattle.std.specs.Prelude.{◌≡◌, ◌⊎◌, ℕ, ◌<◌, ◌≤◌, List, [], ◌∷◌, length, take, Bool, true, Some, Ok}
+use Rattle.std.specs.Prelude.{◌≡◌, ◌⊎◌, ℕ, ◌<◌, ◌≤◌, List, [], ◌∷◌, length, take, Bool, true, false, Some, Ok}
 use Rattle.content_file.specs.Load.{HasFailed}
 use Rattle.content_file.specs.Save.{HasSaved}
 use Rattle.content_file.specs.Spelling.{spelling}
@@ -19,9 +19,12 @@ use Rattle.snap_config.specs.declared.options.Selection.{Selection}
 use Rattle.snap_config.specs.declared.options.SyncWay.{SyncWay}
 use Rattle.snap_sync.specs.Part.{IsFullSync, trees_of}
 use Rattle.snap_sync.specs.Resumed.{EndsAs}
+use Rattle.snap_top.specs.Alike.{NothingRose}
 use Rattle.snap_top.specs.Complete.{NothingBroke}
+use Rattle.snap_top.specs.Fix.{FixRun}
 use Rattle.snap_top.specs.History.{AreSoundBy, IsOfBytes}
 use Rattle.snap_top.specs.Moment.{AreOfRun, ChangesNothing, StandsAfter, StandsIn}
+use Rattle.snap_top.specs.NextFix.{HasEnoughAgain}
 use Rattle.snap_top.specs.Opening.{asked_by}
 use Rattle.snap_top.specs.RestoredLast.{IsRestored}
 use Rattle.snap_top.specs.Resumed.{EndAlike, RunOf}
@@ -30,6 +33,7 @@ use Rattle.snap_top.specs.Standing.{BeginsOver, Change, GoesOver, IsHistory, Lea
 use Rattle.snap_top.specs.Step.{RunStep}
 use Rattle.snap_top.specs.Sync.{BeginsFrom, HasNoCopy}
 use Rattle.snap_top.specs.SyncedLast.{IsSyncedLast}
+use Rattle.snap_top.specs.Task.{fixes}
 
 -- ---- it is sound
 
@@ -147,10 +151,20 @@ module _ {O F V W : Type 0} (opener_view : O → OpenerView) (folder_view : F �
       → IsRestored (before_of opener_view folder_view vault_view sink_view run) (after_of opener_view folder_view vault_view sink_view run)
       run.status goes.step.always.did standing.last next.trees
 
-  -- Each fix of what stands, also one that is stopped at any moment, spares the cells that it leaves alone.
+  -- Each fix of what stands, also one that is stopped at any moment, spares the cells, the files and the levels that it leaves alone.
   abbrev pub FixesSpare : Standing → Type 0
   FixesSpare standing = (run : RunOf O F V W) (next : Standing) → (goes : GoesOver opener_view folder_view vault_view sink_view run standing next)
-      → SparesBy goes.step.always.did standing.trees next.trees
+      → SparesBy goes.step.always.did standing next
+
+  -- A fix that is stopped at any moment is resumed. Where the next one begins with the same table and goes to its end, and no count of faults
+  -- rises in it, each stripe has enough undamaged levels for it, if it had for the first one.
+  abbrev pub FixesAreResumed : Standing → Type 0
+  FixesAreResumed standing = (run again : RunOf O F V W) (next later : Standing) (failed : Bool) (fix fix_again : FixRun)
+      → (goes : GoesOver opener_view folder_view vault_view sink_view run standing next)
+      → (goes_again : GoesOver opener_view folder_view vault_view sink_view again next later)
+      → goes.step.always.did ≡ fixes failed fix → goes_again.step.always.did ≡ fixes false fix_again → fix_again.loaded ≡ fix.loaded
+      → NothingRose (before_of opener_view folder_view vault_view sink_view again) (after_of opener_view folder_view vault_view sink_view again)
+      → HasEnoughAgain fix fix_again standing.last.is_changed next.last.is_changed
 
   -- ---- all of it
 
@@ -184,6 +198,7 @@ module _ {O F V W : Type 0} (opener_view : O → OpenerView) (folder_view : F �
     pub synced : SyncsLast opener_view folder_view vault_view sink_view standing
     pub restores : FixesRestore standing
     pub spares : FixesSpare standing
+    pub resumes : FixesAreResumed standing
     pub copies : LeavesCopies standing
     pub quiet : IsQuiet opener_view folder_view vault_view sink_view standing
     pub goes_on : GoesOn standing

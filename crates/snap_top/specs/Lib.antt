@@ -14,6 +14,7 @@ pub mod Known
 pub mod Lost
 pub mod Moment
 pub mod Naming
+pub mod NextFix
 pub mod Opening
 pub mod RestoredLast
 pub mod Restoring

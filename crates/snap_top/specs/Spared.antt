@@ -1,19 +1,24 @@
--- Which blocks a fix leaves alone, and that their bytes stay wherever it is stopped.
-use Rattle.std.specs.Prelude.{◌≡◌, ◌⊎◌, ℕ, ◌+◌, ◌<◌, List, length, is_some, Bool, true, false, Some, Contains}
-use Rattle.disk_model.specs.Tree.{File, Tree, file_of, path_of}
-use Rattle.file_restorer.specs.Mending.{block_start, cell_path}
-use Rattle.file_table.specs.Table.{TableValue, record_at, records_in}
+-- What a fix leaves alone, wherever it is stopped: blocks of cells, other files, and levels.
+use Rattle.std.specs.Prelude.{◌≡◌, ◌⊎◌, ℕ, ◌+◌, ◌*◌, ◌<◌, length, is_some, true, false, Some, Contains}
+use Rattle.disk_model.specs.Files.{Files, parity_of}
+use Rattle.disk_model.specs.Tree.{File, Tree}
+use Rattle.file_restorer.specs.Mending.{cell_path}
+use Rattle.file_table.specs.Table.{records_in}
 use Rattle.file_table.specs.declared.block.Cell.{Cell}
 use Rattle.parity_writer.specs.Keeps.{HasByte}
 use Rattle.snap_fix.specs.Fixing.{facts_of}
-use Rattle.snap_fix.specs.Stopped.{file_placed}
+use Rattle.snap_fix.specs.Mended.{is_wrong_level}
+use Rattle.snap_fix.specs.Stopped.{StandsInCell, file_placed}
 use Rattle.snap_sync.specs.Part.{tree_at}
 use Rattle.stripe_examiner.specs.Facts.{StripeFacts, damaged_at}
 use Rattle.stripe_examiner.specs.Plan.{FixPlan, cell_at, entry_at, selects_cell}
 use Rattle.stripe_examiner.specs.Showing.{known_block}
-use Rattle.stripe_reader.specs.Reading.{block_length}
-use Rattle.snap_top.specs.Fix.{FixRun}
+use Rattle.snap_top.specs.Fix.{FixRun, MayStandFixed}
+use Rattle.snap_top.specs.Standing.{Standing}
+use Rattle.snap_top.specs.Stopping.{SparesFiles, stop_of}
 use Rattle.snap_top.specs.Task.{Did, fixes, reads_only, scrubs, syncs}
+
+-- ---- cells
 
 -- a cell of a stripe that a fix looked at is not damaged or not selected, or its block is not known, or its record is blocked
 abbrev pub IsNotMended : FixPlan → StripeFacts → ℕ → Cell → Type 0
@@ -28,22 +33,36 @@ pub record IsLeftAlone (run : FixRun) (d : ℕ) (cell : Cell) : Type 0 where
   pub alone : (facts : StripeFacts) → Contains (facts_of run.stripes) facts → cell_at run.plan facts.stripe d ≡ Some cell
       → IsNotMended run.plan facts d cell
 
--- each byte of the block of a cell that a file had, one under a name of its record has
-pub record KeepsCell (table : TableValue) (d : ℕ) (cell : Cell) (left : Tree) (before : File) : Type 0 where
-  pub lost : Bool
-  pub after : File
-  pub there : file_of left (path_of (cell_path table d cell) lost) ≡ Some after
-  pub bytes : (p x : ℕ) → p < block_length table.shape.block_size (record_at table.columns d cell.rec).meta.size cell.index
-      → HasByte before.bytes (block_start table cell + p) x → HasByte after.bytes (block_start table cell + p) x
-
--- so it is of each cell that is left alone, and of the file that stood in the place of its record
+-- each byte of the block of such a cell, in the file that stood in the place of its record, stands under a name of the record
 abbrev pub SparesCells : FixRun → ℕ → Tree → Tree → Type 0
 SparesCells run d first left = (cell : Cell) (before : File) → IsLeftAlone run d cell
-    → file_placed first (cell_path run.plan.table d cell) ≡ Some before → KeepsCell run.plan.table d cell left before
+    → file_placed first (cell_path run.plan.table d cell) ≡ Some before → StandsInCell (stop_of run d first left) cell before
 
--- and of each column, where a run is a fix
-abbrev pub SparesBy : Did → List Tree → List Tree → Type 0
-SparesBy reads_only olds news = Unit {0}
-SparesBy (syncs failed run) olds news = Unit {0}
-SparesBy (fixes failed run) olds news = (d : ℕ) → d < length olds → SparesCells run d (tree_at olds d) (tree_at news d)
-SparesBy (scrubs failed run) olds news = Unit {0}
+-- ---- levels
+
+-- a level of a stripe is not one that the fix found wrong by a known row
+abbrev pub IsLevelLeftAlone : FixRun → ℕ → ℕ → Type 0
+IsLevelLeftAlone run r stripe = (facts : StripeFacts) → Contains (facts_of run.stripes) facts → facts.stripe ≡ stripe
+    → is_wrong_level run.plan facts r ≡ false
+
+-- each byte of the block of such a level stays
+abbrev pub SparesLevels : FixRun → Files → Files → Type 0
+SparesLevels run old new = (r stripe p x : ℕ) → IsLevelLeftAlone run r stripe → p < run.plan.table.shape.block_size
+    → HasByte (parity_of old r) (stripe * run.plan.table.shape.block_size + p) x
+    → HasByte (parity_of new r) (stripe * run.plan.table.shape.block_size + p) x
+
+-- ---- all of it
+
+-- Of each column cells, and files of other records or of none, are left alone; and so are levels, where the vault only changed as by a fix.
+pub record SparesRest (run : FixRun) (standing next : Standing) : Type 0 where
+  pub cells : (d : ℕ) → d < length standing.trees → SparesCells run d (tree_at standing.trees d) (tree_at next.trees d)
+  pub files : (d : ℕ) → d < length standing.trees → SparesFiles (stop_of run d (tree_at standing.trees d) (tree_at next.trees d))
+  pub levels : SparesLevels run standing.files next.files
+  pub vault : MayStandFixed run standing.files next.files
+
+-- so it is where a run is a fix
+abbrev pub SparesBy : Did → Standing → Standing → Type 0
+SparesBy reads_only standing next = Unit {0}
+SparesBy (syncs failed run) standing next = Unit {0}
+SparesBy (fixes failed run) standing next = SparesRest run standing next
+SparesBy (scrubs failed run) standing next = Unit {0}

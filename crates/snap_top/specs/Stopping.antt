@@ -35,15 +35,15 @@ pub record FolderStandsIn (before : Entry) (exit : Exit) (d : ℕ) (left : Tree)
 
 -- ---- what a fix leaves of them
 
--- a stop within the calls that a fix made of the folder of a column, which left these files
-abbrev pub stop_of : FixRun → ℕ → FolderView → Tree → FixStop
-stop_of run d old left = record {
+-- a stop within the calls that a fix made of the folder of a column, which held files at first and left these
+abbrev pub stop_of : FixRun → ℕ → Tree → Tree → FixStop
+stop_of run d first left = record {
   plan = run.plan;
   starts = starts_of run.loaded run.lists;
   stripes = run.stripes;
   d = d;
-  keeps_stamps = old.keeps_stamps;
-  first = old.tree;
+  keeps_stamps = (folder_at run.folders d).keeps_stamps;
+  first = first;
   left = left;
 }
 

@@ -17,7 +17,7 @@ use Rattle.snap_report.specs.declared.answer.RunFault.TheVariants as runs
 use Rattle.snap_sync.specs.Beginning.{LaysOut, BeginsNot}
 use Rattle.snap_sync.specs.Calls.{SyncPlan}
 use Rattle.snap_sync.specs.Closing.{closed, verified_in}
-use Rattle.snap_sync.specs.Course.{TouchesVault, plan_of}
+use Rattle.snap_sync.specs.Course.{BreaksInWindow, TouchesVault, plan_of}
 use Rattle.stripe_findings.specs.Findings.{events_of}
 use Rattle.snap_sync.specs.Images.{HasParityAfter}
 use Rattle.snap_sync.specs.Part.{SyncRun}
@@ -95,11 +95,12 @@ pub record SyncEnds (task : Task) (way : SyncWay) (table : TableValue) (before a
   pub counted_is : left.counted ≡ more_findings 0 (length (events_of course.start course.readings))
   pub prints : Prints (lines_of course.start.columns (events_of course.start course.readings) ++ sync_text synced pending) left.counted before.out after.out left.answer
 
--- A sync that broke off once the vault was touched: a call of the vault failed. The stripes that it read ahead are no more than one window has. It printed
--- the lines of its events.
+-- A sync that broke off once the vault was touched: a call of the vault failed, for the last window that it told. The stripes that it read ahead
+-- are no more than one window has. It printed the lines of its events.
 pub record SyncBreaks (task : Task) (way : SyncWay) (table : TableValue) (before after : World) (left : Left) (did : Did) : Type 0 where
   pub course : SyncCourse task way table true before after left did
   pub few : length course.ahead ≤ stripe_count (length course.start.columns) course.start.shape.block_size
+  pub window : BreaksInWindow (plan_for task way course.start before) course.readings before.vault after.vault
   pub answer_is : left.answer ≡ answers.Broken runs.Vault
   pub named_is : left.named ≡ None
   pub counted_is : left.counted ≡ 0

@@ -1,5 +1,5 @@
 //! What follows for one run after another. The calls do nothing: their contracts are laws.
-ghost use Rattle.std.specs.Prelude.{◌≡◌, ℕ, List, Bool, IsTrue, true, length};
+ghost use Rattle.std.specs.Prelude.{◌≡◌, ℕ, List, Bool, IsTrue, true, length, Contains};
 ghost use Rattle.cauchy.specs.Matrix.{byte_of};
 ghost use Rattle.disk_model.specs.Files.{Files};
 ghost use Rattle.disk_model.specs.Opener.{folder_held};
@@ -19,13 +19,14 @@ ghost use Rattle.snap_fix.specs.Restored.{HoldsCell};
 ghost use Rattle.snap_sync.specs.Part.{IsFullSync, SyncRun};
 ghost use Rattle.snap_sync.specs.Resumed.{EndsAs};
 ghost use Rattle.snap_sync.specs.Soundness.{AreSound};
-ghost use Rattle.snap_top.specs.Alike.{FindAlike, FixFindsAlike, ReadAlike, seen_by};
+ghost use Rattle.snap_top.specs.Alike.{AskAlike, CheckAlike, FindAlike, FixAlike, FixFindsAlike, HoldAlike, NothingRose, ReadAlike, seen_by};
 ghost use Rattle.snap_top.specs.Check.{CheckRun};
 ghost use Rattle.snap_top.specs.Fix.{FixRun};
 ghost use Rattle.snap_top.specs.Headline.{Headline};
 ghost use Rattle.snap_top.specs.History.{AreSoundBy, IsHistory as IsHistoryOfRuns, LastSynced, StaysSound, Step};
 ghost use Rattle.snap_top.specs.Moment.{IsFixOf, TellsAll};
 ghost use Rattle.snap_top.specs.Naming.{HasChecked};
+ghost use Rattle.snap_top.specs.NextFix.{IsNextFix};
 ghost use Rattle.snap_top.specs.Restoring.{EndsFixed, Restores};
 ghost use Rattle.snap_top.specs.Resumed.{AreStoppedRuns, EndAlike, EndsClean, RunOf, StoppedRun, end_of, entry_of};
 ghost use Rattle.snap_top.specs.Spared.{SparesCells};
@@ -40,7 +41,7 @@ use disk_model::{Folder, Opener, Sink, Vault};
 use parity_writer::laws::a_whole_level_is_what_the_file_holds;
 use snap_fix::laws::{
     a_check_finds_what_a_fix_finds, a_fix_keeps_what_is_sound,
-    a_stop_within_a_fix_changes_written_blocks_alone,
+    a_stop_within_a_fix_changes_written_blocks_alone, a_stopped_fix_misses_no_more,
 };
 use snap_scrub::laws::a_scrub_keeps_what_is_synced;
 use snap_sync::laws::{
@@ -112,22 +113,33 @@ pub fn copies_stay_sound<O: Opener, F: Folder, V: Vault, W: Sink>()
 /// there. The files of records that are blocked or not selected stay, and so do all that are no record's. Names, sizes and
 /// stamps of these files may have changed. The next fix that goes to its end restores the blocks of the same snapshot
 /// (`copies_stay_sound`): those of each stripe that has enough undamaged levels then (`undamaged_levels_restore`). It has
-/// enough if the first one had, where the next one misses no other cell and reads each level again: of the two fixes just
-/// these counts are compared. `run` says of a fix which calls it made of its folders, in its clauses `sound` and `fixed`.
+/// enough if the first one had: the next one misses no other cell and reads each level again, where no count of faults rises
+/// in it (`misses`, `again`). `run` says of a fix which calls it made of its folders, in its clauses `sound` and `fixed`.
 pub fn a_stopped_fix_spares_and_is_resumed<O: Opener, F: Folder, V: Vault, W: Sink>()
     ensures spares { (run : RunOf O F V W) (fix : FixRun) (d : ℕ) (left : Tree) →
         IsFixOf (entry_of O.view W.view run) (end_of O.view F.view V.view W.view run) fix →
         FolderStandsIn (entry_of O.view W.view run) (end_of O.view F.view V.view W.view run) d left →
-        SparesFiles (stop_of fix d (folder_held (entry_of O.view W.view run).opener d) left) }
+        SparesFiles (stop_of fix d (folder_held (entry_of O.view W.view run).opener d).tree left) }
     ensures cells { (run : RunOf O F V W) (fix : FixRun) (d : ℕ) (left : Tree) →
         IsFixOf (entry_of O.view W.view run) (end_of O.view F.view V.view W.view run) fix →
         FolderStandsIn (entry_of O.view W.view run) (end_of O.view F.view V.view W.view run) d left →
         SparesCells fix d (folder_held (entry_of O.view W.view run).opener d).tree left }
+    // The next one, from the same table and over what the first one left, misses no other cell and reads each level again, where
+    // no count of faults rises in it.
+    ensures misses { (run again : RunOf O F V W) (fix : FixRun)
+        (ends : EndsFixed (entry_of O.view W.view again) (end_of O.view F.view V.view W.view again) again.status)
+        (mended mended_again : Mended) →
+        IsFixOf (entry_of O.view W.view run) (end_of O.view F.view V.view W.view run) fix →
+        IsNextFix (entry_of O.view W.view run) (end_of O.view F.view V.view W.view run) fix
+        (entry_of O.view W.view again) (end_of O.view F.view V.view W.view again) ends.run →
+        Contains fix.stripes mended → Contains ends.run.stripes mended_again →
+        mended_again.facts.stripe ≡ mended.facts.stripe → FindsNoLess fix ends.run mended mended_again }
     ensures again { (first again : FixRun) (is_changed : ℕ → ℕ → Bool) (mended mended_again : Mended) →
         FindsNoLess first again mended mended_again →
         HasEnough first is_changed mended.facts → HasEnough again is_changed mended_again.facts }
 {
     a_stop_within_a_fix_changes_written_blocks_alone();
+    a_stopped_fix_misses_no_more();
 }
 
 /// A level is undamaged where it was read, and was not changed from outside since its stripe was last synced. Where the
@@ -173,13 +185,40 @@ pub fn what_is_read_alike_is_found_alike<O: Opener, F: Folder, V: Vault, W: Sink
     a_check_finds_what_a_fix_finds();
 }
 
+/// Two checks or audits over one array, or a check and a fix, find the same: where they were asked for the same, their openers
+/// tell all and hold the same, and no count of faults of a folder or of the vault rose in them. So two checks print the same and
+/// have the same status, where the output of neither failed. What of a file's size and stamp a fix saw may be later: no finding
+/// depends on that.
+pub fn one_array_is_found_alike<O: Opener, F: Folder, V: Vault, W: Sink>()
+    ensures checks { (mode : Mode) (run again : RunOf O F V W) (one other : CheckRun) →
+        HoldAlike (entry_of O.view W.view run) (entry_of O.view W.view again) →
+        AskAlike mode mode (entry_of O.view W.view run) (entry_of O.view W.view again) →
+        NothingRose (entry_of O.view W.view run) (end_of O.view F.view V.view W.view run) →
+        NothingRose (entry_of O.view W.view again) (end_of O.view F.view V.view W.view again) →
+        HasChecked mode (entry_of O.view W.view run) (end_of O.view F.view V.view W.view run) run.status one →
+        HasChecked mode (entry_of O.view W.view again) (end_of O.view F.view V.view W.view again) again.status other →
+        CheckAlike one other run.status again.status }
+    ensures fix { (run again : RunOf O F V W) (one : CheckRun)
+        (ends : EndsFixed (entry_of O.view W.view again) (end_of O.view F.view V.view W.view again) again.status) →
+        HoldAlike (entry_of O.view W.view run) (entry_of O.view W.view again) →
+        AskAlike modes.Check modes.Fix (entry_of O.view W.view run) (entry_of O.view W.view again) →
+        NothingRose (entry_of O.view W.view run) (end_of O.view F.view V.view W.view run) →
+        NothingRose (entry_of O.view W.view again) (end_of O.view F.view V.view W.view again) →
+        HasChecked modes.Check (entry_of O.view W.view run) (end_of O.view F.view V.view W.view run) run.status one →
+        FixAlike one ends.run ends.finishes }
+{
+    one_table_has_a_spelling();
+    what_is_read_determines_what_is_found();
+    a_check_finds_what_a_fix_finds();
+}
+
 /// The headline. Whatever happened to an array since it had no content, by runs of any commands, each of which ended or was
 /// stopped at some moment, by edits, by damage to the vault and by other configurations: what stands then is sound; a sync
 /// that ends with status 0 after stopped ones leaves what one leaves that was never stopped; what was last synced after a sync
 /// that went to its end is what it read; and a fix that goes to its end restores the blocks that were last synced of each
 /// stripe in which no more are missing than levels are intact, unless their record is blocked, and names those of stripes in
-/// which more are missing. One that is stopped spares the cells that it leaves alone. Of each fix this supposes that it met no
-/// block that has a recorded hash by chance.
+/// which more are missing. One that is stopped spares the cells, files and levels that it leaves alone, and is resumed: the
+/// next one can restore as much. Of each fix this supposes that it met no block that has a recorded hash by chance.
 pub fn headline<O: Opener, F: Folder, V: Vault, W: Sink>()
     ensures { (first standing : Standing) (stages : List (Stage O F V W)) → IsOrigin first →
         IsHistory O.view F.view V.view W.view first stages standing → Headline O.view F.view V.view W.view standing }
@@ -196,4 +235,5 @@ pub fn headline<O: Opener, F: Folder, V: Vault, W: Sink>()
     a_fix_keeps_what_is_sound();
     a_check_finds_what_a_fix_finds();
     a_stop_within_a_fix_changes_written_blocks_alone();
+    a_stopped_fix_misses_no_more();
 }

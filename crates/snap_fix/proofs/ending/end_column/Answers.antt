@@ -1,5 +1,5 @@
 use Rattle.std.proofs.Common.{◌<◌, length, refl, arith}
-use Rattle.stripe_examiner.specs.Plan.{plan_of}
+use Rattle.snap_fix.specs.Handed.{seen}
 use Rattle.file_table.specs.Table.{records_in}
 use Rattle.snap_fix.proofs.EndingColumnLemmas.{told_start, can_next, told_more, ended_not, ended_all}
 use Rattle.snap_fix.proofs.AnswerLemmas.{on_err}
@@ -7,27 +7,27 @@ use Rattle.file_restorer.proofs.RecordPathsLemmas.{table_paths}
 use Rattle.snap_fix.proofs.ending.end_column.Goals as goal
 
 pub loop-i-init : goal.loop-i-init
-loop-i-init g c = told_start (plan_of c.args.scope c.args.table.now c.args.entries.now) c.args.d _ _ _ _ _ _ _ _ _ c.requires (record { found = refl; left = refl })
+loop-i-init g c = told_start (seen c.args.plan.now) c.args.d _ _ _ _ _ _ _ _ _ c.requires (record { found = refl; left = refl })
 
 pub end_record-requires-clause-can : goal.end_record-requires-clause-can
 end_record-requires-clause-can g c κs within =
-    let below : c.loop-i.i < length (records_in c.args.table.now c.args.d) = omega (arith, c.records-i-end.ensures, c.loop-i-test.true) in
-    can_next (plan_of c.args.scope c.args.table.now c.args.entries.now) c.args.d _ _ _ c.loop-i.i _ _ _ c.loop-i.invariant.ended below c.requires
+    let below : c.loop-i.i < length (records_in c.args.plan.now.table.now c.args.d) = omega (arith, c.records-i-end.ensures, c.loop-i-test.true) in
+    can_next (seen c.args.plan.now) c.args.d _ _ _ c.loop-i.i _ _ _ c.loop-i.invariant.ended below c.requires
 
 pub returns-in_err-more-clause-failed : goal.returns-in_err-more-clause-failed
 returns-in_err-more-clause-failed g c =
-    let below : c.loop-i.i < length (records_in c.args.table.now c.args.d) = omega (arith, c.records-i-end.ensures, c.loop-i-test.true) in
+    let below : c.loop-i.i < length (records_in c.args.plan.now.table.now c.args.d) = omega (arith, c.records-i-end.ensures, c.loop-i-test.true) in
     on_err c.from_residual.result _
-    (ended_not (plan_of c.args.scope c.args.table.now c.args.entries.now) c.args.d _ _ _ c.loop-i.i _ _ _ c.loop-i.invariant.ended below _ _ _ _ _ _ _ _ _ _ _ _ _
+    (ended_not (seen c.args.plan.now) c.args.d _ _ _ c.loop-i.i _ _ _ c.loop-i.invariant.ended below _ _ _ _ _ _ _ _ _ _ _ _ _
     c.loop-i.invariant.told c.in_err-more.ensures.failed)
 
 pub loop-i-preserved : goal.loop-i-preserved
 loop-i-preserved g c =
-    let below : c.loop-i.i < length (records_in c.args.table.now c.args.d) = omega (arith, c.records-i-end.ensures, c.loop-i-test.true) in
-    told_more (plan_of c.args.scope c.args.table.now c.args.entries.now) c.args.d _ _ _ c.loop-i.i _ _ _ c.loop-i.invariant.ended below _ _ _ _ _ _ _ _ _ _ _
-    (table_paths c.args.table.now c.args.d c.requires.valid c.requires.column) c.in_ok-more.ensures.ended _ _ _ _ c.and-counts.ensures c.loop-i.invariant.told
+    let below : c.loop-i.i < length (records_in c.args.plan.now.table.now c.args.d) = omega (arith, c.records-i-end.ensures, c.loop-i-test.true) in
+    told_more (seen c.args.plan.now) c.args.d _ _ _ c.loop-i.i _ _ _ c.loop-i.invariant.ended below _ _ _ _ _ _ _ _ _ _ _
+    (table_paths c.args.plan.now.table.now c.args.d c.requires.valid c.requires.column) c.in_ok-more.ensures.ended _ _ _ _ c.and-counts.ensures c.loop-i.invariant.told
 
 pub returns-clause-ended : goal.returns-clause-ended
 returns-clause-ended g c =
-    ended_all (plan_of c.args.scope c.args.table.now c.args.entries.now) c.args.d _ _ _ _ _ _ _ _ _ _ _ _ _ _ _
+    ended_all (seen c.args.plan.now) c.args.d _ _ _ _ _ _ _ _ _ _ _ _ _ _ _
     (omega (arith, c.records-i-end.ensures)) c.loop-i.invariant

@@ -1,10 +1,10 @@
 use Rattle.std.proofs.Common.{map}
-use Rattle.stripe_examiner.specs.Plan.{plan_of}
+use Rattle.snap_fix.specs.Handed.{seen}
 use Rattle.snap_fix.proofs.EndingAllLemmas.{AllToldTo}
 use Rattle.snap_fix.proofs.ending.finish_all.Given as goal
 
 abbrev pub invariant-loop-d : goal.invariant-loop-d
 invariant-loop-d g l =
-    AllToldTo (plan_of l.scope l.table l.entries) l.fn.starts l.fn.states (map g.F.Folder.view l.fn.folders)
+    AllToldTo (seen l.plan) l.fn.progress.starts l.fn.progress.states (map g.F.Folder.view l.fn.folders)
     g.W.Sink.view (λ b. (goal.Report-dyn g (b.vtable, b.value)).standing b.value) (λ b. (goal.Report-dyn g (b.vtable, b.value)).stands b.value)
     l.d l.starts l.states (map g.F.Folder.view l.folders) l.fn.lines l.lines l.fn.reports.items l.reports.items l.counts

@@ -7,7 +7,8 @@ use Rattle.snap_fix.specs.Handed.{seen}
 use Rattle.snap_fix.specs.Windows.{window_size}
 use Rattle.snap_fix.proofs.WindowsLemmas.{fill_more, takes_all}
 use Rattle.snap_fix.proofs.FixIntoLemmas.{still_underway}
-use Rattle.snap_fix.proofs.FixStripesLemmas.{stripes_break, stripes_more, stripes_none}
+use Rattle.snap_fix.proofs.FixSinceLemmas.{stripes_none}
+use Rattle.snap_fix.proofs.FixStripesLemmas.{stripes_break, stripes_more}
 use Rattle.snap_fix.proofs.FixWindowLemmas.{ascending_window}
 use Rattle.file_restorer.proofs.GoesOnLemmas.{handed_on}
 use Rattle.snap_fix.proofs.fixes.fix_stripes.Goals as goal

@@ -5,19 +5,11 @@ use Rattle.snap_fix.proofs.StoppedCellLemmas.{cell_stands}
 use Rattle.snap_fix.proofs.laws.a_stop_within_a_fix_changes_written_blocks_alone.Goals as goal
 
 pub returns-clause-bytes : goal.returns-clause-bytes
-returns-clause-bytes c stop i file is within placed =
-    let path = path_at stop i in
-    bytes_stand stop is i within file
-    (c.bytes_that_no_call_touches_stay.ensures.place stop.keeps_stamps path is.calls stop.first stop.left file)
-    (c.bytes_that_no_call_touches_stay.ensures.lost stop.keeps_stamps path is.calls stop.first stop.left file) placed
+returns-clause-bytes c stop i file is within placed = bytes_stand stop is i within file c.a_file_that_no_call_names_stays.ensures placed
 
 pub returns-clause-cells : goal.returns-clause-cells
 returns-clause-cells c stop cell file is spared within placed =
-    let path = path_at stop cell.rec in
-    cell_stands stop is cell spared within file
-    (bytes_stand stop is cell.rec within file
-    (c.bytes_that_no_call_touches_stay.ensures.place stop.keeps_stamps path is.calls stop.first stop.left file)
-    (c.bytes_that_no_call_touches_stay.ensures.lost stop.keeps_stamps path is.calls stop.first stop.left file) placed)
+    cell_stands stop is cell spared within file (bytes_stand stop is cell.rec within file c.a_file_that_no_call_names_stays.ensures placed)
 
 pub returns-clause-not_selected : goal.returns-clause-not_selected
 returns-clause-not_selected c stop i lost is within not_finished =

@@ -5,7 +5,8 @@ use Rattle.stripe_examiner.specs.declared.marking.CellMark.{CellMark}
 use Rattle.stripe_examiner.specs.Showing.{is_damaged_mark}
 use Rattle.snap_fix.specs.Handed.{seen}
 use Rattle.snap_fix.specs.RepairSteps.{column_outside, is_lost_by, is_repaired_by}
-use Rattle.snap_fix.proofs.RepairCellLemmas.{column_stays, column_loses, can_write, column_written, column_not}
+use Rattle.snap_fix.proofs.RepairCellLemmas.{column_stays, column_loses}
+use Rattle.snap_fix.proofs.RepairWrittenLemmas.{can_write, column_not, column_written}
 use Rattle.snap_fix.proofs.RepairMarkLemmas.{lost_stays, right_stays, none_stays}
 use Rattle.snap_fix.proofs.AnswerLemmas.{if_ok, if_err}
 use Rattle.snap_fix.proofs.repairing.cells.mend_column.Goals as goal
