@@ -1,3 +1,10 @@
 pub mod BeginLemmas
+pub mod ChanceLemmas
+pub mod ChangedLemmas
 pub mod LivedLemmas
+pub mod MetLemmas
+pub mod OnceLemmas
 pub mod ResumedLemmas
+pub mod SyncedRows
+pub mod TakenLemmas
+pub mod TakenTrees

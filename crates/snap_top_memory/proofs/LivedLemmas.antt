@@ -59,7 +59,7 @@ same_left before exit (fixes failed run) not old new same = absurd not
 -- ---- a history goes on
 
 -- what stands, said by its parts
-stands_as : (standing next : Standing) (trees : List Tree) (files : Files) (copies : ℕ) → next ≡ record standing { trees = next.trees; files = next.files; last = next.last }
+pub stands_as : (standing next : Standing) (trees : List Tree) (files : Files) (copies : ℕ) → next ≡ record standing { trees = next.trees; files = next.files; last = next.last }
     → next.trees ≡ trees → next.files ≡ files → standing.copies ≡ copies
     → next ≡ record { config = standing.config; trees = trees; copies = copies; files = files; last = next.last }
 stands_as standing next trees files copies array trees_are files_are copies_are =
@@ -126,13 +126,13 @@ module _ {O F V W : Type 0} (opener_view : O → OpenerView) (folder_view : F �
         subst (λ (s : Standing). Goes run standing s) (stands_as standing going.0 (trees_of (map folder_view left_folders)) made.files (copies_of made) goes.array going.2 going.1 (sym as_many)) goes,
       )
 
-  extended : (first middle next : Standing) (stages : List (Stage O F V W)) (change : Change O F V W) → IsHistory opener_view folder_view vault_view sink_view first stages middle
+  pub extended : (first middle next : Standing) (stages : List (Stage O F V W)) (change : Change O F V W) → IsHistory opener_view folder_view vault_view sink_view first stages middle
       → Follows opener_view folder_view vault_view sink_view change middle next
       → IsHistory opener_view folder_view vault_view sink_view first (stages ++ record { change = change; next = next } ∷ []) next
   extended first middle next [] change history follows = (subst (λ (s : Standing). Follows opener_view folder_view vault_view sink_view change s next) history follows, refl)
   extended first middle next (stage ∷ stages) change history follows = (history.0, extended stage.next middle next stages change history.1 follows)
 
-  told_more : (stages : List (Stage O F V W)) (stage : Stage O F V W) → statuses_of (stages ++ stage ∷ []) ≡ statuses_of stages ++ ended_by stage.change
+  pub told_more : (stages : List (Stage O F V W)) (stage : Stage O F V W) → statuses_of (stages ++ stage ∷ []) ≡ statuses_of stages ++ ended_by stage.change
   told_more [] stage = append-nil (ended_by stage.change)
   told_more (one ∷ stages) stage =
       ap (λ (told : List ℕ). ended_by one.change ++ told) (told_more stages stage) ∙ sym (append_assoc (ended_by one.change) (statuses_of stages) (ended_by stage.change))

@@ -1,5 +1,5 @@
 -- A sync that was stopped and made again, and a fix of what stands after a history.
-use Rattle.std.proofs.Common.{◌≡◌, inl, ℕ, ◌≤◌, List, [], ◌∷◌, map, is_some, true, Option, Ok, refl, sym, ap, ◌∙◌, subst, arith}
+use Rattle.std.proofs.Common.{◌≡◌, inl, inr, ℕ, ◌≤◌, List, [], ◌∷◌, map, is_some, true, Option, Ok, refl, sym, ap, ◌∙◌, subst, arith}
 use Rattle.content_file.specs.Load.{HasFailed}
 use Rattle.disk_model.specs.Folder.{FolderView}
 use Rattle.disk_model.specs.Opener.{OpenerView}
@@ -7,19 +7,34 @@ use Rattle.disk_model.specs.Sink.{SinkView}
 use Rattle.disk_model.specs.Tree.{Tree}
 use Rattle.disk_model.specs.Vault.{VaultView, copies_of}
 use Rattle.disk_memory.specs.Vault.{VaultValue, fresh_vault, view_of}
+use Rattle.snap_config.specs.declared.options.Command.{Command}
+use Rattle.snap_config.specs.declared.options.Command.TheVariants as commands
 use Rattle.snap_sync.specs.Part.{trees_of}
-use Rattle.snap_top.specs.Headline.{FixesToItsEnd, Headline, IsAskedToSync, SyncsClean}
+use Rattle.snap_top.specs.Headline.{FixesToItsEnd, Headline, IsAskedToSync, SyncsClean, SyncsWell}
 use Rattle.snap_top.specs.History.{LastSynced}
+use Rattle.snap_top.specs.Moment.{ChangesNothing}
 use Rattle.snap_top.specs.Opening.{asked_by}
 use Rattle.snap_top.specs.Resumed.{RunOf}
 use Rattle.snap_top.specs.Run.{Entry, Exit, vault_in}
 use Rattle.snap_top.specs.Standing.{GoesOver, IsHistory, IsOrigin, Runs, Stage, Standing, after_of, before_of, nothing_synced}
-use Rattle.snap_top_memory.specs.Lived.{AskForFix, AskForNoFix, AskForSync, HasHistory, IsFixedAtLast, IsLeftOf, IsNoFix, IsResumedOnce, RunsOver, standing_of}
+use Rattle.snap_top_memory.specs.Lived.{AskForFix, AskForNoChange, AskForNoFix, AskForSync, HasHistory, IsFixedAtLast, IsLeftOf, IsNoFix, IsResumedOnce, IsSyncedAtLast, RunsOver, standing_of}
 use Rattle.snap_top_memory.proofs.BeginLemmas.{origin}
 use Rattle.snap_top_memory.proofs.LivedLemmas.{goes_with, no_chance, quiet_run, trees_kept}
 
 no_fix : (texts : List (List ℕ)) (config : List ℕ) → AskForSync texts config → AskForNoFix texts
 no_fix texts config asks = record { asked = asks.asked; words = asks.words; is_none = subst IsNoFix (sym asks.command_is) tt }
+
+quiet_no_fix : (command : Command) → ChangesNothing command → IsNoFix command
+quiet_no_fix commands.List quiet = tt
+quiet_no_fix commands.Status quiet = tt
+quiet_no_fix (commands.Check _) quiet = tt
+quiet_no_fix (commands.Audit _) quiet = tt
+quiet_no_fix (commands.Sync _) quiet = absurd quiet
+quiet_no_fix (commands.Fix _) quiet = absurd quiet
+quiet_no_fix (commands.Scrub _) quiet = absurd quiet
+
+no_fix_of : (texts : List (List ℕ)) → AskForNoChange texts → AskForNoFix texts
+no_fix_of texts asks = record { asked = asks.asked; words = asks.words; is_none = quiet_no_fix asks.asked.command asks.changes_nothing }
 
 module _ {O F V W : Type 0} (opener_view : O → OpenerView) (folder_view : F → FolderView) (vault_view : V → VaultView) (sink_view : W → SinkView) where
   abbrev begun : RunOf O F V W → Entry
@@ -31,7 +46,7 @@ module _ {O F V W : Type 0} (opener_view : O → OpenerView) (folder_view : F �
   abbrev Goes : RunOf O F V W → Standing → Standing → Type 0
   Goes run standing next = GoesOver opener_view folder_view vault_view sink_view run standing next
 
-  abbrev HoldsAlways : Type 0
+  abbrev pub HoldsAlways : Type 0
   HoldsAlways = (first standing : Standing) (stages : List (Stage O F V W)) → IsOrigin first → IsHistory opener_view folder_view vault_view sink_view first stages standing
       → Headline opener_view folder_view vault_view sink_view standing
 
@@ -78,7 +93,7 @@ module _ {O F V W : Type 0} (opener_view : O → OpenerView) (folder_view : F �
         },
       )
 
-  begins_nothing : (config : List ℕ) (folders : List FolderView) (levels copies : ℕ) (value : VaultValue) → value ≡ fresh_vault levels copies
+  pub begins_nothing : (config : List ℕ) (folders : List FolderView) (levels copies : ℕ) (value : VaultValue) → value ≡ fresh_vault levels copies
       → IsOrigin (standing_of config folders (view_of value) nothing_synced)
   begins_nothing config folders levels copies value fresh =
       subst (λ (v : VaultValue). IsOrigin (standing_of config folders (view_of v) nothing_synced)) (sym fresh) (origin config folders levels copies)
@@ -90,16 +105,18 @@ module _ {O F V W : Type 0} (opener_view : O → OpenerView) (folder_view : F �
       ap (λ (v : VaultValue). standing_of config others (view_of v) nothing_synced) (fresh_too ∙ sym fresh)
       ∙ ap (λ (trees : List Tree). record { config = config; trees = trees; copies = copies_of (view_of value); files = (view_of value).files; last = nothing_synced }) same
 
-  pub resumed_once : (config : List ℕ) (texts : List (List ℕ)) (seed : List ℕ) (levels copies : ℕ) (value other : VaultValue) (folders : List FolderView) (made : VaultView)
-      (status status_then status_last : ℕ) (left_folders then_folders last_folders : List F) (left left_then left_last : V)
-      → HoldsAlways → value ≡ fresh_vault levels copies → other ≡ fresh_vault levels copies → AskForSync texts config
+  pub resumed_once : (config : List ℕ) (texts other_texts : List (List ℕ)) (seed : List ℕ) (levels copies : ℕ) (value other : VaultValue) (folders : List FolderView) (made kept : VaultView)
+      (status status_then status_between status_last : ℕ) (left_folders then_folders between_folders last_folders : List F) (left left_then left_between left_last : V)
+      → HoldsAlways → value ≡ fresh_vault levels copies → other ≡ fresh_vault levels copies → AskForSync texts config → AskForNoChange other_texts
       → RunsOver opener_view folder_view vault_view sink_view config texts seed folders (view_of value) status left_folders left → (vault_view left).faults ≡ 0 → status ≡ 0
       → RunsOver opener_view folder_view vault_view sink_view config texts seed (map folder_view left_folders) (view_of other) status_then then_folders left_then → (vault_view left_then).faults ≡ 0
       → IsLeftOf (vault_view left_then) made → copies_of made ≡ copies_of (view_of other)
-      → RunsOver opener_view folder_view vault_view sink_view config texts seed (map folder_view then_folders) made status_last last_folders left_last → (vault_view left_last).faults ≡ 0 → status_last ≡ 0
+      → RunsOver opener_view folder_view vault_view sink_view config other_texts seed (map folder_view then_folders) made status_between between_folders left_between
+      → IsLeftOf (vault_view left_between) kept → copies_of kept ≡ copies_of made
+      → RunsOver opener_view folder_view vault_view sink_view config texts seed (map folder_view between_folders) kept status_last last_folders left_last → (vault_view left_last).faults ≡ 0 → status_last ≡ 0
       → IsResumedOnce opener_view folder_view vault_view sink_view
-  resumed_once config texts seed levels copies value other folders made status status_then status_last left_folders then_folders last_folders left left_then left_last
-      holds fresh fresh_too asks whole calm zero stopped calm_then left_of as_many last calm_last zero_last =
+  resumed_once config texts other_texts seed levels copies value other folders made kept status status_then status_between status_last left_folders then_folders between_folders last_folders
+      left left_then left_between left_last holds fresh fresh_too asks asks_nothing whole calm zero stopped calm_then left_of as_many between kept_of as_many_still last calm_last zero_last =
       let first : Standing = standing_of config folders (view_of value) nothing_synced in
       let first_too : Standing = standing_of config (map folder_view left_folders) (view_of other) nothing_synced in
       let is_first : IsOrigin first = begins_nothing config folders levels copies value fresh in
@@ -118,26 +135,70 @@ module _ {O F V W : Type 0} (opener_view : O → OpenerView) (folder_view : F �
       let goes : Goes stopped.run first later = subst (λ (s : Standing). Goes stopped.run s later) are_one going.1 in
       let asked = subst (λ (s : Standing). IsAskedToSync opener_view folder_view vault_view sink_view asks.setup.setup trees seed s stopped.run) are_one
       (is_asked config texts seed (map folder_view left_folders) (view_of other) nothing_synced trees status_then then_folders left_then stopped calm_then asks same) in
-      let stages : List (Stage O F V W) = record { change = Runs stopped.run; next = later } ∷ [] in
-      let history : IsHistory opener_view folder_view vault_view sink_view first stages later = (goes, refl) in
-      let again = syncs_clean config texts seed (map folder_view then_folders) made going.0 trees status_last last_folders left_last (holds first later stages is_first history) last calm_last asks same_too zero_last in
+      let stage : Stage O F V W = record { change = Runs stopped.run; next = later } in
+      let headline_later = holds first later (stage ∷ []) is_first (goes, refl) in
+      let going_still = goes_with opener_view folder_view vault_view sink_view config other_texts seed (map folder_view then_folders) made kept going.0 status_between between_folders left_between
+      headline_later between (no_fix_of other_texts asks_nothing) kept_of as_many_still in
+      let still : Standing = standing_of config (map folder_view between_folders) kept going_still.0 in
+      let words = subst (λ (ts : List (List ℕ)). asked_by ts ≡ Ok asks_nothing.asked) (sym between.texts_are) asks_nothing.words in
+      let quiet = headline_later.quiet between.run still going_still.1 (inr (asks_nothing.asked, words, asks_nothing.changes_nothing)) in
+      let stages : List (Stage O F V W) = stage ∷ record { change = Runs between.run; next = still } ∷ [] in
+      let history : IsHistory opener_view folder_view vault_view sink_view first stages still = (goes, (going_still.1, refl)) in
+      let again = syncs_clean config texts seed (map folder_view between_folders) kept going_still.0 trees status_last last_folders left_last (holds first still stages is_first history) last calm_last asks (quiet.1 ∙ same_too) zero_last in
       record {
         first = first;
         later = later;
+        still = still;
         once = once.0;
         again = again.0;
         setup = asks.setup.setup;
         trees = trees;
         seed = seed;
         stopped = stopped.run;
+        between = between.run;
         whole = whole.run;
         last = last.run;
         origin = is_first;
         goes = goes;
         asked = asked;
+        goes_between = going_still.1;
+        stays = quiet.0;
         clean = once.1;
         resumed = again.1;
-        alike = headline.resumed asks.setup.setup trees seed stages later once.0 again.0 whole.run last.run history (inl asked, tt) once.1 again.1;
+        alike = headline.resumed asks.setup.setup trees seed stages still once.0 again.0 whole.run last.run history (inl asked, (inr quiet.0, tt)) once.1 again.1;
+      }
+
+  pub synced_at_last : (config : List ℕ) (texts : List (List ℕ)) (seed : List ℕ) (folders : List FolderView) (vault : VaultView) (statuses : List ℕ) (status : ℕ) (left_folders : List F) (left : V)
+      → HoldsAlways → HasHistory opener_view folder_view vault_view sink_view config folders vault statuses → AskForSync texts config
+      → RunsOver opener_view folder_view vault_view sink_view config texts seed folders vault status left_folders left → status ≤ 1
+      → IsSyncedAtLast opener_view folder_view vault_view sink_view status
+  synced_at_last config texts seed folders vault statuses status left_folders left holds has asks runs well =
+      let standing : Standing = standing_of config folders vault has.last in
+      let headline = holds has.first standing has.stages has.origin has.history in
+      let step = runs.step in
+      let given : (ended runs.run).has_vault ≡ true = ap (λ (v : Option V). is_some v) runs.vault_is in
+      let quiet = quiet_run opener_view folder_view vault_view sink_view config texts seed folders vault status left_folders left runs (no_fix texts config asks) step.always.did step.always.is_did in
+      let at_end = headline.arrives runs.run (runs.begins has.last) step given (no_chance step.always.did quiet has.last.snapshot) in
+      let syncs : SyncsWell opener_view folder_view vault_view sink_view runs.run = record {
+        asked = asks.asked;
+        way = asks.way;
+        words = subst (λ (ts : List (List ℕ)). asked_by ts ≡ Ok asks.asked) (sym runs.texts_are) asks.words;
+        command_is = asks.command_is;
+        well = inl (omega (arith, well, runs.status_is));
+      } in
+      record {
+        first = has.first;
+        standing = standing;
+        next = at_end.0;
+        stages = has.stages;
+        run = runs.run;
+        origin = has.origin;
+        history = has.history;
+        status_is = runs.status_is;
+        goes = at_end.3;
+        syncs = syncs;
+        stands = inl at_end.1;
+        synced = headline.synced runs.run at_end.0 at_end.3 syncs (inl at_end.1);
       }
 
   pub fixed_at_last : (config : List ℕ) (texts : List (List ℕ)) (seed : List ℕ) (folders : List FolderView) (vault : VaultView) (statuses : List ℕ) (status : ℕ) (left_folders : List F) (left : V)

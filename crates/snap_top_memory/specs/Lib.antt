@@ -1,1 +1,4 @@
+pub mod Changed
 pub mod Lived
+pub mod Once
+pub mod Taken

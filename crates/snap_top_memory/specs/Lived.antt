@@ -15,12 +15,14 @@ use Rattle.snap_config.specs.declared.options.Selection.{Selection}
 use Rattle.snap_config.specs.declared.options.SyncWay.{SyncWay}
 use Rattle.snap_sync.specs.Part.{trees_of}
 use Rattle.snap_top.specs.History.{LastSynced}
+use Rattle.snap_top.specs.Moment.{ChangesNothing, StandsAfter}
 use Rattle.snap_top.specs.Opening.{asked_by}
-use Rattle.snap_top.specs.Headline.{FixesToItsEnd, IsAskedToSync, SyncsClean}
+use Rattle.snap_top.specs.Headline.{FixesToItsEnd, IsAskedToSync, SyncsClean, SyncsWell}
 use Rattle.snap_top.specs.RestoredLast.{IsRestored}
 use Rattle.snap_top.specs.Resumed.{EndAlike, RunOf}
 use Rattle.snap_top.specs.Standing.{BeginsOver, Change, GoesOver, IsHistory, IsOrigin, MeetsNoChance, Runs, Stage, Standing, after_of, before_of}
 use Rattle.snap_top.specs.Step.{RunStep}
+use Rattle.snap_top.specs.SyncedLast.{IsSyncedLast}
 
 -- ---- what stands between two runs
 
@@ -54,6 +56,12 @@ pub record AskForNoFix (texts : List (List ℕ)) : Type 0 where
   pub asked : Options
   pub words : asked_by texts ≡ Ok asked
   pub is_none : IsNoFix asked.command
+
+-- the words ask for a command that changes nothing
+pub record AskForNoChange (texts : List (List ℕ)) : Type 0 where
+  pub asked : Options
+  pub words : asked_by texts ≡ Ok asked
+  pub changes_nothing : ChangesNothing asked.command
 
 -- a configuration says this setup
 pub record SaysSetup (config : List ℕ) (log : Option (List ℕ)) : Type 0 where
@@ -111,25 +119,46 @@ module _ {O F V W : Type 0} (opener_view : O → OpenerView) (folder_view : F �
     pub history : IsHistory opener_view folder_view vault_view sink_view first stages (standing_of config folders vault last)
     pub statuses_are : statuses_of stages ≡ statuses
 
-  -- A sync of an array without content; another one of the same array, stopped at some moment; and a sync of what that left. The first and the last
-  -- ended with status 0. So they left the same.
+  -- A sync of an array without content; another one of the same array, stopped at some moment; a run over what that left, which changed nothing;
+  -- and a sync of what there was then. The first and the last ended with status 0. So they left the same.
   pub record IsResumedOnce : Type 0 where
     pub first : Standing
     pub later : Standing
+    pub still : Standing
     pub once : Standing
     pub again : Standing
     pub setup : SetupValue
     pub trees : List Tree
     pub seed : List ℕ
     pub stopped : RunOf O F V W
+    pub between : RunOf O F V W
     pub whole : RunOf O F V W
     pub last : RunOf O F V W
     pub origin : IsOrigin first
     pub goes : GoesOver opener_view folder_view vault_view sink_view stopped first later
     pub asked : IsAskedToSync opener_view folder_view vault_view sink_view setup trees seed first stopped
+    pub goes_between : GoesOver opener_view folder_view vault_view sink_view between later still
+    pub stays : still.files ≡ later.files
     pub clean : SyncsClean opener_view folder_view vault_view sink_view setup trees seed first whole once
-    pub resumed : SyncsClean opener_view folder_view vault_view sink_view setup trees seed later last again
+    pub resumed : SyncsClean opener_view folder_view vault_view sink_view setup trees seed still last again
     pub alike : EndAlike (length setup.contents) first.last.is_changed once.files again.files
+
+  -- A sync of what stands after a history went to its end with this status, and its end stands next. The rows that it verified are what was
+  -- last synced.
+  pub record IsSyncedAtLast (status : ℕ) : Type 0 where
+    pub first : Standing
+    pub standing : Standing
+    pub next : Standing
+    pub stages : List (Stage O F V W)
+    pub run : RunOf O F V W
+    pub origin : IsOrigin first
+    pub history : IsHistory opener_view folder_view vault_view sink_view first stages standing
+    pub status_is : run.status ≡ status
+    pub goes : GoesOver opener_view folder_view vault_view sink_view run standing next
+    pub syncs : SyncsWell opener_view folder_view vault_view sink_view run
+    pub stands : StandsAfter (after_of opener_view folder_view vault_view sink_view run) next.files
+    pub synced : IsSyncedLast (before_of opener_view folder_view vault_view sink_view run) (after_of opener_view folder_view vault_view sink_view run)
+        run.status goes.step.always.did standing next
 
   -- A fix of what stands after a history went to its end with this status. If it met no hash by chance, it restored what was last synced.
   pub record IsFixedAtLast (status : ℕ) : Type 0 where

@@ -178,7 +178,18 @@ pub fn has_bytes(
     name: &str,
     bytes: &[u8],
 ) -> Result<bool, Fail> {
-    let Some(folder) = left.outcome.folders.get_mut(disk) else {
+    is_there(alloc, &mut left.outcome.folders, disk, name, bytes)
+}
+
+/// The same of some folders.
+pub fn is_there(
+    alloc: Global,
+    folders: &mut Vec<MemFolder>,
+    disk: usize,
+    name: &str,
+    bytes: &[u8],
+) -> Result<bool, Fail> {
+    let Some(folder) = folders.get_mut(disk) else {
         return Ok(false);
     };
     folder.stop_after(u64::MAX);

@@ -106,7 +106,7 @@ pub fn three_runs_from_nothing<'a, R: Threads + Sync>(
 }
 
 // Whether the words ask for another command than a fix.
-fn ask_for_no_fix(alloc: Global, words: &[String]) -> bool
+pub(crate) fn ask_for_no_fix(alloc: Global, words: &[String]) -> bool
     ensures { IsTrue result → AskForNoFix (map string_bytes words.now) }
 {
     match read_words_among(alloc, &COMMANDS, words) {

@@ -1,7 +1,9 @@
 // Each call of each object fails in turn: in a sync, a check and a fix of four disks.
 use snap_top_memory::arrays::{Array, Disk, Failing, NONE};
-use snap_top_memory::cases::{Case, SYNCED};
-use snap_top_memory::four::{FIRST, FOUR, FOUR_SUMS, FOUR_SYNCED, FOURTH, SECOND, THIRD};
+use snap_top_memory::cases::{Case, SYNCED, plays};
+use snap_top_memory::four::{
+    FIRST, FOUR, FOUR_PENDING, FOUR_SUMS, FOUR_SYNCED, FOURTH, SECOND, THIRD,
+};
 use snap_top_memory::next::{TORN, WRITTEN};
 use snap_top_memory::turns::{Calls, Ended, Turns, each_call_fails};
 use std::test::Fail;
@@ -126,6 +128,46 @@ fn each_call_of_a_sync_fails_and_the_next_sync_is_done(rt: HostRuntime) -> Resul
     each_call_fails(&rt, alloc, &TURNS, &OBJECTS, TORN)?;
     each_call_fails(&rt, alloc, &TURNS, &TOLD, WRITTEN)
 }
+
+// Where the second disk is not listed, nothing is written. The calls of the vault up to the 21st look for the content, save the
+// pending table, set the lengths and write both levels; the 22nd hands the first level to the disk, and the 23rd the other.
+#[test]
+fn a_sync_that_fails_has_written_nothing_or_the_pending_table(rt: HostRuntime) -> Result<(), Fail> {
+    static CASES: [Case; 4] = [
+        Case {
+            failing: SECOND_DISK,
+            status: 3,
+            out: "",
+            err: SECOND_FAILED,
+            contents: &[b"", b"", b""],
+            levels: &[&[], &[]],
+            ..WHOLE
+        },
+        Case {
+            failing: Failing { vault: 21, ..NONE },
+            levels: &[],
+            ..UNSAVED
+        },
+        Case {
+            failing: Failing { vault: 22, ..NONE },
+            ..UNSAVED
+        },
+        Case {
+            failing: Failing { vault: 23, ..NONE },
+            ..UNSAVED
+        },
+    ];
+    plays(&rt, rt.alloc(), &CASES)
+}
+
+// The rows are in parity, and every copy has the table from before them.
+const UNSAVED: Case = Case {
+    status: 3,
+    out: "",
+    err: "snapraid: parity or content failed\n",
+    contents: &[FOUR_PENDING, FOUR_PENDING, FOUR_PENDING],
+    ..WHOLE
+};
 
 // A check of the four disks, which were synced.
 const CHECKED: Case = Case {
