@@ -35,6 +35,11 @@ pub record ReadsLevelsOf (plan : FixPlan) (numbers : List ℕ) (rooms : List Str
       → (slice_index_or rooms k other).levels.count ≡ plan.table.shape.levels
   pub read : LevelsAreRead plan stripes old new
 
+-- the same, and there is room for each of these stripes
+pub record ReadsRooms (plan : FixPlan) (numbers : List ℕ) (rooms : List StripeRoom) (old new : VaultView) : Type 0 where
+  pub rooms_are : AreRoomsFor plan.table (length numbers) rooms
+  pub read : ReadsLevelsOf plan numbers rooms old new
+
 -- the marks of the cells of a stripe, by what their slots kept before and after
 pub record HasMarks (plan : FixPlan) (stripe i : ℕ) (before : WindowValue) (marks : List CellMark) (after : WindowValue) : Type 0 where
   pub as_many : length marks ≡ length plan.table.columns

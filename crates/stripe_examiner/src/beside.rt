@@ -5,7 +5,7 @@ ghost use Rattle.stripe_reader.specs.Columns.{ReadsWindow};
 ghost use Rattle.stripe_reader.specs.WindowValue.{Fits};
 ghost use Rattle.parity_writer.specs.LevelReading.{ReadsLevels};
 ghost use Rattle.stripe_examiner.specs.Examining.{ReadsTried};
-ghost use Rattle.stripe_examiner.specs.MarkedWindow.{ReadsLevelsOf};
+ghost use Rattle.stripe_examiner.specs.MarkedWindow.{ReadsRooms};
 ghost use Rattle.stripe_examiner.specs.Plan.{is_searched as is_searched_at};
 ghost use Rattle.stripe_examiner.specs.Room.{AreRoomsFor, IsStripeRoomFor};
 ghost use Rattle.stripe_examiner.specs.Surveyed.{AreDisksOf, CanRead, plan_in};
@@ -57,9 +57,7 @@ fn read_levels_of<V: Vault>(survey: &Survey<'_>, vault: &mut V, rooms: &mut [Str
     requires within { All (λ stripe. stripe < length survey.now.table.now.infos) survey.now.stripes.now }
     requires levels { (V.view vault.old).levels ≡ survey.now.table.now.shape.levels }
     requires rooms { AreRoomsFor survey.now.table.now (length survey.now.stripes.now) rooms.old }
-    ensures rooms { AreRoomsFor survey.now.table.now (length survey.now.stripes.now) rooms.new }
-    ensures read { ReadsLevelsOf (plan_in survey.now) survey.now.stripes.now rooms.new
-        (V.view vault.old) (V.view vault.new) }
+    ensures { ReadsRooms (plan_in survey.now) survey.now.stripes.now rooms.new (V.view vault.old) (V.view vault.new) }
 {
     for k in 0..survey.stripes.len() {
         read_searched(survey, survey.stripes[k], vault, &mut rooms[k]);
@@ -87,8 +85,7 @@ pub(crate) fn read_beside<R: Threads + Sync, F: Folder, V: Vault>(
     ensures window { Fits survey.now.table.now window.new }
     ensures cells { ReadsWindow survey.now.table.now survey.now.starts.now survey.now.stripes.now
         window.old window.new (map F.view folders.old) (map F.view folders.new) }
-    ensures rooms { AreRoomsFor survey.now.table.now (length survey.now.stripes.now) rooms.new }
-    ensures levels { ReadsLevelsOf (plan_in survey.now) survey.now.stripes.now rooms.new
+    ensures levels { ReadsRooms (plan_in survey.now) survey.now.stripes.now rooms.new
         (V.view vault.old) (V.view vault.new) }
 {
     let (table, starts, stripes) = (survey.table, survey.starts, survey.stripes);

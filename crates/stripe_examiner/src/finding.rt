@@ -14,7 +14,7 @@ use crate::remainders::{fill_in_turn, is_whole};
 use crate::room::FirstChoice;
 use crate::search::{Wanted, follow, search_on};
 use cauchy::add_column;
-use file_table::Table;
+use file_table::{Shape, Table};
 use gf256::laws::products;
 use parity_writer::Levels;
 use stripe_reader::Window;
@@ -120,23 +120,23 @@ fn fill(
     window: &Window,
     i: u32,
     levels: &Levels,
-    count: u32,
-    size: usize,
+    shape: Shape,
     is_made: bool,
     remainders: &mut [u8],
 )
     requires stripe { (i < window.now.count) × (length window.now.lanes ≤ 251) }
-    requires levels { HasLevels count levels.now }
-    requires sizes { (size ≡ window.now.block_size) × (size ≡ levels.now.block_size) }
-    requires remainders { AreSixBlocks size remainders.old }
-    requires made { is_made ≡ true → AreRemainders size (row_at window.now i)
+    requires levels { HasLevels shape.levels levels.now }
+    requires sizes { (shape.block_size ≡ window.now.block_size) × (shape.block_size ≡ levels.now.block_size) }
+    requires remainders { AreSixBlocks shape.block_size remainders.old }
+    requires made { is_made ≡ true → AreRemainders shape.block_size (row_at window.now i)
         (take levels.now.count levels.now.levels) remainders.old }
-    ensures are { AreRemainders size (row_at window.now i) (take levels.now.count levels.now.levels)
+    ensures are { AreRemainders shape.block_size (row_at window.now i) (take levels.now.count levels.now.levels)
         remainders.new }
     ensures kept { is_made ≡ true → remainders.new ≡ remainders.old }
 {
     if !is_made {
-        fill_in_turn(window, i, levels, count, size, remainders);
+        let size = shape.block_size as usize;
+        fill_in_turn(window, i, levels, shape.levels, size, remainders);
     }
 }
 
@@ -167,15 +167,7 @@ pub(crate) fn find(
 {
     let shape = table.shape();
     let size = shape.block_size as usize;
-    fill(
-        window,
-        i,
-        levels,
-        shape.levels,
-        size,
-        first.is_made,
-        remainders,
-    );
+    fill(window, i, levels, shape, first.is_made, remainders);
     if wanted.is_empty() {
         return true;
     }

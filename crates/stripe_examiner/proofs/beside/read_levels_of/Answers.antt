@@ -20,7 +20,9 @@ loop-k-preserved g c =
     (omega arith) (omega (arith, c.loop-k.auto.rooms, c.requires.rooms.as_many)) one.room.levels one.count one.places one.read so_far.read in
     record { read = more; rooms = All-set (IsStripeRoomFor c.args.survey.now.table.now) c.loop-k.rooms c.loop-k.k own one.room so_far.rooms; levels = more.read.goes_on.levels ∙ c.requires.levels }
 
-pub returns-clause-read : goal.returns-clause-read
-returns-clause-read g c =
-    subst (λ (numbers : List ℕ). ReadsLevelsOf (plan_in c.args.survey.now) numbers c.loop-k.rooms (g.V.Vault.view c.args.vault.now) (g.V.Vault.view c.loop-k.vault))
-    (take_all c.loop-k.k c.args.survey.now.stripes.now (omega arith)) c.loop-k.invariant.read
+pub returns : goal.returns
+returns g c = record {
+  rooms_are = record { as_many = c.loop-k.auto.rooms ∙ c.requires.rooms.as_many; each = c.loop-k.invariant.rooms };
+  read = subst (λ (numbers : List ℕ). ReadsLevelsOf (plan_in c.args.survey.now) numbers c.loop-k.rooms (g.V.Vault.view c.args.vault.now) (g.V.Vault.view c.loop-k.vault))
+      (take_all c.loop-k.k c.args.survey.now.stripes.now (omega arith)) c.loop-k.invariant.read;
+}

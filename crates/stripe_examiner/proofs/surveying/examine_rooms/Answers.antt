@@ -24,8 +24,8 @@ judge_stripes-requires-clause-can g c κs outlive k other below =
     can_judge plan (number_at numbers k) k read marked (get_or c.read_beside.new.rooms k other) (get_or c.mark_stripes.new.rooms k other)
     c.requires.can.entries (fits_as_large table read marked marks.marks.large c.read_beside.ensures.window)
     (c.requires.can.read.within k 0 below) (omega (arith, below, marks.marks.large.count, c.read_beside.ensures.cells.count))
-    (marks.marks.rooms_are.each k other (omega (arith, below, marks.marks.rooms_are.as_many, c.read_beside.ensures.rooms.as_many, c.requires.can.as_many, length-take (length c.args.survey.now.stripes.now) c.args.all.now)))
-    (marks.marks.marked k other below) (marks.marks.levels k other below) (c.read_beside.ensures.levels.counts k other below)
+    (marks.marks.rooms_are.each k other (omega (arith, below, marks.marks.rooms_are.as_many, c.read_beside.ensures.levels.rooms_are.as_many, c.requires.can.as_many, length-take (length c.args.survey.now.stripes.now) c.args.all.now)))
+    (marks.marks.marked k other below) (marks.marks.levels k other below) (c.read_beside.ensures.levels.read.counts k other below)
 
 pub put_stripes-requires-clause-can : goal.put_stripes-requires-clause-can
 put_stripes-requires-clause-can g c k other below =
@@ -40,8 +40,8 @@ put_stripes-requires-clause-can g c k other below =
     (can_judge plan (number_at numbers k) k read marked (get_or c.read_beside.new.rooms k other) (get_or c.mark_stripes.new.rooms k other)
     c.requires.can.entries (fits_as_large table read marked marks.marks.large c.read_beside.ensures.window)
     (c.requires.can.read.within k 0 below) (omega (arith, below, marks.marks.large.count, c.read_beside.ensures.cells.count))
-    (marks.marks.rooms_are.each k other (omega (arith, below, marks.marks.rooms_are.as_many, c.read_beside.ensures.rooms.as_many, c.requires.can.as_many, length-take (length c.args.survey.now.stripes.now) c.args.all.now)))
-    (marks.marks.marked k other below) (marks.marks.levels k other below) (c.read_beside.ensures.levels.counts k other below))
+    (marks.marks.rooms_are.each k other (omega (arith, below, marks.marks.rooms_are.as_many, c.read_beside.ensures.levels.rooms_are.as_many, c.requires.can.as_many, length-take (length c.args.survey.now.stripes.now) c.args.all.now)))
+    (marks.marks.marked k other below) (marks.marks.levels k other below) (c.read_beside.ensures.levels.read.counts k other below))
     (judged.judged k other below).kept (judged.judged k other below).room
 
 pub returns-clause-examined : goal.returns-clause-examined
@@ -60,7 +60,7 @@ returns-clause-examined g c =
     let marks = c.mark_stripes.ensures in
     let judged = c.judge_stripes.ensures in
     let puts = c.put_stripes.ensures in
-    let many : length rooms ≡ length numbers = omega (arith, judged.count, marks.marks.rooms_are.as_many, reads.rooms.as_many, c.requires.can.as_many, length-take (length numbers) c.args.all.now) in
+    let many : length rooms ≡ length numbers = omega (arith, judged.count, marks.marks.rooms_are.as_many, reads.levels.rooms_are.as_many, c.requires.can.as_many, length-take (length numbers) c.args.all.now) in
     let stripes = facts_from plan read final 0 numbers rooms in
     let long = long_from plan read final numbers rooms many in
     let fact = fact_from plan read final numbers rooms many in
@@ -71,8 +71,8 @@ returns-clause-examined g c =
     (can_judge plan (number_at numbers k) k read marked (get_or first k other) (get_or noted k other)
     c.requires.can.entries (fits_as_large table read marked marks.marks.large reads.window)
     (c.requires.can.read.within k 0 below) (omega (arith, below, marks.marks.large.count, reads.cells.count))
-    (marks.marks.rooms_are.each k other (omega (arith, below, marks.marks.rooms_are.as_many, reads.rooms.as_many, c.requires.can.as_many, length-take (length numbers) c.args.all.now)))
-    (marks.marks.marked k other below) (marks.marks.levels k other below) (reads.levels.counts k other below))
+    (marks.marks.rooms_are.each k other (omega (arith, below, marks.marks.rooms_are.as_many, reads.levels.rooms_are.as_many, c.requires.can.as_many, length-take (length numbers) c.args.all.now)))
+    (marks.marks.marked k other below) (marks.marks.levels k other below) (reads.levels.read.counts k other below))
     (judged.judged k other below).kept (judged.judged k other below).room in
     let each : (k : ℕ) (other : StripeRoom) → k < length stripes → ShowsStripe plan (facts_at stripes k) k final (get_or rooms k other) = λ k other below.
     let within : k < length numbers = omega (arith, below, long) in
@@ -88,7 +88,7 @@ returns-clause-examined g c =
       are = are_shown plan stripes final rooms (many ∙ sym long) each;
       each = λ k other below.
           subst (ShowsStripe plan (facts_at stripes k) k final) (sym (get_or_append_left rooms rest other k (omega (arith, below, long, many)))) (each k other below);
-      levels = levels_shown plan numbers read marked final noted rooms many first _ _ reads.levels
+      levels = levels_shown plan numbers read marked final noted rooms many first _ _ reads.levels.read
           (λ k other below. (judged.judged k other below).kept.levels ∙ marks.marks.levels k other below);
       asked = asked_shown plan numbers read marked final noted rooms many _ _ marks.asks
           (λ k other below. (judged.judged k other below).kept.marks) puts.put;
@@ -113,6 +113,6 @@ returns-clause-count g c =
       length-take (length numbers) c.args.all.now,
       c.judge_stripes.ensures.count,
       c.mark_stripes.ensures.marks.rooms_are.as_many,
-      c.read_beside.ensures.rooms.as_many,
+      c.read_beside.ensures.levels.rooms_are.as_many,
       c.requires.can.as_many,
     )
