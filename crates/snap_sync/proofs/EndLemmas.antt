@@ -21,7 +21,7 @@ use Rattle.snap_sync.specs.declared.stripes.Progress.{Progress}
 use Rattle.snap_sync.specs.declared.syncing.SyncEnd.{SyncEnd}
 use Rattle.snap_sync.specs.Calls.{SyncPlan, piece_size}
 use Rattle.snap_sync.specs.Closing.{closed}
-use Rattle.snap_sync.specs.Course.{Outside, outside, plan_of, Ends, Breaks, Syncs, BreaksOff}
+use Rattle.snap_sync.specs.Course.{Outside, outside, plan_of, IsSyncWindow, Ends, Breaks, Syncs, BreaksOff}
 use Rattle.snap_sync.specs.Beginning.{LaysOut}
 use Rattle.snap_sync.specs.Schedule.{save_after}
 use Rattle.snap_sync.specs.declared.stripes.Pace.{Pace}
@@ -34,6 +34,7 @@ use Rattle.snap_sync.specs.Reading.{ReadsFirst}
 use Rattle.snap_sync.specs.Run.{readings_near, plan_for, HasSynced}
 use Rattle.stripe_reader.specs.WindowValue.{stripe_count}
 use Rattle.snap_sync.proofs.RunLemmas.{IsSetting, broke_in, breaks_with}
+use Rattle.snap_sync.proofs.WorkLemmas.{few_of}
 use Rattle.snap_sync.proofs.UnderwayLemmas.{IsSaved, SavesNot, underway_ended, underway_stopped_ending}
 
 module _ {W R : Type 0} {view : W → SinkView} {standing : R → ReportView} {stands : R → List Event → Type 0} {plan : SyncPlan} {progress : Progress} {work : Work} {old mid : Outside W R}
@@ -50,13 +51,24 @@ module _ {W R : Type 0} {view : W → SinkView} {standing : R → ReportView} {s
       let none : work.room.near.count ≡ 0 = omega (arith, so_far.ready.near, all_done, setting.all_is, ap (λ (it : List ℕ). length it) so_far.pending) in
       ap (λ (n : ℕ). readings_in (take n (drop progress.done work.pending.items)) work.room.near) none
 
+  -- no window is left
+  last_window : IsSyncWindow plan (length so_far.readings) 0
+  last_window = record {
+    room = work.room.near.room;
+    some = so_far.ready.is_work.room.some;
+    few = few_of plan.now plan.start work.table so_far.readings work.room.near.room work.room.near.room so_far.table (omega arith) so_far.ready.is_work.room.few;
+    windows = so_far.windows;
+    begins = so_far.cut;
+    takes = omega (arith, all_read);
+  }
+
   module _ {piece : ℕ} {new : VaultView} (piece_is : piece_size ≡ piece) (formed : IsWellFormed new) where
     -- the last checkpoint failed
     pub breaks_ending : SavesNot piece work.table mid.vault new → Breaks view standing stands plan old (outside mid.folders new mid.lines mid.reports)
     breaks_ending saves =
         breaks_with view standing stands plan so_far.readings (readings_near work progress.done) old (outside mid.folders new mid.lines mid.reports) so_far.reads
         (subst (λ (its : List StripeReading). length its ≤ stripe_count (length plan.start.columns) plan.start.shape.block_size) (sym nothing_near) (omega arith))
-        (broke_in plan so_far.readings so_far.readings [] old.vault mid.vault new (sym (append-nil so_far.readings)) (omega arith) so_far.vault.ran saves.calls)
+        (broke_in plan so_far.readings so_far.readings [] old.vault mid.vault new (sym (append-nil so_far.readings)) (omega arith) last_window so_far.vault.ran saves.calls)
         (underway_stopped_ending plan so_far.readings so_far.saved piece (setting.piece_is ∙ piece_is) work.table so_far.table old.vault mid.vault new setting.for formed all_read so_far.vault saves) so_far.told
 
     -- it did not fail, and the last line was told

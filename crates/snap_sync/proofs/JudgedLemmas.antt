@@ -1,5 +1,5 @@
 -- How far a sync is once a window was judged, and once it was turned.
-use Rattle.std.proofs.Common.{◌≡◌, ℕ, ◌+◌, ◌<◌, ◌≤◌, List, [], ◌∷◌, ◌++◌, length, map, take, drop, Bool, refl, sym, ap, ap₂, ◌∙◌, subst, arith, length-append}
+use Rattle.std.proofs.Common.{◌≡◌, ℕ, ◌+◌, ◌<◌, ◌≤◌, List, [], ◌∷◌, ◌++◌, length, map, take, drop, suc, Bool, refl, sym, ap, ap₂, ◌∙◌, subst, arith, length-append}
 use Rattle.std.specs.List.{range_with_len}
 use Rattle.std.proofs.lemmas.List.{length-map, map-append}
 use Rattle.std.proofs.lemmas.List.FromFn.{length-range_with_len}
@@ -27,12 +27,12 @@ use Rattle.snap_sync.specs.declared.judging.Counts.{Counts}
 use Rattle.snap_sync.specs.declared.stripes.Progress.{Progress}
 use Rattle.snap_sync.specs.Calls.{SyncPlan}
 use Rattle.snap_sync.specs.Closing.{closed, verified_in}
-use Rattle.snap_sync.specs.Course.{Outside, Breaks, outside}
+use Rattle.snap_sync.specs.Course.{Outside, IsSyncWindow, Breaks, outside}
 use Rattle.stripe_findings.specs.Findings.{events_of}
 use Rattle.stripe_findings.specs.Reading.{StripeReading, AreRead, stripes_of, reading_at, readings_in, is_verified}
 use Rattle.snap_sync.specs.Reading.{ReadsFirst}
 use Rattle.snap_sync.specs.Run.{all_of, count_after, stripes_near, stripes_next, readings_near, choice_near, AreCounts, IsReady, Judges, ReadsFar, KeepsWork, HasSynced}
-use Rattle.snap_sync.specs.Schedule.{window_count}
+use Rattle.snap_sync.specs.Schedule.{window_count, windows_end}
 use Rattle.snap_sync.specs.Work.{IsUnderway, more_findings}
 use Rattle.snap_sync.proofs.ClosedLemmas.{AreApart, apart-from_distinct, is_verified-closed, events_of-closed, verified_in-closed, closed-append}
 use Rattle.stripe_findings.proofs.FindingLemmas.{events_of-append}
@@ -106,6 +106,30 @@ module _ {W R : Type 0} {view : W → SinkView} {standing : R → ReportView} {s
 
   pub length_judged : length judged_so_far ≡ next
   length_judged = omega (arith, length-append xs ws, window.so_far.count, length_of_window (stripes_near work progress.done) work.room.near, stripes_many)
+
+  -- the window takes what one takes behind so many
+  window_takes : IsSetting plan old → length ws ≡ window_count plan.every work.room.near.room plan.all (length xs)
+  window_takes setting =
+      length_of_window (stripes_near work progress.done) work.room.near ∙ stripes_many ∙ window.so_far.ready.near
+      ∙ ap₂ (λ (all done : ℕ). window_count plan.every work.room.near.room all done) (ap (λ (it : List ℕ). length it) window.so_far.pending ∙ setting.all_is)
+      (sym window.so_far.count)
+
+  -- and begins where another one ends
+  is_window : IsSetting plan old → IsSyncWindow plan (length xs) (length ws)
+  is_window setting = record {
+    room = work.room.near.room;
+    some = window.so_far.ready.is_work.room.some;
+    few = few_of plan.now plan.start work.table xs work.room.near.room work.room.near.room window.so_far.table (omega arith) window.so_far.ready.is_work.room.few;
+    windows = window.so_far.windows;
+    begins = window.so_far.cut;
+    takes = window_takes setting;
+  }
+
+  -- so one more ends behind it
+  ends_again : IsSetting plan old → length judged_so_far ≡ windows_end plan.every work.room.near.room plan.all (suc window.so_far.windows)
+  ends_again setting =
+      length-append xs ws
+      ∙ ap₂ (λ (a b : ℕ). a + b) window.so_far.cut (window_takes setting ∙ ap (window_count plan.every work.room.near.room plan.all) window.so_far.cut)
 
   pub judged_table : judged.table ≡ closed plan.now plan.start judged_so_far
   judged_table = window.judges.table ∙ ap (λ (table : TableValue). closed plan.now table ws) window.so_far.table ∙ sym (closed-append plan.now plan.start xs ws apart)
@@ -262,7 +286,7 @@ module _ {W R : Type 0} {view : W → SinkView} {standing : R → ReportView} {s
     pub breaks_turned : {vault : VaultView} → SomeCalls mid.vault vault → IsStopped plan judged_so_far old.vault vault → Breaks view standing stands plan old (outside folders vault lines reports)
     breaks_turned {vault} calls stopped =
         breaks_with view standing stands plan judged_so_far ahead old (outside folders vault lines reports) reads_turned few_ahead
-        (broke_in plan judged_so_far xs ws old.vault mid.vault vault refl few_judged window.so_far.vault.ran calls) stopped told_judged
+        (broke_in plan judged_so_far xs ws old.vault mid.vault vault refl few_judged (is_window setting) window.so_far.vault.ran calls) stopped told_judged
 
     -- none failed
     pub synced_more : {turned saved swapped : Work} {more : Progress} {counts : Counts} {c : ℕ} {vault : VaultView} → AreCounts work.table ws counts → ReadsFar judged turned → turned.room.far ≡ far
@@ -278,8 +302,12 @@ module _ {W R : Type 0} {view : W → SinkView} {standing : R → ReportView} {s
         ap (readings_near swapped) done_is
         ∙ near_is plan.every judged swapped progress.done judged.room.far turned.room.far mid.folders folders window.ready all read_far (read_far.room ∙ window.ready.is_work.room.as_much)
         ∙ ap (readings_in (stripes_next plan.every judged progress.done)) far_is in
+        let room_is : swapped.room.near.room ≡ work.room.near.room =
+        ap (λ (it : WindowValue). it.room) (all.near ∙ far_is) ∙ read.room ∙ window.ready.is_work.room.as_much ∙ ap (λ (it : WindowValue). it.room) near_kept in
         record {
           readings = judged_so_far;
+          windows = suc window.so_far.windows;
+          cut = ends_again setting ∙ ap (λ (room : ℕ). windows_end plan.every room plan.all (suc window.so_far.windows)) (sym room_is);
           count = length_judged ∙ ap (λ (it : WindowValue). progress.done + it.count) (sym near_kept) ∙ sym done_is;
           pending = ap (λ it. it.items) all.pending ∙ ap (λ (it : Work). it.pending.items) window.judges.rest ∙ window.so_far.pending;
           ready = subst (IsReady plan.every swapped) (sym done_is) (turn_ready plan.every judged turned saved swapped progress.done mid.folders folders window.ready reads_far read_far keeps swap);

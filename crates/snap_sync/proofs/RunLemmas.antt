@@ -20,7 +20,7 @@ use Rattle.snap_sync.specs.declared.beginning.Work.{Work}
 use Rattle.snap_sync.specs.declared.stripes.Pace.{Pace}
 use Rattle.snap_sync.specs.declared.stripes.Progress.{Progress}
 use Rattle.snap_sync.specs.Calls.{SyncPlan, opening_calls, stripe_calls, piece_size}
-use Rattle.snap_sync.specs.Course.{Outside, TouchesVault, TellsThese, BreaksInWindow, Breaks, outside}
+use Rattle.snap_sync.specs.Course.{Outside, TouchesVault, TellsThese, IsSyncWindow, BreaksInWindow, Breaks, outside}
 use Rattle.stripe_findings.specs.Findings.{events_of}
 use Rattle.stripe_findings.specs.Reading.{StripeReading, AreRead}
 use Rattle.snap_sync.specs.Reading.{ReadsFirst}
@@ -60,19 +60,20 @@ on_err (Err e) p = p
 
 -- all calls for the stripes before it went well
 pub broke_in : (plan : SyncPlan) (readings before last : List StripeReading) (old mid new : VaultView) → readings ≡ before ++ last → length last ≤ stripe_count (length plan.start.columns) plan.start.shape.block_size
-    → (IsTrue old.tells → RanAll (opening_calls plan old.files ++ stripe_calls plan before (length before)) (log_of (state_of old)) (log_of (state_of mid))) → SomeCalls mid new
+    → IsSyncWindow plan (length before) (length last) → (IsTrue old.tells → RanAll (opening_calls plan old.files ++ stripe_calls plan before (length before)) (log_of (state_of old)) (log_of (state_of mid))) → SomeCalls mid new
     → BreaksInWindow plan readings (state_of old) (state_of new)
-broke_in plan readings before last old mid new are few ran calls = record {
+broke_in plan readings before last old mid new are few cut ran calls = record {
   before = before;
   last = last;
   are = are;
   few = few;
+  cut = λ some. cut;
   ran = λ some told. record { mid = log_of (state_of mid); first = ran told; rest = calls.done; more = calls.goes_on.calls };
 }
 
 -- no stripe was told
 broke_before : (plan : SyncPlan) (old new : VaultView) → BreaksInWindow plan [] (state_of old) (state_of new)
-broke_before plan old new = record { before = []; last = []; are = refl; few = omega arith; ran = λ some. absurd (some refl) }
+broke_before plan old new = record { before = []; last = []; are = refl; few = omega arith; cut = λ some. absurd (some refl); ran = λ some. absurd (some refl) }
 
 -- ---- what was told
 
@@ -142,6 +143,8 @@ module _ {W R : Type 0} (view : W → SinkView) (standing : R → ReportView) (s
         record {
           readings = [];
           count = ap (λ (it : Progress). it.done) (sym progress_is);
+          windows = 0;
+          cut = refl;
           pending = pending_is;
           ready = subst (λ (it : Progress). IsReady plan.every work it.done) (sym progress_is) ready;
           reads = subst (λ (it : Progress). ReadsFirst plan.start (readings_near work it.done) old.folders news) (sym progress_is) (record {

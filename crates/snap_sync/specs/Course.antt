@@ -30,7 +30,7 @@ use Rattle.snap_sync.specs.Images.{MayStand, HasParityAfter}
 use Rattle.stripe_findings.specs.Reading.{StripeReading}
 use Rattle.stripe_reader.specs.WindowValue.{stripe_count}
 use Rattle.snap_sync.specs.Reading.{ReadsFirst}
-use Rattle.snap_sync.specs.Schedule.{save_after}
+use Rattle.snap_sync.specs.Schedule.{save_after, window_count, windows_end}
 use Rattle.snap_sync.specs.Work.{VaultBroke, more_findings}
 
 -- what a sync works on: the folders, the vault, the lines, and those who are told
@@ -105,13 +105,24 @@ pub record RanFirst (calls : List VaultCall) (old new : Log) : Type 0 where
   pub rest : List VaultDone
   pub more : Grows mid.tells mid.calls new.tells new.calls rest
 
--- Where a sync broke off: the last stripes that it told are no more than one window has, and all calls for the stripes before them went
--- well. So the call that failed is for one of the last ones, or saves behind them. While the vault is opened no stripe is told.
+-- So many stripes behind so many are one window: it begins where another one ends, or with the first stripe, and takes as many as there is
+-- room for, at most to the next checkpoint. So one that begins behind the last stripe has none.
+pub record IsSyncWindow (plan : SyncPlan) (before count : ℕ) : Type 0 where
+  pub room : ℕ
+  pub some : 0 < room
+  pub few : room ≤ stripe_count (length plan.start.columns) plan.start.shape.block_size
+  pub windows : ℕ
+  pub begins : before ≡ windows_end plan.every room plan.all windows
+  pub takes : count ≡ window_count plan.every room plan.all before
+
+-- Where a sync broke off: the last stripes that it told are one window, and all calls for the stripes before them went well. So the call
+-- that failed is for one of the last ones, or saves behind them. While the vault is opened no stripe is told.
 pub record BreaksInWindow (plan : SyncPlan) (readings : List StripeReading) (old new : VaultState) : Type 0 where
   pub before : List StripeReading
   pub last : List StripeReading
   pub are : readings ≡ before ++ last
   pub few : length last ≤ stripe_count (length plan.start.columns) plan.start.shape.block_size
+  pub cut : readings ≢ [] → IsSyncWindow plan (length before) (length last)
   pub ran : readings ≢ [] → IsTrue old.tells
       → RanFirst (opening_calls plan old.files ++ stripe_calls plan before (length before)) (log_of old) (log_of new)
 

@@ -25,7 +25,7 @@ use Rattle.snap_sync.specs.Course.{Outside}
 use Rattle.stripe_findings.specs.Findings.{events_of}
 use Rattle.stripe_findings.specs.Reading.{StripeReading, readings_in, is_verified}
 use Rattle.snap_sync.specs.Reading.{ReadsFirst}
-use Rattle.snap_sync.specs.Schedule.{window_count, is_checkpoint}
+use Rattle.snap_sync.specs.Schedule.{window_count, windows_end, is_checkpoint}
 use Rattle.snap_sync.specs.Work.{IsRoomFor, IsUnderway, VaultBroke, MaySettle, more_findings}
 
 -- how many pending stripes there are, and how many a window takes after so many
@@ -121,12 +121,14 @@ plan_for work pace vault = record {
   piece = piece_size;
 }
 
--- How far a sync came: these pending stripes were read, told, closed in the table in hand, and written; and the window after them was
--- read into the near room.
+-- How far a sync came: these pending stripes were read, told, closed in the table in hand, and written, in so many windows; and the window
+-- after them was read into the near room.
 pub record HasSynced {W R : Type 0} (view : W → SinkView) (standing : R → ReportView) (stands : R → List Event → Type 0)
     (plan : SyncPlan) (progress : Progress) (work : Work) (old new : Outside W R) : Type 0 where
   pub readings : List StripeReading
   pub count : length readings ≡ progress.done
+  pub windows : ℕ
+  pub cut : length readings ≡ windows_end plan.every work.room.near.room plan.all windows
   pub pending : work.pending.items ≡ pending_stripes plan.start.infos
   pub ready : IsReady plan.every work progress.done
   pub reads : ReadsFirst plan.start (readings ++ readings_near work progress.done) old.folders new.folders

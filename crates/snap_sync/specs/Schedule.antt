@@ -1,5 +1,5 @@
 -- When a sync saves the table, and which stripes it reads into a window.
-use Rattle.std.specs.Prelude.{ℕ, ◌-◌, ◌/◌, ◌%◌, ◌==◌, min, max, Bool, false, if◌then◌else◌, Option, None, Some}
+use Rattle.std.specs.Prelude.{ℕ, zero, suc, ◌+◌, ◌-◌, ◌/◌, ◌%◌, ◌==◌, min, max, Bool, false, if◌then◌else◌, Option, None, Some}
 
 -- `autosave`: after how many stripes so many bytes of data are synced, at least one; never where that is 0
 abbrev pub stripes_in : ℕ → ℕ → Option ℕ
@@ -23,3 +23,9 @@ till_checkpoint (Some every) count most = min most (every - count % every)
 -- how many stripes a window takes, after so many of all: as many as it has room for, at most to the next checkpoint
 abbrev pub window_count : Option ℕ → ℕ → ℕ → ℕ → ℕ
 window_count every room all count = min (all - count) (till_checkpoint every count room)
+
+-- how many stripes so many windows of a run take, one after another
+abbrev pub windows_end : Option ℕ → ℕ → ℕ → ℕ → ℕ
+windows_end every room all zero = 0
+windows_end every room all (suc windows) =
+    windows_end every room all windows + window_count every room all (windows_end every room all windows)
