@@ -26,7 +26,7 @@ use Rattle.file_restorer.specs.Finishing.{StandsLost, bytes_now, finish_of, lost
 use Rattle.snap_fix.specs.FixCourse.{Written}
 use Rattle.snap_fix.specs.Mended.{Mended, column_writes, has_lost, is_blocked_cell, is_of, is_repaired, is_written, answer_of, write_of, writes_in, writes_of}
 use Rattle.stripe_examiner.specs.Plan.{FixPlan, cell_at, entry_at, has_selected, is_in_scope}
-use Rattle.snap_fix.specs.Restored.{HasFixed, IsNotWritten, StandsRestored, StandsUnrecoverable}
+use Rattle.snap_fix.specs.Restored.{HadNoFile, HasFixed, IsNotWritten, StandsFinished, StandsRestored, StandsUnrecoverable}
 use Rattle.file_restorer.specs.State.{HoldsBy, HoldsRecord, IsNameOf, IsTouched, IsUntouched, Write, bytes_or, bytes_placed, has_some, lost_then, place_by, place_in, place_then, record_path, stands, state_in}
 use Rattle.snap_fix.specs.Underway.{IsColumnUnderway}
 use Rattle.file_restorer.proofs.RecordPathsLemmas.{names_distinct, table_paths}
@@ -57,6 +57,16 @@ nowhere_has : (one other : Option File) → place_by one other ≡ place.Nowhere
 nowhere_has (Some file) other is = let clash : place.Plain ≡ place.Nowhere = is in absurd cc
 nowhere_has None (Some file) is = let clash : place.Lost ≡ place.Nowhere = is in absurd cc
 nowhere_has None None is = (refl, refl)
+
+lost_has : (one other : Option File) → place_by one other ≡ place.Lost → (file : File) × (other ≡ Some file) × (one ≡ None)
+lost_has (Some file) other is = let clash : place.Plain ≡ place.Lost = is in absurd cc
+lost_has None (Some file) is = (file, refl, refl)
+lost_has None None is = let clash : place.Nowhere ≡ place.Lost = is in absurd cc
+
+lost_where : (it : Place) → stands it false ≡ false → it ≢ place.Nowhere → it ≡ place.Lost
+lost_where place.Plain is apart = absurd cc
+lost_where place.Lost is apart = refl
+lost_where place.Nowhere is apart = absurd (apart refl)
 
 plain_where : (it : Place) → stands it false ≡ true → it ≡ place.Plain
 plain_where place.Plain is = refl
@@ -263,7 +273,7 @@ module _ (plan : FixPlan) (starts : StartsValue) (stripes : List Mended) (finish
 
   -- ---- the files of records that are
 
-  pub stands_restored : is_finished plan d i ≡ true → has_lost plan stripes d i ≡ false → StandsRestored (folder_at firsts d).keeps_stamps meta path later
+  stands_restored : is_finished plan d i ≡ true → has_lost plan stripes d i ≡ false → StandsRestored (folder_at firsts d).keeps_stamps meta path later
   stands_restored finished none =
       let stood : StandsEnd plan d (starts_at written.starts.columns d) keeps i before later = column.whole then_tells i within finished (underway.lost i within ∙ none) in
       record {
@@ -274,7 +284,7 @@ module _ (plan : FixPlan) (starts : StartsValue) (stripes : List Mended) (finish
       }
 
   -- what stood under PATH`.unrecoverable` stays, but where the file was renamed back
-  pub other_stays : is_finished plan d i ≡ true → has_lost plan stripes d i ≡ false → place_in first path ≡ place.Plain
+  other_stays : is_finished plan d i ≡ true → has_lost plan stripes d i ≡ false → place_in first path ≡ place.Plain
       → file_of later (path_of path true) ≡ file_of first (path_of path true)
   other_stays finished none plain =
       let stood : StandsEnd plan d (starts_at written.starts.columns d) keeps i before later = column.whole then_tells i within finished (underway.lost i within ∙ none) in
@@ -294,38 +304,62 @@ module _ (plan : FixPlan) (starts : StartsValue) (stripes : List Mended) (finish
           by true is = (touched_is is).lost ∙ ap (λ (it : Place). lost_then it (file_of first (path_of path true))) plain
           by false is = (untouched_is is).same true
 
-  pub other_gone : is_finished plan d i ≡ true → has_lost plan stripes d i ≡ false → place_in first path ≡ place.Lost → file_of later (path_of path true) ≡ None
-  other_gone finished none lost =
+  -- none stands there else
+  other_gone : is_finished plan d i ≡ true → has_lost plan stripes d i ≡ false → place_in first path ≢ place.Plain → file_of later (path_of path true) ≡ None
+  other_gone finished none apart =
       let stood : StandsEnd plan d (starts_at written.starts.columns d) keeps i before later = column.whole then_tells i within finished (underway.lost i within ∙ none) in
-      stood.lost ∙ by (state.touched) refl
+      stood.lost ∙ by (place_in first path) refl (state.touched) refl
     where
-      by : (touched : Bool) → state.touched ≡ touched → lost_after start.place (file_of before (path_of path true)) ≡ None
-      by true is =
-          ap₂ lost_after ((touched_is is).place ∙ ap place_then lost)
-          ((touched_is is).lost ∙ ap (λ (it : Place). lost_then it (file_of first (path_of path true))) lost)
-      by false is = ap (λ (it : Place). lost_after it (file_of before (path_of path true))) ((untouched_is is).place ∙ lost)
+      by : (it : Place) → place_in first path ≡ it → (touched : Bool) → state.touched ≡ touched → lost_after start.place (file_of before (path_of path true)) ≡ None
+      by place.Plain here touched is = absurd (apart here)
+      by place.Lost here true is =
+          ap₂ lost_after ((touched_is is).place ∙ ap place_then here)
+          ((touched_is is).lost ∙ ap (λ (it : Place). lost_then it (file_of first (path_of path true))) here)
+      by place.Lost here false is = ap (λ (it : Place). lost_after it (file_of before (path_of path true))) ((untouched_is is).place ∙ here)
+      by place.Nowhere here true is =
+          ap₂ lost_after ((touched_is is).place ∙ ap place_then here)
+          ((touched_is is).lost ∙ ap (λ (it : Place). lost_then it (file_of first (path_of path true))) here)
+      by place.Nowhere here false is =
+          ap₂ lost_after ((untouched_is is).place ∙ here)
+          ((untouched_is is).same true ∙ (nowhere_has (file_of first (path_of path false)) (file_of first (path_of path true)) here).1)
 
   lost_finish_is : is_finished plan d i ≡ true → has_lost plan stripes d i ≡ true → finish_at (finishes_at finishes d) i ≡ lost_finish start state
   lost_finish_is finished some =
       done finished ∙ ap (λ (b : Bool). if b then lost_finish start state else whole_finish meta (entry_at plan d i).listed start state keeps) (underway.lost i within ∙ some)
 
-  place_is : place_in first path ≡ place.Plain → stands start.place state.touched ≡ true
-  place_is plain = by (state.touched) refl
+  ends_by : is_finished plan d i ≡ true → (finish : Finish) → finish_at (finishes_at finishes d) i ≡ finish
+      → HoldsEnd plan d (starts_at written.starts.columns d) (states_at written.states d) keeps i finish before later
+  ends_by finished finish is =
+      subst (λ (it : Finish). HoldsEnd plan d (starts_at written.starts.columns d) (states_at written.states d) keeps i it before later) is (column.holds then_tells i within finished)
+
+  -- where no file stands under PATH, nothing was written
+  not_touched : stands start.place state.touched ≡ false → state.touched ≡ false
+  not_touched absent = by (state.touched) refl
     where
-      by : (touched : Bool) → state.touched ≡ touched → stands start.place state.touched ≡ true
-      by true is = ap (stands start.place) is ∙ then_stands start.place (place_in first path) (touched_is is).place
-      by false is = ap (stands start.place) is ∙ ap (λ (it : Place). stands it false) ((untouched_is is).place ∙ plain)
+      by : (touched : Bool) → state.touched ≡ touched → state.touched ≡ false
+      by false is = is
+      by true is = absurd (false≢true (sym absent ∙ ap (stands start.place) is ∙ then_stands start.place (place_in first path) (touched_is is).place))
 
-  pub stands_unrecoverable : is_finished plan d i ≡ true → has_lost plan stripes d i ≡ true → place_in first path ≡ place.Plain → StandsUnrecoverable path later
-  stands_unrecoverable finished some plain =
-      let renamed : finish_at (finishes_at finishes d) i ≡ Renamed =
-      lost_finish_is finished some ∙ ap (λ (b : Bool). if b then Renamed else Kept) (place_is plain) in
-      let ends : StandsLost path before later =
-      subst (λ (finish : Finish). HoldsEnd plan d (starts_at written.starts.columns d) (states_at written.states d) keeps i finish before later) renamed (column.holds then_tells i within finished) in
-      let file = renamed_there finished renamed in
-      record { file = file.0; there = ends.moved ∙ file.1; none = ends.none }
+  stands_unrecoverable : is_finished plan d i ≡ true → has_lost plan stripes d i ≡ true → ¬ (HadNoFile plan stripes d i first) → StandsUnrecoverable path later
+  stands_unrecoverable finished some had = by (stands start.place state.touched) refl
+    where
+      by : (stood : Bool) → stands start.place state.touched ≡ stood → StandsUnrecoverable path later
+      by true stood =
+          let renamed : finish_at (finishes_at finishes d) i ≡ Renamed = lost_finish_is finished some ∙ ap (λ (b : Bool). if b then Renamed else Kept) stood in
+          let ends : StandsLost path before later = ends_by finished Renamed renamed in
+          let file = renamed_there finished renamed in
+          record { file = file.0; there = ends.moved ∙ file.1; none = ends.none }
+      by false stood =
+          let kept : finish_at (finishes_at finishes d) i ≡ Kept = lost_finish_is finished some ∙ ap (λ (b : Bool). if b then Renamed else Kept) stood in
+          let ends : (other : Bool) → file_of later (path_of path other) ≡ file_of before (path_of path other) = ends_by finished Kept kept in
+          let untouched : state.touched ≡ false = not_touched stood in
+          let now = untouched_is untouched in
+          let absent : stands (place_in first path) false ≡ false = ap₂ stands (sym now.place) (sym untouched) ∙ stood in
+          let file = lost_has (file_of first (path_of path false)) (file_of first (path_of path true))
+          (lost_where (place_in first path) absent (λ nowhere. had (nowhere, ap has_some now.none))) in
+          record { file = file.0; there = ends true ∙ now.same true ∙ file.1; none = ends false ∙ now.same false ∙ file.2 }
 
-  pub stands_nowhere : is_finished plan d i ≡ true → has_lost plan stripes d i ≡ true → place_in first path ≡ place.Nowhere → has_some all_writes ≡ false
+  stands_nowhere : is_finished plan d i ≡ true → has_lost plan stripes d i ≡ true → place_in first path ≡ place.Nowhere → has_some all_writes ≡ false
       → (lost : Bool) → file_of later (path_of path lost) ≡ None
   stands_nowhere finished some nowhere none lost =
       let now = untouched_is (underway.touched tells i within ∙ none) in
@@ -341,6 +375,15 @@ module _ (plan : FixPlan) (starts : StartsValue) (stripes : List Mended) (finish
       by : (other : Bool) → (file_of first (path_of path false) ≡ None) × (file_of first (path_of path true) ≡ None) → file_of first (path_of path other) ≡ None
       by false files = files.0
       by true files = files.1
+
+  pub stands_finished : is_finished plan d i ≡ true → StandsFinished plan stripes d i (folder_at firsts d).keeps_stamps first later
+  stands_finished finished = record {
+    whole = stands_restored finished;
+    kept = other_stays finished;
+    gone = other_gone finished;
+    unrecoverable = stands_unrecoverable finished;
+    nowhere = λ some had. stands_nowhere finished some had.0 had.1;
+  }
 
 -- ---- of names that no record has
 

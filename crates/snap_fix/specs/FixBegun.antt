@@ -32,16 +32,16 @@ abbrev pub work_of : Begun → Work
 work_of begun = record {
   scope = begun.scope;
   entries = begun.entries;
-  starts = begun.progress.starts;
+  starts = begun.space.progress.starts;
   stripes = begun.stripes;
-  room = begun.room;
+  room = begun.space.room;
 }
 
 -- The folders were listed, each once, and this is what the fix works with.
 pub record BeginsFix (selection : Selection) (names : List (List ℕ)) (table : TableValue) (begun : Begun)
     (olds news : List FolderView) : Type 0 where
   pub begins : Begins Fix selection names table (work_of begun) olds news
-  pub first : IsFirst table begun.progress
+  pub first : IsFirst table begun.space.progress
 
 -- These were the open folders of an array before.
 pub record BeganFrom (selection : Selection) (names : List (List ℕ)) (table : TableValue) (begun : Begun)

@@ -14,19 +14,22 @@ use Rattle.stripe_examiner.specs.Judging.{TellsWrong}
 use Rattle.stripe_examiner.specs.Marks.{CanExamine, row_if}
 use Rattle.stripe_examiner.specs.Plan.{FixPlan, is_searched, plan_of}
 use Rattle.stripe_examiner.specs.Spare.{IsSpareFor, SpareView, nothing}
+use Rattle.stripe_examiner.specs.WindowExamined.{CanExamineWindow}
 use Rattle.snap_fix.specs.declared.fixing.Totals.{Totals}
 use Rattle.snap_fix.specs.declared.plan.Examined.{Examined}
 use Rattle.snap_fix.specs.declared.plan.Plan.{Plan}
 use Rattle.snap_fix.specs.declared.plan.Progress.{Progress}
+use Rattle.snap_fix.specs.declared.plan.Shown.{Shown}
+use Rattle.snap_fix.specs.declared.plan.Stretch.{Stretch}
+use Rattle.snap_fix.specs.declared.plan.Workspace.{Workspace}
 use Rattle.snap_fix.specs.declared.repairing.Repaired.{Repaired}
 use Rattle.snap_fix.specs.FixSteps.{MendsNotParity, MendsParity, ShowsTried}
 use Rattle.snap_fix.specs.Fixing.{BreaksStripe, FixScene, FixesStripe, fix_scene}
 use Rattle.snap_fix.specs.RepairSteps.{CanMendColumn, ColumnOutside, MendsColumn, MendsNotColumn}
 use Rattle.snap_fix.specs.Repairing.{CanMend, CanMendLevels, FilesOutside, FlagsWritten, LevelsOutside, MendsFiles, MendsLevels, MendsNotFiles, MendsNotLevels, ShowsLevels}
-use Rattle.snap_fix.specs.FixRun.{MendsInto, MendsNotInto}
+use Rattle.snap_fix.specs.FixRun.{BreaksWindow, FixesWindow, MendsInto, MendsNotInto}
+use Rattle.snap_fix.specs.Underway.{FixUnderway}
 use Rattle.snap_fix.specs.WindowShown.{ShowsAll, ShowsFactsOf}
-use Rattle.stripe_examiner.specs.declared.room.StripeRoom.{StripeRoom}
-use Rattle.stripe_reader.specs.WindowValue.{WindowValue}
 
 -- the plan of a run
 abbrev pub seen : Plan → FixPlan
@@ -116,10 +119,10 @@ MendsNotRowTried view standing stands plan one old new =
 -- ---- all of it, whatever the spare is, which is not asked
 
 -- all that a fix works on, and the same with a spare that holds nothing
-abbrev pub scene_at : {F V P W R : Type 0} → (F → FolderView) → (V → VaultView) → (P → SpareView) → Progress → List F → V → P
+abbrev pub scene_at : {F V P W R : Type 0} → (F → FolderView) → (V → VaultView) → (P → SpareView) → Workspace → List F → V → P
     → Lines W → List R → FixScene W R
-scene_at view vault_view holding progress folders vault spare lines reports =
-    fix_scene progress.starts progress.states progress.written.items (map view folders) (vault_view vault) (holding spare) lines reports
+scene_at view vault_view holding space folders vault spare lines reports =
+    fix_scene space.progress.starts space.progress.states space.progress.written.items (map view folders) (vault_view vault) (holding spare) lines reports
 
 abbrev pub beside : {F V W R : Type 0} → (F → FolderView) → (V → VaultView) → Progress → List F → V → Lines W → List R → FixScene W R
 beside view vault_view progress folders vault lines reports =
@@ -138,13 +141,37 @@ abbrev pub BreaksOne : {W R : Type 0} → (W → SinkView) → (R → ReportView
 BreaksOne view standing stands plan one old new fault = (facts : StripeFacts) (spare : SpareView) → ShowsOne plan facts one
     → BreaksStripe view standing stands plan facts (with_spare old spare) (with_spare new spare) fault
 
--- the stripes of a window, whichever their facts are that it shows
-abbrev pub FixesShown : {W R : Type 0} → (W → SinkView) → (R → ReportView) → (R → List Event → Type 0) → FixPlan → List ℕ → WindowValue → List StripeRoom
-    → FixScene W R → FixScene W R → Totals → Type 0
-FixesShown view standing stands plan stripes window rooms old new totals = (all : List StripeFacts) (spare : SpareView) → ShowsAll plan all stripes window rooms
-    → IsSpareFor plan.table.shape spare → MendsInto view standing stands plan all (with_spare old spare) (with_spare new spare) totals
+-- ---- stripes that were examined, whichever their facts are
 
-abbrev pub BreaksShown : {W R : Type 0} → (W → SinkView) → (R → ReportView) → (R → List Event → Type 0) → FixPlan → List ℕ → WindowValue → List StripeRoom
+-- these are their facts
+abbrev pub ShowsIn : List StripeFacts → Stretch → Shown → Type 0
+ShowsIn all stretch shown = ShowsAll (seen stretch.plan) all stretch.stripes.now shown.window.now shown.rooms.now
+
+abbrev pub FixesShown : {W R : Type 0} → (W → SinkView) → (R → ReportView) → (R → List Event → Type 0) → Stretch → Shown
+    → FixScene W R → FixScene W R → Totals → Type 0
+FixesShown view standing stands stretch shown old new totals = (all : List StripeFacts) (spare : SpareView) → ShowsIn all stretch shown
+    → IsSpareFor stretch.plan.table.now.shape spare → MendsInto view standing stands (seen stretch.plan) all (with_spare old spare) (with_spare new spare) totals
+
+abbrev pub BreaksShown : {W R : Type 0} → (W → SinkView) → (R → ReportView) → (R → List Event → Type 0) → Stretch → Shown
     → FixScene W R → FixScene W R → RunFault → Type 0
-BreaksShown view standing stands plan stripes window rooms old new fault = (all : List StripeFacts) (spare : SpareView) → ShowsAll plan all stripes window rooms
-    → IsSpareFor plan.table.shape spare → MendsNotInto view standing stands plan all (with_spare old spare) (with_spare new spare) fault
+BreaksShown view standing stands stretch shown old new fault = (all : List StripeFacts) (spare : SpareView) → ShowsIn all stretch shown
+    → IsSpareFor stretch.plan.table.now.shape spare → MendsNotInto view standing stands (seen stretch.plan) all (with_spare old spare) (with_spare new spare) fault
+
+-- ---- stripes that are looked at, by the window of the space
+
+abbrev pub CanExamineStretch : Stretch → Workspace → Type 0
+CanExamineStretch stretch space = CanExamineWindow (seen stretch.plan) space.progress.starts stretch.stripes.now space.room
+
+-- before they are examined, the fix came so far
+abbrev pub IsUnderway : Stretch → Workspace → List FolderView → Type 0
+IsUnderway stretch space folders = FixUnderway (seen stretch.plan) folders space.progress.starts space.progress.states
+
+abbrev pub FixesStretch : {W R : Type 0} → (W → SinkView) → (R → ReportView) → (R → List Event → Type 0) → Stretch → Workspace
+    → FixScene W R → FixScene W R → Totals → Type 0
+FixesStretch view standing stands stretch space old new totals =
+    FixesWindow view standing stands (seen stretch.plan) stretch.stripes.now space.room.window old new totals
+
+abbrev pub BreaksStretch : {W R : Type 0} → (W → SinkView) → (R → ReportView) → (R → List Event → Type 0) → Stretch → Workspace
+    → FixScene W R → FixScene W R → RunFault → Type 0
+BreaksStretch view standing stands stretch space old new fault =
+    BreaksWindow view standing stands (seen stretch.plan) stretch.stripes.now space.room.window old new fault

@@ -1,5 +1,5 @@
 -- What a fix leaves of damaged cells, where the folders tell their files.
-use Rattle.std.specs.Prelude.{◌≡◌, ◌⊎◌, ℕ, ◌+◌, ◌<◌, List, length, is_some, Bool, true, false, All, Contains, None, Some, IsTrue}
+use Rattle.std.specs.Prelude.{◌≡◌, ◌≢◌, ◌⊎◌, ℕ, ◌+◌, ◌<◌, List, length, is_some, Bool, true, false, All, Contains, None, Some, IsTrue}
 use Rattle.disk_model.specs.Folder.{FolderView}
 use Rattle.disk_model.specs.Tree.{Tree, File, file_of, path_of}
 use Rattle.disk_model.specs.declared.meta.Meta.{Meta}
@@ -14,6 +14,7 @@ use Rattle.snap_report.specs.declared.events.Event.TheVariants as event
 use Rattle.stripe_reader.specs.Columns.{folder_at}
 use Rattle.stripe_reader.specs.Reading.{block_length}
 use Rattle.stripe_reader.specs.Starts.{StartsValue}
+use Rattle.stripe_reader.specs.declared.starts.Place.TheVariants.{Plain, Nowhere}
 use Rattle.file_restorer.specs.declared.finishing.Finish.{Finish}
 use Rattle.stripe_examiner.specs.Facts.{StripeFacts, damaged_at, gift_of, is_missing}
 use Rattle.stripe_examiner.specs.Findings.{is_lost}
@@ -23,9 +24,10 @@ use Rattle.snap_fix.specs.Fixing.{facts_of}
 use Rattle.snap_fix.specs.Genuine.{HasGenuineFacts, IsRestorableStripe, TellsIntactLevels}
 use Rattle.stripe_examiner.specs.Known.{AreFacts}
 use Rattle.stripe_examiner.specs.Looking.{numbers_of}
-use Rattle.snap_fix.specs.Mended.{AnswersFit, Mended, has_lost, is_repaired, is_written}
+use Rattle.snap_fix.specs.Mended.{AnswersFit, Mended, has_lost, is_repaired, is_written, writes_of}
 use Rattle.stripe_examiner.specs.Showing.{known_block}
 use Rattle.file_restorer.specs.Mending.{block_start, cell_path}
+use Rattle.file_restorer.specs.State.{has_some, place_in, record_path}
 use Rattle.stripe_examiner.specs.Plan.{FixPlan, cell_at, entry_at, selects_cell, stripes_of}
 
 -- A fix that ended: it found these facts of the stripes of its plan, and did that to the files.
@@ -95,6 +97,26 @@ pub record StandsUnrecoverable (path : List ℕ) (tree : Tree) : Type 0 where
   pub file : File
   pub there : file_of tree (path_of path true) ≡ Some file
   pub none : file_of tree (path_of path false) ≡ None
+
+-- neither under PATH nor under PATH`.unrecoverable` a file of a record stood, and nothing was written to it
+abbrev pub HadNoFile : FixPlan → List Mended → ℕ → ℕ → Tree → Type 0
+HadNoFile plan stripes d i first =
+    (place_in first (record_path (records_in plan.table d) i) ≡ Nowhere) × (has_some (writes_of plan stripes d i) ≡ false)
+
+-- How a fix finishes the file of a record. If no cell of it is lost, it stands under PATH with its recorded size, and with its recorded stamp
+-- where the folder keeps stamps; an older file under PATH`.unrecoverable` stays, or has become this one. If a cell is lost, it stands under
+-- PATH`.unrecoverable`, and none stands under PATH; but there is none where there was none and nothing was written.
+pub record StandsFinished (plan : FixPlan) (stripes : List Mended) (d i : ℕ) (keeps : Bool) (first later : Tree) : Type 0 where
+  pub whole : has_lost plan stripes d i ≡ false
+      → StandsRestored keeps (record_at plan.table.columns d i).meta (record_path (records_in plan.table d) i) later
+  pub kept : has_lost plan stripes d i ≡ false → place_in first (record_path (records_in plan.table d) i) ≡ Plain
+      → file_of later (path_of (record_path (records_in plan.table d) i) true) ≡ file_of first (path_of (record_path (records_in plan.table d) i) true)
+  pub gone : has_lost plan stripes d i ≡ false → place_in first (record_path (records_in plan.table d) i) ≢ Plain
+      → file_of later (path_of (record_path (records_in plan.table d) i) true) ≡ None
+  pub unrecoverable : has_lost plan stripes d i ≡ true → ¬ (HadNoFile plan stripes d i first)
+      → StandsUnrecoverable (record_path (records_in plan.table d) i) later
+  pub nowhere : has_lost plan stripes d i ≡ true → HadNoFile plan stripes d i first
+      → (lost : Bool) → file_of later (path_of (record_path (records_in plan.table d) i) lost) ≡ None
 
 -- ---- a damaged cell, where no block has a recorded hash by chance
 

@@ -6,6 +6,7 @@ ghost use Rattle.snap_fix.specs.Course.{IsArray, outside};
 ghost use Rattle.stripe_examiner.specs.Plan.{names_of};
 
 use crate::checks::{FixEnd, check};
+use crate::plan::Task;
 use crate::repairs::fix;
 use disk_model::{Folder, Sink, Vault};
 use file_table::Table;
@@ -48,13 +49,15 @@ pub fn repair<R: Threads + Sync, F: Folder, V: Vault, P: Spare, W: Sink>(
         (map F.view folders.old) (map F.view folders.new) (V.view vault.old) (V.view vault.new) }
     ensures cause { IfErr result (MayFailBy mode) }
 {
+    let task = Task {
+        mode,
+        selection,
+        setup,
+        table,
+        readers,
+    };
     match mode {
-        Mode::Check | Mode::Audit => check(
-            rt, alloc, mode, selection, setup, folders, vault, spare, readers, table, reports,
-            lines,
-        ),
-        Mode::Fix => fix(
-            rt, alloc, selection, setup, folders, vault, spare, readers, table, reports, lines,
-        ),
+        Mode::Check | Mode::Audit => check(rt, alloc, &task, folders, vault, spare, lines, reports),
+        Mode::Fix => fix(rt, alloc, &task, folders, vault, spare, lines, reports),
     }
 }

@@ -13,6 +13,7 @@ ghost use Rattle.stripe_examiner.specs.Spare.{IsSpareFor};
 ghost use Rattle.stripe_reader.specs.WindowValue.{WindowValue};
 
 use crate::beginning::Work;
+use crate::plan::Task;
 use disk_model::{Folder, Sink, Vault};
 use file_table::Table;
 use snap_report::{Lines, Report};
@@ -48,34 +49,42 @@ fn tell_window<W: Sink>(
     counts
 }
 
-// Examines so many stripes after some, by so many readers at most, and tells what is found in them.
-fn check_window<R: Threads + Sync, F: Folder, V: Vault, P: Spare, W: Sink>(
-    rt: &R,
-    table: &Table,
-    work: &mut Work,
-    done: usize,
+// So many stripes of a run after some, the table that it goes by, and by how many readers at most.
+#[derive(Clone, Copy)]
+struct Section<'a> {
+    table: &'a Table,
+    first: usize,
     count: usize,
     readers: u32,
+}
+
+// Examines some stripes of a run, and tells what is found in them.
+fn check_window<R: Threads + Sync, F: Folder, V: Vault, P: Spare, W: Sink>(
+    rt: &R,
+    next: &Section<'_>,
+    work: &mut Work,
     folders: &mut [F],
     vault: &mut V,
     spare: &mut P,
     lines: &mut Lines<'_, W>,
     reports: &mut Vec<Box<dyn Report>>,
 ) -> Counts
-    requires work { IsWorkFor table.now work.old }
-    requires next { (done + count ≤ length work.old.stripes.items) × (count ≤ work.old.room.window.room) }
-    requires folders { length folders.old ≡ length table.now.columns }
-    requires levels { (V.view vault.old).levels ≡ table.now.shape.levels }
-    requires spare { IsSpareFor table.now.shape (P.holding spare.old) }
-    ensures work { KeepsWork table.now work.old work.new × (work.new.room.window.room ≡ work.old.room.window.room) }
+    requires work { IsWorkFor next.now.table.now work.old }
+    requires next { (next.now.first + next.now.count ≤ length work.old.stripes.items) ×
+        (next.now.count ≤ work.old.room.window.room) }
+    requires folders { length folders.old ≡ length next.now.table.now.columns }
+    requires levels { (V.view vault.old).levels ≡ next.now.table.now.shape.levels }
+    requires spare { IsSpareFor next.now.table.now.shape (P.holding spare.old) }
+    ensures work { KeepsWork next.now.table.now work.old work.new ×
+        (work.new.room.window.room ≡ work.old.room.window.room) }
     ensures checks { ChecksWindow W.view standing stands
-        table.now work.old (take count (drop done work.old.stripes.items)) result
+        next.now.table.now work.old (take next.now.count (drop next.now.first work.old.stripes.items)) result
         (map F.view folders.old) (map F.view folders.new)
         (scene (V.view vault.old) (P.holding spare.old) lines.old reports.old.items)
         (scene (V.view vault.new) (P.holding spare.new) lines.new reports.new.items) }
 {
-    let stripes = &work.stripes[done..done + count];
-    let scope = work.scope;
+    let (table, scope, readers) = (next.table, work.scope, next.readers);
+    let stripes = &work.stripes[next.first..next.first + next.count];
     let entries = &work.entries;
     let starts = &work.starts;
     let room = &mut work.room;
@@ -86,25 +95,23 @@ fn check_window<R: Threads + Sync, F: Folder, V: Vault, P: Spare, W: Sink>(
     tell_window(scope, table, entries, stripes, rooms, lines, reports)
 }
 
-/// Looks at all stripes that a run is for: a window of them is examined, by so many readers at most, and then what is found in each is
-/// told.
+/// Looks at all stripes that a run is for: a window of them is examined, and then what is found in each is told.
 pub(crate) fn check_stripes<R: Threads + Sync, F: Folder, V: Vault, P: Spare, W: Sink>(
     rt: &R,
-    table: &Table,
+    task: &Task<'_>,
     work: &mut Work,
-    readers: u32,
     folders: &mut [F],
     vault: &mut V,
     spare: &mut P,
     lines: &mut Lines<'_, W>,
     reports: &mut Vec<Box<dyn Report>>,
 ) -> Counts
-    requires work { IsWorkFor table.now work.old }
-    requires folders { length folders.old ≡ length table.now.columns }
-    requires levels { (V.view vault.old).levels ≡ table.now.shape.levels }
-    requires spare { IsSpareFor table.now.shape (P.holding spare.old) }
-    ensures work { KeepsWork table.now work.old work.new }
-    ensures checks { ChecksStripes W.view standing stands table.now work.old result
+    requires work { IsWorkFor task.now.table.now work.old }
+    requires folders { length folders.old ≡ length task.now.table.now.columns }
+    requires levels { (V.view vault.old).levels ≡ task.now.table.now.shape.levels }
+    requires spare { IsSpareFor task.now.table.now.shape (P.holding spare.old) }
+    ensures work { KeepsWork task.now.table.now work.old work.new }
+    ensures checks { ChecksStripes W.view standing stands task.now.table.now work.old result
         (map F.view folders.old) (map F.view folders.new)
         (scene (V.view vault.old) (P.holding spare.old) lines.old reports.old.items)
         (scene (V.view vault.new) (P.holding spare.new) lines.new reports.new.items) }
@@ -113,9 +120,13 @@ pub(crate) fn check_stripes<R: Threads + Sync, F: Folder, V: Vault, P: Spare, W:
     let mut done = 0;
     while done < work.stripes.len() {
         let count = (work.stripes.len() - done).min(work.room.window.room() as usize);
-        let more = check_window(
-            rt, table, work, done, count, readers, folders, vault, spare, lines, reports,
-        );
+        let next = Section {
+            table: task.table,
+            first: done,
+            count,
+            readers: task.readers,
+        };
+        let more = check_window(rt, &next, work, folders, vault, spare, lines, reports);
         counts = counts.and(more);
         done += count;
     }

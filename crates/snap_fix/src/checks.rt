@@ -7,13 +7,12 @@ ghost use Rattle.stripe_examiner.specs.Plan.{names_of};
 
 use crate::beginning::begin;
 use crate::checking::check_stripes;
+use crate::plan::Task;
 use disk_model::{Folder, Sink, Vault};
-use file_table::Table;
-use snap_config::{Selection, Setup};
 use snap_report::{Lines, Report, RunFault};
 use std::alloc::Global;
 use std::thread::Threads;
-use stripe_examiner::{Mode, Spare, tell_opening};
+use stripe_examiner::{Spare, tell_opening};
 
 /// How a check or a fix ended. Each number stays at the greatest u64.
 #[derive(Clone, Copy, Debug, PartialEq, Eq)]
@@ -33,31 +32,26 @@ pub struct FixEnd {
 pub(crate) fn check<R: Threads + Sync, F: Folder, V: Vault, P: Spare, W: Sink>(
     rt: &R,
     alloc: Global,
-    mode: Mode,
-    selection: &Selection,
-    setup: &Setup,
+    task: &Task<'_>,
     folders: &mut [F],
     vault: &mut V,
     spare: &mut P,
-    readers: u32,
-    table: &Table,
-    reports: &mut Vec<Box<dyn Report>>,
     lines: &mut Lines<'_, W>,
+    reports: &mut Vec<Box<dyn Report>>,
 ) -> Result<FixEnd, RunFault>
-    requires { IsArray table.now (length setup.now.disks)
+    requires { IsArray task.now.table.now (length task.now.setup.now.disks)
         (map F.view folders.old) (V.view vault.old) (P.holding spare.old) }
     ensures checks { IfOk result (Checks W.view standing stands
-        mode selection.now (names_of (setup_value setup.now)) table.now
+        task.now.mode task.now.selection.now (names_of (setup_value task.now.setup.now)) task.now.table.now
         (outside (map F.view folders.old) (V.view vault.old) (P.holding spare.old) lines.old reports.old.items)
         (outside (map F.view folders.new) (V.view vault.new) (P.holding spare.new) lines.new reports.new.items)) }
     ensures failed { IfErr result (λ fault. BeginsNot (map F.view folders.old) (map F.view folders.new) fault ×
         (vault.new ≡ vault.old) × (spare.new ≡ spare.old) × (lines.new ≡ lines.old) × (reports.new ≡ reports.old)) }
 {
-    let mut work = begin(alloc, mode, selection, setup, folders, table)?;
+    let (selection, setup, table) = (task.selection, task.setup, task.table);
+    let mut work = begin(alloc, task.mode, selection, setup, folders, table)?;
     let opening = tell_opening(work.scope, table, &work.entries, lines, reports);
-    let stripes = check_stripes(
-        rt, table, &mut work, readers, folders, vault, spare, lines, reports,
-    );
+    let stripes = check_stripes(rt, task, &mut work, folders, vault, spare, lines, reports);
     let counts = opening.and(stripes);
     lines.end_check(counts.found);
     Ok(FixEnd {

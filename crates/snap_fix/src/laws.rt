@@ -1,6 +1,6 @@
 //! What follows of a search for lost blocks, and of a fix that is stopped. The calls do nothing: their contracts are laws.
 
-ghost use Rattle.std.specs.Prelude.{◌≡◌, ◌↔◌, ℕ, ◌+◌, ◌*◌, ◌<◌, ◌≤◌, Bool, true, false, List, [], length, slice_index, slice_index_or, All, count_by, Contains, is_some, Some, IsTrue, None, filter, get_or};
+ghost use Rattle.std.specs.Prelude.{◌≡◌, ◌↔◌, ℕ, ◌+◌, ◌*◌, ◌<◌, ◌≤◌, Bool, true, false, List, [], length, slice_index, slice_index_or, All, count_by, Contains, is_some, Some, IsTrue, filter, get_or};
 ghost use Rattle.array_scan.specs.Kept.{ListedFile};
 ghost use Rattle.cauchy.specs.Matrix.{byte_of, parity_byte};
 ghost use Rattle.cauchy.specs.Recovery.{AreBytes, others_sum};
@@ -19,7 +19,6 @@ ghost use Rattle.snap_report.specs.declared.events.Event.TheVariants as event;
 ghost use Rattle.stripe_reader.specs.Columns.{folder_at};
 ghost use Rattle.stripe_reader.specs.Reading.{block_length};
 ghost use Rattle.stripe_reader.specs.Starts.{StartsValue};
-ghost use Rattle.stripe_reader.specs.declared.starts.Place.TheVariants as place;
 ghost use Rattle.file_restorer.specs.declared.finishing.Finish.{Finish};
 ghost use Rattle.stripe_examiner.specs.declared.scope.Mode.TheVariants as mode;
 ghost use Rattle.snap_fix.specs.Again.{IsFoundAgain, IsFoundIn, IsLookedAt};
@@ -33,13 +32,13 @@ ghost use Rattle.snap_fix.specs.Fixing.{facts_of};
 ghost use Rattle.snap_fix.specs.Found.{AreAllWritten, DifferInMode, IsNoneGone};
 ghost use Rattle.snap_fix.specs.Genuine.{AreGenuineOf, HasGenuineFacts, IsBlockIn, IsRestorableStripe, IsSameRow, TellsIntactLevels};
 ghost use Rattle.stripe_examiner.specs.Known.{AreFacts};
-ghost use Rattle.snap_fix.specs.Mended.{Mended, has_lost, is_repaired, is_wrong_level, writes_of};
+ghost use Rattle.snap_fix.specs.Mended.{Mended, has_lost, is_repaired, is_wrong_level};
 ghost use Rattle.stripe_examiner.specs.Showing.{block_or_none, known_block};
 ghost use Rattle.stripe_examiner.specs.Plan.{FixPlan, entry_at, is_audit, is_searched, starts_of, stripes_of};
 ghost use Rattle.stripe_examiner.specs.Restorable.{Accepts, AreBlocksOf, CanAccept, CandidatesAreGenuine, Follows, IsIntact, IsKnownBeside, IsLost, IsOneOf, IsRestorable, IsSnapshotOf, LostStripe, SearchFinds, SearchFindsNone, SomeAccepted, TellsIntact, row_with};
-ghost use Rattle.snap_fix.specs.Restored.{CanBeHad, HasFinished, HasFixed, HasFixedRecord, HoldsCell, IsDamagedCell, IsNotWritten, IsUnknownCell, LosesGenuine, RestoresGenuine, StandsRestored, StandsUnrecoverable};
+ghost use Rattle.snap_fix.specs.Restored.{CanBeHad, HasFinished, HasFixed, HasFixedRecord, HoldsCell, IsDamagedCell, IsNotWritten, IsUnknownCell, LosesGenuine, RestoresGenuine, StandsFinished};
 ghost use Rattle.stripe_examiner.specs.Search.{IsRightBlock, wanted_at};
-ghost use Rattle.file_restorer.specs.State.{IsNameOf, bytes_placed, has_some, place_in, record_path};
+ghost use Rattle.file_restorer.specs.State.{IsNameOf, bytes_placed, record_path};
 ghost use Rattle.snap_fix.specs.Stopped.{FixStop, IsCellSpared, IsNoneOf, IsStop, StandInPlace, StandsInCell, StandsSpared, file_placed, path_at, records_of};
 ghost use Rattle.snap_fix.specs.Underway.{HoldsWrong, IsMendedLevel, KeepsLevels};
 ghost use Rattle.snap_fix.specs.Windows.{AreWindows, FixWindow};
@@ -254,37 +253,14 @@ pub fn a_fix_leaves_the_rest()
         file_of (folder_at news d).tree name ≡ file_of (folder_at firsts d).tree name }
 {}
 
-/// How a fix finishes the file of a selected record that isn't blocked, where its folder tells its files. It stands under
-/// its path with its recorded size, if the record has no lost cell, and else has the name for that.
+/// How a fix finishes the file of a selected record that isn't blocked, where its folder tells its files. If no cell of it
+/// is lost, it stands under PATH with its recorded size and stamp, and else under PATH`.unrecoverable`.
 pub fn a_fix_finishes_files()
-    ensures whole { (plan : FixPlan) (starts : StartsValue) (stripes : List Mended)
+    ensures { (plan : FixPlan) (starts : StartsValue) (stripes : List Mended)
         (finishes : List (List Finish)) (firsts news : List FolderView) (d i : ℕ) →
-        HasFinished plan starts stripes finishes firsts news d i → has_lost plan stripes d i ≡ false →
-        StandsRestored (folder_at firsts d).keeps_stamps (record_at plan.table.columns d i).meta
-        (record_path (records_in plan.table d) i) (folder_at news d).tree }
-    // An older file under the name for a lost cell stays, unless it was in the place of the record.
-    ensures kept { (plan : FixPlan) (starts : StartsValue) (stripes : List Mended)
-        (finishes : List (List Finish)) (firsts news : List FolderView) (d i : ℕ) →
-        HasFinished plan starts stripes finishes firsts news d i → has_lost plan stripes d i ≡ false →
-        place_in (folder_at firsts d).tree (record_path (records_in plan.table d) i) ≡ place.Plain →
-        file_of (folder_at news d).tree (path_of (record_path (records_in plan.table d) i) true)
-        ≡ file_of (folder_at firsts d).tree (path_of (record_path (records_in plan.table d) i) true) }
-    ensures gone { (plan : FixPlan) (starts : StartsValue) (stripes : List Mended)
-        (finishes : List (List Finish)) (firsts news : List FolderView) (d i : ℕ) →
-        HasFinished plan starts stripes finishes firsts news d i → has_lost plan stripes d i ≡ false →
-        place_in (folder_at firsts d).tree (record_path (records_in plan.table d) i) ≡ place.Lost →
-        file_of (folder_at news d).tree (path_of (record_path (records_in plan.table d) i) true) ≡ None }
-    ensures renamed { (plan : FixPlan) (starts : StartsValue) (stripes : List Mended)
-        (finishes : List (List Finish)) (firsts news : List FolderView) (d i : ℕ) →
-        HasFinished plan starts stripes finishes firsts news d i → has_lost plan stripes d i ≡ true →
-        place_in (folder_at firsts d).tree (record_path (records_in plan.table d) i) ≡ place.Plain →
-        StandsUnrecoverable (record_path (records_in plan.table d) i) (folder_at news d).tree }
-    ensures nowhere { (plan : FixPlan) (starts : StartsValue) (stripes : List Mended)
-        (finishes : List (List Finish)) (firsts news : List FolderView) (d i : ℕ) (lost : Bool) →
-        HasFinished plan starts stripes finishes firsts news d i → has_lost plan stripes d i ≡ true →
-        place_in (folder_at firsts d).tree (record_path (records_in plan.table d) i) ≡ place.Nowhere →
-        has_some (writes_of plan stripes d i) ≡ false →
-        file_of (folder_at news d).tree (path_of (record_path (records_in plan.table d) i) lost) ≡ None }
+        HasFinished plan starts stripes finishes firsts news d i →
+        StandsFinished plan stripes d i (folder_at firsts d).keeps_stamps (folder_at firsts d).tree
+        (folder_at news d).tree }
 {}
 
 /// The stripes of a fix, and what was read of their levels, are cut into windows in one way. So the calls of the vault are one
@@ -295,8 +271,8 @@ pub fn a_fix_cuts_its_stripes_in_one_way()
         AreWindows plan windows stripes readings → AreWindows plan others stripes readings → windows ≡ others }
 {}
 
-/// An audit has no finding exactly where each selected record is listed as it was recorded, and each selected cell of the
-/// stripes was read, with the recorded hash. It tells nothing of parity.
+/// An audit has no finding exactly where each selected record is listed as it was recorded, no reading of a selected cell of
+/// the stripes failed, and each block that came has the recorded hash, if there is one. It tells nothing of parity.
 pub fn an_audit_finds_what_is_changed()
     ensures { (plan : FixPlan) (stripes : List StripeFacts) →
         plan.scope.mode ≡ mode.Audit → All (AreFacts plan) stripes →

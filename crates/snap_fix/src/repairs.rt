@@ -17,7 +17,7 @@ use crate::checks::FixEnd;
 use crate::ending::{finish_all, sync_levels};
 use crate::fixes::fix_stripes;
 use crate::fixing::Totals;
-use crate::plan::{Plan, Progress};
+use crate::plan::{Plan, Progress, Stretch, Task, Workspace};
 use disk_model::{Folder, NoMemory, Sink, Vault};
 use file_restorer::{FileState, States};
 use file_table::Table;
@@ -25,18 +25,16 @@ use snap_config::{Selection, Setup};
 use snap_report::{Lines, Report, RunFault};
 use std::alloc::Global;
 use std::thread::Threads;
-use stripe_examiner::{Counts, Entries, Mode, Room, Scope, Spare, tell_opening};
+use stripe_examiner::{Counts, Entries, Mode, Scope, Spare, tell_opening};
 use stripe_reader::{Start, Starts};
 
-/// What a fix works with: what it is for, what is known of the files, the stripes that are looked at, all memory that it
-/// needs, and how far it is.
+/// What a fix works with: what it is for, what is known of the files, the stripes that are looked at, and what it works in.
 #[derive(Drop)]
 pub(crate) struct Begun {
     pub scope: Scope,
     pub entries: Entries,
     pub stripes: Vec<u32>,
-    pub room: Room,
-    pub progress: Progress,
+    pub space: Workspace,
 }
 
 // The states of the files of a column when a fix begins.
@@ -95,6 +93,7 @@ fn begin_fix<F: Folder>(
     setup: &Setup,
     folders: &mut [F],
     table: &Table,
+    readers: u32,
 ) -> Result<Begun, RunFault>
     requires { (length folders.old ≡ length table.now.columns) × (length setup.now.disks ≡ length table.now.columns) }
     ensures begun { IfOk result (λ begun. BeginsFix selection.now (names_of (setup_value setup.now)) table.now begun
@@ -116,8 +115,11 @@ fn begin_fix<F: Folder>(
         scope,
         entries,
         stripes,
-        room,
-        progress,
+        space: Workspace {
+            room,
+            progress,
+            readers,
+        },
     })
 }
 
@@ -146,7 +148,6 @@ fn fix_begun<R: Threads + Sync, F: Folder, V: Vault, P: Spare, W: Sink>(
     rt: &R,
     table: &Table,
     begun: &mut Begun,
-    readers: u32,
     folders: &mut [F],
     vault: &mut V,
     spare: &mut P,
@@ -167,15 +168,14 @@ fn fix_begun<R: Threads + Sync, F: Folder, V: Vault, P: Spare, W: Sink>(
         entries: &begun.entries,
     };
     let stripes = begun.stripes.as_slice();
-    let (room, progress) = (&mut begun.room, &mut begun.progress);
+    let stretch = Stretch { plan, stripes };
+    let space = &mut begun.space;
     let opening = tell_opening(plan.scope, table, plan.entries, lines, reports);
-    let totals = fix_stripes(
-        rt, &plan, stripes, readers, room, progress, folders, vault, spare, lines, reports,
-    )?;
-    if sync_levels(progress.written.as_slice(), vault).is_err() {
+    let totals = fix_stripes(rt, &stretch, space, folders, vault, spare, lines, reports)?;
+    if sync_levels(space.progress.written.as_slice(), vault).is_err() {
         return Err(RunFault::Vault);
     }
-    let news = match finish_all(&plan, progress, folders, lines, reports) {
+    let news = match finish_all(&plan, &mut space.progress, folders, lines, reports) {
         Ok(news) => news,
         Err(disk) => return Err(RunFault::Folder { disk }),
     };
@@ -189,31 +189,27 @@ fn fix_begun<R: Threads + Sync, F: Folder, V: Vault, P: Spare, W: Sink>(
 pub(crate) fn fix<R: Threads + Sync, F: Folder, V: Vault, P: Spare, W: Sink>(
     rt: &R,
     alloc: Global,
-    selection: &Selection,
-    setup: &Setup,
+    task: &Task<'_>,
     folders: &mut [F],
     vault: &mut V,
     spare: &mut P,
-    readers: u32,
-    table: &Table,
-    reports: &mut Vec<Box<dyn Report>>,
     lines: &mut Lines<'_, W>,
+    reports: &mut Vec<Box<dyn Report>>,
 ) -> Result<FixEnd, RunFault>
-    requires array { IsArray table.now (length setup.now.disks)
+    requires array { IsArray task.now.table.now (length task.now.setup.now.disks)
         (map F.view folders.old) (V.view vault.old) (P.holding spare.old) }
-    requires open { AreOpen table.now (map F.view folders.old) }
+    requires open { AreOpen task.now.table.now (map F.view folders.old) }
     ensures fixes { IfOk result (Fixes W.view standing stands
-        Mode.Fix selection.now (names_of (setup_value setup.now)) table.now
+        Mode.Fix task.now.selection.now (names_of (setup_value task.now.setup.now)) task.now.table.now
         (outside (map F.view folders.old) (V.view vault.old) (P.holding spare.old) lines.old reports.old.items)
         (outside (map F.view folders.new) (V.view vault.new) (P.holding spare.new) lines.new reports.new.items)) }
     ensures failed { IfErr result (FixesNot W.view standing stands
-        Mode.Fix selection.now (names_of (setup_value setup.now)) table.now
+        Mode.Fix task.now.selection.now (names_of (setup_value task.now.setup.now)) task.now.table.now
         (outside (map F.view folders.old) (V.view vault.old) (P.holding spare.old) lines.old reports.old.items)
         (outside (map F.view folders.new) (V.view vault.new) (P.holding spare.new) lines.new reports.new.items)
         ((vault.new ≡ vault.old) × (spare.new ≡ spare.old) × (lines.new ≡ lines.old) × (reports.new ≡ reports.old))) }
 {
-    let mut begun = begin_fix(alloc, selection, setup, folders, table)?;
-    fix_begun(
-        rt, table, &mut begun, readers, folders, vault, spare, lines, reports,
-    )
+    let (selection, setup, table) = (task.selection, task.setup, task.table);
+    let mut begun = begin_fix(alloc, selection, setup, folders, table, task.readers)?;
+    fix_begun(rt, table, &mut begun, folders, vault, spare, lines, reports)
 }

@@ -86,12 +86,18 @@ fn is_repaired(plan: &Plan<'_>, one: &Examined<'_>, d: u32, cell: Cell, mark: Ce
         && !plan.entries.at(d, cell.rec).blocked
 }
 
+// A cell, and the stripe and the column where it stands.
+#[derive(Clone, Copy)]
+struct Spot {
+    stripe: u32,
+    disk: u32,
+    cell: Cell,
+}
+
 // Writes the block of a cell and tells it. Where its file is gone, the cell is lost, and that is told.
 fn write_cell<F: Folder, W: Sink>(
     table: &Table,
-    stripe: u32,
-    d: u32,
-    cell: Cell,
+    at: Spot,
     bytes: &[u8],
     starts: &mut Starts,
     states: &mut States,
@@ -99,29 +105,30 @@ fn write_cell<F: Folder, W: Sink>(
     lines: &mut Lines<'_, W>,
     reports: &mut Vec<Box<dyn Report>>,
 ) -> Result<Repaired, Failed>
-    requires can { CanWrite table.now d cell bytes.now starts.old states.old (F.view folder.old) }
-    ensures written { IfOk result (WritesBlockOf W.view standing stands table.now stripe d cell bytes.now
+    requires can { CanWrite table.now at.disk at.cell bytes.now starts.old states.old (F.view folder.old) }
+    ensures written { IfOk result (WritesBlockOf W.view standing stands table.now at.stripe at.disk at.cell bytes.now
         (column_outside starts.old states.old (F.view folder.old) lines.old reports.old.items)
         (column_outside starts.new states.new (F.view folder.new) lines.new reports.new.items)) }
-    ensures failed { IfErr result (λ _. WritesNotBlockOf W.view standing stands table.now d cell bytes.now
+    ensures failed { IfErr result (λ _. WritesNotBlockOf W.view standing stands table.now at.disk at.cell bytes.now
         (column_outside starts.old states.old (F.view folder.old) lines.old reports.old.items)
         (column_outside starts.new states.new (F.view folder.new) lines.new reports.new.items)) }
 {
-    let written = mend_cell(table, d, cell, bytes, starts, states, folder)?;
+    let (stripe, disk, cell) = (at.stripe, at.disk, at.cell);
+    let written = mend_cell(table, disk, cell, bytes, starts, states, folder)?;
     if written {
         let event = Event::Fixed {
             stripe,
-            disk: d,
+            disk,
             rec: cell.rec,
             index: cell.index,
         };
         tell(reports, lines, table, &event);
         return Ok(Repaired::WRITTEN);
     }
-    lose(states, d, cell.rec);
+    lose(states, disk, cell.rec);
     let event = Event::Lost {
         stripe,
-        disk: d,
+        disk,
         rec: cell.rec,
         index: cell.index,
     };
@@ -165,7 +172,9 @@ pub(super) fn mend_column<F: Folder, W: Sink>(
         return Ok(Repaired::NONE);
     }
     let bytes = cell_bytes(one.window, one.slot, d);
+    let (stripe, disk) = (one.stripe, d);
+    let at = Spot { stripe, disk, cell };
     write_cell(
-        plan.table, one.stripe, d, cell, bytes, starts, states, folder, lines, reports,
+        plan.table, at, bytes, starts, states, folder, lines, reports,
     )
 }

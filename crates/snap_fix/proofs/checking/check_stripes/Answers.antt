@@ -20,11 +20,11 @@ loop-done-init g c = record {
 
 pub check_window-more-requires-clause-spare : goal.check_window-more-requires-clause-spare
 check_window-more-requires-clause-spare g c = λ lifetimes outlive.
-    is_for_still c.args.table.now.shape (g.P.Spare.holding c.args.spare.now) (g.P.Spare.holding c.loop-done.spare) c.loop-done.invariant.looks.spare.same c.requires.spare
+    is_for_still c.args.task.now.table.now.shape (g.P.Spare.holding c.args.spare.now) (g.P.Spare.holding c.loop-done.spare) c.loop-done.invariant.looks.spare.same c.requires.spare
 
 pub loop-done-preserved : goal.loop-done-preserved
 loop-done-preserved g c =
-    let table = c.args.table.now in
+    let table = c.args.task.now.table.now in
     let first = c.args.work.now in
     let so_far = c.loop-done.invariant in
     let work = c.loop-done.work in

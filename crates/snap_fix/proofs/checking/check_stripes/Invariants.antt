@@ -9,14 +9,14 @@ invariant-loop-done g l =
     record {
       stripes : List StripeFacts;
       numbers : numbers_of stripes ≡ take l.done l.fn.work.stripes.items;
-      read : AreRead (plan_for l.table l.fn.work) l.fn.work.starts stripes (map g.F.Folder.view l.fn.folders) (map g.F.Folder.view l.folders);
+      read : AreRead (plan_for l.task.table.now l.fn.work) l.fn.work.starts stripes (map g.F.Folder.view l.fn.folders) (map g.F.Folder.view l.folders);
       looks : LooksAt g.W.Sink.view (λ b. (goal.Report-dyn g (b.vtable, b.value)).standing b.value) (λ b. (goal.Report-dyn g (b.vtable, b.value)).stands b.value)
-          (plan_for l.table l.fn.work) stripes l.counts
+          (plan_for l.task.table.now l.fn.work) stripes l.counts
           (scene (g.V.Vault.view l.fn.vault) (g.P.Spare.holding l.fn.spare) l.fn.lines l.fn.reports.items) (scene (g.V.Vault.view l.vault) (g.P.Spare.holding l.spare) l.lines l.reports.items);
       within : l.done ≤ length l.fn.work.stripes.items;
-      kept : KeepsWork l.table l.fn.work l.work;
-      folders : length l.folders ≡ length l.table.columns;
-      levels : (g.V.Vault.view l.vault).levels ≡ l.table.shape.levels;
+      kept : KeepsWork l.task.table.now l.fn.work l.work;
+      folders : length l.folders ≡ length l.task.table.now.columns;
+      levels : (g.V.Vault.view l.vault).levels ≡ l.task.table.now.shape.levels;
     }
 
 abbrev pub decreases-loop-done : goal.decreases-loop-done

@@ -15,9 +15,9 @@ tell_window-requires-clause-count g c =
 pub tell_window-requires-clause-can : goal.tell_window-requires-clause-can
 tell_window-requires-clause-can g c k other below =
     let ex = c.examine_window.ensures in
-    let plan = plan_of c.args.work.now.scope c.args.table.now c.args.work.now.entries in
+    let plan = plan_of c.args.work.now.scope c.args.next.now.table.now c.args.work.now.entries in
     let after = c.examine_window.new.room in
-    let numbers = take (c.args.done + c.args.count - c.args.done) (drop c.args.done c.deref.result.now) in
+    let numbers = take (c.args.next.now.first + c.args.next.now.count - c.args.next.now.first) (drop c.args.next.now.first c.deref.result.now) in
     let rooms = after.stripes.items in
     let shown : AreShown plan ex.stripes numbers after.window rooms = record { numbers_are = ex.numbers_are; each = ex.each } in
     let within : k < length ex.stripes = omega (arith, below, as_many_shown plan ex.stripes numbers after.window rooms shown) in
@@ -28,14 +28,14 @@ tell_window-requires-clause-can g c k other below =
 pub returns-clause-checks : goal.returns-clause-checks
 returns-clause-checks g c =
     let ex = c.examine_window.ensures in
-    let table = c.args.table.now in
+    let table = c.args.next.now.table.now in
     let work = c.args.work.now in
     let plan = plan_of work.scope table work.entries in
     let after = c.examine_window.new.room in
-    let numbers = take (c.args.done + c.args.count - c.args.done) (drop c.args.done c.deref.result.now) in
-    let real : c.args.done + c.args.count - c.args.done ≡ c.args.count = omega arith in
-    let same : numbers ≡ take c.args.count (drop c.args.done work.stripes.items) =
-    ap (λ (n : ℕ). take n (drop c.args.done c.deref.result.now)) real ∙ ap (λ (xs : List ℕ). take c.args.count (drop c.args.done xs)) c.deref.ensures.value in
+    let numbers = take (c.args.next.now.first + c.args.next.now.count - c.args.next.now.first) (drop c.args.next.now.first c.deref.result.now) in
+    let real : c.args.next.now.first + c.args.next.now.count - c.args.next.now.first ≡ c.args.next.now.count = omega arith in
+    let same : numbers ≡ take c.args.next.now.count (drop c.args.next.now.first work.stripes.items) =
+    ap (λ (n : ℕ). take n (drop c.args.next.now.first c.deref.result.now)) real ∙ ap (λ (xs : List ℕ). take c.args.next.now.count (drop c.args.next.now.first xs)) c.deref.ensures.value in
     let shown : AreShown plan ex.stripes numbers after.window c.deref-2.result.now =
     subst (λ (rooms : List StripeRoom). AreShown plan ex.stripes numbers after.window rooms) (sym c.deref-2.ensures.value)
     (record { numbers_are = ex.numbers_are; each = ex.each }) in

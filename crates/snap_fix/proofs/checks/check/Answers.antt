@@ -18,7 +18,7 @@ check_stripes-stripes-requires-clause-work g c κs within = work_begun _ _ _ _ _
 pub returns-clause-checks : goal.returns-clause-checks
 returns-clause-checks g c =
     let begun = c.in_ok-work.ensures.begun in
-    let table = c.args.table.now in
+    let table = c.args.task.now.table.now in
     let plan = plan_for table c.in_ok-work.work in
     let checks = c.check_stripes-stripes.ensures.checks in
     let told = told_then _ _ _ table.columns (opening_events plan) (events_of plan checks.stripes) _ _ _ _ _ _ c.tell_opening-opening.ensures.told checks.looks.told in

@@ -11,7 +11,7 @@ use Rattle.snap_fix.proofs.fixes.fix_into.Goals as goal
 
 pub loop-i-init : goal.loop-i-init
 loop-i-init g c = record {
-  mends = λ all spare shows is_for. into_none _ _ _ (seen c.args.plan.now) _ _
+  mends = λ all spare shows is_for. into_none _ _ _ (seen c.args.stretch.now.plan) _ _
       (fits_with _ _ _ _ _ _ nothing spare _ _ c.requires.fits is_for) (record { counts = record { found = refl; left = refl }; blocks = refl; parities = refl });
   block = refl;
 }
@@ -25,7 +25,7 @@ fix_stripe-requires-clause-underway g c κs within =
 
 pub loop-i-preserved : goal.loop-i-preserved
 loop-i-preserved g c =
-    let plan = seen c.args.plan.now in
+    let plan = seen c.args.stretch.now.plan in
     let i = c.loop-i.i in
     let own = c.index-rooms-i.result in
     record {
@@ -43,7 +43,7 @@ loop-i-preserved g c =
 
 pub returns-in_err-more-clause-broke : goal.returns-in_err-more-clause-broke
 returns-in_err-more-clause-broke g c =
-    let plan = seen c.args.plan.now in
+    let plan = seen c.args.stretch.now.plan in
     let i = c.loop-i.i in
     let own = c.index-rooms-i.result in
     let fault = c.in_err-more.field-0.0 in
@@ -60,7 +60,7 @@ returns-in_err-more-clause-broke g c =
 
 pub returns-clause-fixed : goal.returns-clause-fixed
 returns-clause-fixed g c all spare shows is_for =
-    let plan = seen c.args.plan.now in
+    let plan = seen c.args.stretch.now.plan in
     let i = c.loop-i.i in
     let old = fix_scene c.args.progress.now.starts c.args.progress.now.states c.args.progress.now.written.items (map g.F.Folder.view c.args.folders.now) (g.V.Vault.view c.args.vault.now) spare c.args.lines.now c.args.reports.now.items in
     let mid = fix_scene c.loop-i.progress.starts c.loop-i.progress.states c.loop-i.progress.written.items (map g.F.Folder.view c.loop-i.folders) (g.V.Vault.view c.loop-i.vault) spare c.loop-i.lines c.loop-i.reports.items in

@@ -32,11 +32,11 @@ same_window numbers done count = ap (λ (n : ℕ). take n (drop done numbers)) (
 
 pub fix_window-requires-clause-can : goal.fix_window-requires-clause-can
 fix_window-requires-clause-can g c κs within =
-    let stripes = c.args.stripes.now in
+    let stripes = c.args.stretch.now.stripes.now in
     let so_far = c.loop-done.invariant in
     let done = c.loop-done.done in
     let count = c.min-count.result in
-    let P : ℕ → Type 0 = λ (stripe : ℕ). stripe < length c.args.plan.now.table.now.infos in
+    let P : ℕ → Type 0 = λ (stripe : ℕ). stripe < length c.args.stretch.now.plan.table.now.infos in
     record {
       entries = c.requires.can.entries;
       starts_fit = so_far.fixed.fixes.mends.fits.starts;
@@ -47,7 +47,7 @@ fix_window-requires-clause-can g c κs within =
 
 pub fix_window-requires-clause-stripes : goal.fix_window-requires-clause-stripes
 fix_window-requires-clause-stripes g c κs within =
-    let stripes = c.args.stripes.now in
+    let stripes = c.args.stretch.now.stripes.now in
     let done = c.loop-done.done in
     let count = c.min-count.result in
     let some = c.loop-done.invariant.room.some in (
@@ -60,15 +60,15 @@ fix_window-requires-clause-underway g c κs within = still_underway _ _ _ _ _ _ 
 
 pub returns-in_err-more-clause-broke : goal.returns-in_err-more-clause-broke
 returns-in_err-more-clause-broke g c =
-    let plan = seen c.args.plan.now in
-    let stripes = c.args.stripes.now in
-    let first = c.args.progress.now in
+    let plan = seen c.args.stretch.now.plan in
+    let stripes = c.args.stretch.now.stripes.now in
+    let first = c.args.space.now.progress in
     let so_far = c.loop-done.invariant in
-    let now = c.loop-done.progress in
+    let now = c.loop-done.space.progress in
     let old = fix_scene first.starts first.states first.written.items (map g.F.Folder.view c.args.folders.now) (g.V.Vault.view c.args.vault.now) (g.P.Spare.holding c.args.spare.now) c.args.lines.now c.args.reports.now.items in
     let mid = fix_scene now.starts now.states now.written.items (map g.F.Folder.view c.loop-done.folders) (g.V.Vault.view c.loop-done.vault) (g.P.Spare.holding c.loop-done.spare) c.loop-done.lines c.loop-done.reports.items in
     let it = c.fix_window.new in
-    let new = fix_scene it.progress.starts it.progress.states it.progress.written.items (map g.F.Folder.view it.folders) (g.V.Vault.view it.vault) (g.P.Spare.holding it.spare) it.lines it.reports.items in
+    let new = fix_scene it.space.progress.starts it.space.progress.states it.space.progress.written.items (map g.F.Folder.view it.folders) (g.V.Vault.view it.vault) (g.P.Spare.holding it.spare) it.lines it.reports.items in
     let fault = c.in_err-more.field-0.0 in
     let window = c.in_err-more.ensures.broke in
     let done = c.loop-done.done in
@@ -76,11 +76,11 @@ returns-in_err-more-clause-broke g c =
     let numbers = take ((done + count) - done) (drop done stripes) in
     let long = length stripes in
     let below : done < long = c.loop-done-test.true in
-    let room : c.loop-done.room.window.room ≡ window_size plan = so_far.room.just in
+    let room : c.loop-done.space.room.window.room ≡ window_size plan = so_far.room.just in
     let count_is : count ≡ min (long - done) (window_size plan) = omega (arith, room, c.min-count.ensures) in
     let many : length numbers ≡ count = many_in stripes done count (omega (arith, count_is, below)) in
     handed_on c.from_residual.result (BreaksStripes _ _ _ plan stripes old new) fault c.from_residual.ensures.1
-    (stripes_break _ _ _ plan numbers c.loop-done.room.window window.window mid window.mids window.read so_far.fixed.fixes.mends.fits (take done stripes) c.loop-done.totals old so_far.fixed new fault
+    (stripes_break _ _ _ plan numbers c.loop-done.space.room.window window.window mid window.mids window.read so_far.fixed.fixes.mends.fits (take done stripes) c.loop-done.totals old so_far.fixed new fault
     window.breaks stripes done count so_far.within (so_far.fill below) many (omega (arith, count_is)) (takes_all long done (window_size plan) count below count_is) c.requires.can.ascending refl
     (same_window stripes done count) c.requires.fits)
 
@@ -91,11 +91,11 @@ not_all long done count further (inr full) = full
 
 pub loop-done-preserved : goal.loop-done-preserved
 loop-done-preserved g c =
-    let plan = seen c.args.plan.now in
-    let stripes = c.args.stripes.now in
-    let first = c.args.progress.now in
+    let plan = seen c.args.stretch.now.plan in
+    let stripes = c.args.stretch.now.stripes.now in
+    let first = c.args.space.now.progress in
     let so_far = c.loop-done.invariant in
-    let now = c.loop-done.progress in
+    let now = c.loop-done.space.progress in
     let done = c.loop-done.done in
     let count = c.min-count.result in
     let window = c.in_ok-more.ensures.fixed in
@@ -103,12 +103,12 @@ loop-done-preserved g c =
     let old = fix_scene first.starts first.states first.written.items (map g.F.Folder.view c.args.folders.now) (g.V.Vault.view c.args.vault.now) (g.P.Spare.holding c.args.spare.now) c.args.lines.now c.args.reports.now.items in
     let mid = fix_scene now.starts now.states now.written.items (map g.F.Folder.view c.loop-done.folders) (g.V.Vault.view c.loop-done.vault) (g.P.Spare.holding c.loop-done.spare) c.loop-done.lines c.loop-done.reports.items in
     let it = c.fix_window.new in
-    let new = fix_scene it.progress.starts it.progress.states it.progress.written.items (map g.F.Folder.view it.folders) (g.V.Vault.view it.vault) (g.P.Spare.holding it.spare) it.lines it.reports.items in
+    let new = fix_scene it.space.progress.starts it.space.progress.states it.space.progress.written.items (map g.F.Folder.view it.folders) (g.V.Vault.view it.vault) (g.P.Spare.holding it.spare) it.lines it.reports.items in
     let long = length stripes in
     let below : done < long = c.loop-done-test.true in
-    let room : c.loop-done.room.window.room ≡ window_size plan = so_far.room.just in
+    let room : c.loop-done.space.room.window.room ≡ window_size plan = so_far.room.just in
     let count_is : count ≡ min (long - done) (window_size plan) = omega (arith, room, c.min-count.ensures) in
-    let more = stripes_more _ _ _ plan numbers c.loop-done.room.window window.window mid window.mids window.read so_far.fixed.fixes.mends.fits stripes done count so_far.within (so_far.fill below)
+    let more = stripes_more _ _ _ plan numbers c.loop-done.space.room.window window.window mid window.mids window.read so_far.fixed.fixes.mends.fits stripes done count so_far.within (so_far.fill below)
     c.requires.can.ascending (same_window stripes done count) c.loop-done.totals c.in_ok-more.more c.and-totals.result old new so_far.fixed window.fixes (c.and-totals.ensures plan) in
     record {
       fixed = more;

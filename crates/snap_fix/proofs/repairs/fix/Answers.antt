@@ -6,8 +6,8 @@ use Rattle.snap_fix.proofs.repairs.fix.Goals as goal
 
 pub fix_begun-requires-after_bounds : goal.fix_begun-requires-after_bounds
 fix_begun-requires-after_bounds g c κs within = record {
-  selection = c.args.selection.now;
-  names = names_of (setup_value c.args.setup.now);
+  selection = c.args.task.now.selection.now;
+  names = names_of (setup_value c.args.task.now.setup.now);
   olds = map g.F.Folder.view c.args.folders.now;
   began = record { begins = c.in_ok-begun.ensures.begun; folders_are = c.requires.array.folders_are; were_open = c.requires.open };
   levels = c.requires.array.levels;
@@ -16,10 +16,10 @@ fix_begun-requires-after_bounds g c κs within = record {
 
 pub returns-clause-fixes : goal.returns-clause-fixes
 returns-clause-fixes g c =
-    if_ok c.fix_begun.result _ _ (λ end fixes. fixes c.args.selection.now (names_of (setup_value c.args.setup.now)) (map g.F.Folder.view c.args.folders.now)
+    if_ok c.fix_begun.result _ _ (λ end fixes. fixes c.args.task.now.selection.now (names_of (setup_value c.args.task.now.setup.now)) (map g.F.Folder.view c.args.folders.now)
     (record { begins = c.in_ok-begun.ensures.begun; folders_are = c.requires.array.folders_are; were_open = c.requires.open })) c.fix_begun.ensures.fixes
 
 pub returns-clause-failed : goal.returns-clause-failed
 returns-clause-failed g c =
-    if_err c.fix_begun.result _ _ (λ fault broke. inr (broke c.args.selection.now (names_of (setup_value c.args.setup.now)) (map g.F.Folder.view c.args.folders.now)
+    if_err c.fix_begun.result _ _ (λ fault broke. inr (broke c.args.task.now.selection.now (names_of (setup_value c.args.task.now.setup.now)) (map g.F.Folder.view c.args.folders.now)
     (record { begins = c.in_ok-begun.ensures.begun; folders_are = c.requires.array.folders_are; were_open = c.requires.open }))) c.fix_begun.ensures.broke

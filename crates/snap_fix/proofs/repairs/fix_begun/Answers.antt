@@ -72,7 +72,7 @@ pub fix_stripes-requires-clause-fits : goal.fix_stripes-requires-clause-fits
 fix_stripes-requires-clause-fits g c κs within =
     let begins = c.requires.began.begins.begins in
     let first = c.requires.began.begins.first in
-    let progress = c.args.begun.now.progress in
+    let progress = c.args.begun.now.space.progress in
     let fit = work_begun _ _ _ _ _ _ _ begins in
     record {
       folders = begins.as_many ∙ c.requires.began.folders_are;
@@ -90,7 +90,7 @@ fix_stripes-requires-clause-underway g c κs within =
       stripes = [];
       firsts = map g.F.Folder.view c.args.folders.now;
       fixable = fixable_from g.F.Folder.view g.F.Folder.well_formed has.selection has.names c.args.table.now c.args.begun.now has.olds c.args.folders.now has.began;
-      underway = work_underway _ _ _ _ _ _ _ has.began.begins.begins has.began.folders_are c.args.begun.now.progress.states has.began.begins.first.states;
+      underway = work_underway _ _ _ _ _ _ _ has.began.begins.begins has.began.folders_are c.args.begun.now.space.progress.states has.began.begins.first.states;
     }
 
 pub returns-in_err-totals-clause-broke : goal.returns-in_err-totals-clause-broke
@@ -104,8 +104,8 @@ returns-in_err-totals-clause-broke g c =
     let old = outside olds (g.V.Vault.view c.args.vault.now) (g.P.Spare.holding c.args.spare.now) c.args.lines.now c.args.reports.now.items in
     let fixable = fixable_from g.F.Folder.view g.F.Folder.well_formed selection names table began olds c.args.folders.now is in
     stripes_broke _ _ _ Fix selection names table is.begins.first.valid (work_of began) old (map g.F.Folder.view c.args.folders.now) is.begins.begins is.folders_are fixable
-    began.progress.states is.begins.first.states opened.new.lines opened.new.reports.items opened.ensures.told
-    began.progress.written.items mid.progress.starts mid.progress.states mid.progress.written.items (map g.F.Folder.view mid.folders) (g.V.Vault.view mid.vault) (g.P.Spare.holding mid.spare) mid.lines mid.reports.items
+    began.space.progress.states is.begins.first.states opened.new.lines opened.new.reports.items opened.ensures.told
+    began.space.progress.written.items mid.space.progress.starts mid.space.progress.states mid.space.progress.written.items (map g.F.Folder.view mid.folders) (g.V.Vault.view mid.vault) (g.P.Spare.holding mid.spare) mid.lines mid.reports.items
     fault (broken_for _ _ _ (plan_for table (work_of began)) _ _ _ _ fault c.as_slice-stripes.ensures.value c.in_err-totals.ensures.broke))
 
 pub returns-then-is_err-clause-broke : goal.returns-then-is_err-clause-broke
@@ -117,10 +117,10 @@ returns-then-is_err-clause-broke g c selection names olds is =
     let old = outside olds (g.V.Vault.view c.args.vault.now) (g.P.Spare.holding c.args.spare.now) c.args.lines.now c.args.reports.now.items in
     let fixable = fixable_from g.F.Folder.view g.F.Folder.well_formed selection names table began olds c.args.folders.now is in
     sync_broke _ _ _ Fix selection names table is.begins.first.valid (work_of began) old (map g.F.Folder.view c.args.folders.now) is.begins.begins is.folders_are fixable
-    began.progress.states is.begins.first.states opened.new.lines opened.new.reports.items opened.ensures.told
-    began.progress.written.items mid.progress.starts mid.progress.states mid.progress.written.items (map g.F.Folder.view mid.folders) (g.V.Vault.view mid.vault) (g.P.Spare.holding mid.spare) mid.lines mid.reports.items
+    began.space.progress.states is.begins.first.states opened.new.lines opened.new.reports.items opened.ensures.told
+    began.space.progress.written.items mid.space.progress.starts mid.space.progress.states mid.space.progress.written.items (map g.F.Folder.view mid.folders) (g.V.Vault.view mid.vault) (g.P.Spare.holding mid.spare) mid.lines mid.reports.items
     c.in_ok-totals.totals (fixed_for _ _ _ (plan_for table (work_of began)) _ _ _ _ c.in_ok-totals.totals c.as_slice-stripes.ensures.value c.in_ok-totals.ensures.fixed) (g.V.Vault.view c.sync_levels.new.vault)
-    c.as_slice.result.now c.as_slice.ensures.value (as_many table began.progress is.begins.first) (none_set table began.progress is.begins.first)
+    c.as_slice.result.now c.as_slice.ensures.value (as_many table began.space.progress is.begins.first) (none_set table began.space.progress is.begins.first)
     (at_err c.sync_levels.result _ (sym c.is_err.ensures.value ∙ c.if-is_err.true) c.sync_levels.ensures.failed)
 
 pub finish_all-requires-after_bounds : goal.finish_all-requires-after_bounds
@@ -133,9 +133,9 @@ finish_all-requires-after_bounds g c κs within =
     let mid = c.fix_stripes.new in
     let fixed = c.in_ok-totals.ensures.fixed in
     let fixable = fixable_from g.F.Folder.view g.F.Folder.well_formed has.selection has.names table began has.olds c.args.folders.now is in
-    let first = work_underway _ _ _ _ _ _ _ is.begins.begins is.folders_are began.progress.states is.begins.first.states in
+    let first = work_underway _ _ _ _ _ _ _ is.begins.begins is.folders_are began.space.progress.states is.begins.first.states in
     let fits = fixed.fixes.mends.fits in
-    can_finish (plan_for table (work_of began)) is.begins.first.valid fixed.stripes mids (map g.F.Folder.view mid.folders) mid.progress.starts mid.progress.states fixable
+    can_finish (plan_for table (work_of began)) is.begins.first.valid fixed.stripes mids (map g.F.Folder.view mid.folders) mid.space.progress.starts mid.space.progress.states fixable
     (fixed.fixes.mends.underway [] mids fixable first)
     (work_listed _ _ _ _ _ _ _ is.begins.begins is.folders_are) fits.folders (entries_begun _ _ _ _ _ _ _ is.begins.begins) fits.starts fits.states
 
@@ -149,12 +149,12 @@ returns-in-Err-clause-broke g c selection names olds is =
     let old = outside olds (g.V.Vault.view c.args.vault.now) (g.P.Spare.holding c.args.spare.now) c.args.lines.now c.args.reports.now.items in
     let fixable = fixable_from g.F.Folder.view g.F.Folder.well_formed selection names table began olds c.args.folders.now is in
     finish_broke _ _ _ Fix selection names table is.begins.first.valid (work_of began) old (map g.F.Folder.view c.args.folders.now) is.begins.begins is.folders_are fixable
-    began.progress.states is.begins.first.states opened.new.lines opened.new.reports.items opened.ensures.told
-    began.progress.written.items mid.progress.starts mid.progress.states mid.progress.written.items (map g.F.Folder.view mid.folders) (g.V.Vault.view mid.vault) (g.P.Spare.holding mid.spare) mid.lines mid.reports.items
+    began.space.progress.states is.begins.first.states opened.new.lines opened.new.reports.items opened.ensures.told
+    began.space.progress.written.items mid.space.progress.starts mid.space.progress.states mid.space.progress.written.items (map g.F.Folder.view mid.folders) (g.V.Vault.view mid.vault) (g.P.Spare.holding mid.spare) mid.lines mid.reports.items
     c.in_ok-totals.totals (fixed_for _ _ _ (plan_for table (work_of began)) _ _ _ _ c.in_ok-totals.totals c.as_slice-stripes.ensures.value c.in_ok-totals.ensures.fixed) (g.V.Vault.view c.sync_levels.new.vault)
     c.as_slice.result.now (at_ok c.sync_levels.result _ (sym c.is_err.ensures.value ∙ c.if-is_err.false) c.sync_levels.ensures.synced)
     done.progress.starts done.progress.states (map g.F.Folder.view done.folders) done.lines done.reports.items
-    (g.V.Vault.well_formed c.sync_levels.new.vault) c.as_slice.ensures.value (as_many table began.progress is.begins.first) (none_set table began.progress is.begins.first)
+    (g.V.Vault.well_formed c.sync_levels.new.vault) c.as_slice.ensures.value (as_many table began.space.progress is.begins.first) (none_set table began.space.progress is.begins.first)
     c.in-Err.disk _ refl c.in-Err.ensures.failed
 
 pub returns-clause-fixes : goal.returns-clause-fixes
@@ -169,11 +169,11 @@ returns-clause-fixes g c selection names olds is =
     let fixable = fixable_from g.F.Folder.view g.F.Folder.well_formed selection names table began olds c.args.folders.now is in
     subst (Fixes _ _ _ Fix selection names table old new) (sym c.end_with.ensures.end)
     (fixes _ _ _ Fix selection names table is.begins.first.valid (work_of began) old (map g.F.Folder.view c.args.folders.now) is.begins.begins is.folders_are fixable
-    began.progress.states is.begins.first.states opened.new.lines opened.new.reports.items opened.ensures.told
-    began.progress.written.items mid.progress.starts mid.progress.states mid.progress.written.items (map g.F.Folder.view mid.folders) (g.V.Vault.view mid.vault) (g.P.Spare.holding mid.spare) mid.lines mid.reports.items
+    began.space.progress.states is.begins.first.states opened.new.lines opened.new.reports.items opened.ensures.told
+    began.space.progress.written.items mid.space.progress.starts mid.space.progress.states mid.space.progress.written.items (map g.F.Folder.view mid.folders) (g.V.Vault.view mid.vault) (g.P.Spare.holding mid.spare) mid.lines mid.reports.items
     c.in_ok-totals.totals (fixed_for _ _ _ (plan_for table (work_of began)) _ _ _ _ c.in_ok-totals.totals c.as_slice-stripes.ensures.value c.in_ok-totals.ensures.fixed) (g.V.Vault.view c.sync_levels.new.vault)
     c.as_slice.result.now (at_ok c.sync_levels.result _ (sym c.is_err.ensures.value ∙ c.if-is_err.false) c.sync_levels.ensures.synced)
     done.progress.starts done.progress.states (map g.F.Folder.view done.folders) done.lines done.reports.items
-    (g.V.Vault.well_formed c.sync_levels.new.vault) c.as_slice.ensures.value (as_many table began.progress is.begins.first) (none_set table began.progress is.begins.first)
+    (g.V.Vault.well_formed c.sync_levels.new.vault) c.as_slice.ensures.value (as_many table began.space.progress is.begins.first) (none_set table began.space.progress is.begins.first)
     opened.result c.in-Ok.news c.and.result c.and-counts.result c.end_with.new.lines _ refl c.in-Ok.ensures.finished
     opened.ensures.counts c.and.ensures c.and-counts.ensures c.end_with.ensures.puts c.end_with.ensures.settled)
