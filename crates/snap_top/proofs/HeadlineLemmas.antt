@@ -14,8 +14,8 @@ use Rattle.snap_sync.specs.Part.{AllTell, tree_at, trees_of, SyncRun, IsToldRun}
 use Rattle.stripe_reader.specs.Columns.{folder_at}
 use Rattle.snap_top.specs.Ended.{has_ended}
 use Rattle.snap_top.specs.Headline.{ArrivesAtItsEnd, FixesAreResumed, FixesSpare, GoesOn, LeavesCopies, Headline, IsQuiet, IsSoundStanding, SyncsLast}
-use Rattle.snap_top.specs.History.{synced_by, LastSynced}
-use Rattle.snap_top.specs.Fix.{FixRun}
+use Rattle.snap_top.specs.History.{AreSoundBy, synced_by, LastSynced}
+use Rattle.snap_top.specs.Fix.{FixRun, MayStandFixed}
 use Rattle.snap_top.specs.NextFix.{IsNextFix}
 use Rattle.snap_top.specs.Undamaged.{HasEnough}
 use Rattle.snap_top.specs.Moment.{AreOfRun, IsFixOf, IsDidOf, IsSoundAlways, EndsInPart}
@@ -25,12 +25,14 @@ use Rattle.snap_top.specs.Resumed.{RunOf}
 use Rattle.snap_top.specs.Run.{Entry, Exit}
 use Rattle.snap_top.specs.Spared.{SparesBy, SparesCells}
 use Rattle.snap_top.specs.Stopping.{FindsNoLess, FolderStandsIn, SparesFiles, stop_of}
-use Rattle.snap_top.specs.Standing.{BeginsOver, GoesOver, HasClosed, IsHistory, IsOrigin, LeavesTrees, Stage, Standing, after_of, before_of}
+use Rattle.snap_top.specs.Standing.{BeginsOver, GoesOver, HasClosed, IsHistory, IsOrigin, LeavesTrees, MeetsNoChance, Stage, Standing, after_of, before_of}
 use Rattle.snap_top.specs.Task.{Did, fixes, folders_after, may_stand, reads_only, scrubs, syncs, end_table}
 use Rattle.snap_top.specs.Views.{AllReadOnly}
 use Rattle.snap_top.proofs.CompleteLemmas.{same_ok}
 use Rattle.snap_top.proofs.EndedLemmas.{only_read}
-use Rattle.snap_top.proofs.MomentLemmas.{LayoutIsOfTrees}
+use Rattle.snap_top.proofs.IntactAgain.{restorable_again}
+use Rattle.snap_top.proofs.MomentLemmas.{FixKeepsSound, LayoutIsOfTrees}
+use Rattle.snap_top.proofs.OfFixLemmas.{loaded_sound}
 use Rattle.snap_top.proofs.OneSizeLemmas.{SavesValidTables}
 use Rattle.snap_top.proofs.ResumeLemmas.{FullKeepsShape}
 use Rattle.snap_top.proofs.ResumedRuns.{SyncsAreResumed}
@@ -39,7 +41,7 @@ use Rattle.snap_top.proofs.StandingLemmas.{MomentsAreSoundByRows, history_is_sou
 use Rattle.snap_top.proofs.OfScrubLemmas.{ScrubKeepsValid}
 use Rattle.snap_top.proofs.SyncedLemmas.{OneTable}
 use Rattle.snap_top.proofs.LostLemmas.{FactsAreGenuine}
-use Rattle.snap_top.proofs.RestoredLastLemmas.{FixFindsAsCheck, LevelsAreMended, restored_over, tree_of_folder}
+use Rattle.snap_top.proofs.RestoredLastLemmas.{FilesAreFinished, FixFindsAsCheck, LevelsAreMended, restored_over, tree_of_folder}
 use Rattle.snap_top.proofs.SyncEndLemmas.{stands_then}
 use Rattle.snap_top.proofs.SyncedLastLemmas.{IsLaidAsItIs, WhatIsLeft, all_closed, row_given, some_content}
 use Rattle.snap_top.proofs.SparedLemmas.{cells_spared, levels_spared}
@@ -53,6 +55,9 @@ use Rattle.stripe_findings.specs.Reading.{StripeReading}
 use Rattle.snap_sync.specs.Soundness.{changed_without, row_or, snapshot_with}
 use Rattle.content_file.specs.Save.{HasSaved}
 use Rattle.parity_writer.specs.Parity.{Row, Rows}
+use Rattle.parity_writer.specs.Sound.{Snapshot}
+use Rattle.snap_fix.specs.Genuine.{TellsIntactLevels}
+use Rattle.snap_fix.specs.Mended.{Mended}
 
 -- what was last synced, with these rows
 abbrev last_with : LastSynced → Rows → LastSynced
@@ -73,10 +78,15 @@ module _ {O F V W : Type 0} (opener_view : O → OpenerView) (folder_view : F �
   quiet_over : (standing : Standing) → IsQuiet opener_view folder_view vault_view sink_view standing
   quiet_over standing run next goes why =
       let always : IsSoundAlways (begun run) (ended run) run.status = goes.step.always in
-      let read : always.did ≡ reads_only = ⊎_elim (λ refused. goes.step.refused refused) (λ asked. always.reads asked.0 asked.1 asked.2) why in (
-        subst (λ (did : Did). may_stand did (begun run).opener.vault.files next.files) read (always.moments next.files goes.files) ∙ goes.over.files,
-        subst (λ (did : Did). LeavesTrees did (begun run) (ended run) standing.trees next.trees) read goes.trees,
-      )
+      let read : always.did ≡ reads_only = ⊎_elim (λ refused. goes.step.refused refused) (λ asked. always.reads asked.0 asked.1 asked.2) why in
+      let files : next.files ≡ standing.files
+      = subst (λ (did : Did). may_stand did (begun run).opener.vault.files next.files) read (always.moments next.files goes.files) ∙ goes.over.files in
+      let trees : next.trees ≡ standing.trees = subst (λ (did : Did). LeavesTrees did (begun run) (ended run) standing.trees next.trees) read goes.trees in
+      let last : next.last ≡ standing.last = goes.last ∙ ap (λ (did : Did). synced_by did goes.count standing.last) read in
+      goes.array
+      ∙ ap (λ (its : List Tree). (let made : Standing = record standing { trees = its; files = next.files; last = next.last } in made)) trees
+      ∙ ap (λ (its : Files). (let made : Standing = record standing { files = its; last = next.last } in made)) files
+      ∙ ap (λ (its : LastSynced). (let made : Standing = record standing { last = its } in made)) last
 
   -- ---- a sync that went to its end
 
@@ -167,28 +177,44 @@ module _ {O F V W : Type 0} (opener_view : O → OpenerView) (folder_view : F �
 
   -- ---- the next fix
 
-  resumes_over : SaysOfStops → (standing : Standing) → FixesAreResumed opener_view folder_view vault_view sink_view standing
-  resumes_over says standing run again next later failed fix fix_again goes goes_again did_is did_then loaded well mended mended_again one one_then stripe enough =
+  resumes_over : WholeLevelsHold → FixKeepsSound → SaysOfStops → (standing : Standing) → IsSoundStanding standing → FixesAreResumed opener_view folder_view vault_view sink_view standing
+  resumes_over holds keeps says standing sound run again next failed fix fix_again goes begins step did_is did_then loaded well =
       let before : Entry = begun run in
       let exit : Exit = ended run in
       let before_then : Entry = begun again in
       let exit_then : Exit = ended again in
       let is : IsFixOf before exit fix = subst (IsDidOf before exit) did_is goes.step.always.is_did in
+      let is_then : IsFixOf before_then exit_then fix_again = subst (IsDidOf before_then exit_then) did_then step.always.is_did in
       let leaves : LeavesTrees (fixes failed fix) before exit standing.trees next.trees = subst (λ (did : Did). LeavesTrees did before exit standing.trees next.trees) did_is goes.trees in
       let held : length before.opener.folders ≡ length standing.trees = sym (length-map before.opener.folders (λ (folder : FolderView). folder.tree)) ∙ ap length goes.over.trees in
-      let ends : EndsBy (fixes false fix_again) before_then exit_then again.status = subst (λ (did : Did). EndsBy did before_then exit_then again.status) did_then (goes_again.step.at_end (ap has_ended did_then)) in
+      let ends : EndsBy (fixes false fix_again) before_then exit_then again.status = subst (λ (did : Did). EndsBy did before_then exit_then again.status) did_then (step.at_end (ap has_ended did_then)) in
       let over_left : IsNextFix before exit fix before_then exit_then ends.0.run = record {
         tells = goes.over.tells;
-        tells_then = goes_again.over.tells;
-        left = λ d below. subst (λ (trees : List Tree). FolderStandsIn before exit d (tree_at trees d)) (sym goes_again.over.trees) (leaves.1 d (omega (arith, below, held)));
+        tells_then = begins.tells;
+        left = λ d below. subst (λ (trees : List Tree). FolderStandsIn before exit d (tree_at trees d)) (sym begins.trees) (leaves.1 d (omega (arith, below, held)));
         loaded = ap (λ (its : FixRun). its.loaded) ends.1 ∙ loaded;
         well = well;
       } in
-      let no_less : FindsNoLess fix fix_again mended mended_again = subst (λ (its : FixRun). FindsNoLess fix its mended mended_again) ends.1
+      let no_less : (mended mended_again : Mended) → Contains fix.stripes mended → Contains fix_again.stripes mended_again → mended_again.facts.stripe ≡ mended.facts.stripe → FindsNoLess fix fix_again mended mended_again
+      = λ mended mended_again one one_then stripe. subst (λ (its : FixRun). FindsNoLess fix its mended mended_again) ends.1
       (finds_no_less says before before_then exit exit_then again.status fix is ends.0 over_left mended mended_again one (subst (λ (its : FixRun). Contains its.stripes mended_again) (sym ends.1) one_then) stripe) in
       let changed : next.last.is_changed ≡ standing.last.is_changed = ap (λ (last : LastSynced). last.is_changed) goes.last ∙ ap (λ (did : Did). (synced_by did goes.count standing.last).is_changed) did_is in
-      subst (λ (is_changed : ℕ → ℕ → Bool). HasEnough fix_again is_changed mended_again.facts) (sym changed)
-      (enough_again fix fix_again standing.last.is_changed mended mended_again no_less enough)
+      let snapshot : next.last.snapshot ≡ standing.last.snapshot = ap (λ (last : LastSynced). last.snapshot) goes.last ∙ ap (λ (did : Did). (synced_by did goes.count standing.last).snapshot) did_is in
+      let are : AreSoundBy (copies_of before.opener.vault) before.opener.vault.files standing.last
+      = subst (λ (k : ℕ). AreSoundBy k before.opener.vault.files standing.last) (sym goes.over.copies) (subst (λ (fs : Files). AreSoundBy standing.copies fs standing.last) (sym goes.over.files) sound.sound) in
+      let left : MayStandFixed fix before.opener.vault.files before_then.opener.vault.files = subst (MayStandFixed fix before.opener.vault.files) (sym begins.files)
+      (subst (λ (did : Did). may_stand did before.opener.vault.files next.files) did_is (goes.step.always.moments next.files goes.files)) in
+      record {
+        enough = λ mended mended_again one one_then stripe enough.
+            subst (λ (is_changed : ℕ → ℕ → Bool). HasEnough fix_again is_changed mended_again.facts) (sym changed)
+            (enough_again fix fix_again standing.last.is_changed mended mended_again (no_less mended mended_again one one_then stripe) enough);
+        restorable = λ mended mended_again is_intact is_intact_then one one_then stripe tells tells_then.
+            restorable_again holds keeps (copies_of before.opener.vault) before.opener.vault fix standing.last.snapshot standing.last.is_changed goes.over.tells.tells_vault is.over
+            (loaded_sound (copies_of before.opener.vault) fix.loaded before.opener.vault.files standing.last.snapshot standing.last.is_changed is.over.valid is.over.is_loaded are)
+            (subst (λ (did : Did). MeetsNoChance did standing.last.snapshot) did_is goes.genuine) mended one is_intact tells
+            before_then exit_then fix_again is_then begins.tells.tells_vault loaded left mended_again one_then (no_less mended mended_again one one_then stripe) is_intact_then
+            (subst (λ (snapshot : Snapshot). TellsIntactLevels fix_again.plan mended_again.facts (snapshot mended_again.facts.stripe) is_intact_then) snapshot tells_then);
+      }
 
   -- ---- what stands next
 
@@ -263,9 +289,9 @@ module _ {O F V W : Type 0} (opener_view : O → OpenerView) (folder_view : F �
   -- ---- all of it
 
   pub headline_holds : MomentsAreSoundByRows → OneTable → LayoutIsOfTrees → SavesValidTables → ScrubKeepsValid → SyncsAreResumed → FullKeepsShape → WholeLevelsHold → WhatIsLeft → IsLaidAsItIs
-      → FactsAreGenuine → LevelsAreMended → FixFindsAsCheck → SaysOfStops → (first standing : Standing) (stages : List (Stage O F V W)) → IsOrigin first
+      → FactsAreGenuine → FixKeepsSound → LevelsAreMended → FixFindsAsCheck → FilesAreFinished → SaysOfStops → (first standing : Standing) (stages : List (Stage O F V W)) → IsOrigin first
       → IsHistory opener_view folder_view vault_view sink_view first stages standing → Headline opener_view folder_view vault_view sink_view standing
-  headline_holds by_rows one_table laid saves_valid marks_valid resumed keeps holds left laid_again genuine mended as_check says first standing stages origin history =
+  headline_holds by_rows one_table laid saves_valid marks_valid resumed keeps holds left laid_again genuine keeps_sound mended as_check are_finished says first standing stages origin history =
       let sound : IsSoundStanding standing = history_is_sound by_rows one_table saves_valid marks_valid opener_view folder_view vault_view sink_view first stages standing history (origin_sound first origin) in
       record {
         sound = sound;
@@ -273,9 +299,9 @@ module _ {O F V W : Type 0} (opener_view : O → OpenerView) (folder_view : F �
         in_full = λ setup trees seed stages later again last loaded table now full.
             full_over opener_view folder_view vault_view sink_view laid one_table setup trees seed resumed keeps standing later again stages last loaded table now full sound;
         synced = synced_over left laid_again laid saves_valid one_table standing;
-        restores = restored_over opener_view folder_view vault_view sink_view holds genuine mended as_check standing sound;
+        restores = restored_over opener_view folder_view vault_view sink_view holds genuine mended as_check are_finished standing sound;
         spares = spares_over says standing;
-        resumes = resumes_over says standing;
+        resumes = resumes_over holds keeps_sound says standing sound;
         copies = copies_over standing;
         quiet = quiet_over standing;
         goes_on = goes_on_over standing;

@@ -81,13 +81,13 @@ lists_same olds mids others mids_then lists lists_then listed listed_then tell t
 -- ---- the levels
 
 -- one that did not fail gave what the file holds
-level_given : (v : VaultView) (size stripe r : ℕ) (reading : LevelReading) → IsTrue v.tells → has_failed reading ≡ false → IsLevelReading v size stripe r reading
-    → kept_level size reading ≡ kept_level size (Some (read_from (parity_of v.files r) (stripe * size) size))
-level_given v size stripe r None tells came is = absurd (let clash : true ≡ false = came in cc)
-level_given v size stripe r (Some bytes) tells came is = ap (λ (bs : List ℕ). kept_level size (Some bs)) (is.1 tells)
+pub level_is : (v : VaultView) (size stripe r : ℕ) (reading : LevelReading) → IsTrue v.tells → has_failed reading ≡ false → IsLevelReading v size stripe r reading
+    → reading ≡ Some (read_from (parity_of v.files r) (stripe * size) size)
+level_is v size stripe r None tells came is = absurd (let clash : true ≡ false = came in cc)
+level_is v size stripe r (Some bytes) tells came is = ap (λ (bs : List ℕ). Some bs) (is.1 tells)
 
 -- none of some that are there failed, where the count of those that did is none
-none_failed : (of : List LevelReading) → count_by has_failed of ≡ 0 → (r : ℕ) → r < length of → has_failed (get_or of r None) ≡ false
+pub none_failed : (of : List LevelReading) → count_by has_failed of ≡ 0 → (r : ℕ) → r < length of → has_failed (get_or of r None) ≡ false
 none_failed of none r below = not_true (has_failed (get_or of r None)) (λ failed. let one = one_counted has_failed of r None below failed in absurd (omega (arith, one, none)))
 
 pub levels_given : (v : VaultView) (size : ℕ) → IsTrue v.tells → (stripes : List StripeFacts) (readings : List (List LevelReading)) → AreAllLevelsOf size v stripes readings → unread_in readings ≡ 0
@@ -100,7 +100,7 @@ levels_given v size tells (facts ∷ stripes) (of ∷ readings) are none zero r 
     let total : sum_by (count_by has_failed) (of ∷ readings) ≡ 0 = none in
     let few : count_by has_failed of ≡ 0 = omega (arith, total, sum_by-cons (count_by has_failed) of readings) in
     here.are_kept r below
-    ∙ level_given v size facts.stripe r (get_or of r None) tells (none_failed of few r (omega (arith, below, here.as_many))) (here.are_of r below)
+    ∙ ap (kept_level size) (level_is v size facts.stripe r (get_or of r None) tells (none_failed of few r (omega (arith, below, here.as_many))) (here.are_of r below))
 levels_given v size tells (facts ∷ stripes) (of ∷ readings) are none (suc k) r within below =
     let total : sum_by (count_by has_failed) (of ∷ readings) ≡ 0 = none in
     let rest : sum_by (count_by has_failed) readings ≡ 0 = omega (arith, total, sum_by-cons (count_by has_failed) of readings) in

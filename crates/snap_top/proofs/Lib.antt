@@ -1,4 +1,5 @@
 pub mod AlikeLemmas
+pub mod AskedLemmas
 pub mod BytesLemmas
 pub mod CheckedLemmas
 pub mod CompleteLemmas
@@ -13,8 +14,10 @@ pub mod HeadlineLemmas
 pub mod HeldLemmas
 pub mod HistoryLemmas
 pub mod UndamagedLemmas
+pub mod IntactAgain
 pub mod KeptLemmas
 pub mod KnownLemmas
+pub mod LeftAlikeLemmas
 pub mod LoadLemmas
 pub mod LostEvents
 pub mod LostLemmas
@@ -29,6 +32,7 @@ pub mod OneArrayLemmas
 pub mod OneSizeLemmas
 pub mod OpeningLemmas
 pub mod PartLemmas
+pub mod PrintingLemmas
 pub mod RefusalLemmas
 pub mod RestoredLastLemmas
 pub mod RestoringLemmas

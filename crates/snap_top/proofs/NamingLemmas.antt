@@ -40,6 +40,8 @@ use Rattle.snap_report.specs.Answer.{status_of as answer_status}
 use Rattle.snap_report.specs.EndLines.{check_text}
 use Rattle.snap_report.specs.EventLines.{lines_of}
 use Rattle.snap_report.specs.Kind.{is_finding}
+use Rattle.snap_report.specs.ListText.{list_text}
+use Rattle.snap_report.specs.StatusText.{bad_in, status_text}
 use Rattle.snap_report.specs.Telling.{Tells, between}
 use Rattle.snap_report.specs.declared.answer.Answer.{Answer}
 use Rattle.snap_report.specs.declared.answer.Answer.TheVariants as answers
@@ -66,6 +68,7 @@ use Rattle.snap_top.proofs.LostEvents.{lost_is_told, told_is_lost}
 use Rattle.snap_top.proofs.LostLemmas.{AreAscending, FactsAreGenuine, same_facts, stripes_ascending}
 use Rattle.snap_top.proofs.OfFixLemmas.{check_did, levels_held, levels_in}
 use Rattle.snap_top.proofs.OfSyncLemmas.{configured_for, start_files as files_held, start_folders, start_out as out_held, start_tells as tells_held, table_begins, table_loaded}
+use Rattle.snap_top.proofs.PrintingLemmas.{ended_printed}
 use Rattle.snap_top.proofs.RestoringLemmas.{none_left, rose_from}
 
 -- what snap_fix says of a row: it is known exactly where its stripe is restorable
@@ -319,8 +322,10 @@ module _ (rows : RowsAreKnown) (genuine_facts : FactsAreGenuine) (before : Entry
         by_answer to.setup to.answer to.named to.told to.ran to.answer to.named to.ran.goes.0 one mode selection command status to.status_is done does
 
     pub by_command : (command : Command) → to.ran.task.command ≡ command → DoesCommand command to.ran.task one.table one.start (world_of exit.after) left to.ran.did → EndsAsAsked command before exit status
-    by_command commands.List command does = tt
-    by_command commands.Status command does = tt
+    by_command commands.List command does =
+        ended_printed before exit tells to.setup (Answered to.answer to.named) to.told to.ran left one commands.List command (λ (table : TableValue). list_text table.columns) (λ (table : TableValue). 0) status to.status_is does
+    by_command commands.Status command does =
+        ended_printed before exit tells to.setup (Answered to.answer to.named) to.told to.ran left one commands.Status command status_text (λ (table : TableValue). bad_in table.infos) status to.status_is does
     by_command (commands.Sync way) command does = tt
     by_command (commands.Check selection) command does = in_mode modes.Check selection command does
     by_command (commands.Audit selection) command does = in_mode modes.Audit selection command does

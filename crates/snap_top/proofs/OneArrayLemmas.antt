@@ -1,20 +1,17 @@
 -- Two checks of one array, or a check and a fix, find the same, where no count of faults rose.
-use Rattle.std.proofs.Common.{◌≡◌, ◌≢◌, ◌↔◌, ◌⊎◌, inl, inr, ⊎_elim, ℕ, zero, suc, ◌*◌, ◌<◌, ◌≤◌, List, ◌++◌, length, get_or, take, Bool, true, false, IsTrue, Ok, refl, sym, ap, ◌∙◌, subst, arith}
+use Rattle.std.proofs.Common.{◌≡◌, ◌↔◌, ⊎_elim, ℕ, ◌*◌, ◌<◌, List, ◌++◌, length, get_or, Bool, true, false, IsTrue, Ok, refl, sym, ap, ◌∙◌, subst, arith}
 use Rattle.std.specs.Prelude.{All, None, Some, count_by}
 use Rattle.std.proofs.lemmas.Bool.{cases_lt}
 use Rattle.std.proofs.lemmas.List.{ext_get_or, get_or-map, get_or_past, length-map}
 use Rattle.array_scan.specs.Kept.{ListedFile}
-use Rattle.content_file.specs.Load.{HasFailed}
 use Rattle.disk_model.specs.Bytes.{read_from}
 use Rattle.disk_model.specs.Files.{Files, parity_of}
 use Rattle.disk_model.specs.Folder.{FolderView}
 use Rattle.disk_model.specs.Tree.{Tree}
-use Rattle.disk_model.specs.Vault.{copies_of}
 use Rattle.file_table.specs.Table.{TableValue}
 use Rattle.file_table.specs.Valid.{IsValid}
 use Rattle.parity_writer.specs.LevelReading.{kept_level}
 use Rattle.parity_writer.specs.LevelsValue.{LevelValue, no_level}
-use Rattle.snap_config.specs.Config.{read_setup}
 use Rattle.snap_config.specs.Setup.{SetupValue}
 use Rattle.snap_config.specs.declared.options.Command.{Command}
 use Rattle.snap_config.specs.declared.options.Command.TheVariants as commands
@@ -34,21 +31,17 @@ use Rattle.stripe_examiner.specs.Plan.{FixPlan, is_searched, names_of, stripes_o
 use Rattle.stripe_examiner.specs.declared.scope.Mode.{Mode}
 use Rattle.stripe_examiner.specs.declared.scope.Mode.TheVariants as modes
 use Rattle.stripe_reader.specs.WindowValue.{no_slot}
-use Rattle.snap_top.specs.Array.{empty_table}
 use Rattle.snap_top.specs.Alike.{AskAlike, CheckAlike, FixAlike, HoldAlike, NothingRose}
 use Rattle.snap_top.specs.Check.{CheckRun}
-use Rattle.snap_top.specs.Ended.{IsEndStatus}
 use Rattle.snap_top.specs.Fix.{FixRun}
 use Rattle.snap_top.specs.Moment.{TellsAll}
 use Rattle.snap_top.specs.Naming.{HasChecked, command_in, events_found}
 use Rattle.snap_top.specs.Opening.{IsConfigured, asked_by}
 use Rattle.snap_top.specs.Restoring.{EndsFixed}
 use Rattle.snap_top.specs.Run.{Entry, Exit}
-use Rattle.snap_top.specs.Sync.{BeginsFrom}
 use Rattle.snap_top.proofs.AlikeLemmas.{FixFindsWhatACheckFinds, one_plan}
-use Rattle.snap_top.proofs.CompleteLemmas.{same_ok}
+use Rattle.snap_top.proofs.AskedLemmas.{command_asked, one_setup, same_loaded, same_status, unfailed}
 use Rattle.snap_top.proofs.HeldLemmas.{CameAsHeld, check_held, fix_held, held_slot, lists_same, none_risen, tells_then}
-use Rattle.snap_top.proofs.ResumeLemmas.{begins_same}
 use Rattle.snap_top.proofs.SeenLemmas.{IsDetermined, KeptAlike, NoGifts, all_rows_same, all_told_same, kept_both, kept_same, rows_of, rows_same, told_same}
 use Rattle.snap_top.proofs.SyncedLemmas.{OneTable}
 
@@ -140,18 +133,10 @@ one_selection modes.Check a b same = ap (chosen a) same
 one_selection modes.Audit a b same = ap (chosen a) same
 one_selection modes.Fix a b same = ap (chosen a) same
 
--- the setup and the selection of a run
-module _ (mode : Mode) (before : Entry) (tells : IsTrue before.opener.tells) (readers : ℕ) (asked : Options) (selection : Selection) (words : asked_by before.texts ≡ Ok asked)
-    (command : asked.command ≡ command_in mode selection) (its : Selection) (setup : SetupValue) (is : IsConfigured before.texts before.opener (command_in mode its) readers setup) where
-  same_asked : is.asked ≡ asked
-  same_asked = same_ok (asked_by before.texts) is.asked asked is.read words
-
-  pub selection_is : its ≡ selection
-  selection_is = one_selection mode its selection (is.command_is ∙ ap (λ (options : Options). options.command) same_asked ∙ command)
-
-  pub setup_read : read_setup (take 1048577 before.opener.config) asked.log ≡ Ok setup
-  setup_read = ap (λ (options : Options). read_setup (take 1048577 before.opener.config) options.log) (sym same_asked)
-      ∙ ap (λ (bytes : List ℕ). read_setup bytes is.asked.log) (sym (is.says.held tells)) ∙ is.says.says
+-- the selection of a run
+selection_is : (mode : Mode) (before : Entry) → IsTrue before.opener.tells → (readers : ℕ) (asked : Options) (selection : Selection) → asked_by before.texts ≡ Ok asked → asked.command ≡ command_in mode selection
+    → (its : Selection) (setup : SetupValue) → IsConfigured before.texts before.opener (command_in mode its) readers setup → its ≡ selection
+selection_is mode before tells readers asked selection words command its setup is = one_selection mode its selection (command_asked before tells asked words (command_in mode its) readers setup is ∙ command)
 
 -- a plan of the same
 plan_as : (mode : Mode) (selection selection_then : Selection) (names names_then : List (List ℕ)) (table table_then : TableValue) (lists lists_then : List (List ListedFile)) (plan : FixPlan)
@@ -170,60 +155,6 @@ came_as table table_then lists lists_then trees trees_then files files_then stri
     (subst (λ (ts : List Tree). CameAsHeld table_then lists_then ts files stripes) (sym c)
     (subst (λ (fs : Files). CameAsHeld table_then lists_then trees_then fs stripes) (sym d) came)))
 
--- where the vault's count of faults did not rise, no copy's reading failed
-unfailed : (before : Entry) (exit : Exit) → NothingRose before exit → (copy : ℕ) → ¬ (HasFailed before.opener.vault exit.after.vault copy)
-unfailed before exit well copy failed = well.vault failed.rose
-
-module _ (one_table : OneTable) (before before_then : Entry) (hold : HoldAlike before before_then) where
-  -- so they load the same
-  same_loaded : (setup setup_then : SetupValue) (table table_then : TableValue) → setup ≡ setup_then
-      → BeginsFrom setup before.seed (copies_of before.opener.vault) before.opener.vault.files table
-      → BeginsFrom setup_then before_then.seed (copies_of before_then.opener.vault) before_then.opener.vault.files table_then → table ≡ table_then
-  same_loaded setup setup_then table table_then setups begins begins_then =
-      begins_same one_table setup before.seed (copies_of before.opener.vault) before.opener.vault.files table table_then begins (seeded here)
-    where
-      here : BeginsFrom setup before_then.seed (copies_of before.opener.vault) before.opener.vault.files table_then
-      here =
-          subst (λ (s : SetupValue). BeginsFrom s before_then.seed (copies_of before.opener.vault) before.opener.vault.files table_then) (sym setups)
-          (subst (λ (n : ℕ). BeginsFrom setup_then before_then.seed n before.opener.vault.files table_then) (sym hold.copies)
-          (subst (λ (fs : Files). BeginsFrom setup_then before_then.seed (copies_of before_then.opener.vault) fs table_then) (sym hold.files) begins_then))
-
-      seeded : BeginsFrom setup before_then.seed (copies_of before.opener.vault) before.opener.vault.files table_then → BeginsFrom setup before.seed (copies_of before.opener.vault) before.opener.vault.files table_then
-      seeded (inl first) = inl first
-      seeded (inr none) = inr (none.0, none.1 ∙ ap (empty_table setup) (sym (hold.seed none.0)))
-
--- ---- two checks
-
-same_status : (status status_then : ℕ) (failed failed_then : Bool) (count count_then : ℕ) → count ≡ count_then → IsEndStatus status failed (count ≡ 0) → IsEndStatus status_then failed_then (count_then ≡ 0)
-    → status ≢ 3 → status_then ≢ 3 → status ≡ status_then
-same_status status status_then failed failed_then count count_then counts is is_then fails fails_then = ⊎_elim
-    (λ few. ⊎_elim (λ few_then. by status status_then few few_then refl refl) (λ three. absurd (fails_then three)) is_then.only)
-    (λ three. absurd (fails three))
-    is.only
-  where
-    unset : (b : Bool) → ¬ (IsTrue b) → b ≡ false
-    unset true never = absurd (never refl)
-    unset false never = refl
-
-    over : status ≡ 0 → status_then ≡ 0
-    over zero_is = is_then.clean.1 (unset failed_then (λ it. fails_then (is_then.failed.1 it)), sym counts ∙ (is.clean.0 zero_is).1)
-
-    back : status_then ≡ 0 → status ≡ 0
-    back zero_is = is.clean.1 (unset failed (λ it. fails (is.failed.1 it)), counts ∙ (is_then.clean.0 zero_is).1)
-
-    by : (a b : ℕ) → a ≤ 1 → b ≤ 1 → status ≡ a → status_then ≡ b → status ≡ status_then
-    by a b few few_then one other = ⊎_elim
-        (λ none. one ∙ none ∙ sym (over (one ∙ none)))
-        (λ some. ⊎_elim
-        (λ none. back (other ∙ none) ∙ sym (other ∙ none))
-        (λ some_then. one ∙ omega (arith, few, few_then, some, some_then) ∙ sym other)
-        (zero_or b))
-        (zero_or a)
-      where
-        zero_or : (n : ℕ) → (n ≡ 0) ⊎ (1 ≤ n)
-        zero_or zero = inl refl
-        zero_or (suc n) = inr (omega arith)
-
 -- what both share: a check, and another run that was asked for the same
 module _ (mode mode_then : Mode) (before before_then : Entry) (hold : HoldAlike before before_then) (ask : AskAlike mode mode_then before before_then)
     (selection selection_then : Selection) (setup setup_then : SetupValue) (readers readers_then : ℕ) (is : IsConfigured before.texts before.opener (command_in mode selection) readers setup)
@@ -234,11 +165,7 @@ module _ (mode mode_then : Mode) (before before_then : Entry) (hold : HoldAlike 
       ∙ sym (selection_is mode_then before_then hold.tells_then.tells readers_then ask.asked_then ask.selection ask.words_then ask.command_then selection_then setup_then is_then)
 
   pub setups : setup ≡ setup_then
-  setups = same_ok (read_setup (take 1048577 before.opener.config) ask.asked.log) setup setup_then
-      (setup_read mode before hold.tells.tells readers ask.asked ask.selection ask.words ask.command_is selection setup is)
-      (ap (λ (bytes : List ℕ). read_setup (take 1048577 bytes) ask.asked.log) hold.config
-      ∙ ap (read_setup (take 1048577 before_then.opener.config)) ask.log
-      ∙ setup_read mode_then before_then hold.tells_then.tells readers_then ask.asked_then ask.selection ask.words_then ask.command_then selection_then setup_then is_then)
+  setups = one_setup before before_then hold ask.asked ask.asked_then ask.words ask.words_then ask.log (command_in mode selection) (command_in mode_then selection_then) readers readers_then setup setup_then is is_then
 
 -- of a check or an audit what came is what is held
 module _ (mode : Mode) (before : Entry) (exit : Exit) (status : ℕ) (tells : TellsAll before) (well : NothingRose before exit) (run : CheckRun) (has : HasChecked mode before exit status run) where
@@ -309,7 +236,7 @@ checks_of_one_array determined one_table mode before before_then exit exit_then 
       loaded = loaded;
       rows = same_rows determined one.plan valid one.lists (trees_of one.folders) before.opener.vault.files one.stripes other.stripes over.are are_then over.no_gifts over_then.no_gifts numbers came came_then;
       events = events;
-      statuses = same_status status status_then has.output_failed has_then.output_failed (count_by is_finding (events_found one)) (count_by is_finding (events_found other)) (ap (count_by is_finding) events) has.status_is
+      statuses = same_status status status_then has.output_failed has_then.output_failed _ _ (λ none. sym (ap (count_by is_finding) events) ∙ none) (λ none. ap (count_by is_finding) events ∙ none) has.status_is
           has_then.status_is;
     }
 

@@ -15,7 +15,8 @@ use Rattle.snap_config.specs.declared.options.Selection.{Selection}
 use Rattle.snap_fix.specs.Fixing.{facts_of}
 use Rattle.snap_fix.specs.Genuine.{AreGenuine, HasGenuineFacts, AreGenuineOf}
 use Rattle.snap_fix.specs.Mended.{has_lost, Mended, is_wrong_level}
-use Rattle.snap_fix.specs.Restored.{HoldsCell, HasFixed}
+use Rattle.snap_fix.specs.Ending.{is_finished}
+use Rattle.snap_fix.specs.Restored.{HoldsCell, HasFinished, HasFixed, StandsFinished}
 use Rattle.snap_sync.specs.Part.{AllTell, tree_at, trees_of}
 use Rattle.stripe_reader.specs.Columns.{folder_at}
 use Rattle.snap_top.specs.Ended.{has_ended}
@@ -52,7 +53,7 @@ use Rattle.stripe_examiner.specs.Plan.{FixPlan, is_audit, is_searched, selects_l
 use Rattle.snap_report.specs.declared.events.Event.{Event}
 use Rattle.snap_report.specs.declared.events.Event.TheVariants as event
 use Rattle.stripe_examiner.specs.Facts.{StripeFacts}
-use Rattle.file_table.specs.Table.{TableValue}
+use Rattle.file_table.specs.Table.{TableValue, records_in}
 use Rattle.snap_fix.specs.Course.{check_events}
 use Rattle.stripe_reader.specs.Starts.{StartsValue}
 use Rattle.snap_fix.specs.FixCourse.{fix_events}
@@ -65,6 +66,11 @@ LevelsAreMended = (plan : FixPlan) (starts : StartsValue) (firsts : List FolderV
 abbrev pub FixFindsAsCheck : Type 0
 FixFindsAsCheck = (plan : FixPlan) (starts : StartsValue) (stripes : List Mended) (finishes : List (List Finish)) (firsts news : List FolderView) → HasFixed plan starts stripes finishes firsts news
     → ((d : ℕ) → d < length plan.table.columns → IsTrue (folder_at firsts d).tells) → filter is_finding (fix_events plan stripes finishes) ≡ check_events plan (facts_of stripes)
+
+abbrev pub FilesAreFinished : Type 0
+FilesAreFinished = (plan : FixPlan) (starts : StartsValue) (stripes : List Mended) (finishes : List (List Finish)) (firsts news : List FolderView) (d i : ℕ)
+    → HasFinished plan starts stripes finishes firsts news d i
+    → StandsFinished plan stripes d i (folder_at firsts d).keeps_stamps (folder_at firsts d).tree (folder_at news d).tree
 
 -- ---- what is found is told, and is all that is told of its kind
 
@@ -95,14 +101,30 @@ wrong_is_searched plan facts r are wrong = by (is_searched plan facts.stripe) ar
     by false tried =
         absurd (unknown_right plan.table.shape.block_size r level.state level.block (selects_level plan facts.stripe r) (subst (λ (row : Option Row). is_wrong plan facts.stripe level row r ≡ true) tried.2 wrong))
 
--- the folders tell their files also once they were listed
-listed_tells : (before : Entry) (exit : Exit) (run : FixRun) → IsFixOf before exit run → TellsAll before → (d : ℕ) → d < length run.plan.table.columns → IsTrue (folder_at run.listed d).tells
-listed_tells before exit run is tells d below =
-    let over = is.over in
-    let columns : length run.plan.table.columns ≡ length run.loaded.columns = ap (λ (t : TableValue). length t.columns) over.plan_is.table_is in
-    let within : d < length run.folders = omega (arith, below, columns, over.columns) in
-    let all_tell : AllTell run.folders = subst AllTell (sym is.folders_are) tells.tells_folders in
-    (over.listed.each d within).call.called.goes_on.tells ∙ all_tell d within
+module _ (before : Entry) (exit : Exit) (run : FixRun) (is : IsFixOf before exit run) (tells : TellsAll before) where
+  within_folders : (d : ℕ) → d < length run.plan.table.columns → d < length run.folders
+  within_folders d below =
+      let columns : length run.plan.table.columns ≡ length run.loaded.columns = ap (λ (t : TableValue). length t.columns) is.over.plan_is.table_is in
+      omega (arith, below, columns, is.over.columns)
+
+  all_tell : AllTell run.folders
+  all_tell = subst AllTell (sym is.folders_are) tells.tells_folders
+
+  -- the folders tell their files also once they were listed
+  listed_tells : (d : ℕ) → d < length run.plan.table.columns → IsTrue (folder_at run.listed d).tells
+  listed_tells d below = (is.over.listed.each d (within_folders d below)).call.called.goes_on.tells ∙ all_tell d (within_folders d below)
+
+  -- a finished file stands so over what they held first
+  finished_since : (finishes : List (List Finish)) → FilesAreFinished → HasFixed run.plan (starts_of run.loaded run.lists) run.stripes finishes run.listed run.ended
+      → (d i : ℕ) → d < length run.plan.table.columns → i < length (records_in run.plan.table d) → is_finished run.plan d i ≡ true
+      → StandsFinished run.plan run.stripes d i (folder_at run.folders d).keeps_stamps (folder_at run.folders d).tree (folder_at run.ended d).tree
+  finished_since finishes says fixed d i below inside finished =
+      let listed = is.over.listed.each d (within_folders d below) in
+      let stands = says run.plan (starts_of run.loaded run.lists) run.stripes finishes run.listed run.ended d i
+      (record { fixed = record { fixed = fixed; tells = listed_tells d below; column = below; inside = inside }; finished = finished }) in
+      subst (λ (keeps : Bool). StandsFinished run.plan run.stripes d i keeps (folder_at run.folders d).tree (folder_at run.ended d).tree) listed.call.called.goes_on.keeps_stamps
+      (subst (λ (first : Tree). StandsFinished run.plan run.stripes d i (folder_at run.listed d).keeps_stamps first (folder_at run.ended d).tree)
+      (listed.call.tree (all_tell d (within_folders d below))) stands)
 
 pub tree_of_folder : (folders : List FolderView) (d : ℕ) → tree_at (trees_of folders) d ≡ (folder_at folders d).tree
 tree_of_folder [] d = refl
@@ -133,8 +155,8 @@ module _ {O F V W : Type 0} (opener_view : O → OpenerView) (folder_view : F �
       let clash : commands.Scrub scrub.way ≡ commands.Fix selection = is.configured.command_is ∙ ap (λ (a : Options). a.command) same ∙ command in
       absurd cc
 
-  pub restored_over : WholeLevelsHold → FactsAreGenuine → LevelsAreMended → FixFindsAsCheck → (standing : Standing) → IsSoundStanding standing → FixesRestore opener_view folder_view vault_view sink_view standing
-  restored_over holds are_genuine mended as_check standing sound run next goes fix at_end =
+  pub restored_over : WholeLevelsHold → FactsAreGenuine → LevelsAreMended → FixFindsAsCheck → FilesAreFinished → (standing : Standing) → IsSoundStanding standing → FixesRestore opener_view folder_view vault_view sink_view standing
+  restored_over holds are_genuine mended as_check are_finished standing sound run next goes fix at_end =
       let before : Entry = begun run in
       let exit : Exit = ended run in
       let over = goes.over in
@@ -154,6 +176,8 @@ module _ {O F V W : Type 0} (opener_view : O → OpenerView) (folder_view : F �
       let parity : is_audit fixed.plan.scope.mode ≡ false = ap is_audit ends.is_fix.over.plan_is.scope.mode_is in
       let told : filter is_finding (events_in fixed ends.finishes) ≡ check_events fixed.plan (facts_of fixed.stripes)
       = as_check fixed.plan (starts_of fixed.loaded fixed.lists) fixed.stripes ends.finishes fixed.listed fixed.ended ends.fixed (listed_tells before exit fixed ends.is_fix over.tells) in
+      let tree_is : (d : ℕ) → (folder_at fixed.ended d).tree ≡ tree_at next.trees d
+      = λ d. sym (ap (λ (ts : List Tree). tree_at ts d) at_end ∙ tree_of_folder exit.after.folders d ∙ ap (λ (folders : List FolderView). (folder_at folders d).tree) (sym ends.is_fix.ended_is)) in
       record {
         ends = ends;
         did_is = both.1;
@@ -170,11 +194,11 @@ module _ {O F V W : Type 0} (opener_view : O → OpenerView) (folder_view : F �
             record {
               restored = λ facts d cell is_intact reach tells enough.
                   subst (λ (tree : Tree). HoldsCell fixed.plan.table d cell (has_lost fixed.plan fixed.stripes d cell.rec) (byte_of (snapshot facts.stripe) d) tree)
-                  (sym (ap (λ (ts : List Tree). tree_at ts d) at_end ∙ tree_of_folder exit.after.folders d ∙ ap (λ (folders : List FolderView). (folder_at folders d).tree) (sym ends.is_fix.ended_is)))
+                  (tree_is d)
                   (restores.restored facts d cell is_intact (record { is = reach.is; synced = reach.synced; bytes = sound.bytes facts.stripe; tells = tells }) reach.free enough);
               counted = λ facts d cell reach enough.
                   subst (λ (tree : Tree). HoldsCell fixed.plan.table d cell (has_lost fixed.plan fixed.stripes d cell.rec) (byte_of (snapshot facts.stripe) d) tree)
-                  (sym (ap (λ (ts : List Tree). tree_at ts d) at_end ∙ tree_of_folder exit.after.folders d ∙ ap (λ (folders : List FolderView). (folder_at folders d).tree) (sym ends.is_fix.ended_is)))
+                  (tree_is d)
                   (restored_by_counting holds before exit fixed ends.finishes snapshot is_changed facts d cell ends.is_fix over.tells.tells_vault loaded restores
                   (record { is = reach.is; searched = reach.synced; free = reach.free; bytes = sound.bytes facts.stripe; enough = enough }));
               named = λ facts d cell is_intact is synced tells.
@@ -189,5 +213,8 @@ module _ {O F V W : Type 0} (opener_view : O → OpenerView) (folder_view : F �
                 λ it. told_so (events_in fixed ends.finishes) (check_events fixed.plan (facts_of fixed.stripes)) (event.Blocked d i) told
                     (blocked_is_told fixed.plan (facts_of fixed.stripes) parity d i it),
               );
+              finished = λ d i below inside finished.
+                  subst (λ (tree : Tree). StandsFinished fixed.plan fixed.stripes d i (folder_at fixed.folders d).keeps_stamps (folder_at fixed.folders d).tree tree) (tree_is d)
+                  (finished_since before exit fixed ends.is_fix over.tells ends.finishes are_finished ends.fixed d i below inside finished);
             };
       }

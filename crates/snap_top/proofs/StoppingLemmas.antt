@@ -13,7 +13,7 @@ use Rattle.file_table.specs.Valid.{IsValid}
 use Rattle.file_table.specs.declared.block.Cell.{Cell}
 use Rattle.snap_fix.specs.Again.{IsFoundAgain, IsFoundIn, IsLookedAt}
 use Rattle.snap_fix.specs.Ending.{is_finished}
-use Rattle.stripe_examiner.specs.Facts.{StripeFacts, damaged_at, is_missing}
+use Rattle.stripe_examiner.specs.Facts.{StripeFacts, damaged_at, is_missing, missing_in}
 use Rattle.snap_fix.specs.Mended.{Mended}
 use Rattle.stripe_examiner.specs.Plan.{FixPlan, starts_of}
 use Rattle.file_restorer.specs.State.{AnyCall, FolderMakes}
@@ -129,15 +129,19 @@ module _ {X : Type 0} where
 
 -- ---- the next fix
 
--- a stripe of which it finds no less has enough undamaged levels if it had before
+-- of a stripe of which it finds no less, no more is missing
+pub missing_no_more : (run again : FixRun) (mended mended_again : Mended) → FindsNoLess run again mended mended_again → length (missing_in again.plan mended_again.facts) ≤ length (missing_in run.plan mended.facts)
+missing_no_more run again mended mended_again no_less =
+    let columns : ℕ = length run.plan.table.columns in
+    subst (λ (n : ℕ). length (filter (is_missing again.plan mended_again.facts) (range_with_len 0 n)) ≤ length (filter (is_missing run.plan mended.facts) (range_with_len 0 columns))) (sym no_less.columns)
+    (filters_no_less (is_missing again.plan mended_again.facts) (is_missing run.plan mended.facts) no_less.missing (range_with_len 0 columns))
+
+-- and it has enough undamaged levels if it had before
 pub enough_again : (run again : FixRun) (is_changed : ℕ → ℕ → Bool) (mended mended_again : Mended) → FindsNoLess run again mended mended_again → HasEnough run is_changed mended.facts → HasEnough again is_changed mended_again.facts
 enough_again run again is_changed mended mended_again no_less enough =
-    let columns : ℕ = length run.plan.table.columns in
     let levels : ℕ = length mended.facts.levels in
     let unchanged : ℕ → Bool = λ (r : ℕ). not (is_changed mended.facts.stripe r) in
-    let missing : length (filter (is_missing again.plan mended_again.facts) (range_with_len 0 (length again.plan.table.columns))) ≤ length (filter (is_missing run.plan mended.facts) (range_with_len 0 columns))
-    = subst (λ (n : ℕ). length (filter (is_missing again.plan mended_again.facts) (range_with_len 0 n)) ≤ length (filter (is_missing run.plan mended.facts) (range_with_len 0 columns))) (sym no_less.columns)
-    (filters_no_less (is_missing again.plan mended_again.facts) (is_missing run.plan mended.facts) no_less.missing (range_with_len 0 columns)) in
+    let missing = missing_no_more run again mended mended_again no_less in
     let here : length (filter unchanged (filter (was_read mended.facts.levels) (range_with_len 0 levels))) ≤ length (filter unchanged (filter (was_read mended_again.facts.levels) (range_with_len 0 levels)))
     = both_no_less (was_read mended.facts.levels) unchanged (was_read mended_again.facts.levels) unchanged (λ r read stays. (no_less.read r read, stays)) (range_with_len 0 levels) in
     let undamaged : length (undamaged_levels is_changed mended.facts) ≤ length (undamaged_levels is_changed mended_again.facts)

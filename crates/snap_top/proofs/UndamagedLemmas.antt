@@ -138,7 +138,7 @@ not_true : (b : Bool) → not b ≡ true → b ≡ false
 not_true true is = absurd (let clash : false ≡ true = is in cc)
 not_true false is = refl
 
-read_within : (levels : List LevelValue) (r : ℕ) → was_read levels r ≡ true → r < length levels
+pub read_within : (levels : List LevelValue) (r : ℕ) → was_read levels r ≡ true → r < length levels
 read_within levels r read = elim (cases_lt r (length levels)) [
   | inl within ↦ within
   | inr past ↦ absurd (let clash : false ≡ true = ap (λ (it : LevelValue). is_read it.state) (sym (get_or_past levels r no_level past)) ∙ read in cc)

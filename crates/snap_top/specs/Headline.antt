@@ -24,7 +24,7 @@ use Rattle.snap_top.specs.Complete.{NothingBroke}
 use Rattle.snap_top.specs.Fix.{FixRun}
 use Rattle.snap_top.specs.History.{AreSoundBy, IsOfBytes}
 use Rattle.snap_top.specs.Moment.{AreOfRun, ChangesNothing, StandsAfter, StandsIn}
-use Rattle.snap_top.specs.NextFix.{HasEnoughAgain}
+use Rattle.snap_top.specs.NextFix.{RestoresAgain}
 use Rattle.snap_top.specs.Opening.{asked_by}
 use Rattle.snap_top.specs.RestoredLast.{IsRestored}
 use Rattle.snap_top.specs.Resumed.{EndAlike, RunOf}
@@ -105,11 +105,11 @@ module _ {O F V W : Type 0} (opener_view : O → OpenerView) (folder_view : F �
       → BeginsFrom setup seed standing.copies standing.files loaded → IsFullSync setup loaded trees now standing.files table full
       → EndsInFull standing.copies standing.last.is_changed table full again.files
 
-  -- Runs that were refused, and those of commands that change nothing, are among what may stand between: files of the vault and trees stay.
+  -- Runs that were refused, and those of commands that change nothing, are among what may stand between: what stands stays.
   abbrev pub IsQuiet : Standing → Type 0
   IsQuiet standing = (run : RunOf O F V W) (next : Standing) → GoesOver opener_view folder_view vault_view sink_view run standing next
       → ((run.status ≡ 2) ⊎ (run.status ≡ 5)) ⊎ ((asked : Options) × (asked_by run.texts ≡ Ok asked) × ChangesNothing asked.command)
-      → (next.files ≡ standing.files) × (next.trees ≡ standing.trees)
+      → next ≡ standing
 
   -- ---- a sync that went to its end
 
@@ -156,15 +156,17 @@ module _ {O F V W : Type 0} (opener_view : O → OpenerView) (folder_view : F �
   FixesSpare standing = (run : RunOf O F V W) (next : Standing) → (goes : GoesOver opener_view folder_view vault_view sink_view run standing next)
       → SparesBy goes.step.always.did standing next
 
-  -- A fix that is stopped at any moment is resumed. Where the next one begins with the same table and goes to its end, and no count of faults
-  -- rises in it, each stripe has enough undamaged levels for it, if it had for the first one.
+  -- A fix that is stopped at any moment is resumed. Where a later one over what it left begins with the same table and goes to its end, and no count
+  -- of faults rises in it, it has enough undamaged levels for each stripe that both look at, if the first one had; and each that was restorable is so
+  -- again.
   abbrev pub FixesAreResumed : Standing → Type 0
-  FixesAreResumed standing = (run again : RunOf O F V W) (next later : Standing) (failed : Bool) (fix fix_again : FixRun)
+  FixesAreResumed standing = (run again : RunOf O F V W) (next : Standing) (failed : Bool) (fix fix_again : FixRun)
       → (goes : GoesOver opener_view folder_view vault_view sink_view run standing next)
-      → (goes_again : GoesOver opener_view folder_view vault_view sink_view again next later)
-      → goes.step.always.did ≡ fixes failed fix → goes_again.step.always.did ≡ fixes false fix_again → fix_again.loaded ≡ fix.loaded
+      → BeginsOver next (before_of opener_view folder_view vault_view sink_view again)
+      → (step : RunStep (before_of opener_view folder_view vault_view sink_view again) (after_of opener_view folder_view vault_view sink_view again) again.status)
+      → goes.step.always.did ≡ fixes failed fix → step.always.did ≡ fixes false fix_again → fix_again.loaded ≡ fix.loaded
       → NothingRose (before_of opener_view folder_view vault_view sink_view again) (after_of opener_view folder_view vault_view sink_view again)
-      → HasEnoughAgain fix fix_again standing.last.is_changed next.last.is_changed
+      → RestoresAgain fix fix_again standing next
 
   -- ---- all of it
 

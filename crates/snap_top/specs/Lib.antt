@@ -11,11 +11,13 @@ pub mod Fixing
 pub mod Headline
 pub mod History
 pub mod Known
+pub mod LeftAlike
 pub mod Lost
 pub mod Moment
 pub mod Naming
 pub mod NextFix
 pub mod Opening
+pub mod Printing
 pub mod RestoredLast
 pub mod Restoring
 pub mod Resumed

@@ -1,8 +1,9 @@
--- What a run tells that was asked to check an array.
+-- What a run tells that was asked to check an array, or for another thing that changes no files.
 use Rattle.std.specs.Prelude.{◌≡◌, ◌↔◌, ℕ, List, ◌++◌, Bool, false, IsTrue, Ok, count_by}
 use Rattle.content_file.specs.Load.{HasFailed}
 use Rattle.disk_model.specs.Cause.{Rose, RoseBy}
 use Rattle.disk_model.specs.Vault.{copies_of}
+use Rattle.file_table.specs.Table.{TableValue}
 use Rattle.parity_writer.specs.Sound.{Snapshot, Sound}
 use Rattle.snap_config.specs.declared.options.Command.{Command}
 use Rattle.snap_config.specs.declared.options.Command.TheVariants as commands
@@ -18,6 +19,8 @@ use Rattle.stripe_examiner.specs.declared.scope.Mode.TheVariants as modes
 use Rattle.snap_report.specs.EndLines.{check_text}
 use Rattle.snap_report.specs.EventLines.{lines_of}
 use Rattle.snap_report.specs.Kind.{is_finding}
+use Rattle.snap_report.specs.ListText.{list_text}
+use Rattle.snap_report.specs.StatusText.{bad_in, status_text}
 use Rattle.snap_report.specs.Telling.{Tells, between}
 use Rattle.snap_report.specs.declared.events.Event.{Event}
 use Rattle.snap_top.specs.Check.{CheckRun, ChecksOver}
@@ -25,6 +28,7 @@ use Rattle.snap_top.specs.Ended.{IsEndStatus, WentToItsEnd}
 use Rattle.snap_top.specs.Lost.{NamesLost, NamesPending}
 use Rattle.snap_top.specs.Moment.{TellsAll}
 use Rattle.snap_top.specs.Opening.{IsConfigured, asked_by}
+use Rattle.snap_top.specs.Printing.{EndsPrinted}
 use Rattle.snap_top.specs.Run.{Entry, Exit}
 use Rattle.snap_top.specs.Sync.{BeginsFrom}
 
@@ -74,8 +78,9 @@ pub record EndsChecked (before : Entry) (exit : Exit) (status : ℕ) : Type 0 wh
       → Sound run.loaded before.opener.vault.files snapshot is_changed
       → AreGenuine run.plan snapshot run.stripes → NamesLost run.plan run.stripes snapshot (events_found run)
 
--- An audit that went to its end. It looks at no parity, and found nothing exactly where each selected record is listed as
--- it was recorded, and each selected cell of its stripes was read, with the recorded hash.
+-- An audit that went to its end. It found nothing exactly where each selected record is listed as it was recorded, no
+-- reading of a selected cell of its stripes failed, and each block that came has the recorded hash, if there is one. That
+-- it reads no parity is said by `CheckEnds` (`levels`).
 pub record EndsAudited (before : Entry) (exit : Exit) (status : ℕ) : Type 0 where
   pub run : CheckRun
   pub has : HasChecked modes.Audit before exit status run
@@ -83,11 +88,13 @@ pub record EndsAudited (before : Entry) (exit : Exit) (status : ℕ) : Type 0 wh
 
 -- by the command
 abbrev pub EndsAsAsked : Command → Entry → Exit → ℕ → Type 0
+EndsAsAsked commands.List before exit status = EndsPrinted commands.List (λ (table : TableValue). list_text table.columns) (λ (table : TableValue). 0) before exit status
+EndsAsAsked commands.Status before exit status = EndsPrinted commands.Status status_text (λ (table : TableValue). bad_in table.infos) before exit status
 EndsAsAsked (commands.Check selection) before exit status = EndsChecked before exit status
 EndsAsAsked (commands.Audit selection) before exit status = EndsAudited before exit status
 EndsAsAsked _ before exit status = Unit {0}
 
--- So a check and an audit end that were asked for and went to their ends, whatever the output did.
+-- So a list, a status, a check and an audit end that were asked for and went to their ends, whatever the output did.
 abbrev pub ChecksEnd : Entry → Exit → ℕ → Type 0
 ChecksEnd before exit status = TellsAll before → WentToItsEnd before exit status
     → (asked : Options) → asked_by before.texts ≡ Ok asked → EndsAsAsked asked.command before exit status

@@ -1,18 +1,20 @@
 -- What a fix that went to its end restores of what was last synced, and what it names.
-use Rattle.std.specs.Prelude.{◌≡◌, ◌↔◌, ℕ, Bool, true, false, Contains, List}
+use Rattle.std.specs.Prelude.{◌≡◌, ◌↔◌, ℕ, ◌<◌, Bool, true, false, Contains, List, length}
 use Rattle.cauchy.specs.Matrix.{byte_of}
 use Rattle.disk_model.specs.Files.{Files, parity_of}
 use Rattle.disk_model.specs.Tree.{Tree}
+use Rattle.file_table.specs.Table.{records_in}
 use Rattle.file_table.specs.declared.block.Cell.{Cell}
 use Rattle.parity_writer.specs.Parity.{HasLevel}
-use Rattle.snap_fix.specs.Ending.{Finishes}
+use Rattle.snap_fix.specs.Ending.{Finishes, is_finished}
 use Rattle.snap_fix.specs.Fixing.{facts_of}
 use Rattle.snap_fix.specs.Genuine.{AreGenuine, IsRestorableStripe, TellsIntactLevels}
 use Rattle.snap_fix.specs.Mended.{has_lost, is_wrong_level}
-use Rattle.snap_fix.specs.Restored.{HoldsCell, IsDamagedCell}
+use Rattle.snap_fix.specs.Restored.{HoldsCell, IsDamagedCell, StandsFinished}
 use Rattle.snap_sync.specs.Part.{tree_at}
 use Rattle.stripe_examiner.specs.Facts.{StripeFacts}
 use Rattle.stripe_examiner.specs.Plan.{entry_at, is_searched}
+use Rattle.stripe_reader.specs.Columns.{folder_at}
 use Rattle.snap_top.specs.Fix.{FixRun}
 use Rattle.snap_top.specs.History.{LastSynced}
 use Rattle.snap_top.specs.Lost.{IsToldLost, NamesBlocked, NamesUnsynced}
@@ -33,11 +35,17 @@ abbrev pub HasLast : FixRun → LastSynced → List Tree → StripeFacts → ℕ
 HasLast run last trees facts d cell =
     HoldsCell run.plan.table d cell (has_lost run.plan run.stripes d cell.rec) (byte_of (last.snapshot facts.stripe) d) (tree_at trees d)
 
+-- The file of each selected record that isn't blocked is finished: it stands under PATH with its recorded size and stamp, or, if a cell of it
+-- is lost, under PATH`.unrecoverable`. What stood before is what the folders held when the run began.
+abbrev pub FinishesFiles : FixRun → List Tree → Type 0
+FinishesFiles run trees = (d i : ℕ) → d < length run.plan.table.columns → i < length (records_in run.plan.table d) → is_finished run.plan d i ≡ true
+    → StandsFinished run.plan run.stripes d i (folder_at run.folders d).keeps_stamps (folder_at run.folders d).tree (tree_at trees d)
+
 -- So is each such cell where no more cells of its stripe are missing than levels that were read whole hold the sums of the row that was
 -- last synced; and so where no more are missing than levels were read and not changed from outside since then. Each selected damaged
 -- cell of a synced stripe, also of a blocked record, is told to be lost exactly where more cells are missing than levels that were read
 -- whole hold those sums. Just the pending stripes with a selected cell are told to be unsynced, and just the selected blocked records
--- to be blocked.
+-- to be blocked. The files of all others that are selected are finished.
 pub record RestoresLast (run : FixRun) (finishes : Finishes) (last : LastSynced) (trees : List Tree) : Type 0 where
   pub restored : (facts : StripeFacts) (d : ℕ) (cell : Cell) (is_intact : ℕ → Bool) → IsInReach run facts d cell
       → TellsIntactLevels run.plan facts (last.snapshot facts.stripe) is_intact → IsRestorableStripe run.plan facts is_intact
@@ -49,6 +57,7 @@ pub record RestoresLast (run : FixRun) (finishes : Finishes) (last : LastSynced)
       → IsToldLost (events_in run finishes) facts d cell ↔ ¬ (IsRestorableStripe run.plan facts is_intact)
   pub unsynced : NamesUnsynced run.plan (events_in run finishes)
   pub blocked : NamesBlocked run.plan (events_in run finishes)
+  pub finished : FinishesFiles run trees
 
 -- Each selected level that was read, of a stripe whose row is known, and was not the sum of that row, holds the sums of the row that
 -- was last synced.

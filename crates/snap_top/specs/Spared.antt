@@ -53,7 +53,7 @@ SparesLevels run old new = (r stripe p x : ℕ) → IsLevelLeftAlone run r strip
 
 -- ---- all of it
 
--- Of each column cells, and files of other records or of none, are left alone; and so are levels, where the vault only changed as by a fix.
+-- Of each column cells, and files of other records or of none, are left alone; and so are levels. The vault changed only as by a fix.
 pub record SparesRest (run : FixRun) (standing next : Standing) : Type 0 where
   pub cells : (d : ℕ) → d < length standing.trees → SparesCells run d (tree_at standing.trees d) (tree_at next.trees d)
   pub files : (d : ℕ) → d < length standing.trees → SparesFiles (stop_of run d (tree_at standing.trees d) (tree_at next.trees d))

@@ -24,11 +24,13 @@ ghost use Rattle.snap_top.specs.Check.{CheckRun};
 ghost use Rattle.snap_top.specs.Fix.{FixRun};
 ghost use Rattle.snap_top.specs.Headline.{Headline};
 ghost use Rattle.snap_top.specs.History.{AreSoundBy, IsHistory as IsHistoryOfRuns, LastSynced, StaysSound, Step};
-ghost use Rattle.snap_top.specs.Moment.{IsFixOf, TellsAll};
+ghost use Rattle.snap_top.specs.LeftAlike.{AskSame, PrintAlike, ScrubsAlike, SyncsAlike};
+ghost use Rattle.snap_top.specs.Moment.{EndsInPart, IsFixOf, TellsAll};
 ghost use Rattle.snap_top.specs.Naming.{HasChecked};
 ghost use Rattle.snap_top.specs.NextFix.{IsNextFix};
 ghost use Rattle.snap_top.specs.Restoring.{EndsFixed, Restores};
 ghost use Rattle.snap_top.specs.Resumed.{AreStoppedRuns, EndAlike, EndsClean, RunOf, StoppedRun, end_of, entry_of};
+ghost use Rattle.snap_top.specs.Scrubbed.{EndsScrubbed};
 ghost use Rattle.snap_top.specs.Spared.{SparesCells};
 ghost use Rattle.snap_top.specs.Standing.{IsHistory, IsOrigin, Stage, Standing};
 ghost use Rattle.snap_top.specs.Stopping.{FindsNoLess, FolderStandsIn, SparesFiles, stop_of};
@@ -40,7 +42,7 @@ use content_file::laws::one_table_has_a_spelling;
 use disk_model::{Folder, Opener, Sink, Vault};
 use parity_writer::laws::a_whole_level_is_what_the_file_holds;
 use snap_fix::laws::{
-    a_check_finds_what_a_fix_finds, a_fix_keeps_what_is_sound,
+    a_check_finds_what_a_fix_finds, a_fix_finishes_files, a_fix_keeps_what_is_sound,
     a_stop_within_a_fix_changes_written_blocks_alone, a_stopped_fix_misses_no_more,
 };
 use snap_scrub::laws::a_scrub_keeps_what_is_synced;
@@ -212,13 +214,44 @@ pub fn one_array_is_found_alike<O: Opener, F: Folder, V: Vault, W: Sink>()
     a_check_finds_what_a_fix_finds();
 }
 
+/// Two syncs of one array leave the same, and so do two scrubs that began at one moment: where they were asked for the same, their
+/// openers tell all and hold the same, and no count of faults of a folder or of the vault rose in them. They begin with the same table and
+/// read the same. Two syncs end with the same parity and the same table, but for the times of the last checks where their moments
+/// differ. They print the same, and have the same status where the output of neither failed; the number of readers may differ.
+pub fn one_array_is_left_alike<O: Opener, F: Folder, V: Vault, W: Sink>()
+    ensures syncs { (run again : RunOf O F V W)
+        (one : EndsInPart (entry_of O.view W.view run) (end_of O.view F.view V.view W.view run) run.status)
+        (other : EndsInPart (entry_of O.view W.view again) (end_of O.view F.view V.view W.view again) again.status) →
+        HoldAlike (entry_of O.view W.view run) (entry_of O.view W.view again) →
+        AskSame (entry_of O.view W.view run) (entry_of O.view W.view again) →
+        NothingRose (entry_of O.view W.view run) (end_of O.view F.view V.view W.view run) →
+        NothingRose (entry_of O.view W.view again) (end_of O.view F.view V.view W.view again) →
+        SyncsAlike one.run other.run (end_of O.view F.view V.view W.view run) (end_of O.view F.view V.view W.view again)
+        × PrintAlike (entry_of O.view W.view run) (entry_of O.view W.view again)
+        (end_of O.view F.view V.view W.view run) (end_of O.view F.view V.view W.view again) run.status again.status }
+    ensures scrubs { (run again : RunOf O F V W)
+        (one : EndsScrubbed (entry_of O.view W.view run) (end_of O.view F.view V.view W.view run) run.status)
+        (other : EndsScrubbed (entry_of O.view W.view again) (end_of O.view F.view V.view W.view again) again.status) →
+        HoldAlike (entry_of O.view W.view run) (entry_of O.view W.view again) →
+        AskSame (entry_of O.view W.view run) (entry_of O.view W.view again) → run.moment ≡ again.moment →
+        NothingRose (entry_of O.view W.view run) (end_of O.view F.view V.view W.view run) →
+        NothingRose (entry_of O.view W.view again) (end_of O.view F.view V.view W.view again) →
+        ScrubsAlike one.run other.run (end_of O.view F.view V.view W.view run) (end_of O.view F.view V.view W.view again)
+        × PrintAlike (entry_of O.view W.view run) (entry_of O.view W.view again)
+        (end_of O.view F.view V.view W.view run) (end_of O.view F.view V.view W.view again) run.status again.status }
+{
+    one_table_has_a_spelling();
+}
+
 /// The headline. Whatever happened to an array since it had no content, by runs of any commands, each of which ended or was
 /// stopped at some moment, by edits, by damage to the vault and by other configurations: what stands then is sound; a sync
 /// that ends with status 0 after stopped ones leaves what one leaves that was never stopped; what was last synced after a sync
 /// that went to its end is what it read; and a fix that goes to its end restores the blocks that were last synced of each
 /// stripe in which no more are missing than levels are intact, unless their record is blocked, and names those of stripes in
-/// which more are missing. One that is stopped spares the cells, files and levels that it leaves alone, and is resumed: the
-/// next one can restore as much. Of each fix this supposes that it met no block that has a recorded hash by chance.
+/// which more are missing. It finishes each selected file that isn't blocked: that stands under PATH with its recorded size
+/// and stamp, or, with a lost block, under PATH`.unrecoverable`. A fix that is stopped spares the cells, files and levels
+/// that it leaves alone. The next one from the same table has enough undamaged levels for each stripe that both look at, if
+/// the first one had. Of each fix this supposes that it met no block that has a recorded hash by chance.
 pub fn headline<O: Opener, F: Folder, V: Vault, W: Sink>()
     ensures { (first standing : Standing) (stages : List (Stage O F V W)) → IsOrigin first →
         IsHistory O.view F.view V.view W.view first stages standing → Headline O.view F.view V.view W.view standing }
@@ -234,6 +267,7 @@ pub fn headline<O: Opener, F: Folder, V: Vault, W: Sink>()
     a_stopped_sync_is_resumed();
     a_fix_keeps_what_is_sound();
     a_check_finds_what_a_fix_finds();
+    a_fix_finishes_files();
     a_stop_within_a_fix_changes_written_blocks_alone();
     a_stopped_fix_misses_no_more();
 }

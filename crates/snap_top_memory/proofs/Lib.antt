@@ -4,6 +4,7 @@ pub mod ChangedLemmas
 pub mod LivedLemmas
 pub mod MetLemmas
 pub mod OnceLemmas
+pub mod RepeatedLemmas
 pub mod ResumedLemmas
 pub mod SyncedRows
 pub mod TakenLemmas

@@ -1,5 +1,5 @@
 -- A run over an array without content, files that are taken away, and a fix of what is left.
-use Rattle.std.proofs.Common.{◌≡◌, inl, inr, ℕ, ◌<◌, ◌≤◌, List, [], ◌∷◌, ◌++◌, length, map, get_or, set, is_some, true, Option, None, Some, IsTrue, Ok, refl, sym, ap, ◌∙◌, subst, arith}
+use Rattle.std.proofs.Common.{◌≡◌, inl, inr, ℕ, ◌<◌, ◌≤◌, List, [], ◌∷◌, ◌++◌, length, map, get_or, set, is_some, Option, IsTrue, Ok, refl, sym, ap, ◌∙◌, subst, arith}
 use Rattle.disk_model.specs.Folder.{FolderView}
 use Rattle.disk_model.specs.Opener.{OpenerView}
 use Rattle.disk_model.specs.Sink.{SinkView}
@@ -8,6 +8,7 @@ use Rattle.disk_model.specs.Vault.{VaultView, copies_of}
 use Rattle.disk_memory.specs.Vault.{VaultValue, fresh_vault, view_of}
 use Rattle.snap_sync.specs.Part.{tree_at, trees_of}
 use Rattle.snap_top.specs.Headline.{FixesToItsEnd}
+use Rattle.snap_top.specs.History.{LastSynced}
 use Rattle.snap_top.specs.Moment.{IsDidOf, StandsIn}
 use Rattle.snap_top.specs.Opening.{asked_by}
 use Rattle.snap_top.specs.Resumed.{RunOf}
@@ -22,14 +23,14 @@ use Rattle.snap_top_memory.proofs.ResumedLemmas.{HoldsAlways, begins_nothing}
 use Rattle.snap_top_memory.proofs.TakenTrees.{more_taken, nothing_taken}
 
 module _ {O F V W : Type 0} (opener_view : O → OpenerView) (folder_view : F → FolderView) (vault_view : V → VaultView) (sink_view : W → SinkView) where
-  abbrev Always : Type 0
+  abbrev pub Always : Type 0
   Always = HoldsAlways opener_view folder_view vault_view sink_view
 
-  abbrev LeftOfOne : List ℕ → List FolderView → VaultView → ℕ → Type 0
+  abbrev pub LeftOfOne : List ℕ → List FolderView → VaultView → ℕ → Type 0
   LeftOfOne config folders vault status = IsLeftOfOne opener_view folder_view vault_view sink_view config folders vault status
 
   -- what the law says of a fix of what is left
-  abbrev MeetsNone : Type 0
+  abbrev pub MeetsNone : Type 0
   MeetsNone = (once fix : RunOf O F V W) (first next : Standing) (trees : List Tree) (did : Did) → IsOrigin first → GoesOver opener_view folder_view vault_view sink_view once first next → OnlyTakenAway next.trees trees
       → BeginsOver (record next { trees = trees }) (before_of opener_view folder_view vault_view sink_view fix)
       → IsDidOf (before_of opener_view folder_view vault_view sink_view fix) (after_of opener_view folder_view vault_view sink_view fix) did → MeetsNoChance did next.last.snapshot
@@ -79,13 +80,13 @@ module _ {O F V W : Type 0} (opener_view : O → OpenerView) (folder_view : F �
     abbrev run : RunOf O F V W
     run = runs.run
 
-    stages : List (Stage O F V W)
+    pub stages : List (Stage O F V W)
     stages = record { change = Runs once.run; next = once.next } ∷ record { change = Edits; next = standing } ∷ []
 
     abbrev Begins : Standing → Type 0
     Begins s = BeginsOver s (before_of opener_view folder_view vault_view sink_view runs.run)
 
-    history : IsHistory opener_view folder_view vault_view sink_view once.first stages standing
+    pub history : IsHistory opener_view folder_view vault_view sink_view once.first stages standing
     unfolding stages
     history = (once.goes, (once.stands, refl))
 
@@ -123,10 +124,10 @@ module _ {O F V W : Type 0} (opener_view : O → OpenerView) (folder_view : F �
           restored = (holds once.first standing stages once.origin history).restores runs.run at_end.0 at_end.3 fixes at_end.2;
         }
 
-    pub fixed_on : (told : List ℕ) → IsLeftOf (vault_view left) made → copies_of made ≡ copies_of vault → told ≡ before ∷ status ∷ []
-        → HasHistory opener_view folder_view vault_view sink_view config (map folder_view left_folders) made told
-    unfolding stages
-    fixed_on told left_of as_many told_is =
+    -- what a stop at some moment of it leaves stands next
+    pub goes_left : IsLeftOf (vault_view left) made → copies_of made ≡ copies_of vault
+        → (then : LastSynced) × GoesOver opener_view folder_view vault_view sink_view runs.run standing (standing_of config (map folder_view left_folders) made then)
+    goes_left left_of as_many =
         let stands : StandsIn (before_of opener_view folder_view vault_view sink_view runs.run) (after_of opener_view folder_view vault_view sink_view runs.run) made.files
         = inr (subst
         (λ (v : Option V). IsTrue (vault_in vault_view (opener_view runs.run.opener_new).vault v).images.told
@@ -134,16 +135,22 @@ module _ {O F V W : Type 0} (opener_view : O → OpenerView) (folder_view : F �
         (sym runs.vault_is)
         (left_of.told, subst (λ (m : ℕ). (vault_view left).images.since m made.files) (sym runs.moment) left_of.left)) in
         let its = at_end.3 in
-        let going = (holds once.first standing stages once.origin history).goes_on runs.run made.files at_end.0.trees its.over its.step stands its.trees its.genuine in
-        let next : Standing = standing_of config (map folder_view left_folders) made going.0.last in
-        let goes : GoesOver opener_view folder_view vault_view sink_view runs.run standing next
-        = subst (λ (s : Standing). GoesOver opener_view folder_view vault_view sink_view runs.run standing s)
-        (stands_as standing going.0 (trees_of (map folder_view left_folders)) made.files (copies_of made) going.3.array (going.2 ∙ at_end_trees) going.1 (sym as_many)) going.3 in
+        let going = (holds once.first standing stages once.origin history).goes_on runs.run made.files at_end.0.trees its.over its.step stands its.trees its.genuine in (
+          going.0.last,
+          subst (λ (s : Standing). GoesOver opener_view folder_view vault_view sink_view runs.run standing s)
+              (stands_as standing going.0 (trees_of (map folder_view left_folders)) made.files (copies_of made) going.3.array (going.2 ∙ at_end_trees) going.1 (sym as_many)) going.3,
+        )
+
+    pub fixed_on : (told : List ℕ) → IsLeftOf (vault_view left) made → copies_of made ≡ copies_of vault → told ≡ before ∷ status ∷ []
+        → HasHistory opener_view folder_view vault_view sink_view config (map folder_view left_folders) made told
+    unfolding stages
+    fixed_on told left_of as_many told_is =
+        let going = goes_left left_of as_many in
         record {
           first = once.first;
-          stages = stages ++ record { change = Runs runs.run; next = next } ∷ [];
-          last = going.0.last;
+          stages = stages ++ record { change = Runs runs.run; next = standing_of config (map folder_view left_folders) made going.0 } ∷ [];
+          last = going.0;
           origin = once.origin;
-          history = (once.goes, (once.stands, (goes, refl)));
+          history = (once.goes, (once.stands, (going.1, refl)));
           statuses_are = ap (λ (s : ℕ). s ∷ runs.run.status ∷ []) once.status_is ∙ ap (λ (s : ℕ). before ∷ s ∷ []) runs.status_is ∙ sym told_is;
         }

@@ -141,7 +141,8 @@ module _ {O F V W : Type 0} (opener_view : O → OpenerView) (folder_view : F �
       headline_later between (no_fix_of other_texts asks_nothing) kept_of as_many_still in
       let still : Standing = standing_of config (map folder_view between_folders) kept going_still.0 in
       let words = subst (λ (ts : List (List ℕ)). asked_by ts ≡ Ok asks_nothing.asked) (sym between.texts_are) asks_nothing.words in
-      let quiet = headline_later.quiet between.run still going_still.1 (inr (asks_nothing.asked, words, asks_nothing.changes_nothing)) in
+      let stays_so : still ≡ later = headline_later.quiet between.run still going_still.1 (inr (asks_nothing.asked, words, asks_nothing.changes_nothing)) in
+      let quiet : (still.files ≡ later.files) × (still.trees ≡ later.trees) = (ap (λ (standing : Standing). standing.files) stays_so, ap (λ (standing : Standing). standing.trees) stays_so) in
       let stages : List (Stage O F V W) = stage ∷ record { change = Runs between.run; next = still } ∷ [] in
       let history : IsHistory opener_view folder_view vault_view sink_view first stages still = (goes, (going_still.1, refl)) in
       let again = syncs_clean config texts seed (map folder_view between_folders) kept going_still.0 trees status_last last_folders left_last (holds first still stages is_first history) last calm_last asks (quiet.1 ∙ same_too) zero_last in

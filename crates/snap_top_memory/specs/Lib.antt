@@ -1,4 +1,5 @@
 pub mod Changed
 pub mod Lived
 pub mod Once
+pub mod Repeated
 pub mod Taken

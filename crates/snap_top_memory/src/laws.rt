@@ -18,8 +18,8 @@ use snap_sync::laws::what_a_sync_saves_is_valid;
 use snap_top::laws::{headline, undamaged_levels_restore};
 
 /// The premise of the headline on hashes is met where an array without content was run over once, wherever that run was
-/// stopped, and then files were only taken away. A fix of what stands then meets no block that has a recorded hash by chance:
-/// each block that it reads whole is the one that the sync read, and each level that it reads whole is a sum of these.
+/// stopped, and then files were only taken away, each only where none stands under PATH`.unrecoverable` then. A fix of what
+/// stands then meets no block that has a recorded hash by chance: each block that it reads whole is the one that the sync read, and each level that it reads whole is a sum of these.
 pub fn a_fix_of_what_is_left_meets_no_chance<O: Opener, F: Folder, V: Vault, W: Sink>()
     ensures { (once fix : RunOf O F V W) (first next : Standing) (trees : List Tree) (did : Did) → IsOrigin first →
         GoesOver O.view F.view V.view W.view once first next → OnlyTakenAway next.trees trees →

@@ -5,7 +5,8 @@
 //! what a run left. `next.rt` runs again where a run broke, and `turns.rt` lets each call of an object fail in turn.
 //! `contents.rt` and `four.rt` have content files that such runs leave, spelled by hand.
 //! What the laws of `snap_top` suppose is met: `lived.rt` has histories, `changed.rt` what happens between two runs,
-//! `resumed.rt` a sync that is resumed, a sync and a fix, and `taken.rt` a fix of which no premise is left, by `laws.rt`.
+//! `resumed.rt` a sync that is resumed, a sync and a fix, and `taken.rt` a fix of which no premise is left, by `laws.rt`;
+//! `repeated.rt` has two checks of one array, and a fix after one that was stopped.
 //! A test is proved too, and costs more with each value that owns memory and is alive at a `?` or an `assert!`. So what
 //! a run leaves stays within the functions here, and a test hands over a `static` table.
 //! Proved: it never panics, and what it hands to a run is settled and without drafts. The runs of these files
@@ -23,6 +24,7 @@ pub mod laws;
 pub mod left;
 pub mod lived;
 pub mod next;
+pub mod repeated;
 pub mod resumed;
 pub mod taken;
 pub mod turns;

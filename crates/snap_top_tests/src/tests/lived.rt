@@ -4,6 +4,7 @@ use snap_top_memory::changed::three_changes;
 use snap_top_memory::left::is_there;
 use snap_top_memory::lived::{Lived, Told, three_runs_from_nothing};
 use snap_top_memory::next::{TORN, WRITTEN};
+use snap_top_memory::repeated::{check_twice, lose_and_fix_twice};
 use snap_top_memory::resumed::{fix_at_last, stop_and_sync_again, sync_at_last};
 use snap_top_memory::taken::lose_and_fix;
 use std::test::Fail;
@@ -13,6 +14,8 @@ const SCRUB: &[&str] = &["snapraid", "scrub", "-c", "FILE", "-p", "full"];
 const STATUS: &[&str] = &["snapraid", "status", "-c", "FILE"];
 
 const FIX: &[&str] = &["snapraid", "fix", "-c", "FILE"];
+
+const CHECK: &[&str] = &["snapraid", "check", "-c", "FILE"];
 
 // What a stop after nine calls leaves, with other bytes wherever one was written and not handed to the disk.
 const WITHIN_A_WRITE: &[u8] = &[9, 0, 0, 0, 0, 0, 0, 0, 0xff, 0xff, 0xff, 0xff];
@@ -42,6 +45,11 @@ fn a_file_that_was_lost_is_restored_and_the_array_is_changed(rt: HostRuntime) ->
         let mut lived = lose_and_fix(&rt, alloc, FIVE, "c", &FIRST)?;
         assert!(rt; is_there(alloc, &mut lived.folders, 0, "c", b"c")?);
     }
+    {
+        let lived = lose_and_fix(&rt, alloc, FIVE, "c", &FIRST)?;
+        assert!(rt; check_twice(&rt, alloc, lived, CHECK)? == 0);
+    }
+    assert!(rt; lose_and_fix_twice(&rt, alloc, FIVE, "c", &FIRST)? == 0);
     let lived = lose_and_fix(&rt, alloc, FIVE, "c", &FIRST)?;
     let lived = three_changes(&rt, alloc, lived, "e", OTHER_LEVEL, &LATER)?;
     let Lived { statuses, .. } = &lived;
