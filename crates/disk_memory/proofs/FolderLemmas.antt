@@ -1,26 +1,24 @@
 -- How the writing calls of a folder in memory change its tree.
-use Rattle.std.proofs.Common.{◌≡◌, ◌≢◌, ℕ, ◌≤◌, List, [], ◌∷◌, length, get_or, arith, Bool, true, false, not, if◌then◌else◌, Option, None, Some, Result, Ok, Err, refl, sym, ◌∙◌, ap, subst}
-use Rattle.std.proofs.lemmas.List.{get_or_past}
+use Rattle.std.proofs.Common.{◌≡◌, ◌≢◌, ℕ, ◌≤◌, List, [], ◌∷◌, arith, Bool, true, false, not, if◌then◌else◌, Option, None, Some, Result, Ok, Err, refl, sym, ◌∙◌, ap, subst}
 use Rattle.std.specs.Option.{option_map}
 use Rattle.disk_model.specs.Bytes.{put, resized}
 use Rattle.disk_model.specs.Cause.{Rose, Grows}
 use Rattle.disk_model.specs.Tree.{Tree, File, file_of}
 use Rattle.disk_model.specs.Answer.{is_failure, done_answer}
 use Rattle.disk_model.specs.Folder.{FolderView, FolderCall, FolderDone, Allows}
-use Rattle.disk_model.specs.Writing.{Does, MayDo, IsFolderWrite, ChangesFile, Writes, WritesPart, Resizes, Stamps}
+use Rattle.disk_model.specs.Writing.{Does, MayDo, IsFolderWrite, ChangesFile, Writes, Resizes, Stamps}
 use Rattle.disk_model.specs.declared.meta.Stamp.{Stamp}
 use Rattle.disk_model.specs.declared.fault.FileFault.{FileFault}
 use Rattle.disk_model.specs.declared.fault.FileFault.TheVariants.{Missing}
 use Rattle.disk_model.specs.declared.answer.Answer.{Answer}
 use Rattle.disk_model.specs.declared.answer.Answer.TheVariants as answers
 use Rattle.disk_memory.specs.Calls.{folder_calls}
-use Rattle.disk_memory.specs.Files.{tree_of, changed, set_found, with_bytes, with_stamp}
+use Rattle.disk_calm.specs.Files.{changed, set_found, with_bytes, with_stamp}
+use Rattle.disk_calm.specs.Kept.{tree_in, is_tree_in}
 use Rattle.disk_memory.specs.Folder.{folder_view}
 use Rattle.disk_memory.specs.declared.calls.FolderEntry.{FolderEntry}
 use Rattle.disk_memory.specs.declared.folder.MemFolder.{MemFolder}
 use Rattle.disk_memory.specs.declared.past.Past.{Past}
-use Rattle.disk_memory.proofs.BytesLemmas.{torn_not}
-use Rattle.disk_memory.proofs.TreeLemmas.{set_same}
 
 -- the folder after a call
 abbrev pub view_after : MemFolder → ℕ → Past FolderEntry → Tree → FolderView
@@ -39,7 +37,7 @@ done call answer = record { call = call; answer = answer }
 
 module _ (f : MemFolder) (faults : ℕ) (now : Past FolderEntry) (tree : Tree) (call : FolderCall) where
   pub wrote : (answer : Answer) → is_failure answer ≡ false → faults ≡ f.schedule.faults → Grows (not f.past.lost) (folder_calls f.past.made.items) (not now.lost) (folder_calls now.made.items) (done call answer ∷ [])
-      → Does f.keeps_stamps call (tree_of f.files.list.items) tree → IsFolderWrite call answer (folder_view f) (view_after f faults now tree)
+      → Does f.keeps_stamps call (tree_in f.files) tree → IsFolderWrite call answer (folder_view f) (view_after f faults now tree)
   wrote answer unfailed same grows does = record {
     called = record { goes_on = record { later = subst (λ n. f.schedule.faults ≤ n) (sym same) (omega arith); keeps_stamps = refl; closed = refl; tells = refl; calls = grows }; cause = λ failed. absurd (clash failed) };
     does = λ unfailed told. does;
@@ -50,7 +48,7 @@ module _ (f : MemFolder) (faults : ℕ) (now : Past FolderEntry) (tree : Tree) (
       clash failed = cc
 
   pub failed : f.schedule.faults ≤ faults → Rose f.schedule.faults faults → Grows (not f.past.lost) (folder_calls f.past.made.items) (not now.lost) (folder_calls now.made.items) (done call answers.Failed ∷ [])
-      → MayDo f.keeps_stamps call (tree_of f.files.list.items) tree → IsFolderWrite call answers.Failed (folder_view f) (view_after f faults now tree)
+      → MayDo f.keeps_stamps call (tree_in f.files) tree → IsFolderWrite call answers.Failed (folder_view f) (view_after f faults now tree)
   failed later rose grows may = record {
     called = record { goes_on = record { later = later; keeps_stamps = refl; closed = refl; tells = refl; calls = grows }; cause = λ failed. rose };
     does = λ (no : true ≡ false). absurd (cc);
@@ -69,12 +67,12 @@ held_allows f path there = by_file (file_of (folder_view f).tree path) refl
   where
     by_file : (found : Option File) → file_of (folder_view f).tree path ≡ found → Allows (folder_view f) path
     by_file None none = absurd (there none)
-    by_file (Some file) is = let held = f.files.kept.tree path file is in record { is_open = refl; valid = held.valid; apart = held.apart }
+    by_file (Some file) is = let held = is_tree_in f.files path file is in record { is_open = refl; valid = held.valid; apart = held.apart }
 
 -- a call that did its work where the file was there
 pub wrote_found : (there : Bool) (result : Result (Unit {0}) FileFault) (answer : Answer) → result ≡ answer_of there → answer ≡ kept_of there → (f : MemFolder) (faults : ℕ) (now : Past FolderEntry) (tree : Tree) (call : FolderCall)
     → faults ≡ f.schedule.faults → Grows (not f.past.lost) (folder_calls f.past.made.items) (not now.lost) (folder_calls now.made.items) (done call answer ∷ [])
-    → Does f.keeps_stamps call (tree_of f.files.list.items) tree → IsFolderWrite call (done_answer result) (folder_view f) (view_after f faults now tree)
+    → Does f.keeps_stamps call (tree_in f.files) tree → IsFolderWrite call (done_answer result) (folder_view f) (view_after f faults now tree)
 wrote_found there result answer is kept f faults now tree call same grows does =
     subst (λ a. IsFolderWrite call a (folder_view f) (view_after f faults now tree)) (kept ∙ as_kept there ∙ ap (λ (r : Result (Unit {0}) FileFault). done_answer r) (sym is))
     (wrote f faults now tree call answer (ap is_failure kept ∙ unfailed there) same grows does)
@@ -102,13 +100,3 @@ resizes path size old new is = changes_file (with_bytes (λ (before : List ℕ).
 
 pub stamps : (keeps : Bool) (path : List ℕ) (stamp : Stamp) (old new : Tree) → new ≡ changed (with_stamp keeps stamp) path old → ChangesFile path (Stamps keeps stamp) old new
 stamps keeps path stamp old new is = changes_file (with_stamp keeps stamp) (Stamps keeps stamp) path old new (λ file. refl) is
-
--- a write of which nothing was done
-pub writes_nothing : (path : List ℕ) (at n : ℕ) (old new : Tree) → new ≡ old → ChangesFile path (WritesPart at n) old new
-writes_nothing path at n old new is = record {
-  none = λ none. is;
-  some = λ before found. (before, record { torn = torn_not before.bytes at n; zeros = λ i past under. zero_past before.bytes i past }, is ∙ set_same old path before found);
-}
-  where
-    zero_past : (bytes : List ℕ) (i : ℕ) → length bytes ≤ i → get_or bytes i 0 ≡ 0
-    zero_past bytes i past = get_or_past bytes i 0 past

@@ -13,15 +13,16 @@ use Rattle.disk_model.proofs.SteadyLemmas.{levels_stay, copies_stay, steady_repl
 use Rattle.disk_memory.specs.Calls.{vault_calls}
 use Rattle.disk_memory.specs.Choice.{number_in, levels_image, after_levels, copies_image, image_of, CanBeCounted}
 use Rattle.disk_memory.specs.Goes.{IsOpenedRecord}
-use Rattle.disk_memory.specs.Held.{Held, AreFiles}
+use Rattle.disk_calm.specs.Held.{Held, AreFiles}
 use Rattle.disk_memory.specs.Recorded.{opened_by, calls_since}
-use Rattle.disk_memory.specs.Store.{held, opened_held, SameCounts}
+use Rattle.disk_calm.specs.Store.{held, opened_held, SameCounts}
 use Rattle.disk_memory.specs.Vault.{VaultValue, value_of, view_of, image_at, opened_anew}
-use Rattle.disk_memory.specs.VaultLaws.{steady_store, parities_long, contents_long, drafts_long}
+use Rattle.disk_calm.specs.StoreLaws.{parities_long, contents_long, drafts_long}
+use Rattle.disk_memory.specs.VaultLaws.{steady_store}
 use Rattle.disk_memory.specs.declared.calls.VaultEntry.{VaultEntry}
 use Rattle.disk_memory.specs.declared.past.Made.{Made}
 use Rattle.disk_memory.specs.declared.recorded.Recorded.{Recorded}
-use Rattle.disk_memory.specs.declared.store.Store.{Store}
+use Rattle.disk_calm.specs.declared.store.Store.{Store}
 use Rattle.disk_memory.proofs.ChoiceLemmas.{HasBytes, picked_is_image, picks_files, picks_moment}
 use Rattle.disk_memory.proofs.OthersLemmas.{HaveBytes, have_replay, settled_has, AtMost, more_replay}
 

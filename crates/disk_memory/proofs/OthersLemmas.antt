@@ -7,7 +7,7 @@ use Rattle.disk_model.specs.Machine.{Machine, Loose, settled, copy_of, draft_in,
 use Rattle.disk_model.specs.Vault.{VaultCall, VaultDone, ParityLen, ParityRead, ParityWrite, ParitySetLen, ParitySync, ContentSize, ContentRead, DraftBegin, DraftAppend, DraftSeal, Publish, is_sealed}
 use Rattle.disk_model.proofs.SteadyLemmas.{steady_after}
 use Rattle.disk_memory.proofs.ChoiceLemmas.{HasBytes}
-use Rattle.disk_memory.proofs.StoreLemmas.{each-set}
+use Rattle.disk_calm.proofs.StoreLemmas.{each-set}
 
 abbrev pub HaveBytes : Machine → Type 0
 HaveBytes m = (copy : ℕ) → HasBytes (copy_of m copy)

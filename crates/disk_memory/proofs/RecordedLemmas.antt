@@ -16,7 +16,7 @@ use Rattle.disk_model.specs.declared.draft.Draft.TheVariants.{Absent}
 use Rattle.disk_model.proofs.ByCallsLemmas.{opened_reads}
 use Rattle.disk_model.proofs.MachineLemmas.{replay_push}
 use Rattle.disk_memory.specs.Calls.{vault_call, vault_calls, vault_done}
-use Rattle.disk_memory.specs.Held.{Held}
+use Rattle.disk_calm.specs.Held.{Held}
 use Rattle.disk_memory.specs.Past.{answered, Notes, Loses, Ends}
 use Rattle.disk_memory.specs.Recorded.{opened_by, held_by, calls_since, held_after, is_quiet, IsRecorded}
 use Rattle.disk_memory.specs.RecordedLaws.{follows, untold}

@@ -10,9 +10,9 @@ use Rattle.disk_model.specs.declared.draft.Draft.TheVariants.{Absent}
 use Rattle.disk_model.proofs.ByCallsLemmas.{opened_reads, opened_is_settled}
 use Rattle.disk_memory.specs.Calls.{vault_calls, vault_done}
 use Rattle.disk_memory.specs.Goes.{Damages, SameRecord}
-use Rattle.disk_memory.specs.Held.{Held}
+use Rattle.disk_calm.specs.Held.{Held}
 use Rattle.disk_memory.specs.Recorded.{opened_by, calls_since}
-use Rattle.disk_memory.specs.Store.{held}
+use Rattle.disk_calm.specs.Store.{held}
 use Rattle.disk_memory.specs.Vault.{VaultValue, value_of, view_of}
 use Rattle.disk_memory.specs.declared.calls.VaultEntry.{VaultEntry}
 use Rattle.disk_memory.specs.declared.past.Made.{Made}

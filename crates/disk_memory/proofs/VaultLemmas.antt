@@ -21,16 +21,17 @@ use Rattle.disk_model.proofs.ByCallsLemmas.{changes_by_call, remembers_by_call, 
 use Rattle.disk_model.proofs.MomentsLemmas.{leaves_more}
 use Rattle.disk_model.proofs.SteadyLemmas.{levels_stay, copies_stay}
 use Rattle.disk_memory.specs.Goes.{Goes, GoesBy, CountsFaults}
-use Rattle.disk_memory.specs.Held.{Held}
+use Rattle.disk_calm.specs.Held.{Held}
 use Rattle.disk_memory.specs.Past.{answered}
 use Rattle.disk_memory.specs.Recorded.{opened_by, held_by, calls_since, held_after, is_quiet}
 use Rattle.disk_memory.specs.RecordedLaws.{follows, untold}
 use Rattle.disk_memory.specs.Schedule.{answer_of}
-use Rattle.disk_memory.specs.Store.{held, staged_held, draft_held, with_draft}
+use Rattle.disk_calm.specs.Store.{held, staged_held, draft_held, with_draft}
 use Rattle.disk_memory.specs.Vault.{value_of, view_of}
-use Rattle.disk_memory.specs.VaultLaws.{machine_of, steady_store, parities_long, contents_long, drafts_long}
+use Rattle.disk_calm.specs.StoreLaws.{parities_long, contents_long, drafts_long}
+use Rattle.disk_memory.specs.VaultLaws.{machine_of, steady_store}
 use Rattle.disk_memory.specs.declared.recorded.Recorded.{Recorded}
-use Rattle.disk_memory.specs.declared.store.Store.{Store}
+use Rattle.disk_calm.specs.declared.store.Store.{Store}
 use Rattle.disk_memory.proofs.RecordedLemmas.{done_so, since_more, quiet_held}
 
 -- ---- how a call answers

@@ -6,7 +6,7 @@ use Rattle.disk_model.specs.Folder.{FolderView, IsFolder}
 use Rattle.disk_model.specs.declared.answer.Answer.{Answer}
 use Rattle.disk_model.specs.declared.fault.FileFault.{FileFault}
 use Rattle.disk_memory.specs.Calls.{folder_calls}
-use Rattle.disk_memory.specs.Files.{tree_of}
+use Rattle.disk_calm.specs.Kept.{tree_in, is_tree_in}
 use Rattle.disk_memory.specs.Schedule.{Plan, plan_of, ObeysExactly, ObeysUnless}
 use Rattle.disk_memory.specs.declared.folder.MemFolder.{MemFolder}
 
@@ -17,7 +17,7 @@ folder_view f = record {
   keeps_stamps = f.keeps_stamps;
   closed = false;
   tells = true;
-  tree = tree_of f.files.list.items;
+  tree = tree_in f.files;
   tells_calls = not f.past.lost;
   calls = folder_calls f.past.made.items;
 }
@@ -50,7 +50,7 @@ fresh_folder keeps_stamps = record {
 }
 
 pub folder_well_formed : (f : MemFolder) → IsFolder (folder_view f)
-folder_well_formed f = record { tree = λ told. f.files.kept.tree; told = λ closed. absurd (not_closed closed); closed = λ closed. absurd (not_closed closed) }
+folder_well_formed f = record { tree = λ told. is_tree_in f.files; told = λ closed. absurd (not_closed closed); closed = λ closed. absurd (not_closed closed) }
   where
     not_closed : IsTrue false → ⊥
     not_closed told = cc

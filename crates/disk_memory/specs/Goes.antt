@@ -1,6 +1,6 @@
 -- How a call of a vault in memory goes on from what is held and recorded.
 use Rattle.std.specs.Prelude.{◌≡◌, ◌⊎◌, ℕ, ◌≤◌, [], ◌∷◌, Bool, true, false, not, length, if◌then◌else◌}
-use Rattle.disk_memory.specs.Held.{Held}
+use Rattle.disk_calm.specs.Held.{Held}
 use Rattle.disk_model.specs.Cause.{Rose, Grows}
 use Rattle.disk_model.specs.Vault.{VaultCall}
 use Rattle.disk_model.specs.declared.answer.Answer.{Answer}
@@ -8,9 +8,9 @@ use Rattle.disk_model.specs.declared.answer.Answer.TheVariants.{Done}
 use Rattle.disk_memory.specs.Calls.{vault_calls}
 use Rattle.disk_memory.specs.Past.{answered}
 use Rattle.disk_memory.specs.Recorded.{held_after}
-use Rattle.disk_memory.specs.Store.{held, nothing_held, SameCounts}
+use Rattle.disk_calm.specs.Store.{held, nothing_held, SameCounts}
 use Rattle.disk_memory.specs.declared.recorded.Recorded.{Recorded}
-use Rattle.disk_memory.specs.declared.store.Store.{Store}
+use Rattle.disk_calm.specs.declared.store.Store.{Store}
 
 -- the call, which gives this unless it failed, is the last of the record, where that is not lost, and reads give what is held after it
 pub record GoesBy (call : VaultCall) (given : Answer) (failed : Bool) (old new : Recorded) : Type 0 where

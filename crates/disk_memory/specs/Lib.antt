@@ -1,15 +1,9 @@
 pub mod Calls
-pub mod Calm
-pub mod CalmLaws
 pub mod CalmOpener
 pub mod Choice
-pub mod Files
-pub mod FilesLaws
 pub mod Folder
 pub mod Given
 pub mod Goes
-pub mod Held
-pub mod HeldLaws
 pub mod Opener
 pub mod Past
 pub mod Recorded
@@ -18,6 +12,5 @@ pub mod Replay
 pub mod Schedule
 pub mod Scripted
 pub mod Sink
-pub mod Store
 pub mod Vault
 pub mod VaultLaws

@@ -7,8 +7,8 @@ use Rattle.disk_model.specs.Unsynced.{synced}
 use Rattle.disk_model.specs.Vault.{VaultCall, VaultDone, ParityLen, ParityRead, ParityWrite, ParitySetLen, ParitySync, ContentSize, ContentRead, DraftBegin, DraftAppend, DraftSeal, Publish}
 use Rattle.disk_model.specs.declared.draft.Draft.TheVariants.{Absent, Open, Sealed}
 use Rattle.disk_memory.specs.Calls.{vault_calls}
-use Rattle.disk_memory.specs.Held.{Held}
-use Rattle.disk_memory.specs.Store.{with_level, with_copy, with_draft, staged_held}
+use Rattle.disk_calm.specs.Held.{Held}
+use Rattle.disk_calm.specs.Store.{with_level, with_copy, with_draft, staged_held}
 use Rattle.disk_memory.specs.declared.calls.VaultEntry.{VaultEntry}
 use Rattle.disk_memory.specs.declared.past.Made.{Made}
 

@@ -5,8 +5,8 @@ use Rattle.std.proofs.Props.{props}
 use Rattle.disk_model.specs.Machine.{GivesBytes, AllGiveBytes, replay}
 use Rattle.disk_model.specs.Vault.{VaultCall, VaultDone, ParityLen, ParityRead, ParityWrite, ParitySetLen, ParitySync, ContentSize, ContentRead, DraftBegin, DraftAppend, DraftSeal, Publish}
 use Rattle.disk_model.specs.declared.draft.Draft.{Draft}
-use Rattle.disk_memory.specs.Held.{Held}
-use Rattle.disk_memory.specs.HeldLaws.{AreBytes-prop}
+use Rattle.disk_calm.specs.Held.{Held}
+use Rattle.disk_calm.specs.HeldLaws.{AreBytes-prop}
 use Rattle.disk_memory.specs.Recorded.{IsRecorded, opened_by, held_by, calls_since}
 use Rattle.disk_memory.specs.declared.calls.VaultEntry.{VaultEntry}
 use Rattle.disk_memory.specs.declared.past.Made.{Made}

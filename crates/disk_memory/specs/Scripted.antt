@@ -5,7 +5,7 @@ use Rattle.std.specs.FinMap as map
 use Rattle.disk_model.specs.Folder.{FolderView, IsFolder}
 use Rattle.disk_model.specs.Tree.{Tree}
 use Rattle.disk_model.specs.declared.meta.Stamp.{Stamp}
-use Rattle.disk_memory.specs.Files.{changed}
+use Rattle.disk_calm.specs.Files.{changed}
 use Rattle.disk_memory.specs.Folder.{folder_view}
 use Rattle.disk_memory.specs.declared.folder.MemFolder.{MemFolder}
 use Rattle.disk_memory.specs.declared.scripted.Event.{Event}

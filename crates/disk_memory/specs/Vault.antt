@@ -5,10 +5,10 @@ use Rattle.disk_model.specs.Machine.{images_of}
 use Rattle.disk_model.specs.Vault.{VaultView, VaultDone}
 use Rattle.disk_memory.specs.Calls.{vault_calls}
 use Rattle.disk_memory.specs.Choice.{picked_image}
-use Rattle.disk_memory.specs.Held.{Held}
+use Rattle.disk_calm.specs.Held.{Held}
 use Rattle.disk_memory.specs.Recorded.{opened_by, calls_since}
 use Rattle.disk_memory.specs.Schedule.{Plan, plan_of, ObeysExactly, ObeysUnless}
-use Rattle.disk_memory.specs.Store.{held, nothing_held, opened_held}
+use Rattle.disk_calm.specs.Store.{held, nothing_held, opened_held}
 use Rattle.disk_memory.specs.declared.recorded.Recorded.{Recorded}
 use Rattle.disk_memory.specs.declared.vault.MemVault.{MemVault}
 

@@ -10,44 +10,25 @@ use Rattle.disk_model.specs.Vault.{IsWellFormed, HasFiles}
 use Rattle.disk_model.proofs.ByCallsLemmas.{well_formed_by_calls}
 use Rattle.disk_model.proofs.SteadyLemmas.{opened_level, opened_copy, levels_stay}
 use Rattle.disk_model.proofs.UnsyncedLemmas.{synced_steady}
-use Rattle.disk_memory.specs.Held.{Held}
+use Rattle.disk_calm.specs.Held.{Held}
 use Rattle.disk_memory.specs.Recorded.{opened_by, calls_since}
-use Rattle.disk_memory.specs.Store.{held}
+use Rattle.disk_calm.specs.Store.{held}
+use Rattle.disk_calm.specs.StoreLaws.{parities_long, contents_long, drafts_long, staged_long, store_files}
 use Rattle.disk_memory.specs.Vault.{vault_view, value_of, view_of}
-use Rattle.disk_memory.specs.declared.store.Store.{Store}
+use Rattle.disk_calm.specs.declared.store.Store.{Store}
 use Rattle.disk_memory.specs.declared.recorded.Recorded.{Recorded}
 use Rattle.disk_memory.specs.declared.vault.MemVault.{MemVault}
 use Rattle.disk_memory.specs.RecordedLaws.{follows, untold}
 
 module _ (s : Store) where
-  pub parities_long : length s.parities.items ≡ s.levels
-  parities_long = sym s.parities.ok.0 ∙ s.file_of_each_level
-
-  pub contents_long : length s.contents.items ≡ s.copies
-  contents_long = sym s.contents.ok.0 ∙ s.content_of_each_copy
-
-  pub drafts_long : length s.drafts.items ≡ s.copies
-  drafts_long = sym s.drafts.ok.0 ∙ s.draft_of_each_copy
-
-  pub staged_long : length s.staged.items ≡ s.copies
-  staged_long = sym s.staged.ok.0 ∙ s.staged_of_each_copy
-
-  pub store_files : HasFiles s.levels (length s.drafts.items) (held s).files
-  store_files = record {
-    parities = parities_long;
-    contents = contents_long ∙ sym drafts_long;
-    parity_bytes = s.bytes.parities;
-    content_bytes = s.bytes.contents;
-  }
-
   -- opened with what is held, a vault is in order
   pub steady_store : IsSteady (opened_by (held s))
   steady_store = record {
     levels = λ level. subst IsUnsynced (sym (opened_level (held s).files level)) (synced_steady (parity_of (held s).files level) (s.bytes.parities level));
     copies = λ copy. subst (λ c. IfSome c.read AreBytes) (sym (opened_copy (held s).files copy)) (s.bytes.contents copy);
     staged = s.bytes.staged;
-    one_draft_each = drafts_long ∙ sym contents_long ∙ sym (length-map s.contents.items settled);
-    one_staged_each = staged_long ∙ sym contents_long ∙ sym (length-map s.contents.items settled);
+    one_draft_each = drafts_long s ∙ sym (contents_long s) ∙ sym (length-map s.contents.items settled);
+    one_staged_each = staged_long s ∙ sym (contents_long s) ∙ sym (length-map s.contents.items settled);
   }
 
 abbrev pub machine_of : Recorded → Machine

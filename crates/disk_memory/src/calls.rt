@@ -7,8 +7,8 @@ ghost use Rattle.disk_memory.specs.declared.past.Made.{Made};
 ghost use Rattle.disk_memory.specs.declared.calls.VaultEntry.{VaultEntry};
 ghost use Rattle.disk_memory.specs.Calls.{vault_call, vault_calls, is_write, folder_call, opener_call};
 
-use crate::bytes::Bytes;
 use crate::past::Made;
+use disk_calm::Bytes;
 use disk_model::{NoMemory, Path, Places, Stamp, Text};
 use std::alloc::Global;
 

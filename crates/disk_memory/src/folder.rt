@@ -1,15 +1,13 @@
 // A folder in memory.
 ghost use Rattle.std.specs.Prelude.{◌≡◌, if◌then◌else◌, Ok, Err};
 
-use crate::bytes::Bytes;
 use crate::calls::{
     FolderEntry, look_entry, make_entry, read_entry, rename_entry, set_size_entry, set_stamp_entry,
     write_at_entry,
 };
-use crate::files::Files;
-use crate::name::{name_of, path_named, text_of};
 use crate::past::{Past, begin};
 use crate::schedule::Schedule;
+use disk_calm::{Bytes, Files, found, name_of, path_named, text_of};
 use disk_model::{
     Answer, Failed, FileFault, FileInfo, Folder, ListFault, Meta, NoMemory, Path, Stamp,
     is_valid_path,
@@ -34,7 +32,7 @@ impl MemFolder {
     ghost use Rattle.disk_model.specs.Stamp.{IsStamp};
     ghost use Rattle.disk_memory.specs.Schedule.{fresh_plan, counted};
     ghost use Rattle.disk_memory.specs.Calls.{folder_call};
-    ghost use Rattle.disk_memory.specs.Files.{changed};
+    ghost use Rattle.disk_calm.specs.Files.{changed};
     ghost use Rattle.disk_memory.specs.Folder.{folder_view, folder_plan, fresh_folder, fault_answer, FolderObeysExactly};
 
     /// An empty tree.
@@ -169,18 +167,7 @@ impl MemFolder {
     }
 }
 
-// What a call on one file answers that did its work where the file was there.
-pub fn found(there: bool) -> Result<(), FileFault>
-    ensures { result ≡ (if there then Ok tt else Err FileFault.Missing) }
-{
-    if there {
-        Ok(())
-    } else {
-        Err(FileFault::Missing)
-    }
-}
-
-// The same, as it is kept.
+// What a call on one file answers that did its work where the file was there, as it is kept.
 fn answer_where(there: bool) -> Answer
     ensures { result ≡ (if there then Answer.Done else Answer.Missing) }
 {
@@ -199,7 +186,7 @@ impl Folder for MemFolder {
     ghost use Rattle.disk_model.specs.Answer.{plain, listing_answer, file_answer, done_answer};
     ghost use Rattle.disk_model.specs.Writing.{IsFolderWrite};
     ghost use Rattle.disk_memory.specs.Folder.{folder_view, FolderObeysExactly, FolderObeysUnless, folder_well_formed};
-    ghost use Rattle.disk_memory.specs.Files.{IsShorter};
+    ghost use Rattle.disk_calm.specs.Files.{IsShorter};
 
     ghost view = { folder_view };
 

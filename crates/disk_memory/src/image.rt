@@ -6,9 +6,8 @@ ghost use Rattle.std.specs.List.{list_any};
 ghost use Rattle.disk_memory.specs.Replay.{touched_by, holds_place};
 ghost use Rattle.disk_memory.specs.declared.replay.Range.{Range};
 
-use crate::bytes::Bytes;
 use crate::replay::{Level, LooseCopy, Range, Replay};
-use crate::store::copied_content;
+use disk_calm::{Bytes, copied_content};
 use disk_model::NoMemory;
 use std::alloc::Global;
 

@@ -7,20 +7,17 @@
 //! number 1. Where memory refuses a growth, that call fails as the object's device would, or answers that memory ran out
 //! where it has that answer. Where it refuses the entry in the record, the call does nothing else than fail, and from
 //! then on the object tells its calls no more, nor a vault its images.
-//! The calm forms keep neither schedule nor record, and fail for want of memory alone; the gated ones hand each call
-//! on to such an object and wait for one another at one of them.
+//! The calm forms, which are of `disk_calm`, keep neither, and fail for want of memory alone; the gated ones hand each
+//! call on to such an object and wait for one another at one of them.
 //! Proved: the objects meet their traits, and the calls of their own do what their clauses say.
 #![tactic(auto)]
 
-mod bytes;
 mod calls;
-mod calm;
-mod files;
+mod calm_opener;
 mod folder;
 mod gate;
 mod image;
 pub mod laws;
-mod name;
 mod opener;
 mod past;
 mod recorded;
@@ -28,10 +25,10 @@ mod replay;
 mod schedule;
 mod scripted;
 mod sink;
-mod store;
 mod vault;
 
-pub use calm::{CalmFolder, CalmOpener, CalmSink, CalmVault};
+pub use calm_opener::CalmOpener;
+pub use disk_calm::{CalmFolder, CalmSink, CalmVault};
 pub use folder::MemFolder;
 pub use gate::{GateFolder, GateVault};
 pub use opener::MemOpener;

@@ -3,16 +3,15 @@ ghost use Rattle.std.specs.Prelude.{◌≡◌, ◌⊎◌, ◌+◌, ◌<◌, ◌^
 ghost use Rattle.disk_model.specs.Files.{parity_of};
 ghost use Rattle.disk_model.specs.Vault.{VaultCall, ParityWrite, ParitySetLen, DraftBegin, DraftAppend, DraftSeal, Publish};
 ghost use Rattle.disk_memory.specs.Calls.{vault_call};
-ghost use Rattle.disk_memory.specs.Store.{held, draft_held, with_level, with_copy, SameCounts};
+ghost use Rattle.disk_calm.specs.Store.{held, draft_held, with_level, with_copy, SameCounts};
 ghost use Rattle.disk_memory.specs.Recorded.{IsRecorded, held_after, is_quiet, opened_by, calls_since};
 ghost use Rattle.disk_memory.specs.RecordedLaws.{IsRecorded-prop};
 
-use crate::bytes::Bytes;
 use crate::calls::{VaultEntry, append_entry, write_entry};
 use crate::image::{number_of, skip};
 use crate::past::Past;
 use crate::replay::Replay;
-use crate::store::Store;
+use disk_calm::{Bytes, Store};
 use disk_model::{Answer, Draft, NoMemory};
 use std::alloc::Global;
 
@@ -37,7 +36,7 @@ impl Recorded {
     ghost use Rattle.disk_memory.specs.Goes.{Goes, GoesBy, IsAnswered, IsAnsweredUnless, IsFreshRecord, IsOpenedRecord, Damages, SameRecord};
     ghost use Rattle.disk_model.specs.Machine.{replay};
     ghost use Rattle.disk_memory.specs.Choice.{picked_image};
-    ghost use Rattle.disk_memory.specs.Store.{opened_held};
+    ghost use Rattle.disk_calm.specs.Store.{opened_held};
 
     /// Nothing is held, and no call was made.
     pub fn new(alloc: Global, levels: u32, copies: u32) -> Result<Recorded, NoMemory>

@@ -4,10 +4,9 @@ ghost use Rattle.disk_model.specs.Machine.{settled};
 ghost use Rattle.disk_model.specs.Unsynced.{synced};
 ghost use Rattle.disk_model.specs.Vault.{is_sealed};
 
-use crate::bytes::Bytes;
 use crate::calls::VaultEntry;
 use crate::past::Made;
-use crate::store::{Store, copied_content, copied_drafts, copied_files};
+use disk_calm::{Bytes, Store, copied_content, copied_drafts, copied_files};
 use disk_model::{Draft, NoMemory};
 use std::alloc::Global;
 use std::marker::Model;
@@ -189,7 +188,7 @@ fn opened_copies(alloc: Global, contents: &Vec<Option<Bytes>>) -> Result<Vec<Loo
 impl Replay {
     ghost use Rattle.std.specs.Prelude.{OnOk};
     ghost use Rattle.disk_memory.specs.Recorded.{opened_by};
-    ghost use Rattle.disk_memory.specs.Store.{held};
+    ghost use Rattle.disk_calm.specs.Store.{held};
     ghost use Rattle.disk_model.specs.Machine.{after, replay};
     ghost use Rattle.disk_model.specs.Vault.{ParityWrite, ParitySetLen, ParitySync, DraftBegin, DraftAppend, DraftSeal, Publish};
     ghost use Rattle.disk_memory.specs.Calls.{vault_call, vault_calls};

@@ -167,7 +167,7 @@ impl Folder for ScriptedFolder {
     ghost use Rattle.disk_model.specs.Folder.{ListFiles, Look, ReadAt, Make, WriteAt, SetSize, SetStamp, Rename};
     ghost use Rattle.disk_model.specs.Folder.{IsFolderReading, MissingExactly, MayHold};
     ghost use Rattle.disk_model.specs.Writing.{IsFolderWrite};
-    ghost use Rattle.disk_memory.specs.Files.{IsShorter};
+    ghost use Rattle.disk_calm.specs.Files.{IsShorter};
     ghost use Rattle.disk_memory.specs.Folder.{FolderObeysExactly, FolderObeysUnless};
     ghost use Rattle.disk_memory.specs.Scripted.{scripted_view, scripted_well_formed, turned, Plays};
 

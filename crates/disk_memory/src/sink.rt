@@ -1,8 +1,8 @@
 // A sink in memory.
-use crate::bytes::Bytes;
 use crate::calls::sink_entry;
 use crate::past::{Past, begin};
 use crate::schedule::Schedule;
+use disk_calm::Bytes;
 use disk_model::{Answer, Failed, NoMemory, Sink};
 use std::alloc::Global;
 

@@ -4,10 +4,10 @@ ghost use Rattle.std.specs.Option.{option_copied};
 ghost use Rattle.disk_model.specs.Answer.{is_failure, size_answer};
 ghost use Rattle.disk_model.specs.Bytes.{AreBytes};
 
-use crate::bytes::Bytes;
 use crate::calls::{VaultEntry, first_write_in};
 use crate::recorded::Recorded;
 use crate::schedule::Schedule;
+use disk_calm::Bytes;
 use disk_model::{Answer, Draft, Failed, NoMemory, Vault};
 use std::alloc::Global;
 
@@ -49,7 +49,7 @@ impl MemVault {
     ghost use Rattle.disk_memory.specs.Goes.{GoesBy, CountsFaults};
     ghost use Rattle.disk_memory.specs.Recorded.{is_quiet};
     ghost use Rattle.disk_memory.specs.Schedule.{fresh_plan};
-    ghost use Rattle.disk_memory.specs.Store.{with_level, with_copy};
+    ghost use Rattle.disk_calm.specs.Store.{with_level, with_copy};
     ghost use Rattle.disk_memory.specs.Vault.{vault_value, vault_view, vault_plan, fresh_vault, image_at, opened_anew, IsDamaged, VaultObeysExactly};
 
     /// Empty parity files, no content copy, no draft.

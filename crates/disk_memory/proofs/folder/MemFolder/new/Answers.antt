@@ -1,8 +1,8 @@
 use Rattle.std.proofs.Common.{◌≡◌, ◌∙◌, List, ap, rules}
 use Rattle.std.specs.FinMap as map
-use Rattle.disk_memory.specs.Files.{tree_of}
-use Rattle.disk_memory.specs.declared.files.MemFile.{MemFile}
-use Rattle.disk_memory.proofs.TreeLemmas.{tree_empty}
+use Rattle.disk_calm.specs.Files.{tree_of}
+use Rattle.disk_calm.specs.declared.files.MemFile.{MemFile}
+use Rattle.disk_calm.proofs.TreeLemmas.{tree_empty}
 use Rattle.disk_memory.proofs.folder.MemFolder.new.Goals as goal
 
 pub returns-clause-view : goal.returns-clause-view

@@ -1,13 +1,13 @@
 use Rattle.std.proofs.Common.{◌∙◌, refl, sym, subst, arith, rules}
 use Rattle.disk_model.specs.Bytes.{AreBytes}
 use Rattle.disk_model.specs.Tree.{IsApart}
-use Rattle.disk_memory.specs.Files.{tree_of}
-use Rattle.disk_memory.proofs.BytesLemmas.{slice_bytes}
+use Rattle.disk_calm.specs.Kept.{tree_in}
+use Rattle.disk_calm.proofs.BytesLemmas.{slice_bytes}
 use Rattle.disk_memory.proofs.folder.MemFolder.put.Goals as goal
 
 pub put-requires : goal.put-requires
 put-requires c =
-    let tree = tree_of c.args.self.now.files.list.items in
+    let tree = tree_in c.args.self.now.files in
     let same = c.as_bytes.ensures.value ∙ c.as_str.ensures.value in
     record {
       valid = c.as_str.ensures.valid;
@@ -19,7 +19,7 @@ put-requires c =
 
 pub returns-clause-allowed : goal.returns-clause-allowed
 returns-clause-allowed c =
-    let tree = tree_of c.args.self.now.files.list.items in
+    let tree = tree_in c.args.self.now.files in
     let apart = c.in_ok-is_apart.ensures.0 c.if-not-branch.false in
     let same = c.as_bytes.ensures.value ∙ c.as_str.ensures.value in
     (λ _. record { is_open = refl; valid = c.as_str.ensures.valid; apart = subst (IsApart tree) same apart }, λ _. refl)

@@ -1,8 +1,8 @@
 use Rattle.std.proofs.Common.{not, refl, ◌∙◌, arith}
 use Rattle.disk_model.specs.Vault as vault
 use Rattle.disk_model.specs.declared.answer.Answer.TheVariants.{Done}
-use Rattle.disk_memory.specs.Store.{held}
-use Rattle.disk_memory.proofs.BytesLemmas.{slice_bytes}
+use Rattle.disk_calm.specs.Store.{held}
+use Rattle.disk_calm.proofs.BytesLemmas.{slice_bytes}
 use Rattle.disk_memory.proofs.RecordedLemmas.{IsWritten, written_grows, written_kept, recorded_on}
 use Rattle.disk_memory.proofs.recorded.Recorded.draft_append.Goals as goal
 

@@ -1,7 +1,7 @@
 use Rattle.std.proofs.Common.{Some, not, refl, ◌∙◌}
 use Rattle.disk_model.specs.Vault as vault
 use Rattle.disk_model.specs.declared.answer.Answer.TheVariants.{Done}
-use Rattle.disk_memory.specs.Store.{held}
+use Rattle.disk_calm.specs.Store.{held}
 use Rattle.disk_memory.specs.declared.calls.VaultEntry.TheVariants as entries
 use Rattle.disk_memory.proofs.RecordedLemmas.{IsWritten, written_grows, written_kept, recorded_on}
 use Rattle.disk_memory.proofs.recorded.Recorded.draft_begin.Goals as goal

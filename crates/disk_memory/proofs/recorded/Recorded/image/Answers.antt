@@ -1,7 +1,7 @@
 use Rattle.std.proofs.Common.{length, ◌∙◌, ap, arith}
 use Rattle.disk_model.specs.Files.{Files}
-use Rattle.disk_memory.specs.Store.{opened_held}
-use Rattle.disk_memory.proofs.BytesLemmas.{slice_bytes}
+use Rattle.disk_calm.specs.Store.{opened_held}
+use Rattle.disk_calm.proofs.BytesLemmas.{slice_bytes}
 use Rattle.disk_memory.proofs.ImageLemmas.{picked_files, picked_shape, are_files}
 use Rattle.disk_memory.proofs.recorded.Recorded.image.Goals as goal
 

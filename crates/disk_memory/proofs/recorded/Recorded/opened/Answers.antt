@@ -1,5 +1,5 @@
 use Rattle.std.proofs.Common.{sym, ap, List, length}
-use Rattle.disk_memory.specs.Store.{held}
+use Rattle.disk_calm.specs.Store.{held}
 use Rattle.disk_memory.specs.declared.calls.VaultEntry.{VaultEntry}
 use Rattle.disk_memory.specs.declared.past.Made.{Made}
 use Rattle.disk_memory.proofs.RecordedLemmas.{recorded_anew}

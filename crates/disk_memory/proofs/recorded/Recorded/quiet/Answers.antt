@@ -1,6 +1,6 @@
 use Rattle.std.proofs.Common.{Some, not, refl}
 use Rattle.disk_memory.specs.Calls.{vault_call}
-use Rattle.disk_memory.specs.Store.{held}
+use Rattle.disk_calm.specs.Store.{held}
 use Rattle.disk_memory.proofs.RecordedLemmas.{IsWritten, written_grows, written_kept, recorded_on, quiet_held, quiet_gives}
 use Rattle.disk_memory.proofs.recorded.Recorded.quiet.Goals as goal
 

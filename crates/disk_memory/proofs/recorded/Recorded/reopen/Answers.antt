@@ -1,5 +1,5 @@
 use Rattle.std.proofs.Common.{sym, ◌∙◌}
-use Rattle.disk_memory.specs.Store.{held}
+use Rattle.disk_calm.specs.Store.{held}
 use Rattle.disk_memory.proofs.RecordedLemmas.{recorded_anew}
 use Rattle.disk_memory.proofs.recorded.Recorded.reopen.Goals as goal
 

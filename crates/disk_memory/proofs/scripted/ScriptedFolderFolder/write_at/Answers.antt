@@ -1,5 +1,5 @@
 use Rattle.disk_memory.proofs.ScriptedLemmas.{plays_unless}
-use Rattle.disk_memory.specs.Files.{IsShorter}
+use Rattle.disk_calm.specs.Files.{IsShorter}
 use Rattle.disk_model.specs.Answer.{done_answer}
 use Rattle.disk_model.specs.Folder.{WriteAt}
 use Rattle.disk_model.specs.Tree.{Tree}

@@ -3,12 +3,12 @@ use Rattle.std.proofs.lemmas.List.{length-replicate}
 use Rattle.disk_model.specs.Files.{Files}
 use Rattle.disk_model.specs.declared.draft.Draft.{Draft}
 use Rattle.disk_model.specs.declared.draft.Draft.TheVariants.{Absent}
-use Rattle.disk_memory.specs.Held.{Held}
+use Rattle.disk_calm.specs.Held.{Held}
 use Rattle.disk_memory.specs.Vault.{value_of, view_of, image_at}
-use Rattle.disk_memory.proofs.BytesLemmas.{slice_bytes}
+use Rattle.disk_calm.proofs.BytesLemmas.{slice_bytes}
 use Rattle.disk_memory.proofs.ImageLemmas.{image_left, image_value}
 use Rattle.disk_memory.proofs.SettledLemmas.{settled_fresh, no_draft_anew}
-use Rattle.disk_memory.specs.VaultLaws.{drafts_long}
+use Rattle.disk_calm.specs.StoreLaws.{drafts_long}
 use Rattle.disk_memory.proofs.vault.MemVault.image.Goals as goal
 
 pub returns : goal.returns

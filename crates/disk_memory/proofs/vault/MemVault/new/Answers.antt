@@ -1,5 +1,5 @@
 use Rattle.std.proofs.Common.{sym, ◌∙◌, ap}
-use Rattle.disk_memory.specs.Held.{Held}
+use Rattle.disk_calm.specs.Held.{Held}
 use Rattle.disk_memory.proofs.SettledLemmas.{settled_fresh, no_draft_anew}
 use Rattle.disk_memory.proofs.vault.MemVault.new.Goals as goal
 

@@ -1,5 +1,5 @@
 use Rattle.std.proofs.Common.{refl}
-use Rattle.disk_memory.specs.Store.{held, with_copy}
+use Rattle.disk_calm.specs.Store.{held, with_copy}
 use Rattle.disk_memory.proofs.SettledLemmas.{settled_damaged, ok_more, drafts_kept}
 use Rattle.disk_memory.proofs.vault.MemVault.set_content.Goals as goal
 

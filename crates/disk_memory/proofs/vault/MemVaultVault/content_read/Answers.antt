@@ -3,8 +3,8 @@ use Rattle.disk_model.specs.Vault as vault
 use Rattle.disk_model.specs.Bytes.{read_from}
 use Rattle.disk_model.specs.Files.{content_of}
 use Rattle.disk_model.specs.declared.answer.Answer.TheVariants.{Bytes}
-use Rattle.disk_memory.specs.Held.{Held}
-use Rattle.disk_memory.proofs.BytesLemmas.{count_is}
+use Rattle.disk_calm.specs.Held.{Held}
+use Rattle.disk_calm.proofs.BytesLemmas.{count_is}
 use Rattle.disk_memory.proofs.VaultLemmas.{reading, same_held, copy_within, copy_below}
 use Rattle.disk_memory.proofs.vault.MemVaultVault.content_read.Goals as goal
 

@@ -2,7 +2,7 @@ use Rattle.std.proofs.Common.{not, [], ◌++◌, is_err}
 use Rattle.disk_model.specs.Vault as vault
 use Rattle.disk_model.specs.declared.draft.Draft.TheVariants.{Absent, Open}
 use Rattle.disk_memory.specs.Schedule.{plan_of}
-use Rattle.disk_memory.specs.Store.{held, staged_held}
+use Rattle.disk_calm.specs.Store.{held, staged_held}
 use Rattle.disk_memory.proofs.ScheduleLemmas.{obeys_unless}
 use Rattle.disk_memory.proofs.VaultLemmas.{copy_below, is_call, err_of, counts_from, on_ok, on_err, append_changes, draft_now, goes_as}
 use Rattle.disk_memory.proofs.vault.MemVaultVault.draft_append.Goals as goal

@@ -1,0 +1,10 @@
+pub mod BytesLemmas
+pub mod CalmLemmas
+pub mod InsideLemmas
+pub mod ListingLemmas
+pub mod OrderLemmas
+pub mod PlaceLemmas
+pub mod SameLemmas
+pub mod SetLemmas
+pub mod StoreLemmas
+pub mod TreeLemmas

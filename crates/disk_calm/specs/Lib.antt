@@ -1,0 +1,9 @@
+pub mod Calm
+pub mod CalmLaws
+pub mod Files
+pub mod FilesLaws
+pub mod Held
+pub mod HeldLaws
+pub mod Kept
+pub mod Store
+pub mod StoreLaws

@@ -1,8 +1,0 @@
-use Rattle.std.proofs.Common.{List, sym, subst}
-use Rattle.disk_memory.specs.Files.{IsKept}
-use Rattle.disk_memory.specs.declared.files.MemFile.{MemFile}
-use Rattle.disk_memory.proofs.TreeLemmas.{kept_empty}
-use Rattle.disk_memory.proofs.files.Files.new.Goals as goal
-
-pub invariant_of-result : goal.invariant_of-result
-invariant_of-result c = record { kept = subst (λ (fs : List MemFile). IsKept fs) (sym c.new.ensures.items) kept_empty }
