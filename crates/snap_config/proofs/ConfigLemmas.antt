@@ -6,7 +6,7 @@ use Rattle.std.proofs.lemmas.List.{take-append-drop, drop-drop, get_or_default}
 use Rattle.std.proofs.lemmas.List.Elements.{filter_map-append}
 use Rattle.std.proofs.lemmas.List.Splits.{slice_split_none, slice_split_at}
 use Rattle.snap_config.proofs.BoolLemmas.{not_true}
-use Rattle.snap_config.specs.Config.{Refusal, then_read, at_line, read_lines, read_setup, finish, setup_of, lacks_level, file_of, by_level, IsRefusal}
+use Rattle.snap_config.specs.Config.{Refusal, then_read, at_line, read_lines, read_setup, finish, setup_of, lacks_level, files_of, by_level, IsRefusal}
 use Rattle.snap_config.specs.Builder.{BuilderValue, no_lines, take_line}
 use Rattle.snap_config.specs.Fault.{fault_at}
 use Rattle.snap_config.specs.Line.{lines_of, IsLine}
@@ -91,8 +91,8 @@ refused_at Memory number said whole explains refused = tt
 
 -- ---- the files of the levels
 
-pub files_below : List ParityLine → ℕ → List (List ℕ)
-files_below parities level = filter_map (file_of parities) (take level (0 ∷ 1 ∷ 2 ∷ 3 ∷ 4 ∷ 5 ∷ []))
+pub files_below : List ParityLine → ℕ → List (List (List ℕ))
+files_below parities level = filter_map (files_of parities) (take level (0 ∷ 1 ∷ 2 ∷ 3 ∷ 4 ∷ 5 ∷ []))
 
 levels-next : (level : ℕ) → level < 6 → take (level + 1) (0 ∷ 1 ∷ 2 ∷ 3 ∷ 4 ∷ 5 ∷ []) ≡ take level (0 ∷ 1 ∷ 2 ∷ 3 ∷ 4 ∷ 5 ∷ []) ++ level ∷ []
 levels-next zero below = refl
@@ -103,19 +103,19 @@ levels-next (suc (suc (suc (suc zero)))) below = refl
 levels-next (suc (suc (suc (suc (suc zero))))) below = refl
 levels-next (suc (suc (suc (suc (suc (suc level)))))) below = absurd (omega arith)
 
-one-file : (f : ℕ → Option (List ℕ)) (level : ℕ) → filter_map f (level ∷ []) ≡ option_to_list (f level)
+one-file : (f : ℕ → Option (List (List ℕ))) (level : ℕ) → filter_map f (level ∷ []) ≡ option_to_list (f level)
 one-file f level = cases (f level) refl
   where
-    cases : (o : Option (List ℕ)) → f level ≡ o → filter_map f (level ∷ []) ≡ option_to_list o
+    cases : (o : Option (List (List ℕ))) → f level ≡ o → filter_map f (level ∷ []) ≡ option_to_list o
     cases None is = rw is refl
     cases (Some file) is = rw is refl
 
-pub files_below-next : (parities : List ParityLine) (level : ℕ) → level < 6 → files_below parities (level + 1) ≡ files_below parities level ++ option_to_list (file_of parities level)
+pub files_below-next : (parities : List ParityLine) (level : ℕ) → level < 6 → files_below parities (level + 1) ≡ files_below parities level ++ option_to_list (files_of parities level)
 unfolding files_below
 files_below-next parities level below =
-    ap (filter_map (file_of parities)) (levels-next level below)
-    ∙ filter_map-append (file_of parities) (take level (0 ∷ 1 ∷ 2 ∷ 3 ∷ 4 ∷ 5 ∷ [])) (level ∷ [])
-    ∙ ap (λ files. filter_map (file_of parities) (take level (0 ∷ 1 ∷ 2 ∷ 3 ∷ 4 ∷ 5 ∷ [])) ++ files) (one-file (file_of parities) level)
+    ap (filter_map (files_of parities)) (levels-next level below)
+    ∙ filter_map-append (files_of parities) (take level (0 ∷ 1 ∷ 2 ∷ 3 ∷ 4 ∷ 5 ∷ [])) (level ∷ [])
+    ∙ ap (λ files. filter_map (files_of parities) (take level (0 ∷ 1 ∷ 2 ∷ 3 ∷ 4 ∷ 5 ∷ [])) ++ files) (one-file (files_of parities) level)
 
 pub files_below-all : (parities : List ParityLine) → files_below parities 6 ≡ by_level parities
 unfolding files_below

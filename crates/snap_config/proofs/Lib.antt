@@ -10,6 +10,7 @@ mod MatchingLemmas
 mod NamesLemmas
 mod NumberLemmas
 mod OptionValueLemmas
+mod PartsLemmas
 mod PathLemmas
 mod SetupLemmas
 mod TextLemmas

@@ -1,5 +1,5 @@
 -- A configuration as far as its lines are read, and what one more line makes of it.
-use Rattle.std.specs.Prelude.{ℕ, ◌*◌, List, [], ◌∷◌, ◌++◌, length, Bool, true, false, ◌==◌, ◌&&◌, ◌||◌, not, nat_le, bytes_eq, if◌then◌else◌, Option, None, Some, is_some, Result, Ok, Err}
+use Rattle.std.specs.Prelude.{ℕ, ◌*◌, List, [], ◌∷◌, ◌++◌, length, Bool, true, false, ◌==◌, ◌&&◌, ◌||◌, not, nat_le, nat_lt, bytes_eq, if◌then◌else◌, Option, None, Some, is_some, Result, Ok, Err}
 use Rattle.std.specs.List.{list_any}
 use Rattle.std.specs.Str.{is_utf8}
 use Rattle.snap_config.specs.Glob.{is_empty}
@@ -8,14 +8,15 @@ use Rattle.snap_config.specs.Keyword.{keyword_of}
 use Rattle.snap_config.specs.Line.{content_of, is_skipped, first_word, after_word}
 use Rattle.snap_config.specs.Names.{is_disk_name, file_name, folder_name}
 use Rattle.snap_config.specs.Number.{number_of}
-use Rattle.snap_config.specs.Pattern.{has_byte, is_pattern}
+use Rattle.snap_config.specs.Parts.{line_parts, line_files}
+use Rattle.snap_config.specs.Pattern.{is_pattern}
 use Rattle.snap_config.specs.declared.builder.ParityLine.{ParityLine}
 use Rattle.snap_config.specs.declared.keyword.Keyword.{Keyword}
-use Rattle.snap_config.specs.declared.keyword.Keyword.TheVariants.{Parity, Content, Data, Include, Exclude, NoHidden, BlockSize, HashSize, AutoSave, Unused, ZParity}
+use Rattle.snap_config.specs.declared.keyword.Keyword.TheVariants.{Parity, Content, Data, Include, Exclude, NoHidden, BlockSize, HashSize, AutoSave, SplitSize, Unused, ZParity}
 use Rattle.snap_config.specs.declared.setup.Disk.{Disk}
 use Rattle.snap_config.specs.declared.setup.Rule.{Rule}
 use Rattle.snap_config.specs.declared.why.Why.{Why}
-use Rattle.snap_config.specs.declared.why.Why.TheVariants.{Utf8, Unknown, Unsupported, Value, Split, Repeated, TooMany, Pattern}
+use Rattle.snap_config.specs.declared.why.Why.TheVariants.{Utf8, Unknown, Unsupported, Value, Repeated, TooMany, Pattern}
 
 -- what the lines so far say: each kind in the order of its lines, and nothing where no line says it
 pub record BuilderValue : Type 0 where
@@ -27,20 +28,26 @@ pub record BuilderValue : Type 0 where
   pub block_size : Option ℕ
   pub hash_size : Bool
   pub autosave : Option ℕ
+  pub split : Option ℕ
 
 -- no line yet
 abbrev pub no_lines : BuilderValue
-no_lines = record { parities = []; contents = []; disks = []; rules = []; nohidden = false; block_size = None; hash_size = false; autosave = None }
+no_lines = record { parities = []; contents = []; disks = []; rules = []; nohidden = false; block_size = None; hash_size = false; autosave = None; split = None }
 
 -- a level has its line; a file is named by a parity or a content line
 abbrev pub has_level : ℕ → List ParityLine → Bool
 has_level level parities = list_any (λ (line : ParityLine). line.level == level) parities
 
 abbrev pub has_parity : List ℕ → List ParityLine → Bool
-has_parity file parities = list_any (λ (line : ParityLine). bytes_eq line.file file) parities
+has_parity file parities = list_any (λ (line : ParityLine). has_name line.files file) parities
 
 abbrev pub has_file : List ℕ → BuilderValue → Bool
 has_file file builder = has_parity file builder.parities || has_name builder.contents file
+
+-- one of these files is named by a line, or twice
+abbrev pub names_again : List (List ℕ) → BuilderValue → Bool
+names_again [] builder = false
+names_again (file ∷ files) builder = has_file file builder || (has_name files file || names_again files builder)
 
 -- a disk has this name or this folder
 abbrev pub has_disk : List ℕ → List ℕ → List Disk → Bool
@@ -49,13 +56,13 @@ has_disk name dir disks = list_any (λ (disk : Disk). bytes_eq disk.name name ||
 abbrev pub Said : Type 0
 Said = Result BuilderValue Why
 
--- `parity FILE`, `2-parity FILE` and so on
+-- `parity FILE`, `parity FILE,FILE`, `2-parity FILE` and so on, with 8 files at most
 abbrev pub add_parity : ℕ → List ℕ → BuilderValue → Said
 add_parity level argument builder =
-    if is_empty argument then Err Value else
-    if has_byte 44 argument then Err Split else
-    if has_level level builder.parities || has_file (file_name argument) builder then Err Repeated else
-    Ok (record builder { parities = builder.parities ++ record { level = level; file = file_name argument } ∷ [] })
+    if list_any is_empty (line_parts argument) then Err Value else
+    if has_level level builder.parities || names_again (line_files argument) builder then Err Repeated else
+    if nat_lt 8 (length (line_files argument)) then Err TooMany else
+    Ok (record builder { parities = builder.parities ++ record { level = level; files = line_files argument } ∷ [] })
 
 -- `content FILE`, 64 times at most
 abbrev pub add_content : List ℕ → BuilderValue → Said
@@ -108,6 +115,14 @@ set_autosave (Some gb) builder =
     if is_some builder.autosave then Err Repeated else
     Ok (record builder { autosave = Some (1000000000 * gb) })
 
+-- `splitsize GB`, 1 to 1,000,000, kept in bytes
+abbrev pub set_split : Option ℕ → BuilderValue → Said
+set_split None builder = Err Value
+set_split (Some gb) builder =
+    if not (nat_le 1 gb && nat_le gb 1000000) then Err Value else
+    if is_some builder.split then Err Repeated else
+    Ok (record builder { split = Some (1000000000 * gb) })
+
 -- a keyword without effect, with any argument
 abbrev pub pass_over : List ℕ → BuilderValue → Said
 pass_over argument builder = if is_empty argument then Err Value else Ok builder
@@ -122,6 +137,7 @@ take_keyword NoHidden argument builder = set_nohidden argument builder
 take_keyword BlockSize argument builder = set_block_size (number_of argument) builder
 take_keyword HashSize argument builder = set_hash_size (number_of argument) builder
 take_keyword AutoSave argument builder = set_autosave (number_of argument) builder
+take_keyword SplitSize argument builder = set_split (number_of argument) builder
 take_keyword Unused argument builder = pass_over argument builder
 take_keyword ZParity argument builder = Err Unsupported
 

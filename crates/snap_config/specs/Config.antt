@@ -1,9 +1,10 @@
 -- What a configuration says: the fold over its lines, and what is looked at behind the last one.
-use Rattle.std.specs.Prelude.{◌≡◌, ℕ, ◌+◌, ◌-◌, List, [], ◌∷◌, length, map, filter_map, find, Bool, ◌==◌, ◌&&◌, ◌||◌, not, nat_lt, if◌then◌else◌, Option, unwrap_or, option_map, Result, Ok, Err, ⊤}
+use Rattle.std.specs.Prelude.{◌≡◌, ℕ, ◌+◌, ◌-◌, List, [], ◌∷◌, length, map, filter_map, flat_map, find, Bool, ◌==◌, ◌&&◌, ◌||◌, not, nat_lt, if◌then◌else◌, Option, unwrap_or, option_map, Result, Ok, Err, ⊤}
 use Rattle.std.specs.List.{list_any}
 use Rattle.snap_config.specs.Builder.{BuilderValue, no_lines, has_level, take_line}
 use Rattle.snap_config.specs.Line.{lines_of}
 use Rattle.snap_config.specs.Names.{file_name}
+use Rattle.snap_config.specs.Parts.{capacity_of}
 use Rattle.snap_config.specs.Setup.{SetupValue}
 use Rattle.snap_config.specs.declared.builder.ParityLine.{ParityLine}
 use Rattle.snap_config.specs.declared.setup.Disk.{Disk}
@@ -43,23 +44,28 @@ has_gap parities = list_any (λ (line : ParityLine). lacks_below parities line.l
 abbrev pub lacks_level : List ParityLine → Bool
 lacks_level parities = length parities == 0 || has_gap parities
 
--- the files of the levels, in the order of the levels
-abbrev pub file_of : List ParityLine → ℕ → Option (List ℕ)
-file_of parities level = option_map (λ (line : ParityLine). line.file) (find (λ (line : ParityLine). line.level == level) parities)
+-- the files of each level, in the order of the levels
+abbrev pub files_of : List ParityLine → ℕ → Option (List (List ℕ))
+files_of parities level = option_map (λ (line : ParityLine). line.files) (find (λ (line : ParityLine). line.level == level) parities)
 
-abbrev pub by_level : List ParityLine → List (List ℕ)
-by_level parities = filter_map (file_of parities) (0 ∷ 1 ∷ 2 ∷ 3 ∷ 4 ∷ 5 ∷ [])
+abbrev pub by_level : List ParityLine → List (List (List ℕ))
+by_level parities = filter_map (files_of parities) (0 ∷ 1 ∷ 2 ∷ 3 ∷ 4 ∷ 5 ∷ [])
+
+abbrev pub block_size_of : BuilderValue → ℕ
+block_size_of builder = unwrap_or builder.block_size 262144
 
 -- the setup that the lines make, with the log's name as names of files are kept
 abbrev pub setup_of : Option (List ℕ) → BuilderValue → SetupValue
 setup_of log builder = record {
   disks = builder.disks;
   dirs = map (λ (disk : Disk). disk.dir) builder.disks;
-  parities = by_level builder.parities;
+  parities = flat_map (λ files. files) (by_level builder.parities);
+  parts = map length (by_level builder.parities);
+  split = capacity_of (block_size_of builder) (unwrap_or builder.split 16000000000000);
   contents = builder.contents;
   rules = builder.rules;
   nohidden = builder.nohidden;
-  block_size = unwrap_or builder.block_size 262144;
+  block_size = block_size_of builder;
   autosave = unwrap_or builder.autosave 0;
   log = option_map file_name log;
 }

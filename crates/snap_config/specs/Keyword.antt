@@ -1,7 +1,7 @@
 -- The keywords of a configuration.
 use Rattle.std.specs.Prelude.{ℕ, List, bytes_eq, codes, Option, None, Some, if◌then◌else◌}
 use Rattle.snap_config.specs.declared.keyword.Keyword.{Keyword}
-use Rattle.snap_config.specs.declared.keyword.Keyword.TheVariants.{Parity, Content, Data, Include, Exclude, NoHidden, BlockSize, HashSize, AutoSave, Unused, ZParity}
+use Rattle.snap_config.specs.declared.keyword.Keyword.TheVariants.{Parity, Content, Data, Include, Exclude, NoHidden, BlockSize, HashSize, AutoSave, SplitSize, Unused, ZParity}
 
 abbrev pub keyword_of : List ℕ → Option Keyword
 keyword_of word =
@@ -20,6 +20,7 @@ keyword_of word =
     if bytes_eq word (codes "blocksize") then Some BlockSize else
     if bytes_eq word (codes "hashsize") then Some HashSize else
     if bytes_eq word (codes "autosave") then Some AutoSave else
+    if bytes_eq word (codes "splitsize") then Some SplitSize else
     if bytes_eq word (codes "pool") then Some Unused else
     if bytes_eq word (codes "share") then Some Unused else
     if bytes_eq word (codes "smartctl") then Some Unused else

@@ -12,6 +12,7 @@ pub mod Names
 pub mod Number
 pub mod OptionTable
 pub mod OptionValues
+pub mod Parts
 pub mod Pattern
 pub mod Reading
 pub mod Setup

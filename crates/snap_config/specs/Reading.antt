@@ -16,6 +16,7 @@ builder_value builder = record {
   block_size = builder.block_size;
   hash_size = builder.hash_size;
   autosave = builder.autosave;
+  split = builder.split;
 }
 
 -- a fault is the one that is said, or want of memory

@@ -1,8 +1,8 @@
 // A configuration as far as its lines are read.
 ghost use Rattle.std.specs.Prelude.{◌≡◌, ◌||◌, ◌<◌, true, IfOk, is_some, bytes_eq};
 ghost use Rattle.std.specs.List.{list_any};
-ghost use Rattle.snap_config.specs.Builder.{add_parity, add_content, add_disk, add_rule, set_nohidden, set_block_size, set_hash_size, set_autosave};
-ghost use Rattle.snap_config.specs.Builder.{no_lines, pass_over, take_keyword, take_content, take_line, has_level, has_parity, has_file, has_disk};
+ghost use Rattle.snap_config.specs.Builder.{add_parity, add_content, add_disk, add_rule, set_nohidden, set_block_size, set_hash_size, set_autosave, set_split};
+ghost use Rattle.snap_config.specs.Builder.{no_lines, pass_over, take_keyword, take_content, take_line, has_level, has_parity, has_file, names_again, has_disk};
 ghost use Rattle.snap_config.specs.Keeps.{has_name};
 ghost use Rattle.snap_config.specs.Reading.{builder_value, Follows};
 ghost use Rattle.snap_config.specs.Number.{number_of};
@@ -11,6 +11,7 @@ use crate::fault::LineFault;
 use crate::keyword::{Keyword, keyword_of};
 use crate::line::{content_of, is_skipped, split_word};
 use crate::names::{file_name, folder_name, is_disk_name};
+use crate::parts::{MOST_PARTS, Parts, has_empty_part, part_names};
 use crate::{Disk, Rule, Why, read_number, read_pattern};
 use disk_model::Text;
 use std::alloc::Global;
@@ -27,11 +28,11 @@ const MOST_GB: u32 = 1_000_000;
 /// The only size of a hash in bytes.
 const HASH_SIZE: u32 = 16;
 
-/// The parity file of a level.
+/// The parity files of a level.
 #[derive(Drop)]
 pub(crate) struct ParityLine {
     pub level: u32,
-    pub file: Text,
+    pub files: Parts,
 }
 
 /// What the lines so far say.
@@ -45,6 +46,7 @@ pub(crate) struct SetupBuilder {
     pub block_size: Option<u32>,
     pub hash_size: bool,
     pub autosave: Option<u64>,
+    pub split: Option<u64>,
 }
 
 impl SetupBuilder {
@@ -60,6 +62,7 @@ impl SetupBuilder {
             block_size: None,
             hash_size: false,
             autosave: None,
+            split: None,
         }
     }
 
@@ -111,6 +114,7 @@ impl SetupBuilder {
             Keyword::BlockSize => self.set_block_size(read_number(argument)),
             Keyword::HashSize => self.set_hash_size(read_number(argument)),
             Keyword::AutoSave => self.set_autosave(read_number(argument)),
+            Keyword::SplitSize => self.set_split(read_number(argument)),
             Keyword::Unused => self.pass_over(argument),
             Keyword::ZParity => Err(LineFault::Refused(Why::Unsupported)),
         }
@@ -120,17 +124,18 @@ impl SetupBuilder {
         ensures { Follows result (add_parity level argument.now (builder_value self.old))
             (builder_value self.new) }
     {
-        if argument.is_empty() {
+        if has_empty_part(argument) {
             return Err(LineFault::Refused(Why::Value));
         }
-        if argument.as_bytes().contains(&b',') {
-            return Err(LineFault::Refused(Why::Split));
-        }
-        let file = file_name(alloc, argument)?;
-        if has_level(self.parities.as_slice(), level) || self.has_file(file.as_str()) {
+        let files = part_names(alloc, argument)?;
+        if has_level(self.parities.as_slice(), level) || self.names_again(files.as_slice()) {
             return Err(LineFault::Refused(Why::Repeated));
         }
-        self.parities.push(ParityLine { level, file })?;
+        if files.len() > MOST_PARTS {
+            return Err(LineFault::Refused(Why::TooMany));
+        }
+        let files = Parts::new(files);
+        self.parities.push(ParityLine { level, files })?;
         Ok(())
     }
 
@@ -244,6 +249,22 @@ impl SetupBuilder {
         Ok(())
     }
 
+    fn set_split(&mut self, gb: Option<u32>) -> Result<(), LineFault>
+        ensures { Follows result (set_split gb (builder_value self.old)) (builder_value self.new) }
+    {
+        let Some(gb) = gb else {
+            return Err(LineFault::Refused(Why::Value));
+        };
+        if gb < 1 || gb > MOST_GB {
+            return Err(LineFault::Refused(Why::Value));
+        }
+        if self.split.is_some() {
+            return Err(LineFault::Refused(Why::Repeated));
+        }
+        self.split = Some(1_000_000_000 * u64::from(gb));
+        Ok(())
+    }
+
     fn pass_over(&self, argument: &str) -> Result<(), LineFault>
         ensures { Follows result (pass_over argument.now (builder_value self.now))
             (builder_value self.now) }
@@ -258,6 +279,20 @@ impl SetupBuilder {
         ensures { result ≡ has_file file.now (builder_value self.now) }
     {
         has_parity(self.parities.as_slice(), file) || has_name(self.contents.as_slice(), file)
+    }
+
+    // Whether one of these files is named by a line, or twice.
+    fn names_again(&self, files: &[Text]) -> bool
+        ensures { result ≡ names_again files.now (builder_value self.now) }
+    {
+        let mut rest = files;
+        while let Some((file, others)) = rest.split_first() {
+            if self.has_file(file.as_str()) || has_name(others, file.as_str()) {
+                return true;
+            }
+            rest = others;
+        }
+        false
     }
 
     fn has_disk(&self, name: &str, dir: &str) -> bool
@@ -278,7 +313,9 @@ pub(crate) fn has_level(parities: &[ParityLine], level: u32) -> bool
 fn has_parity(parities: &[ParityLine], file: &str) -> bool
     ensures { result ≡ has_parity file.now parities.now }
 {
-    parities.iter().any(|line| line.file.as_str() == file)
+    parities
+        .iter()
+        .any(|line| has_name(line.files.as_slice(), file))
 }
 
 fn has_name(names: &[Text], name: &str) -> bool

@@ -1,16 +1,18 @@
 // Reading a configuration.
-ghost use Rattle.std.specs.Prelude.{◌≡◌, ◌≤◌, ◌∷◌, [], ◌++◌, Ok, IfOk, OnOk, IfErr, map, option_map, option_to_list, length, MatchOption, Some, None};
-ghost use Rattle.snap_config.specs.Config.{IsRefusal, read_setup, read_lines, finish, lacks_level, has_gap, lacks_below, by_level, file_of};
+ghost use Rattle.std.specs.Prelude.{◌≡◌, ◌<◌, ◌≤◌, ◌∷◌, [], ◌++◌, Ok, IfOk, OnOk, IfErr, map, flat_map, option_map, option_to_list, length, IfSome, MatchOption, Some, None};
+ghost use Rattle.snap_config.specs.Config.{IsRefusal, read_setup, read_lines, finish, lacks_level, has_gap, lacks_below, by_level, files_of};
 ghost use Rattle.snap_config.specs.Builder.{no_lines};
 ghost use Rattle.snap_config.specs.Line.{lines_of, IsLine};
 ghost use Rattle.snap_config.specs.Names.{file_name};
+ghost use Rattle.snap_config.specs.Parts.{capacity_of};
 ghost use Rattle.snap_config.specs.Reading.{builder_value, Explains};
-ghost use Rattle.snap_config.specs.Setup.{setup_value, IsSetup};
+ghost use Rattle.snap_config.specs.Setup.{setup_value, IsSize, IsSetup};
 ghost use Rattle.snap_config.specs.declared.setup.Disk.{Disk};
 
 use crate::builder::{ParityLine, SetupBuilder, has_level};
 use crate::fault::LineFault;
 use crate::names::file_name;
+use crate::parts::Parts;
 use crate::{ConfigFault, Disk, Disks, Rules, Setup, Why};
 use disk_model::{NoMemory, Places, Text};
 use memchr::memchr;
@@ -23,6 +25,9 @@ const MOST_LEVELS: u32 = 6;
 
 /// In bytes.
 const DEFAULT_BLOCK_SIZE: u32 = 262_144;
+
+/// In bytes: how much each file but the last of its level may hold.
+const DEFAULT_SPLIT: u64 = 16_000_000_000_000;
 
 /// Reads a configuration, whose log is the one given. `BadLine` exactly where a line is refused, with
 /// the first such line.
@@ -75,6 +80,7 @@ fn cut_line(text: &[u8]) -> Option<(&[u8], &[u8])>
 
 // The setup that lines make, unless one is missing.
 fn finish(alloc: Global, builder: SetupBuilder, log: Option<Text>) -> Result<Setup, LineFault>
+    requires { IfSome builder.block_size IsSize }
     ensures ok { IfOk result (λ setup. finish log (builder_value builder) ≡ Ok (setup_value setup)) }
     ensures refused { IfErr result (λ fault. Explains fault (finish log (builder_value builder))) }
 {
@@ -87,17 +93,21 @@ fn finish(alloc: Global, builder: SetupBuilder, log: Option<Text>) -> Result<Set
     if builder.disks.is_empty() {
         return Err(LineFault::Refused(Why::NoData));
     }
+    let (parities, parts) = by_level(alloc, builder.parities.as_slice())?;
     let places = Places {
         dirs: folders(alloc, builder.disks.as_slice())?,
-        parities: by_level(alloc, builder.parities.as_slice())?,
+        parities,
         contents: builder.contents,
     };
+    let block_size = builder.block_size.unwrap_or(DEFAULT_BLOCK_SIZE);
     Ok(Setup {
         disks: Disks::new(builder.disks),
         places,
+        parts,
+        split: capacity(block_size, builder.split.unwrap_or(DEFAULT_SPLIT)),
         rules: Rules::new(builder.rules),
         nohidden: builder.nohidden,
-        block_size: builder.block_size.unwrap_or(DEFAULT_BLOCK_SIZE),
+        block_size,
         autosave: builder.autosave.unwrap_or(0),
         log: log_name(alloc, log)?,
     })
@@ -113,33 +123,62 @@ fn folders(alloc: Global, disks: &[Disk]) -> Result<Vec<Text>, NoMemory>
     Ok(dirs)
 }
 
-fn by_level(alloc: Global, parities: &[ParityLine]) -> Result<Vec<Text>, NoMemory>
-    ensures { IfOk result (λ files. files.items ≡ by_level parities.now) }
+// How many bytes of whole blocks there is room for.
+fn capacity(block_size: u32, room: u64) -> u64
+    requires { 0 < block_size }
+    ensures { result ≡ capacity_of block_size room }
 {
-    let mut files = Vec::new(alloc);
-    for level in 0..MOST_LEVELS {
-        push_level(&mut files, parities, level)?;
-    }
-    Ok(files)
+    let block_size = u64::from(block_size);
+    room / block_size * block_size
 }
 
-fn push_level(files: &mut Vec<Text>, parities: &[ParityLine], level: u32) -> Result<(), NoMemory>
-    ensures { OnOk result (files.new.items
-        ≡ files.old.items ++ option_to_list (file_of parities.now level)) }
+// The files of the levels, and how many each has.
+fn by_level(alloc: Global, parities: &[ParityLine]) -> Result<(Vec<Text>, Vec<u32>), NoMemory>
+    ensures files { IfOk result (λ made. made.0.items ≡ flat_map (λ files. files) (by_level parities.now)) }
+    ensures parts { IfOk result (λ made. made.1.items ≡ map length (by_level parities.now)) }
 {
-    if let Some(file) = file_of(parities, level) {
+    let mut files = Vec::new(alloc);
+    let mut parts = Vec::new(alloc);
+    for level in 0..MOST_LEVELS {
+        push_level(&mut files, &mut parts, parities, level)?;
+    }
+    Ok((files, parts))
+}
+
+fn push_level(
+    files: &mut Vec<Text>,
+    parts: &mut Vec<u32>,
+    parities: &[ParityLine],
+    level: u32,
+) -> Result<(), NoMemory>
+    ensures files { OnOk result (files.new.items
+        ≡ files.old.items ++ flat_map (λ names. names) (option_to_list (files_of parities.now level))) }
+    ensures parts { OnOk result (parts.new.items
+        ≡ parts.old.items ++ map length (option_to_list (files_of parities.now level))) }
+{
+    if let Some(named) = files_of(parities, level) {
+        push_files(files, named.as_slice())?;
+        parts.push(named.count())?;
+    }
+    Ok(())
+}
+
+fn push_files(files: &mut Vec<Text>, named: &[Text]) -> Result<(), NoMemory>
+    ensures { OnOk result (files.new.items ≡ files.old.items ++ named.now) }
+{
+    for file in named {
         files.push(file.copy()?)?;
     }
     Ok(())
 }
 
-fn file_of(parities: &[ParityLine], level: u32) -> Option<&Text>
-    ensures { MatchOption result (file_of parities.now level ≡ None)
-        (λ file. file_of parities.now level ≡ Some file.now) }
+fn files_of(parities: &[ParityLine], level: u32) -> Option<&Parts>
+    ensures { MatchOption result (files_of parities.now level ≡ None)
+        (λ files. files_of parities.now level ≡ Some files.now) }
 {
     for line in parities {
         if line.level == level {
-            return Some(&line.file);
+            return Some(&line.files);
         }
     }
     None

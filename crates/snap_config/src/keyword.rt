@@ -5,7 +5,7 @@ ghost use Rattle.snap_config.specs.Keyword.{keyword_of};
 /// What the first word of a line stands for.
 #[derive(Clone, Copy)]
 pub(crate) enum Keyword {
-    /// The parity file of a level.
+    /// The parity files of a level.
     Parity(u32),
     Content,
     Data,
@@ -17,6 +17,8 @@ pub(crate) enum Keyword {
     BlockSize,
     HashSize,
     AutoSave,
+    /// How much each part but the last of its level may hold.
+    SplitSize,
     /// A keyword of other programs, without effect.
     Unused,
     /// A parity of another kind, which this program does not write.
@@ -42,6 +44,7 @@ pub(crate) fn keyword_of(word: &str) -> Option<Keyword>
         "blocksize" => Keyword::BlockSize,
         "hashsize" => Keyword::HashSize,
         "autosave" => Keyword::AutoSave,
+        "splitsize" => Keyword::SplitSize,
         "pool" | "share" | "smartctl" => Keyword::Unused,
         "z-parity" => Keyword::ZParity,
         _ => return None,

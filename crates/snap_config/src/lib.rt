@@ -28,6 +28,7 @@ mod number;
 mod option_table;
 mod option_values;
 mod options;
+mod parts;
 mod pattern;
 mod setup;
 mod why;

@@ -95,8 +95,13 @@ impl Rules {
 #[derive(Drop)]
 pub struct Setup {
     pub disks: Disks,
-    /// The folders are those of the disks, in the same order.
+    /// The folders are those of the disks, in the same order. The parity files are those of the first level, then those
+    /// of the second, and so on.
     pub places: Places,
+    /// How many files each level has, 1 to 8.
+    pub parts: Vec<u32>,
+    /// How many bytes each file but the last of its level holds.
+    pub split: u64,
     pub rules: Rules,
     /// Whether files with a component that begins with a dot are left out.
     pub nohidden: bool,

@@ -15,8 +15,6 @@ pub enum Why {
     Unsupported,
     /// The argument is missing, or isn't of its form.
     Value,
-    /// A parity line names more than one file.
-    Split,
     /// An earlier line says it already.
     Repeated,
     /// There are as many such lines as there may be.
@@ -42,7 +40,6 @@ impl Why {
             Why::Unknown => "unknown keyword",
             Why::Unsupported => "not supported",
             Why::Value => "bad value",
-            Why::Split => "more than one file",
             Why::Repeated => "repeated",
             Why::TooMany => "too many",
             Why::Pattern => "bad pattern",

@@ -44,6 +44,8 @@ fn setup_of(alloc: Global, disks: Vec<Disk>) -> Setup
             parities: Vec::new(alloc),
             contents: Vec::new(alloc),
         },
+        parts: Vec::new(alloc),
+        split: 1024,
         rules: Rules::new(Vec::new(alloc)),
         nohidden: false,
         block_size: 1024,

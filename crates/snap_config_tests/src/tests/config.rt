@@ -51,6 +51,8 @@ fn a_usual_configuration(rt: HostRuntime) -> Result<(), Fail> {
     assert_eq!(rt; setup.rules.as_slice().len(), 2);
     assert_eq!(rt; setup.block_size, 262_144);
     assert_eq!(rt; setup.autosave, 500_000_000_000);
+    assert_eq!(rt; setup.parts.as_slice(), [1, 1].as_slice());
+    assert_eq!(rt; setup.split, 15_999_999_934_464);
     assert!(rt; !setup.nohidden);
     let log = setup.log.ok_or("no log")?;
     assert_eq!(rt; log.as_str(), "/var/log/x/");
@@ -70,7 +72,7 @@ fn outcome(alloc: Global, bytes: &[u8]) -> Result<String, AllocError> {
 }
 
 // What is behind these lines, and what comes of the whole.
-static BEHIND: [(&str, &str); 59] = [
+static BEHIND: [(&str, &str); 76] = [
     ("", "taken"),
     ("\n \t \n\r\n# comment\r\n \t# comment\n#", "taken"),
     (
@@ -123,8 +125,25 @@ static BEHIND: [(&str, &str); 59] = [
     ("exclude", "4: bad value"),
     ("include \t", "4: bad value"),
     ("pool", "4: bad value"),
-    ("2-parity /x,/y", "4: more than one file"),
-    ("parity ,", "4: more than one file"),
+    ("2-parity /x,/y", "taken"),
+    ("2-parity /x, /y ,/z", "taken"),
+    ("2-parity a,b,c,d,e,f,g,h", "taken"),
+    ("splitsize 1", "taken"),
+    ("splitsize 1000000", "taken"),
+    ("2-parity /x,,/y", "4: bad value"),
+    ("2-parity /x,", "4: bad value"),
+    ("parity ,", "4: bad value"),
+    ("2-parity a,a,,", "4: bad value"),
+    ("splitsize 0", "4: bad value"),
+    ("splitsize 1000001", "4: bad value"),
+    ("splitsize", "4: bad value"),
+    ("splitsize 1\nsplitsize 0", "5: bad value"),
+    ("2-parity a,a", "4: repeated"),
+    ("2-parity a,b,c,d,e,f,g,h,a", "4: repeated"),
+    ("2-parity a//b,a/b", "4: repeated"),
+    ("2-parity /x,//p", "4: repeated"),
+    ("splitsize 1\nsplitsize 1", "5: repeated"),
+    ("2-parity a,b,c,d,e,f,g,h,i", "4: too many"),
     ("parity /x", "4: repeated"),
     ("2-parity //c", "4: repeated"),
     ("content //p", "4: repeated"),
