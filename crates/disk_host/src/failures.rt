@@ -28,7 +28,7 @@ pub enum Request {
     SetTime,
     Rename,
     Sync,
-    /// The parity file of this level, to change its length where content was saved for it, or to read it.
+    /// The parity file of this number: to read it, or to look for it where there is content.
     FindParity(u32),
 }
 
@@ -109,16 +109,16 @@ impl Failures {
         }
     }
 
-    // Keeps that the parity file of this level was read and is not there, which is no failure of the call.
-    pub fn note_missing(&mut self, level: u32, name: &str) {
+    // Keeps that a parity file was looked for and not there, which is no failure of the call.
+    pub fn note_missing(&mut self, file: u32, name: &str) {
         let answer: io::Result<()> = Err(io::Error::from(ErrorKind::NotFound));
-        self.note(Request::FindParity(level), name, &answer);
+        self.note(Request::FindParity(file), name, &answer);
     }
 
-    // Takes back what was kept of the parity file of this level: it was made since.
-    pub fn forget_missing(&mut self, level: u32) {
+    // Takes back what was kept of a parity file that was missing: it was made since.
+    pub fn forget_missing(&mut self, file: u32) {
         self.kept
-            .retain(|failure| failure.request != Request::FindParity(level));
+            .retain(|failure| failure.request != Request::FindParity(file));
     }
 
     fn keep(&mut self, request: Request, name: String, error: io::Error) -> Result<(), AllocError> {

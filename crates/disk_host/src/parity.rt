@@ -18,6 +18,8 @@ pub struct ParityFile<R: Files> {
     is_writable: bool,
     // whether its folder was synced since, so that its name stays
     is_named: bool,
+    // whether it was not there when it was looked for
+    was_missing: bool,
 }
 
 impl<R: Files> ParityFile<R>
@@ -30,6 +32,7 @@ where
             file: None,
             is_writable: false,
             is_named: false,
+            was_missing: false,
         }
     }
 
@@ -40,6 +43,11 @@ where
     /// Whether it is open, as it is after each reading of a file that is there.
     pub fn is_open(&self) -> bool {
         self.file.is_some()
+    }
+
+    /// Whether it was not there when it was looked for, though a write may have made it since.
+    pub fn was_missing(&self) -> bool {
+        self.was_missing
     }
 
     /// Makes an empty file where there is none, so that its name stays.
@@ -78,13 +86,13 @@ where
         self.open_to_write(rt)?.set_len(len)
     }
 
-    /// The same of a file that is there. Where there is none it is not made, and the failure is none of the system.
-    pub fn set_len_of_old(&mut self, rt: &R, len: u64) -> io::Result<()> {
+    /// Looks for the file, and answers whether it is there.
+    pub fn look_for(&mut self, rt: &R) -> io::Result<bool> {
         self.open_to_read(rt)?;
         if self.file.is_none() {
-            return Err(io::Error::from(ErrorKind::NotFound));
+            self.was_missing = true;
         }
-        self.set_len(rt, len)
+        Ok(self.file.is_some())
     }
 
     /// Hands to the disk what was written, by an earlier run too, and the file's name.

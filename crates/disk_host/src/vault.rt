@@ -1,5 +1,5 @@
 // Parity files and content copies of the system.
-ghost use Rattle.std.specs.Prelude.{◌≡◌, ◌<◌, ◌^◌, map, vec_len};
+ghost use Rattle.std.specs.Prelude.{◌≡◌, ◌<◌, ◌^◌, length, map, vec_len};
 ghost use Rattle.disk_host.specs.Drafts.{state_of};
 ghost use Rattle.disk_model.specs.Vault.{quiet_vault, quiet_vault-well_formed};
 
@@ -85,17 +85,32 @@ fn note_rename(failures: &mut Failures, was_asked: bool, name: &str, answer: &io
     }
 }
 
-// What was asked where a length was to be set: of a file that is not there, the file.
-fn length_request(level: u32, answer: &io::Result<()>) -> Request {
-    match answer {
-        Err(error) if is_gone(error) => Request::FindParity(level),
-        _ => Request::Resize,
+// Looks for a parity file, and keeps that it is not there.
+fn look_for<R: Files>(rt: &R, level: u32, parity: &mut ParityFile<R>, failures: &mut Failures)
+where
+    R::File: FileExt,
+{
+    if let Ok(false) = parity.look_for(rt) {
+        failures.note_missing(level, parity.name());
     }
 }
 
-// Whether that is no failure of the system.
-fn is_gone(error: &io::Error) -> bool {
-    error.kind() == ErrorKind::NotFound && error.raw_os_error().is_none()
+// Looks for the parity files, and keeps which are not there, or were not before a write of this run. Answers whether one
+// is kept. A file that cannot be opened is left to the call that needs it.
+fn lacked_one<R: Files>(rt: &R, parities: &mut [ParityFile<R>], failures: &mut Failures) -> bool
+where
+    R::File: FileExt,
+    requires { length parities.old < 2 ^ 32 }
+{
+    let mut lacked = false;
+    for level in 0..parities.len() {
+        let _ = parities[level].look_for(rt);
+        if parities[level].was_missing() {
+            failures.note_missing(level as u32, parities[level].name());
+            lacked = true;
+        }
+    }
+    lacked
 }
 
 impl<R: Files + Send> Vault for DiskVault<R>
@@ -121,6 +136,14 @@ where
     fn parity_len(&mut self, level: u32) -> Result<u64, Failed> {
         let answer = self.parities[level as usize].len(&self.rt);
         self.failures.note(Request::Look, self.parities[level as usize].name(), &answer);
+        if self.has_content {
+            look_for(
+                &self.rt,
+                level,
+                &mut self.parities[level as usize],
+                &mut self.failures,
+            );
+        }
         counted(&mut self.faults, answer)
     }
 
@@ -135,6 +158,14 @@ where
     }
 
     fn parity_write(&mut self, level: u32, at: u64, bytes: &[u8]) -> Result<(), Failed> {
+        if self.has_content {
+            look_for(
+                &self.rt,
+                level,
+                &mut self.parities[level as usize],
+                &mut self.failures,
+            );
+        }
         let answer = self.parities[level as usize].write(&self.rt, at, bytes);
         self.failures.note(
             Request::Write,
@@ -148,15 +179,18 @@ where
     }
 
     fn parity_set_len(&mut self, level: u32, len: u64) -> Result<(), Failed> {
-        let parity = &mut self.parities[level as usize];
-        let answer = if self.has_content {
-            parity.set_len_of_old(&self.rt, len)
-        } else {
-            parity.set_len(&self.rt, len)
-        };
-        let request = length_request(level, &answer);
-        self.failures
-            .note(request, self.parities[level as usize].name(), &answer);
+        if self.has_content
+            && lacked_one(&self.rt, self.parities.as_mut_slice(), &mut self.failures)
+        {
+            let answer: io::Result<()> = Err(io::Error::from(ErrorKind::NotFound));
+            return counted(&mut self.faults, answer);
+        }
+        let answer = self.parities[level as usize].set_len(&self.rt, len);
+        self.failures.note(
+            Request::Resize,
+            self.parities[level as usize].name(),
+            &answer,
+        );
         counted(&mut self.faults, answer)
     }
 
