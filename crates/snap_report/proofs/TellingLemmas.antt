@@ -6,7 +6,11 @@ use Rattle.disk_model.specs.Cause.{Rose}
 use Rattle.disk_model.specs.Sink.{AppendsPart}
 use Rattle.snap_report.specs.Telling.{Written, Tells}
 
-part_of_first : (held front back old mid : List ℕ) → AppendsPart (held ++ front) old mid → AppendsPart (held ++ (front ++ back)) old mid
+-- nothing is a front of each text
+pub nothing_appended : (text written : List ℕ) → AppendsPart text written written
+nothing_appended text written = record { front = []; rest = text; whole = refl; appended = sym (append-nil written) }
+
+pub part_of_first : (held front back old mid : List ℕ) → AppendsPart (held ++ front) old mid → AppendsPart (held ++ (front ++ back)) old mid
 part_of_first held front back old mid part = record {
   front = part.front;
   rest = part.rest ++ back;
@@ -19,7 +23,7 @@ went_and_held : (held text old new kept went : List ℕ) → new ++ kept ≡ old
 went_and_held held text old new kept went whole appended =
     append_cancel_left old (went ++ kept) (held ++ text) (sym (append_assoc old went kept) ∙ ap (λ xs. xs ++ kept) (sym appended) ∙ whole)
 
-part_of_both : (held front back old mid kept new : List ℕ) → mid ++ kept ≡ old ++ (held ++ front) → AppendsPart (held ++ front) old mid → AppendsPart (kept ++ back) mid new → AppendsPart (held ++ (front ++ back)) old new
+pub part_of_both : (held front back old mid kept new : List ℕ) → mid ++ kept ≡ old ++ (held ++ front) → AppendsPart (held ++ front) old mid → AppendsPart (kept ++ back) mid new → AppendsPart (held ++ (front ++ back)) old new
 part_of_both held front back old mid kept new whole one two = record {
   front = one.front ++ two.front;
   rest = two.rest;

@@ -6,8 +6,8 @@ use Rattle.disk_model.specs.Sink.{SinkView}
 use Rattle.file_table.specs.Table.{Column}
 use Rattle.snap_report.specs.declared.events.Event.{Event}
 use Rattle.snap_report.specs.declared.pages.Lines.{Lines}
-use Rattle.snap_report.specs.Report.{ReportView}
-use Rattle.snap_report.specs.EventLines.{event_line}
+use Rattle.snap_report.specs.Report.{ReportView, AllGiven}
+use Rattle.snap_report.specs.EventLines.{event_line, lines_of}
 use Rattle.snap_report.specs.Told.{Told, ToldPart}
 use Rattle.snap_report.proofs.PutsLemmas.{puts_then, puts_nothing, puts_same}
 use Rattle.snap_report.proofs.ReportLemmas.{all_given_then, all_given_nothing}
@@ -17,7 +17,8 @@ module _ {W R : Type 0} (view : W → SinkView) (standing : R → ReportView) (s
   told_then front back old mid new olds mids news one two = record {
     puts = puts_same view _ _ old new (puts_then view _ _ old mid new one.puts two.puts) (sym (flat_map-append (event_line columns) front back));
     settled = λ before. two.settled (one.settled before);
-    given = all_given_then standing stands front back olds mids news one.given two.given;
+    given = subst (λ text. AllGiven standing stands text (front ++ back) olds news) (sym (flat_map-append (event_line columns) front back))
+        (all_given_then standing stands (lines_of columns front) (lines_of columns back) front back olds mids news one.given two.given);
   }
 
   -- no events

@@ -9,11 +9,11 @@ use Rattle.snap_report.specs.Report.{ReportView, AllGiven}
 use Rattle.snap_report.specs.State.{state_of, Puts}
 use Rattle.snap_report.specs.Telling.{Settled}
 
--- These events were told in order: their lines, a prefix of which is written where a write failed, and themselves to the reports.
+-- These events were told in order: their lines, a prefix of which is written where a write failed, and themselves, with these lines, to the reports.
 pub record Told {W R : Type 0} (view : W → SinkView) (standing : R → ReportView) (stands : R → List Event → Type 0) (columns : List Column) (events : List Event) (old new : Lines W) (olds news : List R) : Type 0 where
   pub puts : Puts view (lines_of columns events) old new
   pub settled : Settled (state_of view old) → Settled (state_of view new)
-  pub given : AllGiven standing stands events olds news
+  pub given : AllGiven standing stands (lines_of columns events) events olds news
 
 -- Of a run that broke off: the first of these events were told.
 pub record ToldPart {W R : Type 0} (view : W → SinkView) (standing : R → ReportView) (stands : R → List Event → Type 0) (columns : List Column) (events : List Event) (old new : Lines W) (olds news : List R) : Type 0 where

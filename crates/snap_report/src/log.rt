@@ -64,7 +64,7 @@ impl<S: Sink + Drop> Report for LogReport<S> {
     fn take(&mut self, table: &Table, event: &Event) -> Result<(), Failed>
         requires unfailed { self.old.failed ≡ false }
         requires fits { Fits table.now.columns event.now }
-        ensures taken { IsTake event.now result
+        ensures taken { IsTake (event_line table.now.columns event.now) event.now result
             (of_sink self.old.failed (S.view self.old.sink)) (λ _. ⊥)
             (of_sink self.new.failed (S.view self.new.sink)) (λ _. ⊥) }
         ensures tells { Tells (event_line table.now.columns event.now)

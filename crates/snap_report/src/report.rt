@@ -1,6 +1,7 @@
 // Those who are told of events.
 ghost use Rattle.std.specs.Prelude.{◌≡◌, ◌∷◌, [], All, false, List};
 ghost use Rattle.snap_report.specs.EventFits.{Fits};
+ghost use Rattle.snap_report.specs.EventLines.{event_line};
 ghost use Rattle.snap_report.specs.Told.{Told};
 ghost use Rattle.snap_report.specs.Report.{ReportView, IsTake, Given, AllGiven};
 
@@ -14,6 +15,7 @@ use file_table::Table;
 pub trait Report: Drop {
     ghost use Rattle.snap_report.specs.declared.events.Event.{Event};
 
+    /// What is known of it. A report that writes text may tell in this what it has written: each event's line.
     ghost standing: { Self → ReportView };
 
     /// The lists of events that it stands for, where it tells that.
@@ -31,14 +33,14 @@ pub trait Report: Drop {
     fn take(&mut self, table: &Table, event: &Event) -> Result<(), Failed>
         requires unfailed { (standing self.old).failed ≡ false }
         requires fits { Fits table.now.columns event.now }
-        ensures { IsTake event.now result
+        ensures { IsTake (event_line table.now.columns event.now) event.now result
             (standing self.old) (stands self.old) (standing self.new) (stands self.new) };
 }
 
 // Gives one event to a report that has not failed.
 fn give(report: &mut Box<dyn Report>, table: &Table, event: &Event)
     requires { Fits table.now.columns event.now }
-    ensures { Given standing stands (event.now ∷ []) report.old report.new }
+    ensures { Given standing stands (event_line table.now.columns event.now) (event.now ∷ []) report.old report.new }
 {
     if !report.failed() {
         let _ = report.take(table, event);
@@ -48,7 +50,8 @@ fn give(report: &mut Box<dyn Report>, table: &Table, event: &Event)
 // Gives one event to each report that has not failed, in order.
 fn give_all(reports: &mut Vec<Box<dyn Report>>, table: &Table, event: &Event)
     requires { Fits table.now.columns event.now }
-    ensures { AllGiven standing stands (event.now ∷ []) reports.old.items reports.new.items }
+    ensures { AllGiven standing stands (event_line table.now.columns event.now) (event.now ∷ [])
+        reports.old.items reports.new.items }
 {
     for report in reports.iter_mut() {
         give(report, table, event);

@@ -33,7 +33,7 @@ impl TallyReport {
 }
 
 impl Report for TallyReport {
-    ghost standing = { λ _. record { faults = 0; failed = false; steady = true } };
+    ghost standing = { λ _. record { faults = 0; failed = false; steady = true; tells = false; written = [] } };
 
     ghost stands = { λ report. Counts report.counts };
 
