@@ -1,5 +1,5 @@
 -- Rooms of stripes that are changed one after another, and those whose blocks are given their digests.
-use Rattle.std.proofs.Common.{◌≡◌, ◌≢◌, inl, inr, ℕ, zero, suc, ◌+◌, ◌*◌, ◌<◌, List, [], ◌∷◌, length, get_or, set, replicate, Option, None, Some, true, false, refl, sym, ap, ◌∙◌, subst, arith}
+use Rattle.std.proofs.Common.{◌≡◌, ◌≢◌, inl, inr, ℕ, zero, suc, ◌+◌, ◌*◌, ◌<◌, ◌≤◌, List, [], ◌∷◌, length, get_or, set, replicate, Option, None, Some, true, false, refl, sym, ap, ◌∙◌, subst, arith}
 use Rattle.std.specs.List.{AllZip}
 use Rattle.std.proofs.lemmas.Bool.{cases_lt, false≢true}
 use Rattle.std.proofs.lemmas.Bool.Decides.{eqb_tells}
@@ -14,7 +14,7 @@ use Rattle.parity_writer.specs.WindowRow.{row_at}
 use Rattle.stripe_reader.specs.WindowValue.{WindowValue}
 use Rattle.stripe_examiner.specs.declared.room.StripeRoom.{StripeRoom}
 use Rattle.stripe_examiner.specs.declared.search.Wanted.{Wanted}
-use Rattle.stripe_examiner.specs.FirstChoice.{AreDigestsOf, ChangesFirst, HasFirst, HasFirstIn, HashesRoom, HashesRooms, HaveSixBlocks, IsFirstOf, JudgesRoom, MakesFirst}
+use Rattle.stripe_examiner.specs.FirstChoice.{AreDigestsOf, HasFirst, HasFirstIn, HashesRoom, HashesRooms, HaveSixBlocks, IsFirstOf, JudgesRoom, MakesFirst}
 use Rattle.stripe_examiner.specs.MarkedWindow.{number_at}
 use Rattle.stripe_examiner.specs.Judged.{KeepsRead}
 use Rattle.stripe_examiner.specs.Marks.{levels_read, wanted_marked}
@@ -23,6 +23,11 @@ use Rattle.stripe_examiner.specs.Room.{IsStripeRoomFor}
 use Rattle.stripe_examiner.specs.Search.{block_in}
 
 -- ---- one after another
+
+-- each of the first so many rooms is changed in such a way, by its number, and the others are as they were
+pub record ChangesFirst (Changes : ℕ → StripeRoom → StripeRoom → Type 0) (count : ℕ) (before after : List StripeRoom) : Type 0 where
+  pub changed : (k : ℕ) (other : StripeRoom) → k < count → Changes k (get_or before k other) (get_or after k other)
+  pub later : (k : ℕ) (other : StripeRoom) → count ≤ k → get_or after k other ≡ get_or before k other
 
 pub changes_none : (Changes : ℕ → StripeRoom → StripeRoom → Type 0) (rooms : List StripeRoom) → ChangesFirst Changes 0 rooms rooms
 changes_none Changes rooms = record { changed = λ k other below. absurd (omega (arith, below)); later = λ k other behind. refl }

@@ -13,9 +13,8 @@ use Rattle.parity_writer.specs.declared.levels.LevelRead.TheVariants as here
 use Rattle.parity_writer.specs.Parity.{Row}
 use Rattle.snap_report.specs.declared.events.Event.{Event}
 use Rattle.snap_report.specs.declared.events.Event.TheVariants.{Changed, Blocked, Unsynced, Silent, Io, ParityIo, Parity, Lost}
+pub use Rattle.stripe_reader.specs.Slot.{is_unread}
 use Rattle.stripe_reader.specs.SlotValue.{SlotValue}
-use Rattle.stripe_reader.specs.declared.slot.Found.{Found}
-use Rattle.stripe_reader.specs.declared.slot.Found.TheVariants as found
 use Rattle.stripe_examiner.specs.declared.entry.Entry.{Entry}
 use Rattle.stripe_reader.specs.WindowValue.{no_slot}
 use Rattle.stripe_examiner.specs.Facts.{StripeFacts, is_missing}
@@ -51,14 +50,6 @@ opening_events plan = flat_map (column_events plan) (range_with_len 0 (length pl
 abbrev pub unsynced_events : FixPlan → ℕ → List Event
 unsynced_events plan stripe =
     if not (is_audit plan.scope.mode) && not (is_synced plan stripe) && has_selected_cell plan stripe then Unsynced stripe ∷ [] else []
-
--- the folder failed
-abbrev pub is_unread : Found → Bool
-is_unread found.Empty = false
-is_unread found.Bytes = false
-is_unread found.Missing = false
-is_unread found.Short = false
-is_unread found.Unread = true
 
 -- another hash than the recorded one: nothing where there are not both
 abbrev pub silent_event : ℕ → ℕ → Cell → Option Digest16 → Option Digest16 → List Event

@@ -80,8 +80,3 @@ pub record JudgesRoom (plan : FixPlan) (stripe i : ℕ) (window : WindowValue) (
   pub room : IsStripeRoomFor plan.table new
   pub kept : KeepsRead old new
   pub judged : JudgesStripe plan stripe i window new
-
--- each of the first so many rooms is changed in such a way, by its number, and the others are as they were
-pub record ChangesFirst (Changes : ℕ → StripeRoom → StripeRoom → Type 0) (count : ℕ) (before after : List StripeRoom) : Type 0 where
-  pub changed : (k : ℕ) (other : StripeRoom) → k < count → Changes k (slice_index_or before k other) (slice_index_or after k other)
-  pub later : (k : ℕ) (other : StripeRoom) → count ≤ k → slice_index_or after k other ≡ slice_index_or before k other

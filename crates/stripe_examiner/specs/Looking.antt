@@ -14,6 +14,7 @@ use Rattle.snap_report.specs.declared.pages.Lines.{Lines}
 use Rattle.stripe_reader.specs.Column.{ReadsColumn}
 use Rattle.stripe_reader.specs.Columns.{folder_at}
 use Rattle.stripe_reader.specs.Reading.{tasks_at}
+use Rattle.stripe_reader.specs.Slot.{count_unread}
 use Rattle.stripe_reader.specs.SlotValue.{SlotValue}
 use Rattle.stripe_reader.specs.Starts.{StartsValue}
 use Rattle.stripe_reader.specs.WindowValue.{WindowValue}
@@ -21,7 +22,7 @@ use Rattle.stripe_examiner.specs.declared.counts.Counts.{Counts}
 use Rattle.stripe_examiner.specs.Asking.{AsksSpare}
 use Rattle.stripe_examiner.specs.Counts.{AreCounts}
 use Rattle.stripe_examiner.specs.Facts.{StripeFacts, slot_of}
-use Rattle.stripe_examiner.specs.Findings.{events_of, is_unread}
+use Rattle.stripe_examiner.specs.Findings.{events_of}
 use Rattle.stripe_examiner.specs.Known.{AreFacts}
 use Rattle.stripe_examiner.specs.Marks.{slots_at}
 use Rattle.stripe_examiner.specs.Plan.{FixPlan}
@@ -36,7 +37,7 @@ slots_of d stripes = map (λ (facts : StripeFacts). slot_of facts d) stripes
 
 -- how many cells of a column were not read
 abbrev pub unread_cells : ℕ → List StripeFacts → ℕ
-unread_cells d stripes = count_by (λ (facts : StripeFacts). is_unread (slot_of facts d).cell.found) stripes
+unread_cells d stripes = count_unread (λ (facts : StripeFacts). slot_of facts d) stripes
 
 -- what stands for the facts of a stripe that is not there
 abbrev pub no_facts : StripeFacts

@@ -3,6 +3,7 @@ use Rattle.std.specs.Prelude.{◌≡◌, ℕ, ◌<◌, ◌≤◌, List, length, 
 use Rattle.disk_model.specs.Folder.{FolderView}
 use Rattle.disk_model.specs.Vault.{VaultView}
 use Rattle.stripe_reader.specs.Columns.{ReadsWindow}
+use Rattle.stripe_reader.specs.Held.{CanRead}
 use Rattle.stripe_reader.specs.Starts.{StartsValue, StartsFit}
 use Rattle.stripe_reader.specs.WindowValue.{WindowValue, Fits}
 use Rattle.stripe_examiner.specs.declared.room.Room.{Room}
@@ -16,7 +17,6 @@ use Rattle.stripe_examiner.specs.Plan.{FixPlan, EntriesFit}
 use Rattle.stripe_examiner.specs.Room.{IsRoomFor, IsStripeRoomFor}
 use Rattle.stripe_examiner.specs.Shown.{ShowsStripe}
 use Rattle.stripe_examiner.specs.Spare.{SpareView}
-use Rattle.stripe_examiner.specs.Surveyed.{CanRead}
 
 -- stripes of these numbers can be examined in a room, with files where they stood
 pub record CanExamineWindow (plan : FixPlan) (starts : StartsValue) (numbers : List ℕ) (room : Room) : Type 0 where
@@ -44,11 +44,11 @@ pub record ExaminesWindow (plan : FixPlan) (starts : StartsValue) (numbers : Lis
   pub as_large : after.window.room ≡ before.window.room
   pub count : after.window.count ≡ length numbers
 
--- stripes of these numbers can be examined in a window, with a room for each of them, or more
-pub record CanExamineRooms (plan : FixPlan) (starts : StartsValue) (numbers : List ℕ) (window : WindowValue) (rooms : List StripeRoom)
-    : Type 0 where
+-- stripes of these numbers can be examined in a window, of so many folders, with a room for each of them, or more
+pub record CanExamineRooms (plan : FixPlan) (starts : StartsValue) (numbers : List ℕ) (window : WindowValue) (folders : ℕ)
+    (rooms : List StripeRoom) : Type 0 where
   pub entries : EntriesFit plan.table plan.entries
-  pub read : CanRead plan.table starts numbers window
+  pub read : CanRead plan.table starts numbers window folders
   pub as_many : length numbers ≤ length rooms
   pub each : All (IsStripeRoomFor plan.table) rooms
 

@@ -2,13 +2,14 @@
 ghost use Rattle.std.specs.Prelude.{◌≡◌, ◌<◌, ◌≤◌, All, length, map, true};
 ghost use Rattle.std.specs.Thread.{IsSend, IsSync};
 ghost use Rattle.stripe_reader.specs.Columns.{ReadsWindow};
+ghost use Rattle.stripe_reader.specs.Held.{AreDisksOf, CanRead};
 ghost use Rattle.stripe_reader.specs.WindowValue.{Fits};
 ghost use Rattle.parity_writer.specs.LevelReading.{ReadsLevels};
 ghost use Rattle.stripe_examiner.specs.Examining.{ReadsTried};
 ghost use Rattle.stripe_examiner.specs.MarkedWindow.{ReadsRooms};
 ghost use Rattle.stripe_examiner.specs.Plan.{is_searched as is_searched_at};
 ghost use Rattle.stripe_examiner.specs.Room.{AreRoomsFor, IsStripeRoomFor};
-ghost use Rattle.stripe_examiner.specs.Surveyed.{AreDisksOf, CanRead, plan_in};
+ghost use Rattle.stripe_examiner.specs.Surveyed.{plan_in};
 
 use crate::room::StripeRoom;
 use crate::survey::Survey;
@@ -79,7 +80,8 @@ pub(crate) fn read_beside<R: Threads + Sync, F: Folder, V: Vault>(
     vault: &mut V,
     rooms: &mut [StripeRoom],
 )
-    requires can { CanRead survey.now.table.now survey.now.starts.now survey.now.stripes.now window.old }
+    requires can { CanRead survey.now.table.now survey.now.starts.now survey.now.stripes.now
+        window.old (length folders.old) }
     requires disks { AreDisksOf survey.now.table.now (length folders.old) (V.view vault.old) }
     requires rooms { AreRoomsFor survey.now.table.now (length survey.now.stripes.now) rooms.old }
     ensures window { Fits survey.now.table.now window.new }
@@ -91,8 +93,8 @@ pub(crate) fn read_beside<R: Threads + Sync, F: Folder, V: Vault>(
     let (table, starts, stripes) = (survey.table, survey.starts, survey.stripes);
     let readers = readers_of_use(table.disks(), survey.threads);
     let mut cells = ||
-        requires { IsSync R.row × IsSend F.row × (length folders.now ≡ length table.now.columns) ×
-            CanRead table.now starts.now stripes.now window.now }
+        requires { IsSync R.row × IsSend F.row ×
+            CanRead table.now starts.now stripes.now window.now (length folders.now) }
     { read_window(rt, folders, table, starts, stripes, readers, window) };
     let mut levels = ||
         requires { All (λ stripe. stripe < length survey.now.table.now.infos) survey.now.stripes.now ×

@@ -1,8 +1,9 @@
 // A window of stripes, examined.
 ghost use Rattle.std.specs.Prelude.{◌≡◌, length, map};
+ghost use Rattle.stripe_reader.specs.Held.{AreDisksOf};
 ghost use Rattle.stripe_examiner.specs.Plan.{plan_of};
 ghost use Rattle.stripe_examiner.specs.Spare.{IsSpareFor};
-ghost use Rattle.stripe_examiner.specs.Surveyed.{AreDisksOf, plan_in};
+ghost use Rattle.stripe_examiner.specs.Surveyed.{plan_in};
 ghost use Rattle.stripe_examiner.specs.WindowExamined.{CanExamineRooms, CanExamineWindow, ExaminesRooms, ExaminesWindow};
 
 use crate::beside::read_beside;
@@ -31,7 +32,7 @@ fn examine_rooms<R: Threads + Sync, F: Folder, V: Vault, P: Spare>(
     all: &mut [StripeRoom],
 )
     requires can { CanExamineRooms (plan_in survey.now) survey.now.starts.now survey.now.stripes.now
-        window.old all.old }
+        window.old (length folders.old) all.old }
     requires block { length block.old ≡ survey.now.table.now.shape.block_size }
     requires disks { AreDisksOf survey.now.table.now (length folders.old) (V.view vault.old) }
     requires spare { IsSpareFor survey.now.table.now.shape (P.holding spare.old) }

@@ -13,11 +13,11 @@ use Rattle.parity_writer.specs.WindowRow.{bytes_of}
 use Rattle.stripe_reader.specs.Column.{ReadsColumn}
 use Rattle.stripe_reader.specs.Columns.{folder_at}
 use Rattle.stripe_reader.specs.Reading.{tasks_at}
+pub use Rattle.stripe_reader.specs.Slot.{is_unread}
+use Rattle.stripe_reader.specs.Slot.{count_unread}
 use Rattle.stripe_reader.specs.SlotValue.{SlotValue}
 use Rattle.stripe_reader.specs.Starts.{recorded_starts}
 use Rattle.stripe_reader.specs.WindowValue.{WindowValue, no_slot}
-use Rattle.stripe_reader.specs.declared.slot.Found.{Found}
-use Rattle.stripe_reader.specs.declared.slot.Found.TheVariants as found
 
 -- what was kept of the cells of a stripe that was read, column by column
 pub record StripeReading : Type 0 where
@@ -29,6 +29,10 @@ slot_of d reading = slice_index_or reading.slots d no_slot
 
 abbrev pub stripes_of : List StripeReading → List ℕ
 stripes_of readings = map (λ (reading : StripeReading). reading.stripe) readings
+
+-- how many cells of a column could not be read
+abbrev pub unread_cells : ℕ → List StripeReading → ℕ
+unread_cells d readings = count_unread (slot_of d) readings
 
 -- what a window keeps of the stripe of a number, and of all stripes that were read into it
 abbrev pub slot_in : ℕ → List SlotValue → SlotValue
@@ -46,14 +50,6 @@ pub record AreRead (table : TableValue) (readings : List StripeReading) (olds ne
   pub wide : All (λ (reading : StripeReading). length reading.slots ≡ length table.columns) readings
   pub each : (d : ℕ) → d < length olds → ReadsColumn table.shape (tasks_at table (recorded_starts table) d (stripes_of readings))
       (map (slot_of d) readings) (folder_at olds d) (folder_at news d)
-
--- the folder failed
-abbrev pub is_unread : Found → Bool
-is_unread found.Empty = false
-is_unread found.Bytes = false
-is_unread found.Missing = false
-is_unread found.Short = false
-is_unread found.Unread = true
 
 -- a file was seen, of this size and stamp
 abbrev pub is_seen : Meta → Option Meta → Bool

@@ -3,7 +3,6 @@ pub mod CellLemmas
 pub mod ColumnLemmas
 pub mod TaskLemmas
 pub mod GroupLemmas
-pub mod RunLemmas
 pub mod WindowLemmas
 pub mod ReadingsLemmas
 pub mod PutLemmas

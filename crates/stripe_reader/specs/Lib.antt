@@ -5,9 +5,9 @@ pub mod SlotValue
 pub mod Slot
 pub mod Column
 pub mod WindowValue
+pub mod Held
 pub mod Hashing
 pub mod KeptWindow
 pub mod Columns
-pub mod Run
 pub mod Came
 pub mod Readings

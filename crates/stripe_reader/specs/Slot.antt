@@ -1,5 +1,5 @@
 -- What a slot keeps of a reading.
-use Rattle.std.specs.Prelude.{ℕ, List, length, replicate, Option, None, Some}
+use Rattle.std.specs.Prelude.{ℕ, List, length, replicate, count_by, Bool, true, false, Option, None, Some}
 use Rattle.block_hash.specs.Hash.{hash}
 use Rattle.disk_model.specs.Bytes.{resized}
 use Rattle.disk_model.specs.declared.meta.Meta.{Meta}
@@ -44,3 +44,15 @@ kept shape (Unread seen) = slot_without shape.block_size found.Unread 0 seen
 kept shape (Gone seen) = slot_without shape.block_size found.Missing 0 seen
 kept shape (Part seen got) = slot_without shape.block_size found.Short got (Some seen)
 kept shape (Whole seen bytes) = slot_with shape seen bytes
+
+-- the folder failed
+abbrev pub is_unread : Found → Bool
+is_unread found.Empty = false
+is_unread found.Bytes = false
+is_unread found.Missing = false
+is_unread found.Short = false
+is_unread found.Unread = true
+
+-- how many of these have a slot that could not be read
+abbrev pub count_unread : {A : Type 0} → (A → SlotValue) → List A → ℕ
+count_unread slot those = count_by (λ one. is_unread (slot one).cell.found) those

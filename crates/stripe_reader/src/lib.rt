@@ -8,7 +8,7 @@
 //! Its definitions: what is asked for a cell and what is read of it (`specs/Reading.antt`), by which calls
 //! (`specs/FolderCalls.antt`), what a slot keeps of it (`specs/Slot.antt`), and what a window then holds, column by
 //! column (`specs/Column.antt`, `specs/Columns.antt`) and stripe by stripe (`specs/Readings.antt`). None of them speaks
-//! of readers.
+//! of readers. What has to hold before stripes are read, and what a window has then, is `specs/Held.antt`.
 //! Proved: a window holds that reading for any number of readers; no more cells are unread than a folder failed, and
 //! where it did not fail, the reading is what its files give (`laws.rt`). A block that is put into a window changes its
 //! slot alone (`Window::put`).

@@ -1,7 +1,8 @@
 use Rattle.std.proofs.Common.{◌+◌}
-use Rattle.stripe_examiner.specs.FirstChoice.{ChangesFirst, MakesFirst}
+use Rattle.stripe_examiner.specs.FirstChoice.{MakesFirst}
 use Rattle.stripe_examiner.specs.MarkedWindow.{number_at}
 use Rattle.stripe_examiner.specs.Surveyed.{plan_in}
+use Rattle.stripe_examiner.proofs.FirstRooms.{ChangesFirst}
 use Rattle.stripe_examiner.proofs.first_choice.make_first_blocks.Given as goal
 
 abbrev pub invariant-loop-k : goal.invariant-loop-k

@@ -1,7 +1,8 @@
 use Rattle.std.proofs.Common.{◌+◌}
-use Rattle.stripe_examiner.specs.FirstChoice.{ChangesFirst, JudgesRoom}
+use Rattle.stripe_examiner.specs.FirstChoice.{JudgesRoom}
 use Rattle.stripe_examiner.specs.MarkedWindow.{number_at}
 use Rattle.stripe_examiner.specs.Surveyed.{plan_in}
+use Rattle.stripe_examiner.proofs.FirstRooms.{ChangesFirst}
 use Rattle.stripe_examiner.proofs.judging_window.judge_in_turn.Given as goal
 
 abbrev pub invariant-loop-k : goal.invariant-loop-k
