@@ -21,7 +21,7 @@ use Rattle.snap_sync.specs.declared.stripes.Progress.{Progress}
 use Rattle.snap_sync.specs.declared.syncing.SyncEnd.{SyncEnd}
 use Rattle.snap_sync.specs.Calls.{SyncPlan, piece_size}
 use Rattle.snap_sync.specs.Closing.{closed}
-use Rattle.snap_sync.specs.Course.{Outside, outside, plan_of, IsSyncWindow, Ends, Breaks, Syncs, BreaksOff}
+use Rattle.snap_sync.specs.Course.{Outside, outside, plan_of, IsSyncWindow, Ends, Breaks, Syncs, BreaksOff, window_room}
 use Rattle.snap_sync.specs.Beginning.{LaysOut}
 use Rattle.snap_sync.specs.Schedule.{save_after}
 use Rattle.snap_sync.specs.declared.stripes.Pace.{Pace}
@@ -34,7 +34,7 @@ use Rattle.snap_sync.specs.Reading.{ReadsFirst}
 use Rattle.snap_sync.specs.Run.{readings_near, plan_for, HasSynced}
 use Rattle.stripe_reader.specs.WindowValue.{stripe_count}
 use Rattle.snap_sync.proofs.RunLemmas.{IsSetting, broke_in, breaks_with}
-use Rattle.snap_sync.proofs.WorkLemmas.{few_of}
+use Rattle.snap_sync.proofs.WorkLemmas.{window_none}
 use Rattle.snap_sync.proofs.UnderwayLemmas.{IsSaved, SavesNot, underway_ended, underway_stopped_ending}
 
 module _ {W R : Type 0} {view : W → SinkView} {standing : R → ReportView} {stands : R → List Event → Type 0} {plan : SyncPlan} {progress : Progress} {work : Work} {old mid : Outside W R}
@@ -54,12 +54,9 @@ module _ {W R : Type 0} {view : W → SinkView} {standing : R → ReportView} {s
   -- no window is left
   last_window : IsSyncWindow plan (length so_far.readings) 0
   last_window = record {
-    room = work.room.near.room;
-    some = so_far.ready.is_work.room.some;
-    few = few_of plan.now plan.start work.table so_far.readings work.room.near.room work.room.near.room so_far.table (omega arith) so_far.ready.is_work.room.few;
     windows = so_far.windows;
     begins = so_far.cut;
-    takes = omega (arith, all_read);
+    takes = window_none plan.every (window_room plan) plan.all (length so_far.readings) all_read;
   }
 
   module _ {piece : ℕ} {new : VaultView} (piece_is : piece_size ≡ piece) (formed : IsWellFormed new) where

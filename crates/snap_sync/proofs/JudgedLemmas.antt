@@ -1,5 +1,5 @@
 -- How far a sync is once a window was judged, and once it was turned.
-use Rattle.std.proofs.Common.{◌≡◌, ℕ, ◌+◌, ◌<◌, ◌≤◌, List, [], ◌∷◌, ◌++◌, length, map, take, drop, suc, Bool, refl, sym, ap, ap₂, ◌∙◌, subst, arith, length-append}
+use Rattle.std.proofs.Common.{◌≡◌, ℕ, ◌+◌, ◌<◌, ◌≤◌, List, [], ◌∷◌, ◌++◌, length, map, take, drop, max, min, suc, Bool, refl, sym, ap, ap₂, ◌∙◌, subst, arith, length-append}
 use Rattle.std.specs.List.{range_with_len}
 use Rattle.std.proofs.lemmas.List.{length-map, map-append}
 use Rattle.std.proofs.lemmas.List.FromFn.{length-range_with_len}
@@ -27,7 +27,7 @@ use Rattle.snap_sync.specs.declared.judging.Counts.{Counts}
 use Rattle.snap_sync.specs.declared.stripes.Progress.{Progress}
 use Rattle.snap_sync.specs.Calls.{SyncPlan}
 use Rattle.snap_sync.specs.Closing.{closed, verified_in}
-use Rattle.snap_sync.specs.Course.{Outside, IsSyncWindow, Breaks, outside}
+use Rattle.snap_sync.specs.Course.{Outside, IsSyncWindow, Breaks, outside, window_room}
 use Rattle.stripe_findings.specs.Findings.{events_of}
 use Rattle.stripe_findings.specs.Reading.{StripeReading, AreRead, stripes_of, reading_at, readings_in, is_verified}
 use Rattle.snap_sync.specs.Reading.{ReadsFirst}
@@ -44,7 +44,7 @@ use Rattle.snap_sync.proofs.PendingLemmas.{none_within}
 use Rattle.stripe_findings.proofs.ReadLemmas.{are_read_by, window_are_read, stripes_of_window, length_of_window, length_after}
 use Rattle.snap_sync.proofs.StandLemmas.{IsStopped, IsWritten}
 use Rattle.snap_sync.proofs.UnderwayLemmas.{ComesNext, underway_written, underway_stopped_writing, writing_broke}
-use Rattle.snap_sync.proofs.WorkLemmas.{judged_ready, few_of, window_few, window_within, window_some, swapped_of, turned_is, near_is, turn_ready}
+use Rattle.snap_sync.proofs.WorkLemmas.{judged_ready, few_of, room_few, some_stripes, stripes_same, window_few, window_same, window_within, window_some, swapped_of, turned_is, near_is, turn_ready}
 use Rattle.snap_sync.proofs.NextLemmas.{distinct_of, reads_more}
 use Rattle.snap_sync.proofs.RunLemmas.{IsSetting, broke_in, told_by, breaks_with}
 
@@ -107,29 +107,36 @@ module _ {W R : Type 0} {view : W → SinkView} {standing : R → ReportView} {s
   pub length_judged : length judged_so_far ≡ next
   length_judged = omega (arith, length-append xs ws, window.so_far.count, length_of_window (stripes_near work progress.done) work.room.near, stripes_many)
 
-  -- the window takes what one takes behind so many
-  window_takes : IsSetting plan old → length ws ≡ window_count plan.every work.room.near.room plan.all (length xs)
+  work_all : IsSetting plan old → all_of work ≡ plan.all
+  work_all setting = ap (λ (it : List ℕ). length it) window.so_far.pending ∙ setting.all_is
+
+  -- it has room for as many as one of any run over the table has, but for no more than are pending
+  window_size : IsSetting plan old → work.room.near.room ≡ max 1 (min (window_room plan) plan.all)
+  window_size setting =
+      window.so_far.ready.is_work.room.size
+      ∙ ap₂ (λ (most all : ℕ). max 1 (min most all)) (stripes_same plan.now plan.start work.table xs window.so_far.table) (work_all setting)
+
+  -- so it takes what one takes behind so many
+  window_takes : IsSetting plan old → length ws ≡ window_count plan.every (window_room plan) plan.all (length xs)
   window_takes setting =
       length_of_window (stripes_near work progress.done) work.room.near ∙ stripes_many ∙ window.so_far.ready.near
-      ∙ ap₂ (λ (all done : ℕ). window_count plan.every work.room.near.room all done) (ap (λ (it : List ℕ). length it) window.so_far.pending ∙ setting.all_is)
-      (sym window.so_far.count)
+      ∙ ap₂ (λ (all done : ℕ). window_count plan.every work.room.near.room all done) (work_all setting) (sym window.so_far.count)
+      ∙ ap (λ (room : ℕ). window_count plan.every room plan.all (length xs)) (window_size setting)
+      ∙ window_same plan.every (window_room plan) plan.all (length xs) (some_stripes (length plan.start.columns) plan.start.shape.block_size)
 
   -- and begins where another one ends
   is_window : IsSetting plan old → IsSyncWindow plan (length xs) (length ws)
   is_window setting = record {
-    room = work.room.near.room;
-    some = window.so_far.ready.is_work.room.some;
-    few = few_of plan.now plan.start work.table xs work.room.near.room work.room.near.room window.so_far.table (omega arith) window.so_far.ready.is_work.room.few;
     windows = window.so_far.windows;
     begins = window.so_far.cut;
     takes = window_takes setting;
   }
 
   -- so one more ends behind it
-  ends_again : IsSetting plan old → length judged_so_far ≡ windows_end plan.every work.room.near.room plan.all (suc window.so_far.windows)
+  ends_again : IsSetting plan old → length judged_so_far ≡ windows_end plan.every (window_room plan) plan.all (suc window.so_far.windows)
   ends_again setting =
       length-append xs ws
-      ∙ ap₂ (λ (a b : ℕ). a + b) window.so_far.cut (window_takes setting ∙ ap (window_count plan.every work.room.near.room plan.all) window.so_far.cut)
+      ∙ ap₂ (λ (a b : ℕ). a + b) window.so_far.cut (window_takes setting ∙ ap (window_count plan.every (window_room plan) plan.all) window.so_far.cut)
 
   pub judged_table : judged.table ≡ closed plan.now plan.start judged_so_far
   judged_table = window.judges.table ∙ ap (λ (table : TableValue). closed plan.now table ws) window.so_far.table ∙ sym (closed-append plan.now plan.start xs ws apart)
@@ -273,14 +280,16 @@ module _ {W R : Type 0} {view : W → SinkView} {standing : R → ReportView} {s
         let long : length ahead ≡ length stripes = length-map (range_with_len 0 (length stripes)) (reading_at stripes far) ∙ length-range_with_len 0 (length stripes) in
         let many : length stripes ≡ many_ahead = length_after judged.pending.items (progress.done + judged.room.near.count) many_ahead ahead_within in
         let room : many_ahead ≤ judged.room.near.room = window_few plan.every judged.room.near.room (all_of judged) (progress.done + judged.room.near.count) in
-        few_of plan.now plan.start judged.table judged_so_far (length ahead) judged.room.near.room judged_table (omega (arith, long, many, room)) window.ready.is_work.room.few
+        few_of plan.now plan.start judged.table judged_so_far (length ahead) judged.room.near.room judged_table (omega (arith, long, many, room))
+        (room_few judged.table (all_of judged) judged.room window.ready.is_work.room)
 
     -- nor are those that were judged last
     few_judged : length ws ≤ stripe_count (length plan.start.columns) plan.start.shape.block_size
     few_judged =
         let room : work.room.near.count ≤ work.room.near.room = omega (arith, window.so_far.ready.near, window_few plan.every work.room.near.room (all_of work) progress.done) in
         few_of plan.now plan.start work.table xs (length ws) work.room.near.room window.so_far.table
-        (omega (arith, length_of_window (stripes_near work progress.done) work.room.near, stripes_many, room)) window.so_far.ready.is_work.room.few
+        (omega (arith, length_of_window (stripes_near work progress.done) work.room.near, stripes_many, room))
+        (room_few work.table (all_of work) work.room window.so_far.ready.is_work.room)
 
     -- a call failed
     pub breaks_turned : {vault : VaultView} → SomeCalls mid.vault vault → IsStopped plan judged_so_far old.vault vault → Breaks view standing stands plan old (outside folders vault lines reports)
@@ -302,12 +311,10 @@ module _ {W R : Type 0} {view : W → SinkView} {standing : R → ReportView} {s
         ap (readings_near swapped) done_is
         ∙ near_is plan.every judged swapped progress.done judged.room.far turned.room.far mid.folders folders window.ready all read_far (read_far.room ∙ window.ready.is_work.room.as_much)
         ∙ ap (readings_in (stripes_next plan.every judged progress.done)) far_is in
-        let room_is : swapped.room.near.room ≡ work.room.near.room =
-        ap (λ (it : WindowValue). it.room) (all.near ∙ far_is) ∙ read.room ∙ window.ready.is_work.room.as_much ∙ ap (λ (it : WindowValue). it.room) near_kept in
         record {
           readings = judged_so_far;
           windows = suc window.so_far.windows;
-          cut = ends_again setting ∙ ap (λ (room : ℕ). windows_end plan.every room plan.all (suc window.so_far.windows)) (sym room_is);
+          cut = ends_again setting;
           count = length_judged ∙ ap (λ (it : WindowValue). progress.done + it.count) (sym near_kept) ∙ sym done_is;
           pending = ap (λ it. it.items) all.pending ∙ ap (λ (it : Work). it.pending.items) window.judges.rest ∙ window.so_far.pending;
           ready = subst (IsReady plan.every swapped) (sym done_is) (turn_ready plan.every judged turned saved swapped progress.done mid.folders folders window.ready reads_far read_far keeps swap);

@@ -9,7 +9,7 @@ use Rattle.file_table.specs.Table.{TableValue, record_at}
 use Rattle.snap_report.specs.EventFits.{Fits}
 use Rattle.snap_report.specs.EventLines.{joined, event_line, lines_of}
 use Rattle.snap_report.specs.EventFits.{IsRecordOf}
-use Rattle.snap_report.specs.Report.{ReportView}
+use Rattle.snap_report.specs.Report.{ReportView, AllGiven}
 use Rattle.snap_report.specs.State.{Puts}
 use Rattle.snap_report.specs.Text.{file_text, meta_text, found_text, record_text}
 use Rattle.snap_report.specs.Told.{Told}
@@ -108,5 +108,5 @@ module _ (now : ℕ) (start : TableValue) (xs : List StripeReading) where
   told-closed view standing stands events old new olds news told = record {
     puts = subst (λ (text : List ℕ). Puts view text old new) (lines_of-closed events) told.puts;
     settled = told.settled;
-    given = told.given;
+    given = subst (λ (text : List ℕ). AllGiven standing stands text events olds news) (lines_of-closed events) told.given;
   }

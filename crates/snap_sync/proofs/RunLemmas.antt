@@ -84,7 +84,8 @@ module _ {W R : Type 0} (view : W → SinkView) (standing : R → ReportView) (s
   told_by one other events more old new olds news lines same told = record {
     puts = puts_same view (lines_of one.columns events) (lines_of other.columns more) old new told.puts lines;
     settled = told.settled;
-    given = subst (λ (es : List Event). AllGiven standing stands es olds news) same told.given;
+    given = subst (λ (text : List ℕ). AllGiven standing stands text more olds news) lines
+        (subst (λ (es : List Event). AllGiven standing stands (lines_of one.columns events) es olds news) same told.given);
   }
 
   -- nothing else was told

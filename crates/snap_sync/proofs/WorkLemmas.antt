@@ -1,5 +1,5 @@
 -- What a sync works with, from window to window.
-use Rattle.std.proofs.Common.{◌≡◌, Vec, Global, Bool, not, ℕ, ◌+◌, ◌*◌, ◌<◌, ◌≤◌, List, length, take, drop, All, Option, None, Some, IfSome, refl, sym, ap, ap₂, ◌∙◌, subst, arith}
+use Rattle.std.proofs.Common.{◌≡◌, Vec, Global, Bool, not, ℕ, ◌+◌, ◌*◌, ◌<◌, ◌≤◌, List, length, take, drop, max, min, All, Option, None, Some, IfSome, refl, sym, ap, ap₂, ◌∙◌, subst, arith}
 use Rattle.std.specs.List.{range_with_len}
 use Rattle.std.proofs.lemmas.List.Elements.{All-from_get_or, All-filter}
 use Rattle.std.proofs.lemmas.List.Filters.{length-filter_both}
@@ -36,29 +36,57 @@ pub window_some : (every : Option ℕ) (room all count : ℕ) → IfSome every (
 window_some None room all count some has more = omega arith
 window_some (Some every) room all count some has more = omega arith
 
+-- where none are left it takes none
+pub window_none : (every : Option ℕ) (room all count : ℕ) → count ≡ all → 0 ≡ window_count every room all count
+window_none every room all count all_done = omega (arith, all_done)
+
+-- A window takes the same, whether it has room for no more than there are or for as many as one of any run.
+pub window_same : (every : Option ℕ) (room all count : ℕ) → 0 < room → window_count every (max 1 (min room all)) all count ≡ window_count every room all count
+window_same None room all count some = omega (arith, some)
+window_same (Some every) room all count some = omega (arith, some)
+
+-- ---- the room of a window
+
+-- a window of any run has room for one stripe at least
+pub some_stripes : (disks block_size : ℕ) → 0 < stripe_count disks block_size
+some_stripes disks block_size = omega arith
+
+-- one of a sync has room for no more
+pub room_few : (table : TableValue) (pending : ℕ) (room : Room) → IsRoomFor table pending room → room.near.room ≤ stripe_count (length table.columns) table.shape.block_size
+room_few table pending room is =
+    at_most (stripe_count (length table.columns) table.shape.block_size) pending room.near.room (some_stripes (length table.columns) table.shape.block_size) is.size
+  where
+    at_most : (most pending n : ℕ) → 0 < most → n ≡ max 1 (min most pending) → n ≤ most
+    at_most most pending n some is = omega (arith, some, is)
+
+-- one of any run has room for as many once stripes are closed in the table
+pub stripes_same : (now : ℕ) (start table : TableValue) (readings : List StripeReading) → table ≡ closed now start readings
+    → stripe_count (length table.columns) table.shape.block_size ≡ stripe_count (length start.columns) start.shape.block_size
+stripes_same now start table readings is =
+    ap₂ (λ (disks size : ℕ). stripe_count disks size)
+    (ap (λ (t : TableValue). length t.columns) is ∙ (differs-closed now start readings).columns)
+    (ap (λ (t : TableValue). t.shape.block_size) is ∙ ap (λ (s : Shape). s.block_size) (differs-closed now start readings).shape)
+
 -- as many as one window has, by a table in which stripes are closed
 pub few_of : (now : ℕ) (start table : TableValue) (readings : List StripeReading) (count room : ℕ) → table ≡ closed now start readings → count ≤ room → room ≤ stripe_count (length table.columns) table.shape.block_size
     → count ≤ stripe_count (length start.columns) start.shape.block_size
 few_of now start table readings count room is few within =
-    let width : length table.columns ≡ length start.columns = ap (λ (t : TableValue). length t.columns) is ∙ (differs-closed now start readings).columns in
-    let shape : table.shape ≡ start.shape = ap (λ (t : TableValue). t.shape) is ∙ (differs-closed now start readings).shape in
-    subst (λ (n : ℕ). count ≤ stripe_count n start.shape.block_size) width
-    (subst (λ (s : Shape). count ≤ stripe_count (length table.columns) s.block_size) shape (le_through count room (stripe_count (length table.columns) table.shape.block_size) few within))
+    subst (λ (n : ℕ). count ≤ n) (stripes_same now start table readings is)
+    (le_through count room (stripe_count (length table.columns) table.shape.block_size) few within)
   where
     le_through : (a b c : ℕ) → a ≤ b → b ≤ c → a ≤ c
     le_through a b c one two = omega (arith, one, two)
 
 -- ---- a window was judged
 
-room_closed : (now : ℕ) (table : TableValue) (readings : List StripeReading) (room : Room) → IsRoomFor table room → IsRoomFor (closed now table readings) room
-room_closed now table readings room is =
+room_closed : (now : ℕ) (table : TableValue) (pending : ℕ) (readings : List StripeReading) (room : Room) → IsRoomFor table pending room → IsRoomFor (closed now table readings) pending room
+room_closed now table pending readings room is =
     let width = (differs-closed now table readings).columns in
     let shape = (differs-closed now table readings).shape in
     record {
       starts = is.starts ∙ sym (recorded_starts-closed now table readings);
       some = is.some;
-      few = subst (λ (n : ℕ). room.near.room ≤ stripe_count n (closed now table readings).shape.block_size) (sym width)
-          (subst (λ (s : Shape). room.near.room ≤ stripe_count (length table.columns) s.block_size) (sym shape) is.few);
+      size = is.size ∙ ap (λ (most : ℕ). max 1 (min most pending)) (sym (stripes_same now table (closed now table readings) readings refl));
       near = record { lanes = is.near.lanes ∙ sym width; block_size = is.near.block_size ∙ sym (ap (λ it. it.block_size) shape) };
       far = record { lanes = is.far.lanes ∙ sym width; block_size = is.far.block_size ∙ sym (ap (λ it. it.block_size) shape) };
       as_much = is.as_much;
@@ -69,14 +97,14 @@ room_closed now table readings room is =
 
 work_closed : (now : ℕ) (work : Work) (readings : List StripeReading) → IsWork work → IsWork (record work { table = closed now work.table readings })
 work_closed now work readings is = record {
-  room = room_closed now work.table readings work.room is.room;
+  room = room_closed now work.table (all_of work) readings work.room is.room;
   pending = subst (λ (n : ℕ). All (λ stripe. stripe < n) work.pending.items) (sym ((differs-closed now work.table readings).stripes)) is.pending;
   few = is.few;
 }
 
 work_chosen : (work : Work) (chosen : Vec Bool Global) → length chosen.items ≡ length work.room.chosen.items → IsWork work → IsWork (record work { room = record work.room { chosen = chosen } })
 work_chosen work chosen as_many is = record {
-  room = record { starts = is.room.starts; some = is.room.some; few = is.room.few; near = is.room.near; far = is.room.far; as_much = is.room.as_much; chosen = as_many ∙ is.room.chosen; sums = is.room.sums; piece = is.room.piece };
+  room = record { starts = is.room.starts; some = is.room.some; size = is.room.size; near = is.room.near; far = is.room.far; as_much = is.room.as_much; chosen = as_many ∙ is.room.chosen; sums = is.room.sums; piece = is.room.piece };
   pending = is.pending;
   few = is.few;
 }
@@ -98,7 +126,7 @@ judged_ready every now work judged done ready judges =
 pub turned_work : (work turned : Work) → IsWork work → ReadsFar work turned → turned.room.far.room ≡ work.room.far.room → IsWork turned
 turned_work work turned is far as_much =
     subst IsWork (sym far.rest) (record {
-      room = record { starts = is.room.starts; some = is.room.some; few = is.room.few; near = is.room.near; far = far.fits; as_much = as_much ∙ is.room.as_much; chosen = is.room.chosen; sums = far.sums ∙ is.room.sums; piece = is.room.piece };
+      room = record { starts = is.room.starts; some = is.room.some; size = is.room.size; near = is.room.near; far = far.fits; as_much = as_much ∙ is.room.as_much; chosen = is.room.chosen; sums = far.sums ∙ is.room.sums; piece = is.room.piece };
       pending = is.pending;
       few = is.few;
     })
@@ -106,7 +134,7 @@ turned_work work turned is far as_much =
 pub kept_work : (work saved : Work) → IsWork work → KeepsWork work saved → IsWork saved
 kept_work work saved is keeps =
     subst IsWork (sym keeps.rest) (record {
-      room = record { starts = is.room.starts; some = is.room.some; few = is.room.few; near = is.room.near; far = is.room.far; as_much = is.room.as_much; chosen = is.room.chosen; sums = is.room.sums; piece = keeps.piece ∙ is.room.piece };
+      room = record { starts = is.room.starts; some = is.room.some; size = is.room.size; near = is.room.near; far = is.room.far; as_much = is.room.as_much; chosen = is.room.chosen; sums = is.room.sums; piece = keeps.piece ∙ is.room.piece };
       pending = is.pending;
       few = is.few;
     })
@@ -120,7 +148,7 @@ swapped_work work is = record {
   room = record {
     starts = is.room.starts;
     some = omega (arith, is.room.some, is.room.as_much);
-    few = subst (λ (n : ℕ). n ≤ stripe_count (length work.table.columns) work.table.shape.block_size) (sym is.room.as_much) is.room.few;
+    size = is.room.as_much ∙ is.room.size;
     near = is.room.far;
     far = is.room.near;
     as_much = sym is.room.as_much;
@@ -191,7 +219,7 @@ range_below n = All-from_get_or (λ i. i < n) (range_with_len 0 n) 0 (λ k withi
     let below : k < n = omega (arith, within, length-range_with_len 0 n) in
     omega (arith, below, get_or-range_with_len 0 n k 0 below))
 
-pub work_begun : (work : Work) → IsRoomFor work.table work.room → work.pending.items ≡ pending_stripes work.table.infos → length work.table.infos ≤ most_blocks → IsWork work
+pub work_begun : (work : Work) → IsRoomFor work.table (all_of work) work.room → work.pending.items ≡ pending_stripes work.table.infos → length work.table.infos ≤ most_blocks → IsWork work
 work_begun work room pending short =
     let test = λ (stripe : ℕ). is_pending (info_at work.table.infos stripe).mark in
     let all = range_with_len 0 (length work.table.infos) in

@@ -72,7 +72,7 @@ pub record TouchesVault (plan : SyncPlan) (failed : Bool) (readings : List Strip
 -- What was told: just the events of these stripes, and then a last line.
 pub record TellsThese {W R : Type 0} (view : W → SinkView) (standing : R → ReportView) (stands : R → List Event → Type 0)
     (start : TableValue) (readings : List StripeReading) (last_line : List ℕ) (old new : Outside W R) : Type 0 where
-  pub given : AllGiven standing stands (events_of start readings) old.reports new.reports
+  pub given : AllGiven standing stands (lines_of start.columns (events_of start readings)) (events_of start readings) old.reports new.reports
   pub puts : Puts view (lines_of start.columns (events_of start readings) ++ last_line) old.lines new.lines
   pub settled : Settled (told_of view old.lines) → Settled (told_of view new.lines)
 
@@ -105,15 +105,16 @@ pub record RanFirst (calls : List VaultCall) (old new : Log) : Type 0 where
   pub rest : List VaultDone
   pub more : Grows mid.tells mid.calls new.tells new.calls rest
 
--- So many stripes behind so many are one window: it begins where another one ends, or with the first stripe, and takes as many as there is
--- room for, at most to the next checkpoint. So one that begins behind the last stripe has none.
+-- how many stripes one window of a sync takes at most
+abbrev pub window_room : SyncPlan → ℕ
+window_room plan = stripe_count (length plan.start.columns) plan.start.shape.block_size
+
+-- So many stripes behind so many are one window: it begins where another one ends, or with the first stripe, and takes as many as one does,
+-- but none behind the next checkpoint, nor behind the last stripe. So one that begins behind the last stripe has none.
 pub record IsSyncWindow (plan : SyncPlan) (before count : ℕ) : Type 0 where
-  pub room : ℕ
-  pub some : 0 < room
-  pub few : room ≤ stripe_count (length plan.start.columns) plan.start.shape.block_size
   pub windows : ℕ
-  pub begins : before ≡ windows_end plan.every room plan.all windows
-  pub takes : count ≡ window_count plan.every room plan.all before
+  pub begins : before ≡ windows_end plan.every (window_room plan) plan.all windows
+  pub takes : count ≡ window_count plan.every (window_room plan) plan.all before
 
 -- Where a sync broke off: the last stripes that it told are one window, and all calls for the stripes before them went well. So the call
 -- that failed is for one of the last ones, or saves behind them. While the vault is opened no stripe is told.
@@ -121,7 +122,7 @@ pub record BreaksInWindow (plan : SyncPlan) (readings : List StripeReading) (old
   pub before : List StripeReading
   pub last : List StripeReading
   pub are : readings ≡ before ++ last
-  pub few : length last ≤ stripe_count (length plan.start.columns) plan.start.shape.block_size
+  pub few : length last ≤ window_room plan
   pub cut : readings ≢ [] → IsSyncWindow plan (length before) (length last)
   pub ran : readings ≢ [] → IsTrue old.tells
       → RanFirst (opening_calls plan old.files ++ stripe_calls plan before (length before)) (log_of old) (log_of new)
@@ -132,7 +133,7 @@ pub record Breaks {W R : Type 0} (view : W → SinkView) (standing : R → Repor
     (plan : SyncPlan) (old new : Outside W R) : Type 0 where
   pub readings : List StripeReading
   pub ahead : List StripeReading
-  pub few : length ahead ≤ stripe_count (length plan.start.columns) plan.start.shape.block_size
+  pub few : length ahead ≤ window_room plan
   pub window : BreaksInWindow plan readings (state_of old.vault) (state_of new.vault)
   pub course : Course view standing stands plan true readings ahead [] old new
 

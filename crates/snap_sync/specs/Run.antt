@@ -21,7 +21,7 @@ use Rattle.snap_sync.specs.declared.stripes.Pace.{Pace}
 use Rattle.snap_sync.specs.declared.stripes.Progress.{Progress}
 use Rattle.snap_sync.specs.Calls.{SyncPlan, piece_size}
 use Rattle.snap_sync.specs.Closing.{closed, verified_in}
-use Rattle.snap_sync.specs.Course.{Outside}
+use Rattle.snap_sync.specs.Course.{Outside, window_room}
 use Rattle.stripe_findings.specs.Findings.{events_of}
 use Rattle.stripe_findings.specs.Reading.{StripeReading, readings_in, is_verified}
 use Rattle.snap_sync.specs.Reading.{ReadsFirst}
@@ -51,9 +51,9 @@ stripes_next every work done =
 abbrev pub readings_near : Work → ℕ → List StripeReading
 readings_near work done = readings_in (stripes_near work done) work.room.near
 
--- room for the windows of a table, and pending stripes of it
+-- room for the windows of a table and its pending stripes
 pub record IsWork (work : Work) : Type 0 where
-  pub room : IsRoomFor work.table work.room
+  pub room : IsRoomFor work.table (all_of work) work.room
   pub pending : All (λ stripe. stripe < length work.table.infos) work.pending.items
   pub few : all_of work < 2 ^ 32
 
@@ -128,7 +128,7 @@ pub record HasSynced {W R : Type 0} (view : W → SinkView) (standing : R → Re
   pub readings : List StripeReading
   pub count : length readings ≡ progress.done
   pub windows : ℕ
-  pub cut : length readings ≡ windows_end plan.every work.room.near.room plan.all windows
+  pub cut : length readings ≡ windows_end plan.every (window_room plan) plan.all windows
   pub pending : work.pending.items ≡ pending_stripes plan.start.infos
   pub ready : IsReady plan.every work progress.done
   pub reads : ReadsFirst plan.start (readings ++ readings_near work progress.done) old.folders new.folders

@@ -1,33 +1,13 @@
 -- What the parts of a sync ask of a window, and what its writing leaves.
-use Rattle.std.specs.Prelude.{◌≡◌, ℕ, ◌*◌, ◌<◌, ◌≤◌, List, length, All, Result, OnOk}
+use Rattle.std.specs.Prelude.{◌≡◌, ℕ, ◌*◌, length, Result, OnOk}
 use Rattle.disk_model.specs.Ran.{Ran}
 use Rattle.disk_model.specs.Vault.{VaultView, SomeCalls, ChangesBy, Reads, state_of}
 use Rattle.disk_model.specs.declared.fault.Failed.{Failed}
 use Rattle.file_table.specs.Table.{TableValue}
 use Rattle.parity_writer.specs.Chosen.{Choice, IsChosen, rows_with, window_calls}
 use Rattle.parity_writer.specs.Parity.{Rows, HoldsRows, WritesBlocks}
-use Rattle.stripe_reader.specs.Starts.{StartsValue, StartsFit}
 use Rattle.stripe_reader.specs.WindowValue.{WindowValue, Fits}
 use Rattle.snap_sync.specs.declared.turning.Judged.{Judged}
-
--- a window holds what was read of these stripes of a table
-pub record HoldsStripes (table : TableValue) (stripes : List ℕ) (window : WindowValue) : Type 0 where
-  pub fits : Fits table window
-  pub count : length stripes ≡ window.count
-  pub within : All (λ stripe. stripe < length table.infos) stripes
-
--- there is a folder for each column of a table, and a vault has as many levels as the table
-pub record AreDisksOf (table : TableValue) (folders : ℕ) (vault : VaultView) : Type 0 where
-  pub columns : folders ≡ length table.columns
-  pub levels : vault.levels ≡ table.shape.levels
-
--- stripes of a table can be read into a window, of so many folders
-pub record CanRead (table : TableValue) (starts : StartsValue) (stripes : List ℕ) (window : WindowValue) (folders : ℕ) : Type 0 where
-  pub columns : folders ≡ length table.columns
-  pub starts_fit : StartsFit table starts
-  pub within : All (λ stripe. stripe < length table.infos) stripes
-  pub fits : Fits table window
-  pub enough : length stripes ≤ window.room
 
 -- which stripes of a judged window are chosen
 abbrev pub choice_of : Judged → Choice

@@ -1,5 +1,5 @@
 -- What a sync works with, and how far the vault is.
-use Rattle.std.specs.Prelude.{◌≡◌, ℕ, ◌+◌, ◌*◌, ◌<◌, ◌≤◌, ◌⊎◌, ◌++◌, List, length, min, ◌^◌, ◌-◌, Bool, true, false, if◌then◌else◌, IsTrue}
+use Rattle.std.specs.Prelude.{◌≡◌, ℕ, ◌+◌, ◌*◌, ◌<◌, ◌≤◌, ◌⊎◌, ◌++◌, List, length, min, max, ◌^◌, ◌-◌, Bool, true, false, if◌then◌else◌, IsTrue}
 use Rattle.content_file.specs.Save.{MaySave, HasSaved}
 use Rattle.content_file.specs.Spelling.{spelling}
 use Rattle.disk_model.specs.Answer.{is_failure}
@@ -18,11 +18,12 @@ use Rattle.snap_sync.specs.Calls.{SyncPlan, piece_size, opening_calls, stripe_ca
 use Rattle.snap_sync.specs.Images.{MayStand, HasParityAfter, table_after, rows_after}
 use Rattle.stripe_findings.specs.Reading.{StripeReading}
 
--- Room for the windows of a table: each has room for as many stripes, no more than one of any run over it, and a piece for the drafts.
-pub record IsRoomFor (table : TableValue) (room : Room) : Type 0 where
+-- Room for the windows of a table, of which so many stripes are pending: each has room for as many stripes as one of any run over it, but
+-- for no more than are pending, and for one at least. There is a piece for the drafts besides.
+pub record IsRoomFor (table : TableValue) (pending : ℕ) (room : Room) : Type 0 where
   pub starts : room.starts ≡ recorded_starts table
   pub some : 0 < room.near.room
-  pub few : room.near.room ≤ stripe_count (length table.columns) table.shape.block_size
+  pub size : room.near.room ≡ max 1 (min (stripe_count (length table.columns) table.shape.block_size) pending)
   pub near : Fits table room.near
   pub far : Fits table room.far
   pub as_much : room.far.room ≡ room.near.room

@@ -34,7 +34,7 @@ pub(crate) fn begin<F: Folder>(
     requires disks { length setup.now.disks ≡ length old.columns }
     ensures laid { IfOk result (λ work. LaysOut (setup_value setup.now) way.now old work.table (map F.view folders.old) (map F.view folders.new)) }
     ensures pending { IfOk result (λ work. work.pending.items ≡ pending_stripes work.table.infos) }
-    ensures room { IfOk result (λ work. IsRoomFor work.table work.room) }
+    ensures room { IfOk result (λ work. IsRoomFor work.table (length work.pending.items) work.room) }
     ensures failed { IfErr result (BeginsNot (setup_value setup.now) way.now old (map F.view folders.old) (map F.view folders.new)) }
 {
     let lists = listings(alloc, folders)?;

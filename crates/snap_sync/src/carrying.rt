@@ -2,7 +2,7 @@
 ghost use Rattle.std.specs.Prelude.{IfOk, OnErr, length, map};
 ghost use Rattle.snap_sync.specs.Course.{outside, Ends, Breaks};
 ghost use Rattle.snap_sync.specs.Run.{plan_for, IsBegun};
-ghost use Rattle.snap_sync.specs.Window.{AreDisksOf};
+ghost use Rattle.stripe_reader.specs.Held.{AreDisksOf};
 
 use crate::SyncEnd;
 use crate::beginning::Work;

@@ -5,7 +5,7 @@ ghost use Rattle.snap_sync.specs.Closing.{closed};
 ghost use Rattle.stripe_findings.specs.Findings.{events_of};
 ghost use Rattle.stripe_findings.specs.Reading.{readings_in, is_verified};
 ghost use Rattle.snap_sync.specs.Run.{AreCounts};
-ghost use Rattle.snap_sync.specs.Window.{HoldsStripes};
+ghost use Rattle.stripe_reader.specs.Held.{HoldsStripes};
 ghost use Rattle.snap_sync.specs.Work.{more_findings};
 
 mod closing;

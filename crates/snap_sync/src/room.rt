@@ -30,7 +30,7 @@ impl Room {
     /// Room for a sync of so many stripes of a table. The windows have room for no more stripes than these, and for one
     /// at least.
     pub fn make(alloc: Global, table: &Table, pending: usize) -> Result<Room, NoMemory>
-        ensures { IfOk result (IsRoomFor table.now) }
+        ensures { IfOk result (IsRoomFor table.now pending) }
     {
         let block_size = table.shape().block_size;
         let most = stripe_count(table.disks(), block_size);

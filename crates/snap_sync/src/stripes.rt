@@ -7,7 +7,8 @@ ghost use Rattle.snap_sync.specs.Course.{outside, Breaks};
 ghost use Rattle.stripe_findings.specs.Findings.{events_of};
 ghost use Rattle.stripe_findings.specs.Reading.{readings_in, is_verified};
 ghost use Rattle.snap_sync.specs.Run.{all_of, stripes_near, stripes_next, readings_near, choice_near, plan_for, AreCounts, IsWork, IsBegun, IsReady, Judges, ReadsFar, KeepsWork, Saves, HasSynced, saves_behind};
-ghost use Rattle.snap_sync.specs.Window.{AreDisksOf, HoldsStripes, WritesWindow};
+ghost use Rattle.stripe_reader.specs.Held.{AreDisksOf, HoldsStripes};
+ghost use Rattle.snap_sync.specs.Window.{WritesWindow};
 ghost use Rattle.snap_sync.specs.Work.{more_findings};
 
 use crate::beginning::Work;

@@ -2,8 +2,9 @@
 ghost use Rattle.std.specs.Prelude.{◌≡◌, length, map};
 ghost use Rattle.std.specs.Thread.{IsSend, IsSync};
 ghost use Rattle.stripe_reader.specs.Columns.{ReadsWindow};
+ghost use Rattle.stripe_reader.specs.Held.{CanRead};
 ghost use Rattle.stripe_reader.specs.WindowValue.{Fits};
-ghost use Rattle.snap_sync.specs.Window.{CanRead, CanWrite, WritesWindow, choice_of};
+ghost use Rattle.snap_sync.specs.Window.{CanWrite, WritesWindow, choice_of};
 
 use disk_model::{Failed, Folder, Vault};
 use file_table::Table;

@@ -4,7 +4,7 @@ ghost use Rattle.file_table.specs.Cells.{column_closed};
 ghost use Rattle.file_table.specs.Table.{column_at};
 ghost use Rattle.file_table.specs.Valid.{IsHashedAt};
 ghost use Rattle.snap_sync.specs.Closing.{HasDigests, closed, with_closed, with_hashes};
-ghost use Rattle.snap_sync.specs.Window.{HoldsStripes};
+ghost use Rattle.stripe_reader.specs.Held.{HoldsStripes};
 ghost use Rattle.stripe_findings.specs.Reading.{is_verified, reading_at, readings_in};
 
 use block_hash::Digest16;

@@ -3,7 +3,7 @@ ghost use Rattle.std.specs.Prelude.{◌≡◌, ◌<◌, length};
 ghost use Rattle.snap_report.specs.Told.{Told};
 ghost use Rattle.stripe_findings.specs.Findings.{events_at, stripe_events};
 ghost use Rattle.stripe_findings.specs.Reading.{reading_at};
-ghost use Rattle.snap_sync.specs.Window.{HoldsStripes};
+ghost use Rattle.stripe_reader.specs.Held.{HoldsStripes};
 
 use disk_model::Sink;
 use file_table::Table;
