@@ -73,7 +73,7 @@ pub record Checks {W R : Type 0} (view : W → SinkView) (standing : R → Repor
   pub read : AreRead plan (starts_of table lists) stripes mids new.folders
   pub levels : LevelsAreRead plan stripes old.vault new.vault
   pub spare : AsksSpare plan stripes old.spare new.spare
-  pub given : AllGiven standing stands (check_events plan stripes) old.reports new.reports
+  pub given : AllGiven standing stands (lines_of table.columns (check_events plan stripes)) (check_events plan stripes) old.reports new.reports
   pub puts : Puts view (lines_of table.columns (check_events plan stripes) ++ check_text end.findings) old.lines new.lines
   pub settled : Settled (state_of view new.lines)
   pub findings : end.findings ≡ at_most (count_by is_finding (check_events plan stripes))

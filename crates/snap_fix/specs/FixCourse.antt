@@ -179,7 +179,7 @@ pub record Fixes {W R : Type 0} (view : W → SinkView) (standing : R → Report
       → RoseBy (unread_cells d (facts_of stripes)) (folder_at old.folders d).faults (folder_at new.folders d).faults
   pub io : (d : ℕ) → d < length plan.table.columns
       → RoseBy (count_by (is_io_of d) (fix_events plan stripes finishes)) (folder_at old.folders d).faults (folder_at new.folders d).faults
-  pub given : AllGiven standing stands (fix_events plan stripes finishes) old.reports new.reports
+  pub given : AllGiven standing stands (lines_of table.columns (fix_events plan stripes finishes)) (fix_events plan stripes finishes) old.reports new.reports
   pub puts : Puts view (lines_of table.columns (fix_events plan stripes finishes) ++ fix_text end.blocks end.parities end.left) old.lines new.lines
   pub settled : Settled (state_of view new.lines)
   pub findings : end.findings ≡ at_most (count_by is_finding (fix_events plan stripes finishes))

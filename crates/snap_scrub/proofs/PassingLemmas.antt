@@ -16,9 +16,18 @@ use Rattle.snap_scrub.specs.declared.verdict.Verdict.{Verdict}
 use Rattle.snap_scrub.specs.Looking.{LooksInto, LooksOver, Scene}
 use Rattle.snap_scrub.specs.Marks.{at_most}
 use Rattle.snap_scrub.specs.Room.{IsEnoughFor, IsRoomFor, IsWorkFor}
-use Rattle.snap_scrub.specs.Windows.{IsReady, IsUnderway, KeepsWork, LooksNear, Turns, stripes_near, stripes_next}
+use Rattle.snap_scrub.specs.Windows.{IsReady, KeepsWork, LooksNear, Turns, stripes_near, stripes_next}
 use Rattle.snap_scrub.proofs.OverLemmas.{over_none, over_more, slice_is, written_slice}
 use Rattle.snap_scrub.proofs.LookingLemmas.{into_none}
+
+-- So many stripes were looked at, and those behind them were read into the near window.
+pub record IsUnderway {W R : Type 0} (view : W → SinkView) (standing : R → ReportView) (stands : R → List Event → Type 0)
+    (table : TableValue) (work : Work) (done findings : ℕ) (olds news : List FolderView) (old new : Scene W R) : Type 0 where
+  pub ready : IsReady table work done
+  pub before : WindowValue
+  pub mids : List FolderView
+  pub read : ReadsWindow table (recorded_starts table) (stripes_near work done) before work.room.near mids news
+  pub looks : LooksOver view standing stands table (take done work.stripes.items) (take done work.verdicts.items) findings olds mids old new
 
 -- the same read, in other words for its starts and its stripes
 pub read_as : (table : TableValue) (starts other : StartsValue) (xs ys : List ℕ) (before after : WindowValue) (olds news : List FolderView) → starts ≡ other → xs ≡ ys

@@ -74,7 +74,7 @@ pub record Course {W R : Type 0} (view : W → SinkView) (standing : R → Repor
   pub cells : AreRead table (cells_of readings) old.folders new.folders
   pub due : All (HasLevels table) readings
   pub vault : TouchesVault table (scrubbed now table readings) readings failed old.vault new.vault
-  pub given : AllGiven standing stands (events_of table readings) old.reports new.reports
+  pub given : AllGiven standing stands (lines_of table.columns (events_of table readings)) (events_of table readings) old.reports new.reports
   pub puts : Puts view (lines_of table.columns (events_of table readings) ++ last_line) old.lines new.lines
 
 -- A scrub that ended: the stripes of its plan are marked in the table, which every copy spells where the plan is not empty. Its last line

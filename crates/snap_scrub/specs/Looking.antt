@@ -1,5 +1,5 @@
 -- Stripes that a scrub looks at, one after another.
-use Rattle.std.specs.Prelude.{◌≡◌, ℕ, ◌<◌, List, [], ◌∷◌, length, map, All}
+use Rattle.std.specs.Prelude.{◌≡◌, ℕ, List, [], ◌∷◌, length, map, All}
 use Rattle.std.specs.List.{range_with_len, list_any}
 use Rattle.disk_model.specs.Folder.{FolderView}
 use Rattle.disk_model.specs.Sink.{SinkView}
@@ -10,7 +10,7 @@ use Rattle.snap_report.specs.Told.{Told}
 use Rattle.snap_report.specs.declared.events.Event.{Event}
 use Rattle.snap_report.specs.declared.pages.Lines.{Lines}
 use Rattle.stripe_findings.specs.Reading.{AreRead, reading_at, stripes_of}
-use Rattle.stripe_reader.specs.WindowValue.{WindowValue, Fits}
+use Rattle.stripe_reader.specs.WindowValue.{WindowValue}
 use Rattle.snap_scrub.specs.declared.verdict.Verdict.{Verdict}
 use Rattle.snap_scrub.specs.declared.verdict.Found.{Found}
 use Rattle.snap_scrub.specs.Findings.{scrub_events, events_of}
@@ -37,12 +37,6 @@ pub record LooksAt {W R : Type 0} (view : W → SinkView) (standing : R → Repo
   pub due : All (HasLevels table) readings
   pub levels : LevelsAreRead table readings old.vault new.vault
   pub told : Told view standing stands table.columns (events_of table readings) old.lines new.lines old.reports new.reports
-
--- a window holds what was read of these stripes of a table
-pub record HoldsStripes (table : TableValue) (stripes : List ℕ) (window : WindowValue) : Type 0 where
-  pub fits : Fits table window
-  pub count : length stripes ≡ window.count
-  pub within : All (λ stripe. stripe < length table.infos) stripes
 
 -- A stripe of a window was looked at, as it was read into it.
 pub record LooksAtOne {W R : Type 0} (view : W → SinkView) (standing : R → ReportView) (stands : R → List Event → Type 0)

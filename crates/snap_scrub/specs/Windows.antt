@@ -1,17 +1,15 @@
 -- A scrub that goes from window to window: one is looked at while the next one is read.
-use Rattle.std.specs.Prelude.{◌≡◌, ℕ, ◌+◌, ◌-◌, ◌<◌, ◌≤◌, ◌++◌, min, List, length, take, drop, All}
-use Rattle.disk_model.specs.Folder.{FolderView}
+use Rattle.std.specs.Prelude.{◌≡◌, ℕ, ◌+◌, ◌-◌, ◌<◌, ◌≤◌, ◌++◌, min, List, length, take, drop}
 use Rattle.disk_model.specs.Sink.{SinkView}
 use Rattle.file_table.specs.Table.{TableValue}
 use Rattle.snap_report.specs.Report.{ReportView}
 use Rattle.snap_report.specs.declared.events.Event.{Event}
-use Rattle.stripe_reader.specs.Columns.{ReadsWindow}
-use Rattle.stripe_reader.specs.Starts.{StartsValue, StartsFit, recorded_starts}
-use Rattle.stripe_reader.specs.WindowValue.{WindowValue, Fits}
+use Rattle.stripe_reader.specs.Held.{HoldsStripes}
+use Rattle.stripe_reader.specs.WindowValue.{WindowValue}
 use Rattle.snap_scrub.specs.declared.beginning.Work.{Work}
 use Rattle.snap_scrub.specs.declared.room.Check.{Check}
 use Rattle.snap_scrub.specs.declared.verdict.Verdict.{Verdict}
-use Rattle.snap_scrub.specs.Looking.{HoldsStripes, LooksInto, LooksOver, Scene}
+use Rattle.snap_scrub.specs.Looking.{LooksInto, Scene}
 use Rattle.snap_scrub.specs.Room.{IsCheckFor, IsRoomFor, IsWorkFor, UsesCheck}
 
 -- stripes of a window can be looked at: there is room for their sums, and for a verdict on each
@@ -26,14 +24,6 @@ abbrev pub UsesAndLooks : {W R : Type 0} → (W → SinkView) → (R → ReportV
     → WindowValue → Check → Check → List Verdict → ℕ → Scene W R → Scene W R → Type 0
 UsesAndLooks view standing stands table stripes window before after kept findings old new = UsesCheck table before after
     × LooksInto view standing stands table stripes window (length stripes) (take (length stripes) kept) findings old new
-
--- stripes of a table can be read into a window, of so many folders
-pub record CanRead (table : TableValue) (places : StartsValue) (stripes : List ℕ) (window : WindowValue) (many : ℕ) : Type 0 where
-  pub folders : many ≡ length table.columns
-  pub starts : StartsFit table places
-  pub within : All (λ stripe. stripe < length table.infos) stripes
-  pub fits : Fits table window
-  pub room : length stripes ≤ window.room
 
 -- the stripes of the near window, which stands after so many, and those that are read next
 abbrev pub stripes_near : Work → ℕ → List ℕ
@@ -70,12 +60,3 @@ pub record LooksNear {W R : Type 0} (view : W → SinkView) (standing : R → Re
   pub verdicts : List Verdict
   pub looks : LooksInto view standing stands table (stripes_near work done) work.room.near work.room.near.count verdicts findings old new
   pub follow : take (done + work.room.near.count) after.verdicts.items ≡ take done work.verdicts.items ++ verdicts
-
--- So many stripes were looked at, and those behind them were read into the near window.
-pub record IsUnderway {W R : Type 0} (view : W → SinkView) (standing : R → ReportView) (stands : R → List Event → Type 0)
-    (table : TableValue) (work : Work) (done findings : ℕ) (olds news : List FolderView) (old new : Scene W R) : Type 0 where
-  pub ready : IsReady table work done
-  pub before : WindowValue
-  pub mids : List FolderView
-  pub read : ReadsWindow table (recorded_starts table) (stripes_near work done) before work.room.near mids news
-  pub looks : LooksOver view standing stands table (take done work.stripes.items) (take done work.verdicts.items) findings olds mids old new

@@ -3,7 +3,8 @@ ghost use Rattle.std.specs.Prelude.{◌<◌, ◌≤◌, length};
 ghost use Rattle.snap_report.specs.Told.{Told};
 ghost use Rattle.stripe_findings.specs.Findings.{events_at, stripe_events};
 ghost use Rattle.stripe_findings.specs.Reading.{reading_at};
-ghost use Rattle.snap_scrub.specs.Looking.{AreFound, HoldsStripes};
+ghost use Rattle.stripe_reader.specs.Held.{HoldsStripes};
+ghost use Rattle.snap_scrub.specs.Looking.{AreFound};
 
 use crate::found::{both, nothing, one};
 use crate::verdict::Found;

@@ -2,7 +2,8 @@
 ghost use Rattle.std.specs.Prelude.{◌≡◌, ◌<◌, length, slice_index_or};
 ghost use Rattle.parity_writer.specs.LevelReading.{ReadsLevels};
 ghost use Rattle.snap_scrub.specs.declared.room.Sums.{Sums};
-ghost use Rattle.snap_scrub.specs.Looking.{HoldsStripes, LooksAtOne, scene};
+ghost use Rattle.stripe_reader.specs.Held.{HoldsStripes};
+ghost use Rattle.snap_scrub.specs.Looking.{LooksAtOne, scene};
 ghost use Rattle.snap_scrub.specs.Room.{IsCheckFor, KeepsCheck};
 ghost use Rattle.snap_scrub.specs.Summing.{HasSums};
 

@@ -2,9 +2,10 @@
 ghost use Rattle.std.specs.Prelude.{◌≡◌, length, map, take};
 ghost use Rattle.std.specs.Thread.{IsSend, IsSync};
 ghost use Rattle.stripe_reader.specs.Columns.{ReadsWindow};
+ghost use Rattle.stripe_reader.specs.Held.{CanRead};
 ghost use Rattle.snap_scrub.specs.Looking.{LooksInto, scene};
 ghost use Rattle.snap_scrub.specs.Room.{UsesRoom};
-ghost use Rattle.snap_scrub.specs.Windows.{CanLook, CanRead, UsesAndLooks};
+ghost use Rattle.snap_scrub.specs.Windows.{CanLook, UsesAndLooks};
 
 use crate::room::Room;
 use crate::verdict::Verdict;

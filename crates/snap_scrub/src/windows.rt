@@ -1,6 +1,7 @@
 // The stripes of a window, which was read for them.
 ghost use Rattle.std.specs.Prelude.{◌≡◌, ℕ, ◌<◌, length, take};
-ghost use Rattle.snap_scrub.specs.Looking.{HoldsStripes, LooksInto, scene};
+ghost use Rattle.stripe_reader.specs.Held.{HoldsStripes};
+ghost use Rattle.snap_scrub.specs.Looking.{LooksInto, scene};
 ghost use Rattle.snap_scrub.specs.Room.{IsCheckFor, KeepsCheck, UsesCheck};
 ghost use Rattle.snap_scrub.specs.Summing.{HasSums};
 ghost use Rattle.snap_scrub.specs.Windows.{CanLook};

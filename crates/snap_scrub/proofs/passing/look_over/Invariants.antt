@@ -1,6 +1,7 @@
 use Rattle.std.proofs.Common.{◌≡◌, ◌-◌, length, map}
 use Rattle.snap_scrub.specs.Looking.{scene}
-use Rattle.snap_scrub.specs.Windows.{IsUnderway, KeepsWork}
+use Rattle.snap_scrub.specs.Windows.{KeepsWork}
+use Rattle.snap_scrub.proofs.PassingLemmas.{IsUnderway}
 use Rattle.snap_scrub.proofs.passing.look_over.Given as goal
 
 abbrev pub invariant-loop-done : goal.invariant-loop-done
