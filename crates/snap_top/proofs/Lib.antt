@@ -18,6 +18,7 @@ pub mod IntactAgain
 pub mod KeptLemmas
 pub mod KnownLemmas
 pub mod LeftAlikeLemmas
+pub mod LevelsLemmas
 pub mod LoadLemmas
 pub mod LostEvents
 pub mod LostLemmas

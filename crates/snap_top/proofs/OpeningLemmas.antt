@@ -1,5 +1,5 @@
 -- The calls of an opener, one after another, and what it gave.
-use Rattle.std.proofs.Common.{◌≡◌, ℕ, ◌<◌, ◌≤◌, List, [], ◌∷◌, ◌++◌, length, map, get_or, Bool, true, false, IsTrue, None, Ok, Err, arith, refl, sym, ◌∙◌, ap, subst, append_assoc}
+use Rattle.std.proofs.Common.{◌≡◌, ℕ, ◌<◌, ◌≤◌, List, [], ◌∷◌, ◌++◌, length, map, get_or, replicate, Bool, true, false, IsTrue, None, Some, Ok, Err, arith, refl, sym, ◌∙◌, ap, subst, append_assoc}
 use Rattle.std.proofs.lemmas.List.{append-nil, length-map}
 use Rattle.disk_model.specs.Cause.{Rose}
 use Rattle.disk_model.specs.Folder.{FolderView, quiet_folder}
@@ -8,10 +8,13 @@ use Rattle.disk_model.specs.Vault.{VaultView, state_of}
 use Rattle.disk_model.specs.declared.fault.OpenFault.{OpenFault}
 use Rattle.disk_model.specs.declared.fault.OpenFault.TheVariants as opens
 use Rattle.disk_model.proofs.GivenLemmas.{same_state, same_images}
-use Rattle.snap_config.specs.Setup.{SetupValue}
+use Rattle.snap_config.specs.Setup.{IsSetup, SetupValue}
 use Rattle.snap_config.specs.declared.options.Command.{Command}
+use Rattle.disk_model.specs.declared.draft.Draft.TheVariants.{Absent}
 use Rattle.snap_top.specs.Known.{unknown_in}
-use Rattle.snap_top.specs.Opening.{IsConfigured, IsGiven, IsUnopened, StateIsGiven, reads_config, opens_places, is_failure}
+use Rattle.snap_top.specs.Levels.{by_parts, is_split}
+use Rattle.snap_top.specs.Opening.{IsConfigured, IsGivenBy, IsUnopened, StateIsGiven, reads_config, opens_places, is_failure}
+use Rattle.snap_top.proofs.LevelsLemmas.{configured_by, goes_on_by, levels_by, state_by}
 
 -- no call
 pub no_calls_yet : (opener : OpenerView) → OpenerGoesOn opener opener []
@@ -122,20 +125,35 @@ pub opened_given : {T F : Type 0} (view : F → FolderView) (fs : List F) (vault
     → (configured : IsConfigured texts old command readers setup) → unknown_in setup command ≡ None → OpenerGoesOn old mid (reads_config configured.asked.conf false ∷ []) → HoldsSame old mid
     → IsOpenerCall (Open setup.dirs setup.parities setup.contents) (Ok x) mid new → length fs ≡ length setup.dirs → (IsTrue mid.tells → length fs ≡ length mid.folders)
     → ((column : ℕ) → column < length fs → FolderIsGiven mid.tells (folder_held mid column) (get_or (map view fs) column (quiet_folder 0 false)))
-    → VaultIsGiven mid.tells (length setup.parities) (length setup.contents) mid.vault vault
-    → IsGiven texts old new command readers setup (map view fs) (state_of vault)
-opened_given view fs vault x texts command readers setup old mid new configured known first same second columns just each is =
+    → VaultIsGiven mid.tells (length setup.parities) (length setup.contents) mid.vault vault → IsSetup setup
+    → IsGivenBy texts old new command readers setup (map view fs) vault
+opened_given view fs vault x texts command readers setup old mid new configured known first same second columns just each is valid =
     let tells = first.tells in
+    let state = state_given (length setup.parities) (length setup.contents) old mid vault same tells is in
+    let split : Bool = is_split setup.parts in
     let many : length (map view fs) ≡ length fs = length-map fs view in
     record {
-      configured = configured;
+      configured = configured_by (Some setup) texts old command readers setup configured;
       known = known;
-      calls = goes_on_then old mid new (reads_config configured.asked.conf false ∷ []) (opens_places setup false ∷ []) first second.goes_on;
+      calls = goes_on_by (Some setup) old new _ (goes_on_then old mid new (reads_config configured.asked.conf false ∷ []) (opens_places setup false ∷ []) first second.goes_on);
       columns = many ∙ columns;
       just = λ told. many ∙ just (tells ∙ told) ∙ ap length (same.folders told);
       each = λ d below. folder_given old mid d _ same tells (each d (omega (arith, below, many)));
-      state = state_given (length setup.parities) (length setup.contents) old mid vault same tells is;
+      state = record {
+        faults = faults_by split state.faults;
+        whole = λ told. state_by split setup.parts setup.split old.vault vault (state.whole told);
+        levels = levels_by setup vault valid state.levels;
+        drafts = drafts_by split state.drafts;
+      };
     }
+  where
+    faults_by : (b : Bool) → vault.faults ≡ old.vault.faults → (by_parts b setup.parts setup.split vault).faults ≡ (by_parts b setup.parts setup.split old.vault).faults
+    faults_by true is' = is'
+    faults_by false is' = is'
+
+    drafts_by : (b : Bool) → vault.drafts ≡ replicate (length setup.contents) Absent → (by_parts b setup.parts setup.split vault).drafts ≡ replicate (length setup.contents) Absent
+    drafts_by true is' = is'
+    drafts_by false is' = is'
 
 pub unopened : {T : Type 0} (texts : List (List ℕ)) (command : Command) (readers : ℕ) (setup : SetupValue) (old mid new : OpenerView) (fault : OpenFault)
     → (configured : IsConfigured texts old command readers setup) → unknown_in setup command ≡ None → OpenerGoesOn old mid (reads_config configured.asked.conf false ∷ [])

@@ -20,7 +20,7 @@ use Rattle.snap_sync.specs.Resumed.{EndsAs}
 use Rattle.snap_sync.specs.Soundness.{AreSound}
 use Rattle.snap_top.specs.Array.{empty_table}
 use Rattle.snap_top.specs.Ended.{ByStatus}
-use Rattle.snap_top.specs.Moment.{EndsInPart, IsDidOf, IsSoundAlways, IsSyncOf}
+use Rattle.snap_top.specs.Moment.{EndsInPart, EveryMomentIsSound, IsDidOf, IsSoundAlways, IsSyncOf, StandsIn}
 use Rattle.snap_top.specs.Opening.{asked_by}
 use Rattle.snap_top.specs.Resumed.{AreStoppedRuns, AsksForSync, EndAlike, EndsClean, IsBetween, IsStopped, RunOf, StoppedRun, end_of, entry_of}
 use Rattle.snap_top.specs.Run.{Entry, Exit}
@@ -98,27 +98,28 @@ module _ {O F V W : Type 0} (opener_view : O → OpenerView) (folder_view : F �
   abbrev StopsTo : Files → Files → Type 0
   StopsTo files left = (list : List Stop) × AreStopped setup trees seed copies_here list files left
 
-  -- one that was stopped before
-  stopped_before : (stop : StoppedRun O F V W) (files left : Files) → IsStopped opener_view folder_view vault_view sink_view setup trees seed files stop → StopsTo stop.left left → StopsTo files left
-  stopped_before stop files left stopped rest =
-      let before : Entry = entry_of opener_view sink_view stop.run in
-      let exit : Exit = end_of opener_view folder_view vault_view sink_view stop.run in
-      let asks = stopped.asks in
-      let always : IsSoundAlways before exit stop.run.status = stopped.sound (record { tells = asks.tells.tells; tells_vault = asks.tells.tells_vault; settled = asks.settled }) in
+  -- one that was stopped before, by what it began with and left
+  stopped_at : (before : Entry) (exit : Exit) (status : ℕ) (files mid left : Files) → AsksForSync setup trees seed files before exit → EveryMomentIsSound before exit status → StandsIn before exit mid → StopsTo mid left → StopsTo files left
+  stopped_at before exit status files mid left asks sound stands rest =
+      let always : IsSoundAlways before exit status = sound (record { tells = asks.tells.tells; tells_vault = asks.tells.tells_vault; settled = asks.settled }) in
       ⊎_elim
       (λ still. (rest.0, subst (λ (fs : Files). AreStopped setup trees seed copies_here rest.0 fs left) (still ∙ asks.files_are) rest.1))
       (λ did. (
-        record { run = did.0; left = stop.left } ∷ rest.0,
+        record { run = did.0; left = mid } ∷ rest.0,
         (
           record {
             syncs = from_files setup trees seed files before exit asks did.0 did.1;
             of_array = of_array setup trees seed files before exit asks did.0 did.1;
-            moment = subst (λ (fs : Files). MayStand did.0.plan did.0.readings fs stop.left) asks.files_are did.2;
+            moment = subst (λ (fs : Files). MayStand did.0.plan did.0.readings fs mid) asks.files_are did.2;
           },
           rest.1,
         ),
       ))
-      (by_did setup trees seed files before exit asks before.opener.vault.files stop.left always.did always.is_did (always.moments stop.left stopped.stands))
+      (by_did setup trees seed files before exit asks before.opener.vault.files mid always.did always.is_did (always.moments mid stands))
+
+  stopped_before : (stop : StoppedRun O F V W) (files left : Files) → IsStopped opener_view folder_view vault_view sink_view setup trees seed files stop → StopsTo stop.left left → StopsTo files left
+  stopped_before stop files left stopped rest =
+      stopped_at (entry_of opener_view sink_view stop.run) (end_of opener_view folder_view vault_view sink_view stop.run) stop.run.status files stop.left left stopped.asks stopped.sound stopped.stands rest
 
   -- one that changed nothing before
   between_before : (stop : StoppedRun O F V W) (files left : Files) → IsBetween opener_view folder_view vault_view sink_view setup trees seed files stop → StopsTo stop.left left → StopsTo files left

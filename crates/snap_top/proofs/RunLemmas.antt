@@ -5,7 +5,7 @@ use Rattle.std.proofs.Math.Seq.{take-append_seam}
 use Rattle.disk_model.specs.Cause.{RoseBy}
 use Rattle.disk_model.specs.Files.{Files, Stays}
 use Rattle.disk_model.specs.Folder.{FolderView}
-use Rattle.disk_model.specs.Opener.{OpenerView, SameImages}
+use Rattle.disk_model.specs.Opener.{OpenerView, HoldsSame, SameImages}
 use Rattle.disk_model.specs.Sink.{SinkView}
 use Rattle.disk_model.specs.Vault.{VaultView, VaultState, state_of, ChangesBy, Holds, IsSettled}
 use Rattle.disk_model.proofs.GivenLemmas.{changes_held}
@@ -22,7 +22,7 @@ use Rattle.snap_report.specs.declared.answer.Answer.TheVariants.{Clean, Found, O
 use Rattle.snap_report.specs.declared.answer.RunFault.TheVariants.{Folder, Vault, Memory}
 use Rattle.snap_report.specs.declared.events.Event.{Event}
 use Rattle.snap_report.proofs.ReportLemmas.{all_given_nothing}
-use Rattle.snap_top.specs.Does.{IsDone}
+use Rattle.snap_top.specs.Does.{Does, IsDone}
 use Rattle.snap_top.specs.Task.{Task, Did, fixes, reads_only, scrubs, syncs, may_stand, stands_after, Left}
 use Rattle.content_file.specs.Spelling.{spelling}
 use Rattle.content_file.proofs.SaveLemmas.{saves_nothing}
@@ -30,14 +30,17 @@ use Rattle.snap_sync.specs.Images.{Opening}
 use Rattle.snap_scrub.specs.Course.{MayStandScrubbed}
 use Rattle.snap_scrub.specs.Reading.{ScrubReading}
 use Rattle.snap_top.specs.Scrub.{marked_table}
-use Rattle.snap_top.specs.Opening.{IsGiven}
-use Rattle.snap_top.specs.Run.{Works, IsAnswered, OnlyLoads, ReadsCopies, LoadsFrom, LoadsInOrder, LoadsNot, BeginsWith, BeginsNot, IsRun, RanWith, at_entry, at_exit}
+use Rattle.snap_top.specs.Levels.{by_levels, is_split, opener_by}
+use Rattle.snap_top.specs.Opening.{IsGivenBy, Refuses}
+use Rattle.snap_top.specs.Run.{Works, OnlyLoads, ReadsCopies, LoadsFrom, LoadsInOrder, LoadsNot, BeginsWith, BeginsNot, RanWith, at_entry, at_exit}
 use Rattle.snap_top.specs.Views.{WorldView, world_view, world_of, view_of, outside_of}
-use Rattle.snap_top.specs.declared.end.End.TheVariants.{Worked}
+use Rattle.snap_top.specs.declared.end.End.TheVariants.{Refused, Worked}
 use Rattle.snap_top.specs.declared.end.Ending.{Ending}
 use Rattle.snap_top.specs.declared.end.Ending.TheVariants.{NotLoaded, NoTable, OtherArray, Answered}
+use Rattle.snap_top.specs.declared.end.Refusal.{Refusal}
 use Rattle.std.proofs.lemmas.List.{length-map}
 use Rattle.snap_top.proofs.DoneLemmas.{nothing_more}
+use Rattle.snap_top.proofs.LevelsLemmas.{images_by, refused_by, settled_by}
 use Rattle.snap_top.proofs.MatchingLemmas.{length-columns, length-disks}
 use Rattle.snap_top.proofs.ViewsLemmas.{all_read_nothing, sink_stays}
 
@@ -93,7 +96,7 @@ caused_before (Broken Memory) counted told folders given mid out after reads tel
 
 -- ---- the table that a command begins with has as many columns and levels as the configuration
 
-table_fits : (setup : SetupValue) (seed : List ℕ) (loaded : Option TableValue) (table : TableValue) → BeginsWith setup seed loaded table → (length table.columns ≡ length setup.disks) × (table.shape.levels ≡ length setup.parities)
+table_fits : (setup : SetupValue) (seed : List ℕ) (loaded : Option TableValue) (table : TableValue) → BeginsWith setup seed loaded table → (length table.columns ≡ length setup.disks) × (table.shape.levels ≡ length setup.parts)
 table_fits setup seed None table begins = (ap (λ (t : TableValue). length t.columns) begins ∙ length-map _ _, ap (λ (t : TableValue). t.shape.levels) begins)
 table_fits setup seed (Some loaded) table begins =
     let names = ap length begins.1.names in
@@ -157,7 +160,7 @@ module _ {R : Type 0} (standing : R → ReportView) (stands : R → List Event �
         did = done.did;
         goes = (
           left.counted,
-          subst (λ (l : Left). IsAnswered task (world_of (world_view folders given out)) (world_of after) l done.did) same (record {
+          record {
             loaded = loaded;
             start = world_of (world_view folders mid out);
             reads = only_loads folders given mid out reads;
@@ -167,9 +170,10 @@ module _ {R : Type 0} (standing : R → ReportView) (stands : R → List Event �
             begins = begins;
             valid = valid;
             columns = many ∙ sym (table_fits task.setup task.seed loaded table begins).0;
-            does = done.does;
-            caused = caused_before left.answer left.counted left.told folders given mid out after reads tells done.caused;
-          }),
+            does = subst (λ (l : Left). Does task table (world_of (world_view folders mid out)) (world_of after) l done.did) same done.does;
+            caused = subst (λ (l : Left). IsCaused l.answer l.counted l.told (outside_of (world_of (world_view folders given out))) (outside_of (world_of after))) same
+                (caused_before left.answer left.counted left.told folders given mid out after reads tells done.caused);
+          },
         );
         changes = stays_then (may_stand done.did) given mid after.vault reads.calls.goes_on.tells changes done.changes (stands_still done.did);
         ends = λ told. subst (λ files. Holds (stands_after done.did files) after.vault) (reads.files told) (done.ends (reads.calls.goes_on.tells ∙ told));
@@ -193,31 +197,56 @@ settled_held held given same images settled told files left =
     let moment = images.moment in
     settled (images.told ∙ told) files ((images.since given.images.moment files).1 (subst (λ m. held.images.since m files) (sym moment) left)) ∙ ap (λ (s : VaultState). s.files) same
 
--- A run that opened its array. What was opened was lent, and what came of it was written back.
+-- A run that opened its array, by its levels. What was opened was lent, and what came of it was written back.
 pub opened_runs : {F R : Type 0} (standing : R → ReportView) (stands : R → List Event → Type 0) (view : F → FolderView) (task : Task) (setup : Setup) (texts : List (List ℕ)) (seed : List ℕ) (moment : ℕ)
     (old new : OpenerView) (opened lent news items : List F) (given vault : VaultView) (out out_new : SinkView) (reports reports_new : List R) (ending : Ending)
     → task.setup ≡ setup_value setup → task.moment ≡ moment → task.seed ≡ seed
-    → lent ≡ opened → items ≡ news → IsGiven texts old new task.command task.readers (setup_value setup) (map view opened) (state_of given) → (IsTrue old.tells → SameImages old.vault.images given.images) → IsSettled given
-    → Works standing stands task (world_view (map view lent) given out) (world_view (map view news) vault out_new) reports reports_new ending
+    → lent ≡ opened → items ≡ news → IsGivenBy texts old new task.command task.readers (setup_value setup) (map view opened) given → (IsTrue old.tells → SameImages old.vault.images given.images) → IsSettled given
+    → Works standing stands task (world_view (map view lent) (by_levels (setup_value setup) given) out) (world_view (map view news) (by_levels (setup_value setup) vault) out_new) reports reports_new ending
     → RanWith standing stands (at_entry texts old out moment seed) (at_exit new true (world_view (map view items) vault out_new)) reports reports_new (Worked setup ending)
-opened_runs standing stands view task setup texts seed moment old new opened lent news items given vault out out_new reports reports_new ending setup_is moment_is seed_is lent_is items_are is_given images settled works = record {
-  told = works.told;
-  ran = subst (λ fs. IsRun (at_entry texts old out moment seed) (at_exit new true (world_view (map view fs) vault out_new)) (setup_value setup) ending works.told) (sym items_are) (record {
-    task = task;
-    setup_is = setup_is;
-    moment_is = moment_is;
-    seed_is = seed_is;
-    given = world_of (world_view (map view lent) given out);
-    is_given = subst (λ fs. IsGiven texts old new task.command task.readers (setup_value setup) (map view fs) (state_of given)) (sym lent_is) is_given;
-    given_out = refl;
-    has_vault = refl;
-    did = works.did;
-    goes = works.goes;
-    keeps = works.keeps;
-    settled = λ told. settled_held old.vault given (is_given.state.whole told) (images told) settled;
-    changes = λ told. changes_held (may_stand works.did) old.vault given vault (is_given.state.whole told) (images told) works.changes;
-    ends = λ told tells. let same = is_given.state.whole told in
-        subst (λ (s : VaultState). Holds (stands_after works.did s.files) vault) same (works.ends (ap (λ (s : VaultState). s.tells) same ∙ tells));
+opened_runs standing stands view task setup texts seed moment old new opened lent news items given vault out out_new reports reports_new ending setup_is moment_is seed_is lent_is items_are is_given images settled works =
+    let value : SetupValue = setup_value setup in
+    let split : Bool = is_split value.parts in
+    let same : IsTrue old.tells → SameImages (by_levels value old.vault).images (by_levels value given).images
+    = λ told. images_by split value.parts value.split old.vault given (images told) in
+    let fresh : IsSettled (by_levels value given) = settled_by split value.parts value.split given settled in
+    subst (λ fs. RanWith standing stands (at_entry texts old out moment seed) (at_exit new true (world_view (map view fs) vault out_new)) reports reports_new (Worked setup ending)) (sym items_are) (record {
+      told = works.told;
+      ran = record {
+        task = task;
+        setup_is = setup_is;
+        moment_is = moment_is;
+        seed_is = seed_is;
+        given = world_of (world_view (map view lent) (by_levels value given) out);
+        is_given = subst (λ fs. IsGivenBy texts old new task.command task.readers value (map view fs) given) (sym lent_is) is_given;
+        given_out = refl;
+        has_vault = refl;
+        did = works.did;
+        goes = works.goes;
+        keeps = works.keeps;
+        settled = λ told. settled_held (by_levels value old.vault) (by_levels value given) (is_given.state.whole told) (same told) fresh;
+        changes = λ told. changes_held (may_stand works.did) (by_levels value old.vault) (by_levels value given) (by_levels value vault) (is_given.state.whole told) (same told) works.changes;
+        ends = λ told tells. let state = is_given.state.whole told in
+            subst (λ (s : VaultState). Holds (stands_after works.did s.files) (by_levels value vault)) state (works.ends (ap (λ (s : VaultState). s.tells) state ∙ tells));
+      };
+      reports = works.reports;
+    })
+
+-- A run that opened nothing.
+pub refused_runs : {F R : Type 0} (standing : R → ReportView) (stands : R → List Event → Type 0) (view : F → FolderView) (texts : List (List ℕ)) (seed : List ℕ) (moment : ℕ)
+    (old new : OpenerView) (items : List F) (out : SinkView) (reports : List R) (why : Refusal)
+    → items ≡ [] → Refuses texts old new why → HoldsSame old new
+    → RanWith standing stands (at_entry texts old out moment seed) (at_exit new false (world_view (map view items) new.vault out)) reports reports (Refused why)
+refused_runs standing stands view texts seed moment old new items out reports why none refuses kept = record {
+  told = [];
+  ran = refused_by None (at_entry texts old out moment seed) (at_exit new false (world_view (map view items) new.vault out)) why [] (record {
+    refuses = refuses;
+    kept = kept;
+    folders = ap (map view) none;
+    no_vault = refl;
+    vault = kept.vault;
+    out = refl;
+    untold = refl;
   });
-  reports = works.reports;
+  reports = all_given_nothing standing stands reports;
 }

@@ -5,12 +5,11 @@ use Rattle.disk_model.specs.Folder.{FolderView}
 use Rattle.file_table.specs.Table.{TableValue}
 use Rattle.file_table.specs.declared.shape.Shape.{Shape}
 use Rattle.snap_fix.proofs.FixCountLemmas.{count_cons}
-use Rattle.stripe_findings.specs.Reading.{AreRead, StripeReading, is_unread as is_unread_found, slot_of}
+use Rattle.stripe_findings.specs.Reading.{AreRead, StripeReading, is_unread as is_unread_found, slot_of, unread_cells}
 use Rattle.stripe_reader.specs.Columns.{folder_at}
 use Rattle.stripe_reader.specs.Reading.{Beyond, CellReading, Gone, NoBlock, Nowhere, Part, Unread, Whole, is_unread}
 use Rattle.stripe_reader.specs.Slot.{kept}
 use Rattle.stripe_reader.specs.SlotValue.{SlotValue}
-use Rattle.snap_top.specs.Scrubbed.{unread_cells}
 
 count_made : {X Y : Type 0} (p : Y → Bool) (f : X → Y) (q : X → Bool) → ((x : X) → p (f x) ≡ q x) → (xs : List X) → count_by p (map f xs) ≡ count_by q xs
 count_made p f q same [] = refl

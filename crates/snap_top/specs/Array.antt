@@ -20,7 +20,7 @@ empty_column disk = record { name = disk.name; records = [] }
 
 abbrev pub empty_table : SetupValue → List ℕ → TableValue
 empty_table setup seed = record {
-  shape = record { block_size = setup.block_size; levels = length setup.parities; kind = Md5; seed = seed };
+  shape = record { block_size = setup.block_size; levels = length setup.parts; kind = Md5; seed = seed };
   columns = map empty_column setup.disks;
   infos = [];
 }
@@ -28,7 +28,7 @@ empty_table setup seed = record {
 -- content and configuration have one block size, one number of levels, and the same names of disks
 pub record Matches (setup : SetupValue) (table : TableValue) : Type 0 where
   pub block_size : table.shape.block_size ≡ setup.block_size
-  pub levels : table.shape.levels ≡ length setup.parities
+  pub levels : table.shape.levels ≡ length setup.parts
   pub names : column_names table ≡ disk_names setup
 
 -- the first place in which two lists of names differ
@@ -41,6 +41,6 @@ abbrev pub DiffersIn : SetupValue → TableValue → Difference → Type 0
 DiffersIn setup table (BlockSize content configuration) =
     (content ≡ table.shape.block_size) × (configuration ≡ setup.block_size) × (content ≢ configuration)
 DiffersIn setup table (Levels content configuration) =
-    (table.shape.block_size ≡ setup.block_size) × (content ≡ table.shape.levels) × (configuration ≡ length setup.parities) × (content ≢ configuration)
+    (table.shape.block_size ≡ setup.block_size) × (content ≡ table.shape.levels) × (configuration ≡ length setup.parts) × (content ≢ configuration)
 DiffersIn setup table (DiskName column) =
-    (table.shape.block_size ≡ setup.block_size) × (table.shape.levels ≡ length setup.parities) × DiffersFirst (column_names table) (disk_names setup) column
+    (table.shape.block_size ≡ setup.block_size) × (table.shape.levels ≡ length setup.parts) × DiffersFirst (column_names table) (disk_names setup) column

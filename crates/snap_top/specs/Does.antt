@@ -5,6 +5,7 @@ use Rattle.file_table.specs.Table.{TableValue}
 use Rattle.snap_config.specs.declared.options.Command.{Command}
 use Rattle.snap_config.specs.declared.options.Command.TheVariants as commands
 use Rattle.snap_report.specs.Answer.{IsCaused}
+use Rattle.snap_report.specs.EventLines.{lines_of}
 use Rattle.snap_report.specs.ListText.{list_text}
 use Rattle.snap_report.specs.Report.{ReportView, AllGiven}
 use Rattle.snap_report.specs.StatusText.{status_text, bad_in}
@@ -15,7 +16,7 @@ use Rattle.snap_top.specs.Checking.{ChecksBy}
 use Rattle.snap_top.specs.Fixing.{FixesBy}
 use Rattle.snap_top.specs.Scrubbing.{ScrubsBy}
 use Rattle.snap_top.specs.Syncing.{SyncsBy}
-use Rattle.snap_top.specs.Task.{Task, Did, reads_only, may_stand, stands_after, Keeps, Left, Prints}
+use Rattle.snap_top.specs.Task.{Task, Did, reads_only, may_stand, stands_after, told_columns, Keeps, Left, Prints}
 use Rattle.snap_top.specs.Views.{World, WorldView, world_of, outside_of}
 
 -- it prints a text, tells no event, and touches nothing but the output
@@ -50,4 +51,4 @@ pub record IsDone {R : Type 0} (standing : R → ReportView) (stands : R → Lis
   pub ends : IsTrue before.vault.tells → Holds (stands_after did before.vault.files) after.vault
   pub caused : IsCaused left.answer left.counted left.told (outside_of (world_of before)) (outside_of (world_of after))
   pub keeps : Keeps did (world_of before) (world_of after)
-  pub reports : AllGiven standing stands left.told olds news
+  pub reports : AllGiven standing stands (lines_of (told_columns did table) left.told) left.told olds news

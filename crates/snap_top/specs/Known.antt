@@ -15,7 +15,7 @@ abbrev pub is_level : ℕ → List ℕ → ℕ → Bool
 is_level count name r = nat_lt r count && bytes_eq (get_or level_names r []) name
 
 abbrev pub names_level : SetupValue → List ℕ → Bool
-names_level setup name = list_any (is_level (length setup.parities) name) (range_with_len 0 6)
+names_level setup name = list_any (is_level (length setup.parts) name) (range_with_len 0 6)
 
 abbrev pub is_known : SetupValue → List ℕ → Bool
 is_known setup name = names_disk setup name || names_level setup name

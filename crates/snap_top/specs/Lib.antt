@@ -12,6 +12,7 @@ pub mod Headline
 pub mod History
 pub mod Known
 pub mod LeftAlike
+pub mod Levels
 pub mod Lost
 pub mod Moment
 pub mod Naming

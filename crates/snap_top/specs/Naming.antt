@@ -30,7 +30,7 @@ use Rattle.snap_top.specs.Moment.{TellsAll}
 use Rattle.snap_top.specs.Opening.{IsConfigured, asked_by}
 use Rattle.snap_top.specs.Printing.{EndsPrinted}
 use Rattle.snap_top.specs.Run.{Entry, Exit}
-use Rattle.snap_top.specs.Sync.{BeginsFrom}
+use Rattle.snap_top.specs.Sync.{BeginsAmong, BeginsFrom}
 
 -- the command of a run in a mode
 abbrev pub command_in : Mode → Selection → Command
@@ -46,6 +46,7 @@ pub record IsCheckOf (mode : Mode) (before : Entry) (exit : Exit) (run : CheckRu
   pub folders_are : run.folders ≡ before.opener.folders
   pub ended_is : run.ended ≡ exit.after.folders
   pub over : ChecksOver mode (copies_of before.opener.vault) before.opener.vault run
+  pub begins : BeginsAmong run.setup before.seed (copies_of before.opener.vault) before.opener.vault.files run.loaded
   pub from : ((copy : ℕ) → ¬ (HasFailed before.opener.vault exit.after.vault copy))
       → BeginsFrom run.setup before.seed (copies_of before.opener.vault) before.opener.vault.files run.loaded
 

@@ -3,7 +3,7 @@ use Rattle.std.specs.Prelude.{◌≡◌, ◌⊎◌, ℕ, ◌<◌, List, [], ◌�
 use Rattle.disk_model.specs.Cause.{Rose}
 use Rattle.disk_model.specs.Folder.{FolderView}
 use Rattle.disk_model.specs.Opener.{OpenerView, OpenerDone, OpenerGoesOn, Config, Open, FolderIsGiven, folder_held}
-use Rattle.disk_model.specs.Vault.{VaultState, state_of}
+use Rattle.disk_model.specs.Vault.{VaultState, VaultView, state_of}
 use Rattle.disk_model.specs.declared.draft.Draft.TheVariants.{Absent}
 use Rattle.disk_model.specs.declared.fault.OpenFault.{OpenFault}
 use Rattle.disk_model.specs.declared.fault.OpenFault.TheVariants as opens
@@ -16,6 +16,7 @@ use Rattle.snap_config.specs.declared.options.WordsFault.{WordsFault}
 use Rattle.snap_config.specs.declared.options.WordsFault.TheVariants as words
 use Rattle.snap_config.specs.declared.why.ConfigFault.{ConfigFault}
 use Rattle.snap_top.specs.Known.{unknown_in}
+use Rattle.snap_top.specs.Levels.{by_levels, opener_by}
 use Rattle.snap_top.specs.Views.{folder_at}
 use Rattle.snap_top.specs.declared.commands.TheConstants.{COMMANDS}
 use Rattle.snap_top.specs.declared.end.Refusal.{Refusal}
@@ -116,7 +117,7 @@ pub record StateIsGiven (is_told : Bool) (parities contents : ℕ) (held given :
   pub levels : given.levels ≡ parities
   pub drafts : given.drafts ≡ replicate contents Absent
 
--- A folder for each directory, and the vault with as many levels and copies as were named: just what the opener held, where it tells that. It
+-- A folder for each directory, and the vault with as many levels and copies as the configuration has: just what the opener held, where it tells that. It
 -- was asked for the configuration and for what that names, once each, and for nothing else.
 pub record IsGiven (texts : List (List ℕ)) (old new : OpenerView) (command : Command) (readers : ℕ) (setup : SetupValue) (folders : List FolderView) (vault : VaultState) : Type 0 where
   pub configured : IsConfigured texts old command readers setup
@@ -125,4 +126,9 @@ pub record IsGiven (texts : List (List ℕ)) (old new : OpenerView) (command : C
   pub columns : length folders ≡ length setup.dirs
   pub just : IsTrue old.tells → length folders ≡ length old.folders
   pub each : (d : ℕ) → d < length folders → FolderIsGiven old.tells (folder_held old d) (folder_at folders d)
-  pub state : StateIsGiven old.tells (length setup.parities) (length setup.contents) (state_of old.vault) vault
+  pub state : StateIsGiven old.tells (length setup.parts) (length setup.contents) (state_of old.vault) vault
+
+-- the same by the levels of the configuration, of a vault as it was opened
+abbrev pub IsGivenBy : List (List ℕ) → OpenerView → OpenerView → Command → ℕ → SetupValue → List FolderView → VaultView → Type 0
+IsGivenBy texts old new command readers setup folders vault =
+    IsGiven texts (opener_by (Some setup) old) (opener_by (Some setup) new) command readers setup folders (state_of (by_levels setup vault))

@@ -8,22 +8,22 @@ use Rattle.file_table.specs.Valid.{IsValid}
 use Rattle.snap_config.specs.Setup.{SetupValue}
 use Rattle.snap_config.specs.declared.options.Command.{Command}
 use Rattle.snap_report.specs.Telling.{Tells, between}
-use Rattle.snap_sync.specs.Soundness.{IsLoadedFrom}
 use Rattle.snap_top.specs.Ended.{IsEndStatus}
 use Rattle.snap_top.specs.Opening.{IsConfigured}
 use Rattle.snap_top.specs.Run.{Entry, Exit}
-use Rattle.snap_top.specs.Sync.{BeginsFrom}
+use Rattle.snap_top.specs.Sync.{BeginsAmong, BeginsFrom}
 
--- A command that prints a text of the table that it began with went to its end. Where no copy's reading failed, that table is that of the first
--- copy that is a content file. It printed the whole text, or a prefix where the output failed; its status is 0 exactly where that did not and
--- nothing is counted in the table. A failure of the output is counted.
+-- A command that prints a text of the table that it began with went to its end. A copy spells that table, or there is no copy, and it is that
+-- of an array without content. Where no copy's reading failed, it is that of the first copy that is a content file. It printed the whole text,
+-- or a prefix where the output failed; its status is 0 exactly where that did not and nothing is counted in the table. A failure of the output
+-- is counted.
 pub record EndsPrinted (command : Command) (text : TableValue → List ℕ) (counted : TableValue → ℕ) (before : Entry) (exit : Exit) (status : ℕ) : Type 0 where
   pub setup : SetupValue
   pub readers : ℕ
   pub configured : IsConfigured before.texts before.opener command readers setup
   pub table : TableValue
   pub valid : IsValid table
-  pub is_loaded : IsLoadedFrom (copies_of before.opener.vault) table before.opener.vault.files
+  pub begins : BeginsAmong setup before.seed (copies_of before.opener.vault) before.opener.vault.files table
   pub from : ((copy : ℕ) → ¬ (HasFailed before.opener.vault exit.after.vault copy))
       → BeginsFrom setup before.seed (copies_of before.opener.vault) before.opener.vault.files table
   pub output_failed : Bool

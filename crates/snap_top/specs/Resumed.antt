@@ -19,7 +19,7 @@ use Rattle.snap_sync.specs.Part.{trees_of}
 use Rattle.snap_sync.specs.Resumed.{EndsAs}
 use Rattle.snap_top.specs.Moment.{ChangesNothing, EveryMomentIsSound, HoldsFresh, StandsAfter, StandsIn, SyncsEndInPart, TellsAll}
 use Rattle.snap_top.specs.Opening.{asked_by}
-use Rattle.snap_top.specs.Run.{Entry, Exit, at_entry, exit_of}
+use Rattle.snap_top.specs.Run.{Entry, Exit, at_entry, entry_seen, exit_of, exit_seen}
 use Rattle.snap_top.specs.Sync.{HasNoCopy}
 
 -- ---- a run, and its objects
@@ -42,12 +42,14 @@ pub record StoppedRun (O F V W : Type 0) : Type 0 where
   pub run : RunOf O F V W
   pub left : Files
 
+-- by the levels that its configuration says
 abbrev pub entry_of : {O F V W : Type 0} → (O → OpenerView) → (W → SinkView) → RunOf O F V W → Entry
-entry_of opener_view sink_view run = at_entry run.texts (opener_view run.opener) (sink_view run.out) run.moment run.seed
+entry_of opener_view sink_view run = entry_seen (at_entry run.texts (opener_view run.opener) (sink_view run.out) run.moment run.seed)
 
 abbrev pub end_of : {O F V W : Type 0} → (O → OpenerView) → (F → FolderView) → (V → VaultView) → (W → SinkView) → RunOf O F V W → Exit
 end_of opener_view folder_view vault_view sink_view run =
-    exit_of folder_view vault_view (opener_view run.opener_new) run.folders run.vault (sink_view run.out_new)
+    exit_seen (at_entry run.texts (opener_view run.opener) (sink_view run.out) run.moment run.seed)
+    (exit_of folder_view vault_view (opener_view run.opener_new) run.folders run.vault (sink_view run.out_new))
 
 -- ---- a sync of an array
 

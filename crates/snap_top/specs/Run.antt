@@ -9,16 +9,18 @@ use Rattle.disk_model.specs.Folder.{FolderView}
 use Rattle.disk_model.specs.Opener.{OpenerView, HoldsSame, SameVault}
 use Rattle.disk_model.specs.Sink.{SinkView}
 use Rattle.disk_model.specs.Vault.{VaultView, VaultState, SomeCalls, DraftsStay, ChangesBy, Holds, IsSettled, copies_of}
-use Rattle.file_table.specs.Table.{TableValue}
+use Rattle.file_table.specs.Table.{Column, TableValue}
 use Rattle.file_table.specs.Valid.{IsValid}
 use Rattle.snap_config.specs.Setup.{SetupValue, setup_value}
 use Rattle.snap_report.specs.Answer.{IsCaused}
+use Rattle.snap_report.specs.EventLines.{lines_of}
 use Rattle.snap_report.specs.Report.{ReportView, AllGiven}
 use Rattle.snap_report.specs.Telling.{Tells, between}
 use Rattle.snap_report.specs.declared.events.Event.{Event}
 use Rattle.snap_top.specs.Array.{empty_table, Matches, DiffersIn}
 use Rattle.snap_top.specs.Does.{Does}
-use Rattle.snap_top.specs.Task.{Task, Did, reads_only, may_stand, stands_after, Keeps, Left}
+use Rattle.snap_top.specs.Levels.{by_setup, opener_by, said_by}
+use Rattle.snap_top.specs.Task.{Task, Did, reads_only, may_stand, stands_after, told_columns, Keeps, Left}
 use Rattle.snap_top.specs.End.{status_of, line_of}
 use Rattle.snap_top.specs.Opening.{Refuses, IsGiven}
 use Rattle.snap_top.specs.Views.{World, WorldView, world_view, world_of, view_of, outside_of}
@@ -107,6 +109,11 @@ Goes task given after NoTable told did = IsIdle told did × HasNoTable given aft
 Goes task given after (OtherArray difference content) told did = IsIdle told did × IsOther task given after difference content
 Goes task given after (Answered answer named) told did = (counted : ℕ) × IsAnswered task given after (record { answer = answer; named = named; counted = counted; told = told }) did
 
+-- the columns that give the names in the lines of these events
+abbrev pub columns_in : (task : Task) (given after : World) (ending : Ending) (told : List Event) (did : Did) → Goes task given after ending told did → List Column
+columns_in task given after (Answered answer named) told did goes = told_columns did goes.1.table
+columns_in task given after _ told did goes = []
+
 -- What holds of every run that opened its array, of what it was given.
 pub record Works {R : Type 0} (standing : R → ReportView) (stands : R → List Event → Type 0) (task : Task)
     (given after : WorldView) (olds news : List R) (ending : Ending) : Type 0 where
@@ -116,7 +123,7 @@ pub record Works {R : Type 0} (standing : R → ReportView) (stands : R → List
   pub changes : ChangesBy (may_stand did) given.vault after.vault
   pub ends : IsTrue given.vault.tells → Holds (stands_after did given.vault.files) after.vault
   pub keeps : Keeps did (world_of given) (world_of after)
-  pub reports : AllGiven standing stands told olds news
+  pub reports : AllGiven standing stands (lines_of (columns_in task (world_of given) (world_of after) ending told did goes) told) told olds news
 
 -- ---- a run
 
@@ -148,6 +155,24 @@ vault_in view held (Some vault) = view vault
 abbrev pub exit_of : {F V : Type 0} → (F → FolderView) → (V → VaultView) → OpenerView → List F → Option V → SinkView → Exit
 exit_of folder_view vault_view opener folders vault out =
     at_exit opener (is_some vault) (world_view (map folder_view folders) (vault_in vault_view opener.vault vault) out)
+
+-- By the levels of a setup: those of the vault that the opener holds, and of the one that goes back.
+abbrev pub entry_by : Option SetupValue → Entry → Entry
+entry_by setup before = record before { opener = opener_by setup before.opener }
+
+abbrev pub exit_by : Option SetupValue → Exit → Exit
+exit_by setup exit = record exit { opener = opener_by setup exit.opener; after = record exit.after { vault = by_setup setup exit.after.vault } }
+
+-- by the levels that the configuration of the entry says
+abbrev pub entry_seen : Entry → Entry
+entry_seen before = entry_by (said_by before.opener.config) before
+
+abbrev pub exit_seen : Entry → Exit → Exit
+exit_seen before exit = exit_by (said_by before.opener.config) exit
+
+-- What is said of a run by its levels.
+abbrev pub ByLevels : (Entry → Exit → ℕ → Type 0) → Entry → Exit → ℕ → Type 0
+ByLevels P before exit status = P (entry_seen before) (exit_seen before exit) status
 
 -- nothing was opened, told or printed, and the opener holds what it held, the vault too
 pub record IsRefused (before : Entry) (exit : Exit) (why : Refusal) (told : List Event) : Type 0 where
@@ -184,12 +209,22 @@ abbrev pub Ran : Entry → Exit → End → List Event → Type 0
 Ran before exit (Refused why) told = IsRefused before exit why told
 Ran before exit (Worked setup ending) told = IsRun before exit (setup_value setup) ending told
 
--- a run, with the events that it told the reports
+-- the setup of a run that opened its array
+abbrev pub setup_of : End → Option SetupValue
+setup_of (Refused why) = None
+setup_of (Worked setup ending) = Some (setup_value setup)
+
+-- the columns that give the names in the lines of its events
+abbrev pub columns_of : (before : Entry) (exit : Exit) (end : End) (told : List Event) → Ran before exit end told → List Column
+columns_of before exit (Refused why) told ran = []
+columns_of before exit (Worked setup ending) told ran = columns_in ran.task ran.given (world_of exit.after) ending told ran.did ran.goes
+
+-- a run by the levels of its setup, with the events that it told the reports, and their lines
 pub record RanWith {R : Type 0} (standing : R → ReportView) (stands : R → List Event → Type 0) (before : Entry) (exit : Exit)
     (olds news : List R) (end : End) : Type 0 where
   pub told : List Event
-  pub ran : Ran before exit end told
-  pub reports : AllGiven standing stands told olds news
+  pub ran : Ran (entry_by (setup_of end) before) (exit_by (setup_of end) exit) end told
+  pub reports : AllGiven standing stands (lines_of (columns_of (entry_by (setup_of end) before) (exit_by (setup_of end) exit) end told ran) told) told olds news
 
 -- A line on the standard error: the whole line, or a prefix of it where the sink failed.
 pub record IsSaid (line : List ℕ) (old new : SinkView) : Type 0 where

@@ -1,5 +1,5 @@
 -- What a run leaves that was asked to scrub an array.
-use Rattle.std.specs.Prelude.{◌≡◌, ◌≢◌, ℕ, List, [], ◌++◌, ◌<◌, length, Bool, false, IsTrue, Ok, count_by, sum_by}
+use Rattle.std.specs.Prelude.{◌≡◌, ◌≢◌, ℕ, List, [], ◌++◌, ◌<◌, length, Bool, false, IsTrue, Ok, sum_by}
 use Rattle.content_file.specs.Save.{HasSaved}
 use Rattle.content_file.specs.Spelling.{spelling}
 use Rattle.disk_model.specs.Cause.{Rose, RoseBy}
@@ -16,17 +16,13 @@ use Rattle.snap_scrub.specs.Marks.{at_most}
 use Rattle.snap_scrub.specs.Plan.{plan_of}
 use Rattle.snap_scrub.specs.Reading.{cells_of, unread_levels}
 use Rattle.snap_sync.specs.Part.{NoneRose, readings_by, trees_of}
-use Rattle.stripe_findings.specs.Reading.{StripeReading, is_unread, slot_of}
+use Rattle.stripe_findings.specs.Reading.{unread_cells}
 use Rattle.stripe_reader.specs.Columns.{folder_at}
 use Rattle.snap_top.specs.Ended.{IsEndStatus, WentToItsEnd}
 use Rattle.snap_top.specs.Moment.{IsScrubOf, TellsAll}
 use Rattle.snap_top.specs.Opening.{asked_by}
 use Rattle.snap_top.specs.Run.{Entry, Exit}
 use Rattle.snap_top.specs.Scrub.{MayStandMarked, ScrubRun, marked_table}
-
--- how many cells of a column could not be read
-abbrev pub unread_cells : ℕ → List StripeReading → ℕ
-unread_cells d readings = count_by (λ (reading : StripeReading). is_unread (slot_of d reading).cell.found) readings
 
 -- all that a scrub found
 abbrev pub events_scrubbed : ScrubRun → List Event

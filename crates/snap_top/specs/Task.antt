@@ -5,7 +5,7 @@ use Rattle.content_file.specs.Spelling.{spelling}
 use Rattle.disk_model.specs.Files.{Files, Stays}
 use Rattle.disk_model.specs.Folder.{FolderView}
 use Rattle.disk_model.specs.Sink.{SinkView}
-use Rattle.file_table.specs.Table.{TableValue}
+use Rattle.file_table.specs.Table.{Column, TableValue}
 use Rattle.snap_config.specs.Setup.{SetupValue, setup_value}
 use Rattle.snap_config.specs.declared.options.Command.{Command}
 use Rattle.snap_config.specs.declared.options.Command.TheVariants as commands
@@ -86,6 +86,11 @@ folders_after (scrubs failed run) = AllReadOnly
 -- what stays whatever was done, and what only grows
 abbrev pub Keeps : Did → World → World → Type 0
 Keeps did = KeepsBy (folders_after did)
+
+-- the columns that give the names in the lines of its events, by the table that it began with: of a sync those that it laid out
+abbrev pub told_columns : Did → TableValue → List Column
+told_columns (syncs failed run) table = run.plan.start.columns
+told_columns _ table = table.columns
 
 -- what a command leaves to be said of it: its answer, the table of the file that this names, how many findings count, and the events that were told
 pub record Left : Type 0 where

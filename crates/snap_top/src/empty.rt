@@ -18,7 +18,7 @@ fn build(alloc: Global, setup: &Setup, seed: [u8; 16]) -> Result<Table, BuildFau
 {
     let shape = Shape {
         block_size: setup.block_size,
-        levels: setup.places.parities.len() as u32,
+        levels: setup.parts.len() as u32,
         kind: Kind::Md5,
         seed,
     };

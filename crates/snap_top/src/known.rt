@@ -28,7 +28,7 @@ fn is_level(count: usize, r: usize, level: &str, name: &str) -> bool
 fn names_level(setup: &Setup, name: &str) -> bool
     ensures { result ≡ names_level_of (setup_value setup.now) name.now }
 {
-    let count = setup.places.parities.len();
+    let count = setup.parts.len();
     is_level(count, 0, "parity", name)
         || is_level(count, 1, "2-parity", name)
         || is_level(count, 2, "3-parity", name)

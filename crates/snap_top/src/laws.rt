@@ -249,7 +249,8 @@ pub fn one_array_is_left_alike<O: Opener, F: Folder, V: Vault, W: Sink>()
 /// that went to its end is what it read; and a fix that goes to its end restores the blocks that were last synced of each
 /// stripe in which no more are missing than levels are intact, unless their record is blocked, and names those of stripes in
 /// which more are missing. It finishes each selected file that isn't blocked: that stands under PATH with its recorded size
-/// and stamp, or, with a lost block, under PATH`.unrecoverable`. A fix that is stopped spares the cells, files and levels
+/// and, where the folder keeps stamps, its recorded stamp; or, with a lost block, under PATH`.unrecoverable`, or nowhere if
+/// it was nowhere and nothing of it was restored. A fix that is stopped spares the cells, files and levels
 /// that it leaves alone. The next one from the same table has enough undamaged levels for each stripe that both look at, if
 /// the first one had. Of each fix this supposes that it met no block that has a recorded hash by chance.
 pub fn headline<O: Opener, F: Folder, V: Vault, W: Sink>()

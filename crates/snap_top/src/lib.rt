@@ -17,6 +17,8 @@
 //! `proofs/DoneLemmas.antt`. One that changes the vault otherwise is a variant of `Did` too, with a line wherever that is
 //! told apart: `may_stand`, `stands_after`, `folders_after`, `stripes_read`, `rows_closed`, `AreOfRun`, `IsDidOf`, `IsSupposed`,
 //! `has_ended`.
+//! Where a level has several files, the work is done on a `SplitVault`, and all that is said of the vault is said of its
+//! levels (`specs/Levels.antt`).
 //! Not here: real files. They are `disk_host`'s.
 #![tactic(auto)]
 

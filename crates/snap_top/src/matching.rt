@@ -47,7 +47,7 @@ pub(crate) fn difference(table: &Table, setup: &Setup) -> Option<Difference>
             configuration: setup.block_size,
         });
     }
-    let levels = setup.places.parities.len() as u32;
+    let levels = setup.parts.len() as u32;
     if shape.levels != levels {
         return Some(Difference::Levels {
             content: shape.levels,

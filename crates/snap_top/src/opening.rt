@@ -1,17 +1,17 @@
 // All that a run opens.
 ghost use Rattle.std.specs.Prelude.{◌≡◌, ◌∷◌, [], map, false, IfOk, IfErr, OnErr, OnOk, IsTrue, string_bytes};
 ghost use Rattle.disk_model.specs.Opener.{OpenerGoesOn, HoldsSame, SameImages};
-ghost use Rattle.disk_model.specs.Vault.{IsSettled, state_of};
 ghost use Rattle.snap_config.specs.Setup.{IsSetup, setup_value};
 ghost use Rattle.snap_config.specs.Words.{IsAmong, IsOptions, IsWay, name_of_command};
 ghost use Rattle.snap_top.specs.Task.{IsBuilt};
-ghost use Rattle.snap_top.specs.Opening.{Says, ConfiguresNot, Refuses, IsGiven, reads_config};
+ghost use Rattle.snap_top.specs.Levels.{IsOpenedBy};
+ghost use Rattle.snap_top.specs.Opening.{Says, ConfiguresNot, Refuses, IsGivenBy, reads_config};
 
 use crate::Refusal;
 use crate::commands::COMMANDS;
 use crate::known::known_command;
 use disk_model::{Opener, Text};
-use snap_config::{Command, Options, Setup, read_config, read_words_among};
+use snap_config::{Command, ConfigFault, Options, Setup, read_config, read_words_among};
 use std::alloc::Global;
 
 /// An array that was opened, and what is to be done with it.
@@ -20,19 +20,22 @@ pub(crate) struct Session<F, V> {
     /// 1 to 16.
     pub readers: u32,
     pub setup: Setup,
+    /// How many files each level has, once more: a vault whose levels are split keeps these.
+    pub parts: Vec<u32>,
     pub folders: Vec<F>,
     pub vault: V,
 }
 
-// Reads a configuration file.
+// Reads a configuration file. How many files each level has is given twice.
 fn configure<O: Opener>(
     alloc: Global,
     file: Text,
     log: Option<Text>,
     opener: &mut O,
-) -> Result<Setup, Refusal>
-    ensures says { IfOk result (λ setup. Says (O.view opener.old) log (setup_value setup)) }
-    ensures valid { IfOk result (λ setup. IsSetup (setup_value setup)) }
+) -> Result<(Setup, Vec<u32>), Refusal>
+    ensures says { IfOk result (λ made. Says (O.view opener.old) log (setup_value made.0)) }
+    ensures valid { IfOk result (λ made. IsSetup (setup_value made.0)) }
+    ensures parts { IfOk result (λ made. made.1.items ≡ made.0.parts.items) }
     ensures called { OnOk result (OpenerGoesOn (O.view opener.old) (O.view opener.new) (reads_config file false ∷ [])) }
     ensures refused { IfErr result (ConfiguresNot file log (O.view opener.old) (O.view opener.new)) }
     ensures kept { HoldsSame (O.view opener.old) (O.view opener.new) }
@@ -41,9 +44,16 @@ fn configure<O: Opener>(
         Ok(bytes) => bytes,
         Err(fault) => return Err(Refusal::Unread(fault)),
     };
-    match read_config(alloc, bytes.as_slice(), log) {
-        Ok(setup) => Ok(setup),
-        Err(fault) => Err(Refusal::Config { file, fault }),
+    let setup = match read_config(alloc, bytes.as_slice(), log) {
+        Ok(setup) => setup,
+        Err(fault) => return Err(Refusal::Config { file, fault }),
+    };
+    match setup.parts.to_vec(alloc) {
+        Ok(parts) => Ok((setup, parts)),
+        Err(_) => Err(Refusal::Config {
+            file,
+            fault: ConfigFault::Memory,
+        }),
     }
 }
 
@@ -53,10 +63,10 @@ pub(crate) fn open_all<O: Opener>(
     words: &[String],
     opener: &mut O,
 ) -> Result<Session<O::Folder, O::Vault>, Refusal>
-    ensures given { IfOk result (λ session. IsGiven (map string_bytes words.now) (O.view opener.old) (O.view opener.new) session.command session.readers (setup_value session.setup)
-        (map O.Folder.view session.folders.items) (state_of (O.Vault.view session.vault))) }
+    ensures given { IfOk result (λ session. IsGivenBy (map string_bytes words.now) (O.view opener.old) (O.view opener.new) session.command session.readers
+        (setup_value session.setup) (map O.Folder.view session.folders.items) (O.Vault.view session.vault)) }
     ensures images { IfOk result (λ session. IsTrue (O.view opener.old).tells → SameImages (O.view opener.old).vault.images (O.Vault.view session.vault).images) }
-    ensures settled { IfOk result (λ session. IsSettled (O.Vault.view session.vault)) }
+    ensures opened { IfOk result (λ session. IsOpenedBy session.parts.items (setup_value session.setup) (O.Vault.view session.vault)) }
     ensures built { IfOk result (λ session. IsBuilt session.command) }
     ensures way { IfOk result (λ session. IsWay session.command) }
     ensures valid { IfOk result (λ session. IsSetup (setup_value session.setup)) }
@@ -73,7 +83,7 @@ pub(crate) fn open_all<O: Opener>(
         readers,
         command,
     } = asked;
-    let setup = configure(alloc, conf, log, opener)?;
+    let (setup, parts) = configure(alloc, conf, log, opener)?;
     let command = match known_command(&setup, command) {
         Ok(command) => command,
         Err(name) => return Err(Refusal::NoDisk(name)),
@@ -83,6 +93,7 @@ pub(crate) fn open_all<O: Opener>(
             command,
             readers,
             setup,
+            parts,
             folders: opened.folders,
             vault: opened.vault,
         }),

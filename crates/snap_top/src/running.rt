@@ -1,15 +1,17 @@
 // A run.
 ghost use Rattle.std.specs.Prelude.{◌≡◌, length, map, string_bytes, IfOk, IfErr, Option};
 ghost use Rattle.file_table.specs.Valid.{IsValid};
+ghost use Rattle.parity_split.specs.Split.{split_view};
 ghost use Rattle.snap_config.specs.Setup.{IsSetup, setup_value};
 ghost use Rattle.snap_config.specs.Words.{IsWay};
 ghost use Rattle.snap_top.specs.Complete.{IsSilent, RefusalsTouchNothing, SmoothRunsAreDone};
+ghost use Rattle.snap_top.specs.Levels.{IsOpenedBy, IsShapedBy, by_levels, is_split};
 ghost use Rattle.snap_top.specs.Moment.{EveryMomentIsSound, SyncsEndInPart};
 ghost use Rattle.snap_top.specs.Naming.{ChecksEnd};
 ghost use Rattle.snap_top.specs.Restoring.{FixesEnd};
 ghost use Rattle.snap_top.specs.Scrubbed.{ScrubsEnd};
 ghost use Rattle.snap_top.specs.Task.{IsBuilt, task_of};
-ghost use Rattle.snap_top.specs.Run.{BeginsWith, BeginsNot, Works, Ran, RanWith, EndsWith, at_entry, exit_of};
+ghost use Rattle.snap_top.specs.Run.{BeginsWith, BeginsNot, ByLevels, Works, Ran, RanWith, EndsWith, at_entry, exit_of};
 ghost use Rattle.snap_top.specs.Step.{EveryRunSteps};
 ghost use Rattle.snap_top.specs.Views.{AreAllOpen, world_view};
 
@@ -25,11 +27,13 @@ use content_file::laws::one_table_has_a_spelling;
 use content_file::load;
 use disk_model::{Folder, Opener, Sink, Vault};
 use file_table::Table;
+use parity_split::{Shape, SplitVault};
 use snap_fix::laws::{a_fix_keeps_what_is_sound, a_fix_restores, a_known_row_is_the_snapshots};
 use snap_report::Report;
 use snap_scrub::laws::a_scrub_keeps_what_is_synced;
 use snap_sync::laws::{a_sync_is_a_part_sync, every_moment_is_sound, what_is_pending_is_found};
 use std::alloc::Global;
+use std::marker::Brand;
 use std::thread::Threads;
 
 /// How a run ended, and all that was opened.
@@ -83,7 +87,7 @@ fn work_on<R: Threads + Sync, F: Folder, V: Vault, W: Sink>(
     requires valid { IsSetup (setup_value job.now.setup) }
     requires folders { length folders.old ≡ length job.now.setup.disks }
     requires open { AreAllOpen (map F.view folders.old) }
-    requires levels { (V.view vault.old).levels ≡ length job.now.setup.places.parities.items }
+    requires levels { (V.view vault.old).levels ≡ length job.now.setup.parts.items }
     ensures { Works standing stands (task_of job.now)
         (world_view (map F.view folders.old) (V.view vault.old) (W.view out.old))
         (world_view (map F.view folders.new) (V.view vault.new) (W.view out.new))
@@ -99,6 +103,70 @@ fn work_on<R: Threads + Sync, F: Folder, V: Vault, W: Sink>(
     };
     let Done { answer, named } = carry_out(rt, alloc, job, table, folders, vault, reports, out);
     Ending::Answered { answer, named }
+}
+
+// Whether some level has several files.
+fn has_split(parts: &[u32]) -> bool
+    ensures { result ≡ is_split parts.now }
+{
+    parts.iter().any(|count| *count > 1)
+}
+
+// The same with the levels of the vault split. Gives the vault back.
+fn work_split<R: Threads + Sync, F: Folder, V: Vault, W: Sink, P: Shape>(
+    rt: &R,
+    alloc: Global,
+    job: &Job,
+    parts: Vec<u32>,
+    folders: &mut [F],
+    vault: V,
+    reports: &mut Vec<Box<dyn Report>>,
+    out: &mut W,
+) -> (Ending, V)
+    requires built { IsBuilt job.now.command }
+    requires way { IsWay job.now.command }
+    requires valid { IsSetup (setup_value job.now.setup) }
+    requires folders { length folders.old ≡ length job.now.setup.disks }
+    requires open { AreAllOpen (map F.view folders.old) }
+    requires opened { IsShapedBy P.counts P.capacity parts.items (setup_value job.now.setup) (V.view vault) }
+    ensures { Works standing stands (task_of job.now)
+        (world_view (map F.view folders.old) (split_view P.counts P.capacity (V.view vault)) (W.view out.old))
+        (world_view (map F.view folders.new) (split_view P.counts P.capacity (V.view result.1)) (W.view out.new))
+        reports.old.items reports.new.items result.0 }
+{
+    let mut split = SplitVault::<V, P>::new(vault, parts, job.setup.split);
+    let ending = work_on(rt, alloc, job, folders, &mut split, reports, out);
+    (ending, split.into_base())
+}
+
+// The same by the levels of the configuration. Gives the vault back.
+fn work_by_levels<R: Threads + Sync, F: Folder, V: Vault, W: Sink>(
+    rt: &R,
+    alloc: Global,
+    job: &Job,
+    parts: Vec<u32>,
+    folders: &mut [F],
+    vault: V,
+    reports: &mut Vec<Box<dyn Report>>,
+    out: &mut W,
+) -> (Ending, V)
+    requires built { IsBuilt job.now.command }
+    requires way { IsWay job.now.command }
+    requires valid { IsSetup (setup_value job.now.setup) }
+    requires folders { length folders.old ≡ length job.now.setup.disks }
+    requires open { AreAllOpen (map F.view folders.old) }
+    requires opened { IsOpenedBy parts.items (setup_value job.now.setup) (V.view vault) }
+    ensures { Works standing stands (task_of job.now)
+        (world_view (map F.view folders.old) (by_levels (setup_value job.now.setup) (V.view vault)) (W.view out.old))
+        (world_view (map F.view folders.new) (by_levels (setup_value job.now.setup) (V.view result.1)) (W.view out.new))
+        reports.old.items reports.new.items result.0 }
+{
+    if has_split(parts.as_slice()) {
+        return work_split::<R, F, V, W, Brand>(rt, alloc, job, parts, folders, vault, reports, out);
+    }
+    let mut vault = vault;
+    let ending = work_on(rt, alloc, job, folders, &mut vault, reports, out);
+    (ending, vault)
 }
 
 // All but what is said on the standard error.
@@ -122,8 +190,9 @@ fn work<R: Threads + Sync, O: Opener, W: Sink>(
                 command,
                 readers,
                 setup,
+                parts,
                 mut folders,
-                mut vault,
+                vault,
             } = session;
             let job = Job {
                 command,
@@ -132,12 +201,13 @@ fn work<R: Threads + Sync, O: Opener, W: Sink>(
                 moment: now,
                 seed,
             };
-            let ending = work_on(
+            let (ending, vault) = work_by_levels(
                 rt,
                 alloc,
                 &job,
+                parts,
                 folders.as_mut_slice(),
-                &mut vault,
+                vault,
                 reports,
                 out,
             );
@@ -175,29 +245,29 @@ pub fn run<R: Threads + Sync, O: Opener, W: Sink, E: Sink>(
     ensures ended { EndsWith standing stands (at_entry (map string_bytes words.now) (O.view opener.old) (W.view out.old) now seed)
         (exit_of O.Folder.view O.Vault.view (O.view opener.new) result.folders.items result.vault (W.view out.new))
         reports.old.items reports.new.items result.status (E.view err.old) (E.view err.new) }
-    ensures refused { RefusalsTouchNothing (at_entry (map string_bytes words.now) (O.view opener.old) (W.view out.old) now seed)
+    ensures refused { ByLevels RefusalsTouchNothing (at_entry (map string_bytes words.now) (O.view opener.old) (W.view out.old) now seed)
         (exit_of O.Folder.view O.Vault.view (O.view opener.new) result.folders.items result.vault (W.view out.new))
         result.status }
     ensures silent { IsSilent result.status (E.view err.old) (E.view err.new) }
-    ensures sound { EveryMomentIsSound (at_entry (map string_bytes words.now) (O.view opener.old) (W.view out.old) now seed)
+    ensures sound { ByLevels EveryMomentIsSound (at_entry (map string_bytes words.now) (O.view opener.old) (W.view out.old) now seed)
         (exit_of O.Folder.view O.Vault.view (O.view opener.new) result.folders.items result.vault (W.view out.new))
         result.status }
-    ensures synced { SyncsEndInPart (at_entry (map string_bytes words.now) (O.view opener.old) (W.view out.old) now seed)
+    ensures synced { ByLevels SyncsEndInPart (at_entry (map string_bytes words.now) (O.view opener.old) (W.view out.old) now seed)
         (exit_of O.Folder.view O.Vault.view (O.view opener.new) result.folders.items result.vault (W.view out.new))
         result.status }
-    ensures checked { ChecksEnd (at_entry (map string_bytes words.now) (O.view opener.old) (W.view out.old) now seed)
+    ensures checked { ByLevels ChecksEnd (at_entry (map string_bytes words.now) (O.view opener.old) (W.view out.old) now seed)
         (exit_of O.Folder.view O.Vault.view (O.view opener.new) result.folders.items result.vault (W.view out.new))
         result.status }
-    ensures fixed { FixesEnd (at_entry (map string_bytes words.now) (O.view opener.old) (W.view out.old) now seed)
+    ensures fixed { ByLevels FixesEnd (at_entry (map string_bytes words.now) (O.view opener.old) (W.view out.old) now seed)
         (exit_of O.Folder.view O.Vault.view (O.view opener.new) result.folders.items result.vault (W.view out.new))
         result.status }
-    ensures scrubbed { ScrubsEnd (at_entry (map string_bytes words.now) (O.view opener.old) (W.view out.old) now seed)
+    ensures scrubbed { ByLevels ScrubsEnd (at_entry (map string_bytes words.now) (O.view opener.old) (W.view out.old) now seed)
         (exit_of O.Folder.view O.Vault.view (O.view opener.new) result.folders.items result.vault (W.view out.new))
         result.status }
-    ensures step { EveryRunSteps (at_entry (map string_bytes words.now) (O.view opener.old) (W.view out.old) now seed)
+    ensures step { ByLevels EveryRunSteps (at_entry (map string_bytes words.now) (O.view opener.old) (W.view out.old) now seed)
         (exit_of O.Folder.view O.Vault.view (O.view opener.new) result.folders.items result.vault (W.view out.new))
         result.status }
-    ensures complete { SmoothRunsAreDone (at_entry (map string_bytes words.now) (O.view opener.old) (W.view out.old) now seed)
+    ensures complete { ByLevels SmoothRunsAreDone (at_entry (map string_bytes words.now) (O.view opener.old) (W.view out.old) now seed)
         (exit_of O.Folder.view O.Vault.view (O.view opener.new) result.folders.items result.vault (W.view out.new))
         result.status }
 {

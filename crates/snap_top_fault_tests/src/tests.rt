@@ -1,7 +1,8 @@
-// Syncs over objects that fail, that are stopped, and by several readers.
+// Syncs over objects that fail, that are stopped, over levels in parts, and by several readers.
 mod again;
 mod calls;
 mod faults;
+mod parts;
 mod readers;
 mod stopping;
 mod stops;

@@ -6,6 +6,7 @@ pub mod MetLemmas
 pub mod OnceLemmas
 pub mod RepeatedLemmas
 pub mod ResumedLemmas
+mod SeenLemmas
 pub mod SyncedRows
 pub mod TakenLemmas
 pub mod TakenTrees

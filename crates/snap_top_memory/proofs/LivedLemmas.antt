@@ -1,5 +1,5 @@
 -- A run over an array whose history is known goes on with it.
-use Rattle.std.proofs.Common.{◌≡◌, inr, ℕ, List, [], ◌∷◌, ◌++◌, map, is_some, true, Option, IsTrue, Result, Ok, refl, sym, ap, ◌∙◌, subst, append_assoc, append-nil}
+use Rattle.std.proofs.Common.{◌≡◌, inr, ℕ, List, [], ◌∷◌, ◌++◌, map, is_some, true, Option, Result, Ok, refl, sym, ap, ◌∙◌, subst, append_assoc, append-nil}
 use Rattle.disk_model.specs.Files.{Files}
 use Rattle.disk_model.specs.Folder.{FolderView}
 use Rattle.disk_model.specs.Opener.{OpenerView}
@@ -12,14 +12,16 @@ use Rattle.snap_config.specs.declared.options.Options.{Options}
 use Rattle.snap_sync.specs.Part.{trees_of}
 use Rattle.snap_top.specs.Headline.{Headline}
 use Rattle.snap_top.specs.History.{LastSynced}
+use Rattle.snap_top.specs.Levels.{by_setup, said_by}
 use Rattle.snap_top.specs.Moment.{IsDidOf, StandsIn}
 use Rattle.snap_top.specs.Opening.{asked_by}
 use Rattle.snap_top.specs.Resumed.{RunOf}
 use Rattle.snap_top.specs.Run.{Entry, Exit, vault_in}
 use Rattle.snap_top.specs.Standing.{Change, Follows, GoesOver, IsHistory, IsOrigin, LeavesTrees, MeetsNoChance, Runs, Stage, Standing, after_of, before_of, nothing_synced}
 use Rattle.snap_top.specs.Task.{Did, fixes, reads_only, scrubs, syncs}
-use Rattle.snap_top_memory.specs.Lived.{AskForNoFix, HasHistory, IsLeftOf, IsNoFix, RunsOver, ended_by, standing_of, statuses_of}
+use Rattle.snap_top_memory.specs.Lived.{AskForNoFix, HasHistory, IsLeftOf, IsNoFix, RunsOver, ended_by, files_seen, standing_of, statuses_of}
 use Rattle.snap_top_memory.proofs.BeginLemmas.{origin}
+use Rattle.snap_top_memory.proofs.SeenLemmas.{LeavesAt, left_seen}
 
 -- ---- a run that is no fix
 
@@ -59,7 +61,7 @@ same_left before exit (fixes failed run) not old new same = absurd not
 -- ---- a history goes on
 
 -- what stands, said by its parts
-pub stands_as : (standing next : Standing) (trees : List Tree) (files : Files) (copies : ℕ) → next ≡ record standing { trees = next.trees; files = next.files; last = next.last }
+stands_as : (standing next : Standing) (trees : List Tree) (files : Files) (copies : ℕ) → next ≡ record standing { trees = next.trees; files = next.files; last = next.last }
     → next.trees ≡ trees → next.files ≡ files → standing.copies ≡ copies
     → next ≡ record { config = standing.config; trees = trees; copies = copies; files = files; last = next.last }
 stands_as standing next trees files copies array trees_are files_are copies_are =
@@ -85,6 +87,10 @@ module _ {O F V W : Type 0} (opener_view : O → OpenerView) (folder_view : F �
       not_fixing (begun runs.run) (ended runs.run) did is (subst AskForNoFix (sym runs.texts_are) asks)
 
   -- the trees stay
+  stay_same : (run : RunOf O F V W) (standing next : Standing) → Goes run standing next → ((did : Did) → IsDidOf (begun run) (ended run) did → IsNotFixing did) → next.trees ≡ standing.trees
+  stay_same run standing next goes quiet =
+      left_same (begun run) (ended run) goes.step.always.did (quiet goes.step.always.did goes.step.always.is_did) standing.trees next.trees goes.trees
+
   pub trees_kept : (config : List ℕ) (texts : List (List ℕ)) (seed : List ℕ) (folders : List FolderView) (vault : VaultView) (last : LastSynced) (status : ℕ) (left_folders : List F) (left : V)
       → Headline opener_view folder_view vault_view sink_view (standing_of config folders vault last)
       → (runs : RunsOver opener_view folder_view vault_view sink_view config texts seed folders vault status left_folders left)
@@ -96,9 +102,33 @@ module _ {O F V W : Type 0} (opener_view : O → OpenerView) (folder_view : F �
       let did : Did = runs.step.always.did in
       let has : (ended run).has_vault ≡ true = ap (λ (v : Option V). is_some v) runs.vault_is in
       let at_end = headline.arrives run (runs.begins last) runs.step has (no_chance did (quiet did runs.step.always.is_did) last.snapshot) in
-      let ends : Goes run standing at_end.0 = at_end.3 in
-      let stay : at_end.0.trees ≡ standing.trees = left_same (begun run) (ended run) ends.step.always.did (quiet ends.step.always.did ends.step.always.is_did) standing.trees at_end.0.trees ends.trees in
-      ap (λ (fs : List F). trees_of (map folder_view fs)) (sym runs.folders_are) ∙ sym at_end.2 ∙ stay
+      ap (λ (fs : List F). trees_of (map folder_view fs)) (sym runs.folders_are) ∙ sym at_end.2 ∙ stay_same run standing at_end.0 at_end.3 quiet
+
+  -- what a stop at some moment of it leaves stands in it
+  pub stands_left : (config : List ℕ) (texts : List (List ℕ)) (seed : List ℕ) (folders : List FolderView) (vault made : VaultView) (status : ℕ) (left_folders : List F) (left : V)
+      → (runs : RunsOver opener_view folder_view vault_view sink_view config texts seed folders vault status left_folders left)
+      → IsLeftOf (vault_view left) made → StandsIn (begun runs.run) (ended runs.run) (files_seen config made)
+  stands_left config texts seed folders vault made status left_folders left runs left_of =
+      let run : RunOf O F V W = runs.run in
+      let held : List ℕ = (opener_view run.opener).config in
+      let is_left : LeavesAt (by_setup (said_by held) (vault_view left)) 0 (files_seen held made)
+      = left_seen (said_by held) (vault_view left) made 0 (left_of.told, left_of.left) in
+      let left_here : LeavesAt (by_setup (said_by held) (vault_view left)) (begun run).opener.vault.images.moment (files_seen config made)
+      = subst (λ (m : ℕ). LeavesAt (by_setup (said_by held) (vault_view left)) m (files_seen config made)) (sym runs.moment)
+      (subst (λ (cs : List ℕ). LeavesAt (by_setup (said_by held) (vault_view left)) 0 (files_seen cs made)) (runs.begins nothing_synced).config is_left) in
+      inr (subst
+      (λ (v : Option V). LeavesAt (by_setup (said_by held) (vault_in vault_view (opener_view run.opener_new).vault v)) (begun run).opener.vault.images.moment (files_seen config made))
+      (sym runs.vault_is) left_here)
+
+  -- what stands next, said by its parts
+  pub stands_next : (config : List ℕ) (folders left_folders : List FolderView) (vault made : VaultView) (last : LastSynced) (run : RunOf O F V W) (next : Standing)
+      → Goes run (standing_of config folders vault last) next → next.files ≡ files_seen config made → next.trees ≡ trees_of left_folders → copies_of made ≡ copies_of vault
+      → (then : LastSynced) × Goes run (standing_of config folders vault last) (standing_of config left_folders made then)
+  stands_next config folders left_folders vault made last run next goes files_are trees_are as_many = (
+    next.last,
+    subst (λ (s : Standing). Goes run (standing_of config folders vault last) s)
+        (stands_as (standing_of config folders vault last) next (trees_of left_folders) (files_seen config made) (copies_of made) goes.array trees_are files_are (sym as_many)) goes,
+  )
 
   pub goes_with : (config : List ℕ) (texts : List (List ℕ)) (seed : List ℕ) (folders : List FolderView) (vault made : VaultView) (last : LastSynced) (status : ℕ) (left_folders : List F) (left : V)
       → Headline opener_view folder_view vault_view sink_view (standing_of config folders vault last)
@@ -113,18 +143,9 @@ module _ {O F V W : Type 0} (opener_view : O → OpenerView) (folder_view : F �
       let did : Did = step.always.did in
       let not : IsNotFixing did = quiet_run config texts seed folders vault status left_folders left runs asks did step.always.is_did in
       let trees : trees_of (map folder_view left_folders) ≡ standing.trees = trees_kept config texts seed folders vault last status left_folders left headline runs asks in
-      let stands : StandsIn (begun run) (ended run) made.files
-      = inr (subst
-      (λ (v : Option V). IsTrue (vault_in vault_view (opener_view run.opener_new).vault v).images.told
-      × (vault_in vault_view (opener_view run.opener_new).vault v).images.since (begun run).opener.vault.images.moment made.files)
-      (sym runs.vault_is)
-      (left_of.told, subst (λ (m : ℕ). (vault_view left).images.since m made.files) (sym runs.moment) left_of.left)) in
-      let going = headline.goes_on run made.files (trees_of (map folder_view left_folders)) over step stands
+      let at = headline.goes_on run (files_seen config made) (trees_of (map folder_view left_folders)) over step (stands_left config texts seed folders vault made status left_folders left runs left_of)
       (same_left (begun run) (ended run) did not standing.trees (trees_of (map folder_view left_folders)) trees) (no_chance did not last.snapshot) in
-      let goes : Goes run standing going.0 = going.3 in (
-        going.0.last,
-        subst (λ (s : Standing). Goes run standing s) (stands_as standing going.0 (trees_of (map folder_view left_folders)) made.files (copies_of made) goes.array going.2 going.1 (sym as_many)) goes,
-      )
+      stands_next config folders (map folder_view left_folders) vault made last run at.0 at.3 at.1 at.2 as_many
 
   pub extended : (first middle next : Standing) (stages : List (Stage O F V W)) (change : Change O F V W) → IsHistory opener_view folder_view vault_view sink_view first stages middle
       → Follows opener_view folder_view vault_view sink_view change middle next

@@ -1,5 +1,5 @@
 -- A run over an array without content, files that are taken away, and a fix of what is left.
-use Rattle.std.proofs.Common.{◌≡◌, inl, inr, ℕ, ◌<◌, ◌≤◌, List, [], ◌∷◌, ◌++◌, length, map, get_or, set, is_some, Option, IsTrue, Ok, refl, sym, ap, ◌∙◌, subst, arith}
+use Rattle.std.proofs.Common.{◌≡◌, inl, ℕ, ◌<◌, ◌≤◌, List, [], ◌∷◌, ◌++◌, length, map, get_or, set, is_some, Option, Ok, refl, sym, ap, ◌∙◌, subst, arith}
 use Rattle.disk_model.specs.Folder.{FolderView}
 use Rattle.disk_model.specs.Opener.{OpenerView}
 use Rattle.disk_model.specs.Sink.{SinkView}
@@ -9,16 +9,15 @@ use Rattle.disk_memory.specs.Vault.{VaultValue, fresh_vault, view_of}
 use Rattle.snap_sync.specs.Part.{tree_at, trees_of}
 use Rattle.snap_top.specs.Headline.{FixesToItsEnd}
 use Rattle.snap_top.specs.History.{LastSynced}
-use Rattle.snap_top.specs.Moment.{IsDidOf, StandsIn}
+use Rattle.snap_top.specs.Moment.{IsDidOf}
 use Rattle.snap_top.specs.Opening.{asked_by}
 use Rattle.snap_top.specs.Resumed.{RunOf}
-use Rattle.snap_top.specs.Run.{vault_in}
 use Rattle.snap_top.specs.Standing.{BeginsOver, Edits, GoesOver, IsHistory, IsOrigin, MeetsNoChance, Runs, Stage, Standing, after_of, before_of, nothing_synced}
 use Rattle.snap_top.specs.Task.{Did}
-use Rattle.snap_top_memory.specs.Lived.{AskForFix, AskForNoFix, HasHistory, IsLeftOf, RunsOver, standing_of}
+use Rattle.snap_top_memory.specs.Lived.{AskForFix, AskForNoFix, HasHistory, IsLeftOf, RunsOver, files_seen, standing_of}
 use Rattle.snap_top_memory.specs.Once.{IsFixedWhole, IsLeftOfOne}
 use Rattle.snap_top_memory.specs.Taken.{IsTakenFrom, OnlyTakenAway}
-use Rattle.snap_top_memory.proofs.LivedLemmas.{goes_with, stands_as}
+use Rattle.snap_top_memory.proofs.LivedLemmas.{goes_with, stands_left, stands_next}
 use Rattle.snap_top_memory.proofs.ResumedLemmas.{HoldsAlways, begins_nothing}
 use Rattle.snap_top_memory.proofs.TakenTrees.{more_taken, nothing_taken}
 
@@ -128,18 +127,10 @@ module _ {O F V W : Type 0} (opener_view : O → OpenerView) (folder_view : F �
     pub goes_left : IsLeftOf (vault_view left) made → copies_of made ≡ copies_of vault
         → (then : LastSynced) × GoesOver opener_view folder_view vault_view sink_view runs.run standing (standing_of config (map folder_view left_folders) made then)
     goes_left left_of as_many =
-        let stands : StandsIn (before_of opener_view folder_view vault_view sink_view runs.run) (after_of opener_view folder_view vault_view sink_view runs.run) made.files
-        = inr (subst
-        (λ (v : Option V). IsTrue (vault_in vault_view (opener_view runs.run.opener_new).vault v).images.told
-        × (vault_in vault_view (opener_view runs.run.opener_new).vault v).images.since (before_of opener_view folder_view vault_view sink_view runs.run).opener.vault.images.moment made.files)
-        (sym runs.vault_is)
-        (left_of.told, subst (λ (m : ℕ). (vault_view left).images.since m made.files) (sym runs.moment) left_of.left)) in
         let its = at_end.3 in
-        let going = (holds once.first standing stages once.origin history).goes_on runs.run made.files at_end.0.trees its.over its.step stands its.trees its.genuine in (
-          going.0.last,
-          subst (λ (s : Standing). GoesOver opener_view folder_view vault_view sink_view runs.run standing s)
-              (stands_as standing going.0 (trees_of (map folder_view left_folders)) made.files (copies_of made) going.3.array (going.2 ∙ at_end_trees) going.1 (sym as_many)) going.3,
-        )
+        let at = (holds once.first standing stages once.origin history).goes_on runs.run (files_seen config made) at_end.0.trees its.over its.step
+        (stands_left opener_view folder_view vault_view sink_view config texts seed folders vault made status left_folders left runs left_of) its.trees its.genuine in
+        stands_next opener_view folder_view vault_view sink_view config folders (map folder_view left_folders) vault made once.next.last runs.run at.0 at.3 at.1 (at.2 ∙ at_end_trees) as_many
 
     pub fixed_on : (told : List ℕ) → IsLeftOf (vault_view left) made → copies_of made ≡ copies_of vault → told ≡ before ∷ status ∷ []
         → HasHistory opener_view folder_view vault_view sink_view config (map folder_view left_folders) made told

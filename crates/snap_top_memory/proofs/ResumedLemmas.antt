@@ -1,25 +1,32 @@
 -- A sync that was stopped and made again, and a fix of what stands after a history.
 use Rattle.std.proofs.Common.{◌≡◌, inl, inr, ℕ, ◌≤◌, List, [], ◌∷◌, map, is_some, true, Option, Ok, refl, sym, ap, ◌∙◌, subst, arith}
 use Rattle.content_file.specs.Load.{HasFailed}
+use Rattle.disk_model.specs.Cause.{Rose}
 use Rattle.disk_model.specs.Folder.{FolderView}
 use Rattle.disk_model.specs.Opener.{OpenerView}
 use Rattle.disk_model.specs.Sink.{SinkView}
 use Rattle.disk_model.specs.Tree.{Tree}
 use Rattle.disk_model.specs.Vault.{VaultView, copies_of}
 use Rattle.disk_memory.specs.Vault.{VaultValue, fresh_vault, view_of}
+use Rattle.snap_config.specs.Setup.{SetupValue}
 use Rattle.snap_config.specs.declared.options.Command.{Command}
 use Rattle.snap_config.specs.declared.options.Command.TheVariants as commands
 use Rattle.snap_sync.specs.Part.{trees_of}
 use Rattle.snap_top.specs.Headline.{FixesToItsEnd, Headline, IsAskedToSync, SyncsClean, SyncsWell}
 use Rattle.snap_top.specs.History.{LastSynced}
+use Rattle.snap_top.specs.Levels.{said_by}
 use Rattle.snap_top.specs.Moment.{ChangesNothing}
 use Rattle.snap_top.specs.Opening.{asked_by}
 use Rattle.snap_top.specs.Resumed.{RunOf}
 use Rattle.snap_top.specs.Run.{Entry, Exit, vault_in}
 use Rattle.snap_top.specs.Standing.{GoesOver, IsHistory, IsOrigin, Runs, Stage, Standing, after_of, before_of, nothing_synced}
-use Rattle.snap_top_memory.specs.Lived.{AskForFix, AskForNoChange, AskForNoFix, AskForSync, HasHistory, IsFixedAtLast, IsLeftOf, IsNoFix, IsResumedOnce, IsSyncedAtLast, RunsOver, standing_of}
+use Rattle.snap_top_memory.specs.Lived.{AskForFix, AskForNoChange, AskForNoFix, AskForSync, HasHistory, IsFixedAtLast, IsLeftOf, IsNoFix, IsResumedOnce, IsSyncedAtLast, RunsOver, files_seen, standing_of}
 use Rattle.snap_top_memory.proofs.BeginLemmas.{origin}
+use Rattle.snap_top_memory.proofs.SeenLemmas.{faults_seen}
 use Rattle.snap_top_memory.proofs.LivedLemmas.{goes_with, no_chance, quiet_run, trees_kept}
+
+pub not_risen : (before now : ℕ) → now ≡ 0 → Rose before now → ⊥
+not_risen before now none rose = omega (arith, none, rose)
 
 no_fix : (texts : List (List ℕ)) (config : List ℕ) → AskForSync texts config → AskForNoFix texts
 no_fix texts config asks = record { asked = asks.asked; words = asks.words; is_none = subst IsNoFix (sym asks.command_is) tt }
@@ -50,12 +57,18 @@ module _ {O F V W : Type 0} (opener_view : O → OpenerView) (folder_view : F �
   HoldsAlways = (first standing : Standing) (stages : List (Stage O F V W)) → IsOrigin first → IsHistory opener_view folder_view vault_view sink_view first stages standing
       → Headline opener_view folder_view vault_view sink_view standing
 
+  -- a vault of which no call failed has none that failed by its levels
+  pub none_rose : (config : List ℕ) (texts : List (List ℕ)) (seed : List ℕ) (folders : List FolderView) (vault : VaultView) (status : ℕ) (left_folders : List F) (left : V)
+      → (runs : RunsOver opener_view folder_view vault_view sink_view config texts seed folders vault status left_folders left) → (vault_view left).faults ≡ 0 → (ended runs.run).after.vault.faults ≡ 0
+  none_rose config texts seed folders vault status left_folders left runs calm =
+      faults_seen (said_by (opener_view runs.run.opener).config) (vault_in vault_view (opener_view runs.run.opener_new).vault runs.run.vault)
+      ∙ ap (λ (v : Option V). (vault_in vault_view (opener_view runs.run.opener_new).vault v).faults) runs.vault_is ∙ calm
+
   none_failed : (config : List ℕ) (texts : List (List ℕ)) (seed : List ℕ) (folders : List FolderView) (vault : VaultView) (status : ℕ) (left_folders : List F) (left : V)
       → (runs : RunsOver opener_view folder_view vault_view sink_view config texts seed folders vault status left_folders left) → (vault_view left).faults ≡ 0
       → (copy : ℕ) → ¬ (HasFailed (begun runs.run).opener.vault (ended runs.run).after.vault copy)
   none_failed config texts seed folders vault status left_folders left runs calm copy failed =
-      let none : (ended runs.run).after.vault.faults ≡ 0 = ap (λ (v : Option V). (vault_in vault_view (opener_view runs.run.opener_new).vault v).faults) runs.vault_is ∙ calm in
-      absurd (omega (arith, failed.rose, none, runs.faults))
+      not_risen (begun runs.run).opener.vault.faults (ended runs.run).after.vault.faults (none_rose config texts seed folders vault status left_folders left runs calm) failed.rose
 
   is_asked : (config : List ℕ) (texts : List (List ℕ)) (seed : List ℕ) (folders : List FolderView) (vault : VaultView) (last : LastSynced) (trees : List Tree) (status : ℕ) (left_folders : List F) (left : V)
       → (runs : RunsOver opener_view folder_view vault_view sink_view config texts seed folders vault status left_folders left) → (vault_view left).faults ≡ 0
@@ -103,7 +116,78 @@ module _ {O F V W : Type 0} (opener_view : O → OpenerView) (folder_view : F �
       → trees_of others ≡ trees_of folders → standing_of config others (view_of other) nothing_synced ≡ standing_of config folders (view_of value) nothing_synced
   same_first config folders others levels copies value other fresh fresh_too same =
       ap (λ (v : VaultValue). standing_of config others (view_of v) nothing_synced) (fresh_too ∙ sym fresh)
-      ∙ ap (λ (trees : List Tree). record { config = config; trees = trees; copies = copies_of (view_of value); files = (view_of value).files; last = nothing_synced }) same
+      ∙ ap (λ (trees : List Tree). record { config = config; trees = trees; copies = copies_of (view_of value); files = files_seen config (view_of value); last = nothing_synced }) same
+
+  -- a run that changes nothing leaves what stands
+  kept_by : (standing next : Standing) (run : RunOf O F V W) → Headline opener_view folder_view vault_view sink_view standing → Goes run standing next → AskForNoChange run.texts → next ≡ standing
+  kept_by standing next run headline goes asks = headline.quiet run next goes (inr (asks.asked, asks.words, asks.changes_nothing))
+
+  -- one array is synced whole; and it is synced and stopped, read, and synced again
+  resumed_by : (setup : SetupValue) (trees : List Tree) (seed : List ℕ) (first later still once again : Standing) (stopped between whole last : RunOf O F V W)
+      → IsOrigin first → Headline opener_view folder_view vault_view sink_view first → Goes stopped first later → IsAskedToSync opener_view folder_view vault_view sink_view setup trees seed first stopped
+      → Goes between later still → still ≡ later → SyncsClean opener_view folder_view vault_view sink_view setup trees seed first whole once
+      → SyncsClean opener_view folder_view vault_view sink_view setup trees seed still last again → IsResumedOnce opener_view folder_view vault_view sink_view
+  resumed_by setup trees seed first later still once again stopped between whole last is_first headline goes asked goes_between same clean resumed =
+      let stays : still.files ≡ later.files = ap (λ (standing : Standing). standing.files) same in
+      record {
+        first = first;
+        later = later;
+        still = still;
+        once = once;
+        again = again;
+        setup = setup;
+        trees = trees;
+        seed = seed;
+        stopped = stopped;
+        between = between;
+        whole = whole;
+        last = last;
+        origin = is_first;
+        goes = goes;
+        asked = asked;
+        goes_between = goes_between;
+        stays = stays;
+        clean = clean;
+        resumed = resumed;
+        alike = headline.resumed setup trees seed (record { change = Runs stopped; next = later } ∷ record { change = Runs between; next = still } ∷ [])
+            still once again whole last (goes, (goes_between, refl)) (inl asked, (inr stays, tt)) clean resumed;
+      }
+
+  -- the last sync, of what stands after the run between
+  resumed_last : (config : List ℕ) (texts : List (List ℕ)) (seed : List ℕ) (trees : List Tree) (first later once : Standing) (stopped between whole : RunOf O F V W) (folders : List FolderView) (kept : VaultView)
+      (then : LastSynced) (status : ℕ) (last_folders : List F) (left : V)
+      → HoldsAlways → IsOrigin first → (asks : AskForSync texts config) → Goes stopped first later → IsAskedToSync opener_view folder_view vault_view sink_view asks.setup.setup trees seed first stopped
+      → Goes between later (standing_of config folders kept then) → standing_of config folders kept then ≡ later → later.trees ≡ trees
+      → SyncsClean opener_view folder_view vault_view sink_view asks.setup.setup trees seed first whole once
+      → RunsOver opener_view folder_view vault_view sink_view config texts seed folders kept status last_folders left → (vault_view left).faults ≡ 0 → status ≡ 0
+      → IsResumedOnce opener_view folder_view vault_view sink_view
+  resumed_last config texts seed trees first later once stopped between whole folders kept then status last_folders left holds is_first asks goes asked goes_between same trees_are clean last calm zero =
+      let still : Standing = standing_of config folders kept then in
+      let history : IsHistory opener_view folder_view vault_view sink_view first (record { change = Runs stopped; next = later } ∷ record { change = Runs between; next = still } ∷ []) still
+      = (goes, (goes_between, refl)) in
+      let again = syncs_clean config texts seed folders kept then trees status last_folders left
+      (holds first still (record { change = Runs stopped; next = later } ∷ record { change = Runs between; next = still } ∷ []) is_first history) last calm asks
+      (ap (λ (standing : Standing). standing.trees) same ∙ trees_are) zero in
+      resumed_by asks.setup.setup trees seed first later still once again.0 stopped between whole last.run is_first (holds first first [] is_first refl) goes asked goes_between same clean again.1
+
+  -- the run between, over what the stopped sync left
+  resumed_between : (config : List ℕ) (texts other_texts : List (List ℕ)) (seed : List ℕ) (trees : List Tree) (first once : Standing) (stopped whole : RunOf O F V W) (folders : List FolderView) (made kept : VaultView)
+      (then : LastSynced) (status_between status_last : ℕ) (between_folders last_folders : List F) (left_between left_last : V)
+      → HoldsAlways → IsOrigin first → (asks : AskForSync texts config) → AskForNoChange other_texts
+      → Goes stopped first (standing_of config folders made then) → IsAskedToSync opener_view folder_view vault_view sink_view asks.setup.setup trees seed first stopped → trees_of folders ≡ trees
+      → SyncsClean opener_view folder_view vault_view sink_view asks.setup.setup trees seed first whole once
+      → RunsOver opener_view folder_view vault_view sink_view config other_texts seed folders made status_between between_folders left_between
+      → IsLeftOf (vault_view left_between) kept → copies_of kept ≡ copies_of made
+      → RunsOver opener_view folder_view vault_view sink_view config texts seed (map folder_view between_folders) kept status_last last_folders left_last → (vault_view left_last).faults ≡ 0 → status_last ≡ 0
+      → IsResumedOnce opener_view folder_view vault_view sink_view
+  resumed_between config texts other_texts seed trees first once stopped whole folders made kept then status_between status_last between_folders last_folders left_between left_last
+      holds is_first asks asks_nothing goes asked trees_are clean between kept_of as_many last calm zero =
+      let later : Standing = standing_of config folders made then in
+      let headline = holds first later (record { change = Runs stopped; next = later } ∷ []) is_first (goes, refl) in
+      let going = goes_with opener_view folder_view vault_view sink_view config other_texts seed folders made kept then status_between between_folders left_between
+      headline between (no_fix_of other_texts asks_nothing) kept_of as_many in
+      resumed_last config texts seed trees first later once stopped between.run whole (map folder_view between_folders) kept going.0 status_last last_folders left_last holds is_first asks goes asked going.1
+      (kept_by later (standing_of config (map folder_view between_folders) kept going.0) between.run headline going.1 (subst AskForNoChange (sym between.texts_are) asks_nothing)) trees_are clean last calm zero
 
   pub resumed_once : (config : List ℕ) (texts other_texts : List (List ℕ)) (seed : List ℕ) (levels copies : ℕ) (value other : VaultValue) (folders : List FolderView) (made kept : VaultView)
       (status status_then status_between status_last : ℕ) (left_folders then_folders between_folders last_folders : List F) (left left_then left_between left_last : V)
@@ -120,54 +204,21 @@ module _ {O F V W : Type 0} (opener_view : O → OpenerView) (folder_view : F �
       let first : Standing = standing_of config folders (view_of value) nothing_synced in
       let first_too : Standing = standing_of config (map folder_view left_folders) (view_of other) nothing_synced in
       let is_first : IsOrigin first = begins_nothing config folders levels copies value fresh in
-      let is_first_too : IsOrigin first_too = begins_nothing config (map folder_view left_folders) levels copies other fresh_too in
-      let trees : List Tree = trees_of folders in
       let headline = holds first first [] is_first refl in
-      let headline_too = holds first_too first_too [] is_first_too refl in
+      let headline_too = holds first_too first_too [] (begins_nothing config (map folder_view left_folders) levels copies other fresh_too) refl in
       let asks_no_fix = no_fix texts config asks in
-      let same : trees_of (map folder_view left_folders) ≡ trees = trees_kept opener_view folder_view vault_view sink_view config texts seed folders (view_of value) nothing_synced status left_folders left headline whole asks_no_fix in
-      let same_too : trees_of (map folder_view then_folders) ≡ trees
+      let same : trees_of (map folder_view left_folders) ≡ trees_of folders = trees_kept opener_view folder_view vault_view sink_view config texts seed folders (view_of value) nothing_synced status left_folders left headline whole asks_no_fix in
+      let same_too : trees_of (map folder_view then_folders) ≡ trees_of folders
       = trees_kept opener_view folder_view vault_view sink_view config texts seed (map folder_view left_folders) (view_of other) nothing_synced status_then then_folders left_then headline_too stopped asks_no_fix ∙ same in
-      let once = syncs_clean config texts seed folders (view_of value) nothing_synced trees status left_folders left headline whole calm asks refl zero in
-      let going = goes_with opener_view folder_view vault_view sink_view config texts seed (map folder_view left_folders) (view_of other) made nothing_synced status_then then_folders left_then headline_too stopped asks_no_fix left_of as_many in
-      let later : Standing = standing_of config (map folder_view then_folders) made going.0 in
       let are_one : first_too ≡ first = same_first config folders (map folder_view left_folders) levels copies value other fresh fresh_too same in
-      let goes : Goes stopped.run first later = subst (λ (s : Standing). Goes stopped.run s later) are_one going.1 in
-      let asked = subst (λ (s : Standing). IsAskedToSync opener_view folder_view vault_view sink_view asks.setup.setup trees seed s stopped.run) are_one
-      (is_asked config texts seed (map folder_view left_folders) (view_of other) nothing_synced trees status_then then_folders left_then stopped calm_then asks same) in
-      let stage : Stage O F V W = record { change = Runs stopped.run; next = later } in
-      let headline_later = holds first later (stage ∷ []) is_first (goes, refl) in
-      let going_still = goes_with opener_view folder_view vault_view sink_view config other_texts seed (map folder_view then_folders) made kept going.0 status_between between_folders left_between
-      headline_later between (no_fix_of other_texts asks_nothing) kept_of as_many_still in
-      let still : Standing = standing_of config (map folder_view between_folders) kept going_still.0 in
-      let words = subst (λ (ts : List (List ℕ)). asked_by ts ≡ Ok asks_nothing.asked) (sym between.texts_are) asks_nothing.words in
-      let stays_so : still ≡ later = headline_later.quiet between.run still going_still.1 (inr (asks_nothing.asked, words, asks_nothing.changes_nothing)) in
-      let quiet : (still.files ≡ later.files) × (still.trees ≡ later.trees) = (ap (λ (standing : Standing). standing.files) stays_so, ap (λ (standing : Standing). standing.trees) stays_so) in
-      let stages : List (Stage O F V W) = stage ∷ record { change = Runs between.run; next = still } ∷ [] in
-      let history : IsHistory opener_view folder_view vault_view sink_view first stages still = (goes, (going_still.1, refl)) in
-      let again = syncs_clean config texts seed (map folder_view between_folders) kept going_still.0 trees status_last last_folders left_last (holds first still stages is_first history) last calm_last asks (quiet.1 ∙ same_too) zero_last in
-      record {
-        first = first;
-        later = later;
-        still = still;
-        once = once.0;
-        again = again.0;
-        setup = asks.setup.setup;
-        trees = trees;
-        seed = seed;
-        stopped = stopped.run;
-        between = between.run;
-        whole = whole.run;
-        last = last.run;
-        origin = is_first;
-        goes = goes;
-        asked = asked;
-        goes_between = going_still.1;
-        stays = quiet.0;
-        clean = once.1;
-        resumed = again.1;
-        alike = headline.resumed asks.setup.setup trees seed stages still once.0 again.0 whole.run last.run history (inl asked, (inr quiet.0, tt)) once.1 again.1;
-      }
+      let once = syncs_clean config texts seed folders (view_of value) nothing_synced (trees_of folders) status left_folders left headline whole calm asks refl zero in
+      let going = goes_with opener_view folder_view vault_view sink_view config texts seed (map folder_view left_folders) (view_of other) made nothing_synced status_then then_folders left_then headline_too stopped asks_no_fix left_of as_many in
+      resumed_between config texts other_texts seed (trees_of folders) first once.0 stopped.run whole.run (map folder_view then_folders) made kept going.0 status_between status_last between_folders last_folders
+      left_between left_last holds is_first asks asks_nothing
+      (subst (λ (s : Standing). Goes stopped.run s (standing_of config (map folder_view then_folders) made going.0)) are_one going.1)
+      (subst (λ (s : Standing). IsAskedToSync opener_view folder_view vault_view sink_view asks.setup.setup (trees_of folders) seed s stopped.run) are_one
+      (is_asked config texts seed (map folder_view left_folders) (view_of other) nothing_synced (trees_of folders) status_then then_folders left_then stopped calm_then asks same))
+      same_too once.1 between kept_of as_many_still last calm_last zero_last
 
   pub synced_at_last : (config : List ℕ) (texts : List (List ℕ)) (seed : List ℕ) (folders : List FolderView) (vault : VaultView) (statuses : List ℕ) (status : ℕ) (left_folders : List F) (left : V)
       → HoldsAlways → HasHistory opener_view folder_view vault_view sink_view config folders vault statuses → AskForSync texts config

@@ -1,5 +1,6 @@
 -- An array in memory with all that happened to it: an instance of what `snap_top::laws::headline` supposes.
 use Rattle.std.specs.Prelude.{◌≡◌, ℕ, List, [], ◌∷◌, ◌++◌, length, take, Option, Some, IsTrue, Ok}
+use Rattle.disk_model.specs.Files.{Files}
 use Rattle.disk_model.specs.Folder.{FolderView}
 use Rattle.disk_model.specs.Opener.{OpenerView}
 use Rattle.disk_model.specs.Sink.{SinkView}
@@ -15,6 +16,7 @@ use Rattle.snap_config.specs.declared.options.Selection.{Selection}
 use Rattle.snap_config.specs.declared.options.SyncWay.{SyncWay}
 use Rattle.snap_sync.specs.Part.{trees_of}
 use Rattle.snap_top.specs.History.{LastSynced}
+use Rattle.snap_top.specs.Levels.{by_setup, said_by}
 use Rattle.snap_top.specs.Moment.{ChangesNothing, StandsAfter}
 use Rattle.snap_top.specs.Opening.{asked_by}
 use Rattle.snap_top.specs.Headline.{FixesToItsEnd, IsAskedToSync, SyncsClean, SyncsWell}
@@ -26,9 +28,13 @@ use Rattle.snap_top.specs.SyncedLast.{IsSyncedLast}
 
 -- ---- what stands between two runs
 
+-- what a vault reads, by the levels of a configuration
+abbrev pub files_seen : List ℕ → VaultView → Files
+files_seen config vault = (by_setup (said_by config) vault).files
+
 -- by the configuration, the folders, the vault, and what was last synced
 abbrev pub standing_of : List ℕ → List FolderView → VaultView → LastSynced → Standing
-standing_of config folders vault last = record { config = config; trees = trees_of folders; copies = copies_of vault; files = vault.files; last = last }
+standing_of config folders vault last = record { config = config; trees = trees_of folders; copies = copies_of vault; files = files_seen config vault; last = last }
 
 -- a vault that was just opened: no call was made, nothing is unsynced, and there is no draft
 pub record IsNew (vault : VaultView) : Type 0 where

@@ -32,7 +32,7 @@ abbrev pub are_calm : {F : Type 0} → (F → FolderView) → List F → Bool
 are_calm folder_view folders = list_all (λ folder. (folder_view folder).faults == 0) folders
 
 module _ {O F V W : Type 0} (opener_view : O → OpenerView) (folder_view : F → FolderView) (vault_view : V → VaultView) (sink_view : W → SinkView) where
-  -- Two checks of what stood after a history, by the same words, went to their ends, and nothing failed in them. So they found the same, and the
+  -- Two checks of one array, which were asked for the same, went to their ends, and nothing failed in them. So they found the same, and the
   -- second ended with this status, as did the first.
   pub record IsCheckedTwice (status : ℕ) : Type 0 where
     pub run : RunOf O F V W

@@ -46,7 +46,7 @@ pub fn edit<'a>(alloc: Global, lived: Lived<'a>, disk: usize, name: &str) -> Res
     })
 }
 
-/// A level gets other bytes from outside, and all its blocks count as changed from then on.
+/// A parity file gets other bytes from outside, and all blocks of its level count as changed from then on.
 pub fn damage<'a>(lived: Lived<'a>, level: u32, bytes: &[u8]) -> Result<Lived<'a>, Fail>
     requires fresh { IsNew (vault_view lived.vault) }
     requires lived { HasHistory (⟦<MemOpener<MemFolder, MemVault> as Opener>⟧.view) folder_view vault_view sink_view

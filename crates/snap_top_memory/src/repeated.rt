@@ -56,9 +56,9 @@ pub fn check_twice<R: Threads + Sync>(
     Ok(last.status)
 }
 
-/// Runs words over what is left, and once more over what these bytes pick of what a stop at any moment of that may leave. It
-/// answers the last status, and nothing unless they ask for a fix that went to its end, and no call of a folder or of the
-/// vault failed.
+/// Runs words over what is left, and once more over the folders that this left, and over what these bytes pick of what a stop
+/// at any moment of it may leave of the vault. It answers the last status, and nothing unless they ask for a fix that went
+/// to its end, and no call of a folder or of the vault failed.
 pub fn fix_and_fix_again<R: Threads + Sync>(
     rt: &R,
     alloc: Global,
@@ -97,8 +97,8 @@ pub fn fix_and_fix_again<R: Threads + Sync>(
     Ok(last.status)
 }
 
-/// A run over an array without parity and content; then a file of the first disk is taken away; and two fixes, the second of
-/// what a stop within the first may leave.
+/// A run over an array without parity and content; then a file of the first disk is taken away; and two fixes, the second over
+/// the folders as the first one left them, and over what a stop within the first may leave of the vault.
 pub fn lose_and_fix_twice<R: Threads + Sync>(
     rt: &R,
     alloc: Global,

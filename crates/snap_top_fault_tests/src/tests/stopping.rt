@@ -148,7 +148,8 @@ fn is_sound(alloc: Global, left: &Left, choice: &[u8], stops: &Stops) -> Result<
     )
 }
 
-fn is_known(content: &[u8], level: &[u8], known: &[Known]) -> bool {
+/// Whether this content may be left, with the sums of the stripes that it calls synced in this level.
+pub fn is_known(content: &[u8], level: &[u8], known: &[Known]) -> bool {
     known.iter().any(|known| content == known.content
         && known.sums.iter().all(|sum| is_in(*sum, level)))
 }

@@ -15,8 +15,8 @@ const TWO_COPIES: Array = Array {
     ..FIVE
 };
 
-// What content may be left, with as many stripes synced. The sum of a stripe is the block of the one disk.
-const KNOWN: &[Known] = &[
+/// What content may be left, with as many stripes synced. The sum of a stripe is the block of the one disk.
+pub const KNOWN: &[Known] = &[
     Known {
         content: b"",
         sums: &[],

@@ -22,6 +22,41 @@ fn one_file_is_synced_and_listed(rt: HostRuntime) -> Result<(), Fail> {
     follows(&rt, rt.alloc(), &CASES)
 }
 
+// The vault has a file for each part. Each but the last of a level may hold almost a gigabyte.
+const IN_PARTS: Array = Array {
+    config: "blocksize 1\nsplitsize 1\nparity p,q,r\ncontent content\ndata d1 d\n",
+    levels: 3,
+    ..ONE
+};
+
+#[test]
+fn a_level_in_three_files(rt: HostRuntime) -> Result<(), Fail> {
+    static CASES: [Case; 3] = [
+        Case {
+            array: IN_PARTS,
+            contents: &[ONE_FILE],
+            levels: &[&[b"qrstuvwxyz"], &[], &[]],
+            ..SYNCED
+        },
+        Case {
+            array: IN_PARTS,
+            out: "10 1.000000005 d1:a\n1 files, 10 bytes\n",
+            ..LISTED
+        },
+        Case {
+            array: Array {
+                disks: &[&[]],
+                ..IN_PARTS
+            },
+            words: &["snapraid", "sync", "-E", "-c", "FILE"],
+            out: "sync: 0 stripes synced, 0 pending\n",
+            levels: &[&[], &[], &[]],
+            ..SYNCED
+        },
+    ];
+    follows(&rt, rt.alloc(), &CASES)
+}
+
 #[test]
 fn no_file_at_all(rt: HostRuntime) -> Result<(), Fail> {
     static CASES: [Case; 2] = [

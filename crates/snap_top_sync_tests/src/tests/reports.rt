@@ -29,9 +29,15 @@ impl Brittle {
 }
 
 impl Report for Brittle {
-    ghost use Rattle.std.specs.Prelude.{nat_lt, false};
+    ghost use Rattle.std.specs.Prelude.{nat_lt, [], false};
 
-    ghost standing = { λ report. record { faults = report.faults; failed = nat_lt 0 report.faults; steady = false } };
+    ghost standing = { λ report. record {
+      faults = report.faults;
+      failed = nat_lt 0 report.faults;
+      steady = false;
+      tells = false;
+      written = [];
+    } };
 
     ghost stands = { λ _ _. ⊥ };
 

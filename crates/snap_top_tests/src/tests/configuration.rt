@@ -26,7 +26,7 @@ fn refused_lines(rt: HostRuntime) -> Result<(), Fail> {
         ("parity", "snapraid: FILE:1: bad value\n"),
         ("\nsmart a\n", "snapraid: FILE:2: unknown keyword\n"),
         ("# a\nz-parity p\n", "snapraid: FILE:2: not supported\n"),
-        ("parity p,q\n", "snapraid: FILE:1: more than one file\n"),
+        ("parity p,,q\n", "snapraid: FILE:1: bad value\n"),
         ("parity p\nparity q\n", "snapraid: FILE:2: repeated\n"),
         ("exclude a/b\\\n", "snapraid: FILE:1: bad pattern\n"),
         (

@@ -17,6 +17,7 @@ returns-in-Ok-open-clause-given g c =
     (λ told. let just = c.in-Ok-open.ensures.just told in omega (arith, opened, just))
     (λ column below. c.in-Ok-open.ensures.folders column (omega (arith, below, opened)))
     (as_many_levels _ _ _ _ _ _ _ places.parities.ok.0 places.contents.ok.0 c.in-Ok-open.ensures.vault)
+    c.in_ok-setup.ensures.valid
 
 pub returns-in-Ok-open-clause-images : goal.returns-in-Ok-open-clause-images
 returns-in-Ok-open-clause-images g c = images_given _ _ _ _ _ c.in_ok-setup.ensures.kept c.in_ok-setup.ensures.called.tells c.in-Ok-open.ensures.vault

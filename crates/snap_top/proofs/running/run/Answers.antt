@@ -1,9 +1,9 @@
 use Rattle.std.proofs.Common.{arith}
 use Rattle.snap_top.proofs.CompleteLemmas.{smooth_is_done}
+use Rattle.snap_top.proofs.LevelsLemmas.{by_said, refused_seen}
 use Rattle.snap_top.proofs.MomentLemmas.{every_moment}
 use Rattle.snap_top.proofs.NamingLemmas.{checks_end}
 use Rattle.snap_top.proofs.PartLemmas.{syncs_end_in_part}
-use Rattle.snap_top.proofs.RefusalLemmas.{refusal_touches_nothing}
 use Rattle.snap_top.proofs.RestoringLemmas.{fixes_end}
 use Rattle.snap_top.proofs.ScrubbedLemmas.{scrubs_end}
 use Rattle.snap_top.proofs.SilentLemmas.{done_is_silent}
@@ -11,42 +11,50 @@ use Rattle.snap_top.proofs.StepLemmas.{every_run_steps}
 use Rattle.snap_top.proofs.running.run.Goals as goal
 
 pub returns-clause-refused : goal.returns-clause-refused
-returns-clause-refused g c = let ran = c.work-end.ensures in refusal_touches_nothing _ _ c.work-end.result.end ran.told _ c.status.ensures ran.ran
+returns-clause-refused g c = refused_seen _ _ _ _ _ _ _ c.work-end.ensures _ c.status.ensures
 
 pub returns-clause-silent : goal.returns-clause-silent
 returns-clause-silent g c = done_is_silent c.work-end.result.end _ _ _ c.status.ensures c.say.ensures
 
 pub returns-clause-complete : goal.returns-clause-complete
-returns-clause-complete g c = let ran = c.work-end.ensures in smooth_is_done _ _ c.work-end.result.end ran.told _ c.status.ensures ran.ran
+returns-clause-complete g c smooth =
+    let ran = c.work-end.ensures in
+    smooth_is_done _ _ c.work-end.result.end ran.told _ c.status.ensures (by_said _ _ _ _ _ _ _ ran smooth.tells) smooth
 
 pub returns-clause-sound : goal.returns-clause-sound
-returns-clause-sound g c =
+returns-clause-sound g c fresh =
     let ran = c.work-end.ensures in
     let parts = c.a_sync_is_a_part_sync.ensures in
-    every_moment parts.laid parts.copies c.every_moment_is_sound.ensures c.a_fix_keeps_what_is_sound.ensures.sound c.a_scrub_keeps_what_is_synced.ensures.valid c.a_scrub_keeps_what_is_synced.ensures.sound c.a_layout_keeps_its_stripes.ensures c.one_table_has_a_spelling.ensures c.what_is_pending_is_found.ensures.findings _ _ c.work-end.result.end ran.told _ (omega arith) c.status.ensures ran.ran
+    every_moment parts.laid parts.copies c.every_moment_is_sound.ensures c.a_fix_keeps_what_is_sound.ensures.sound c.a_scrub_keeps_what_is_synced.ensures.valid c.a_scrub_keeps_what_is_synced.ensures.sound c.a_layout_keeps_its_stripes.ensures c.one_table_has_a_spelling.ensures c.what_is_pending_is_found.ensures.findings _ _ c.work-end.result.end ran.told _ (omega arith) c.status.ensures
+    (by_said _ _ _ _ _ _ _ ran fresh.tells) fresh
 
 pub returns-clause-synced : goal.returns-clause-synced
-returns-clause-synced g c =
+returns-clause-synced g c tells =
     let ran = c.work-end.ensures in
     let parts = c.a_sync_is_a_part_sync.ensures in
-    syncs_end_in_part parts.laid parts.part parts.full parts.given c.what_is_pending_is_found.ensures.findings c.what_is_pending_is_found.ensures.found c.a_layout_keeps_its_stripes.ensures _ _ c.work-end.result.end ran.told _ (omega arith) c.status.ensures ran.ran
+    syncs_end_in_part parts.laid parts.part parts.full parts.given c.what_is_pending_is_found.ensures.findings c.what_is_pending_is_found.ensures.found c.a_layout_keeps_its_stripes.ensures _ _ c.work-end.result.end ran.told _ (omega arith) c.status.ensures
+    (by_said _ _ _ _ _ _ _ ran tells.tells) tells
 
 pub returns-clause-fixed : goal.returns-clause-fixed
-returns-clause-fixed g c =
+returns-clause-fixed g c tells =
     let ran = c.work-end.ensures in
     let restores = c.a_fix_restores.ensures in
-    fixes_end restores.restored restores.unrestored restores.lost restores.told restores.known c.a_fix_keeps_what_is_sound.ensures.facts _ _ c.work-end.result.end ran.told _ c.status.ensures ran.ran
+    fixes_end restores.restored restores.unrestored restores.lost restores.told restores.known c.a_fix_keeps_what_is_sound.ensures.facts _ _ c.work-end.result.end ran.told _ c.status.ensures
+    (by_said _ _ _ _ _ _ _ ran tells.tells) tells
 
 pub returns-clause-checked : goal.returns-clause-checked
-returns-clause-checked g c =
+returns-clause-checked g c tells =
     let ran = c.work-end.ensures in
-    checks_end c.a_known_row_is_the_snapshots.ensures.restorable c.a_fix_keeps_what_is_sound.ensures.facts _ _ c.work-end.result.end ran.told _ c.status.ensures ran.ran
+    checks_end c.a_known_row_is_the_snapshots.ensures.restorable c.a_fix_keeps_what_is_sound.ensures.facts _ _ c.work-end.result.end ran.told _ c.status.ensures
+    (by_said _ _ _ _ _ _ _ ran tells.tells) tells
 
 pub returns-clause-scrubbed : goal.returns-clause-scrubbed
-returns-clause-scrubbed g c = let ran = c.work-end.ensures in scrubs_end _ _ c.work-end.result.end ran.told _ (omega arith) c.status.ensures ran.ran
+returns-clause-scrubbed g c tells =
+    let ran = c.work-end.ensures in
+    scrubs_end _ _ c.work-end.result.end ran.told _ (omega arith) c.status.ensures (by_said _ _ _ _ _ _ _ ran tells.tells) tells
 
 pub returns-clause-step : goal.returns-clause-step
-returns-clause-step g c =
+returns-clause-step g c tells =
     let ran = c.work-end.ensures in
     let parts = c.a_sync_is_a_part_sync.ensures in
     let finds = c.what_is_pending_is_found.ensures in
@@ -73,4 +81,5 @@ returns-clause-step g c =
       restorable = c.a_known_row_is_the_snapshots.ensures.restorable;
       marks_valid = c.a_scrub_keeps_what_is_synced.ensures.valid;
       marks_sound = c.a_scrub_keeps_what_is_synced.ensures.sound;
-    }) _ _ c.work-end.result.end ran.told _ (omega arith) c.status.ensures ran.ran
+    }) _ _ c.work-end.result.end ran.told _ (omega arith) c.status.ensures
+    (by_said _ _ _ _ _ _ _ ran tells.tells) tells

@@ -2,7 +2,7 @@ use Rattle.std.proofs.Common.{List, [], ◌∷◌, ℕ, map, string_bytes, refl,
 use Rattle.disk_memory.specs.Sink.{sink_view}
 use Rattle.disk_memory.specs.Vault.{vault_view}
 use Rattle.snap_top.specs.Standing.{nothing_synced}
-use Rattle.snap_top_memory.proofs.BeginLemmas.{begins_over, fresh_with}
+use Rattle.snap_top_memory.proofs.BeginLemmas.{begins_over, faults_at, fresh_with, moment_at}
 use Rattle.snap_top_memory.proofs.lived.run_anew.Goals as goal
 
 pub returns-in-Some : goal.returns-in-Some
@@ -31,7 +31,7 @@ returns-in-Some g c =
       folders_are = refl;
       vault_is = c.in-Some.is;
       begins = begins;
-      moment = fresh.vault_is.moment refl ∙ c.requires.moment;
-      faults = fresh.vault_is.faults ∙ c.requires.faults;
+      moment = moment_at _ _ _ _ fresh c.requires;
+      faults = faults_at _ _ _ _ fresh c.requires;
       step = made.ensures.step (begins nothing_synced).tells (begins nothing_synced).settled;
     }
