@@ -1,4 +1,5 @@
 // What the line says, and when it stands on the terminal.
+use crate::extent::Extent;
 use crate::line::Line;
 use crate::meter::Meter;
 use crate::pace::{Mark, Pace};
@@ -86,6 +87,53 @@ fn lines_of_work_since_one_time(rt: HostRuntime) -> Result<(), Fail> {
         let line = Line::new(&Pace::since(SINCE), case.now, case.length);
         let text = format!(in rt.alloc(); "{line}")?;
         assert_eq!(rt; text.as_str(), case.line);
+    }
+    Ok(())
+}
+
+// What is told of parity: whether a length is asked, and else a place come to; the file, and the number. Then the place and
+// the length of parity that are known by it, 0 where none is.
+type Step = (bool, u32, u64, u64, u64);
+
+#[test]
+fn a_place_in_a_level_of_several_files(rt: HostRuntime) -> Result<(), Fail> {
+    // levels of the files 0 to 2, of 3, and of 4 and 5
+    static SPLIT: [Step; 15] = [
+        (true, 0, 100, 0, 100),
+        (true, 1, 100, 0, 100),
+        (true, 2, 30, 0, 30),
+        (false, 0, 7, 7, 0),
+        (false, 3, 7, 7, 0),
+        (true, 4, 200, 0, 0),
+        (true, 5, 30, 0, 0),
+        (false, 4, 7, 7, 230),
+        (true, 0, 100, 0, 0),
+        (true, 1, 100, 0, 0),
+        (true, 2, 30, 0, 0),
+        (false, 1, 100, 200, 230),
+        (false, 2, 5, 205, 230),
+        (false, 3, 205, 205, 0),
+        (false, 2, 9, 209, 230),
+    ];
+    // each level has one file
+    static WHOLE: [Step; 5] = [
+        (true, 0, 50, 0, 50),
+        (true, 1, 50, 0, 50),
+        (false, 0, 7, 7, 0),
+        (false, 1, 7, 7, 0),
+        (false, 0, 9, 9, 0),
+    ];
+    for steps in [SPLIT.as_slice(), WHOLE.as_slice()] {
+        let mut extent = Extent::new();
+        for (is_length, file, number, place, length) in steps {
+            let known = if *is_length {
+                (0, extent.ask(*file, *number))
+            } else {
+                extent.come(*file, *number)
+            };
+            assert_eq!(rt; known.0, *place);
+            assert_eq!(rt; known.1.unwrap_or(0), *length);
+        }
     }
     Ok(())
 }

@@ -1,4 +1,5 @@
 // A vault in whose parity the place of the work is shown.
+use crate::extent::Extent;
 use crate::meter::Meter;
 use crate::tally::{Tally, bytes_of};
 use disk_model::{Failed, Vault};
@@ -10,6 +11,7 @@ use std::time::Clock;
 pub struct MeteredVault<'a, V, C, T> {
     vault: V,
     tally: Tally<'a, C, T>,
+    extent: Extent,
 }
 
 impl<'a, V, C, T> MeteredVault<'a, V, C, T> {
@@ -21,6 +23,7 @@ impl<'a, V, C, T> MeteredVault<'a, V, C, T> {
         MeteredVault {
             vault,
             tally: Tally::new(meter),
+            extent: Extent::new(),
         }
     }
 
@@ -29,6 +32,26 @@ impl<'a, V, C, T> MeteredVault<'a, V, C, T> {
     {
         &self.vault
     }
+}
+
+// Tells a meter how long parity is, if that is known.
+fn set_length<C: Clock, T: Write + Drop>(tally: &Tally<'_, C, T>, length: Option<u64>) {
+    if let Some(length) = length {
+        tally.meter().set_length(length);
+    }
+}
+
+// One call read so many bytes of parity, and came to this place in a file.
+fn count_in<C: Clock, T: Write + Drop>(
+    tally: &mut Tally<'_, C, T>,
+    extent: &mut Extent,
+    bytes: u64,
+    file: u32,
+    place: u64,
+) {
+    let (place, length) = extent.come(file, place);
+    set_length(tally, length);
+    tally.count_at(bytes, place);
 }
 
 impl<'a, V: Vault, C: Clock + Sync, T: Write + Drop + Send> Vault for MeteredVault<'a, V, C, T> {
@@ -51,7 +74,8 @@ impl<'a, V: Vault, C: Clock + Sync, T: Write + Drop + Send> Vault for MeteredVau
     fn parity_len(&mut self, level: u32) -> Result<u64, Failed> {
         let answer = self.vault.parity_len(level);
         if let Ok(len) = &answer {
-            self.tally.meter().set_length(*len);
+            let length = self.extent.ask(level, *len);
+            set_length(&self.tally, length);
         }
         answer
     }
@@ -59,19 +83,20 @@ impl<'a, V: Vault, C: Clock + Sync, T: Write + Drop + Send> Vault for MeteredVau
     fn parity_read(&mut self, level: u32, at: u64, out: &mut [u8]) -> Result<usize, Failed> {
         let answer = self.vault.parity_read(level, at, out);
         let bytes = bytes_of(&answer);
-        self.tally.count_at(bytes, at.saturating_add(bytes));
+        let place = at.saturating_add(bytes);
+        count_in(&mut self.tally, &mut self.extent, bytes, level, place);
         answer
     }
 
     fn parity_write(&mut self, level: u32, at: u64, bytes: &[u8]) -> Result<(), Failed> {
         let answer = self.vault.parity_write(level, at, bytes);
-        self.tally
-            .count_at(0, at.saturating_add(bytes.len() as u64));
+        let place = at.saturating_add(bytes.len() as u64);
+        count_in(&mut self.tally, &mut self.extent, 0, level, place);
         answer
     }
 
     fn parity_set_len(&mut self, level: u32, len: u64) -> Result<(), Failed> {
-        self.tally.meter().set_length(len);
+        set_length(&self.tally, self.extent.known(len));
         self.vault.parity_set_len(level, len)
     }
 
