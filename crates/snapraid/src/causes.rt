@@ -60,7 +60,7 @@ impl<'a, W: Sink> Causes<'a, W> {
 
     fn put(&mut self, failure: &Failure) {
         match failure.request {
-            Request::FindParity(level) => self.put_parity(level, failure.name.as_str()),
+            Request::FindParity(_) => self.put_parity(failure.name.as_str()),
             request => self.lines.put_all(&[
                 Piece::Text("snapraid: "),
                 Piece::Text(request.as_str()),
@@ -73,13 +73,13 @@ impl<'a, W: Sink> Causes<'a, W> {
         }
     }
 
-    fn put_parity(&mut self, level: u32, name: &str) {
+    // What to do with a lost file depends on how many its level has, which the configuration says.
+    fn put_parity(&mut self, name: &str) {
         self.lines.put_all(&[
             Piece::Text("snapraid: parity file '"),
             Piece::Printed(name),
-            Piece::Text("' is not there: mount its disk, or rebuild it by 'fix -d "),
-            Piece::Level(level),
-            Piece::Text("'\n"),
+            Piece::Text("' was not there: mount its disk, make it empty if it is new, "),
+            Piece::Text("or give it its full length if it is lost (see the manual)\n"),
         ]);
     }
 }
