@@ -29,11 +29,19 @@ def make_files(room, name, total, size):
     return count
 
 
-def configuration(room, name, tool, block=256, levels=LEVELS):
-    """The path of a configuration with blocks of so many KiB, so many levels, and one copy of the content more."""
-    lines = []
+def parity_files(room, name, tool, level, parts):
+    """The files of a level, in order."""
+    only = f"{room}/{tool}-{name}.parity{level}"
+    return [only] if parts == 1 else [f"{only}.{part}" for part in range(parts)]
+
+
+def configuration(room, name, tool, block=256, levels=LEVELS, parts=1):
+    """The path of a configuration with blocks of so many KiB, so many levels, and one copy of the content more. Each level has so many
+    files, and where that is more than one, each but the last holds 10^9 bytes."""
+    lines = [] if parts == 1 else ["splitsize 1"]
     for level in range(levels):
-        lines.append(f"{'' if level == 0 else str(level + 1) + '-'}parity {room}/{tool}-{name}.parity{level}")
+        files = ",".join(parity_files(room, name, tool, level, parts))
+        lines.append(f"{'' if level == 0 else str(level + 1) + '-'}parity {files}")
     for copy in range(levels + 1):
         lines.append(f"content {room}/{tool}-{name}.content{copy}")
     lines += [f"data d{disk} {room}/{name}/d{disk}/" for disk in range(DISKS)]

@@ -10,13 +10,13 @@ files=${1:-200000}
 scratch=$(mktemp -d)
 trap 'rm -rf "$scratch"' EXIT
 
-for crate in block_hash disk_model disk_memory file_table content_file; do
+for crate in block_hash disk_model disk_calm disk_memory file_table content_file; do
     mkdir -p "$scratch/crates/$crate"
     for part in src specs proofs; do
         cp -r "$top/crates/$crate/$part" "$scratch/crates/$crate/$part"
     done
 done
-grep -E '^(block_hash|disk_model|disk_memory|file_table|content_file):' "$top/crates.txt" >"$scratch/crates.txt"
+grep -E '^(block_hash|disk_model|disk_calm|disk_memory|file_table|content_file):' "$top/crates.txt" >"$scratch/crates.txt"
 echo 'content_speed: content_file file_table block_hash disk_model disk_memory' >>"$scratch/crates.txt"
 mkdir -p "$scratch/crates/content_speed/src"
 cp "$top/HANDLES" "$scratch/HANDLES"

@@ -39,9 +39,9 @@ from tracing import Tamper, traced  # noqa: E402
 
 ERRORS = {errno.EIO: "EIO", errno.ENOSPC: "ENOSPC"}
 # What was asked of the system, of which file, and what the system said. It stands behind the lines of a run.
-CAUSE = re.compile(r"snapraid: (?:[a-z ]+ '[^\n]*': [^\n]*|parity file '[^\n]*' is not there: [^\n]*)\n")
+CAUSE = re.compile(r"snapraid: (?:[a-z ]+ '[^\n]*': [^\n]*|parity file '[^\n]*' was not there: [^\n]*)\n")
 # A level that a check, a scrub or a fix read and that is gone. It stands behind the lines of a run that nothing is in the way of, too.
-MISSING = re.compile(r"snapraid: parity file '[^\n]*' is not there: [^\n]*\n")
+MISSING = re.compile(r"snapraid: parity file '[^\n]*' was not there: [^\n]*\n")
 OPENING = "configuration or opening failed"
 VAULT = "parity or content failed"
 ALWAYS = ("output failed", "/dev/null cannot be opened", "the system gave no random bytes")

@@ -27,7 +27,9 @@ FIRST = "snapraid: disk 'd1' failed\nsnapraid: "
 VAULT = "snapraid: parity or content failed\nsnapraid: "
 NO_FILE = "': not a regular file\n"
 NO_ROOM = "': No space left on device\n"
-MISSING = "snapraid: parity file '{room}/par/p' is not there: mount its disk, or rebuild it by 'fix -d parity'\n"
+LACKING = ("' was not there: mount its disk, make it empty if it is new, "
+           "or give it its full length if it is lost (see the manual)\n")
+MISSING = "snapraid: parity file '{room}/par/p" + LACKING
 GONE = "snapraid: parity or content failed\n" + MISSING
 # Times of the earliest files, in nanoseconds since 1970. A fix can't set one before 1970.
 FIRST_OF_1970 = "d1/first"
@@ -182,6 +184,23 @@ def empty_mount(array):
     array.put("d1/new", b"new")
 
 
+def in_two_files(array):
+    """The first level has another file at its end, which is not there yet."""
+    with open(array.at("conf"), "w", encoding="ascii") as out:
+        out.write(CONFIG.format(room=array.room).replace("par/p\n", f"par/p,{array.room}/p2\n"))
+
+
+def first_of_two_gone(array):
+    in_two_files(array)
+    array.put("p2", b"")
+    remove(array, "par/p")
+
+
+def second_not_made(array):
+    in_two_files(array)
+    array.put("d1/new", b"n" * 400_000)
+
+
 def no_utf8(array):
     with open(os.path.join(os.fsencode(array.at("d1/s")), b"bad\xff"), "wb"):
         pass
@@ -254,6 +273,9 @@ OTHERS = [
     ("a parity file that is gone at a check", removed("par/p"), "check", 1, MISSING, lambda array: array.run("fix")),
     ("a parity file that is gone at a scrub", removed("par/p"), "scrub -p full", 1, MISSING, lambda array: array.run("fix")),
     ("a parity file that is gone at a sync with nothing to do", removed("par/p"), "sync", 3, GONE, lambda array: array.run("fix")),
+    ("the first of two files of a level that is gone at a check", first_of_two_gone, "check", 1, MISSING, lambda array: array.run("fix")),
+    ("a file at the end of a level that was not made", second_not_made, "sync", 3, VAULT + "parity file '{room}/p2" + LACKING,
+     lambda array: array.put("p2", b"")),
     ("a full disk under parity", full("par"), "sync", 3, VAULT + "write '{room}/par/p" + NO_ROOM, without_mount("par")),
     ("a full disk under content", full("c"), "sync", 3, VAULT + "write '{room}/c/content.tmp" + NO_ROOM, without_mount("c")),
     ("a folder in the place of a level", folder_in_place("q"), "sync", 3, VAULT + "look at '{room}/q" + NO_FILE,

@@ -21,6 +21,8 @@ from fix_model import BAD, FRESH, KEYWORDS, LOST, SYNCED, Model, Record, Table, 
 
 NAMES = ["a", "b", "b/c", "d/e", "d/f/g", "h.txt", "i\\j", "k l"]
 SIZES = [0, 1, 10, 1023, 1024, 1025, 2048, 3000, 9000, 20_000]
+LACKING = ("' was not there: mount its disk, make it empty if it is new, "
+           "or give it its full length if it is lost (see the manual)\n")
 
 
 class Array:
@@ -76,7 +78,7 @@ class Array:
         gone = {}
         for i in range(self.count):
             if not os.path.exists(f"{self.room}/p{i}"):
-                gone[f"snapraid: parity file '{self.room}/p{i}' is not there: mount its disk, or rebuild it by 'fix -d {KEYWORDS[i]}'\n"] = KEYWORDS[i]
+                gone[f"snapraid: parity file '{self.room}/p{i}{LACKING}"] = KEYWORDS[i]
         wrong = {line for line, level in gone.items() if re.search(f"^wrong-parity [0-9]+ {level}$", out, re.MULTILINE)}
         lines = err.splitlines(True)
         return len(lines) == len(set(lines)) and wrong <= set(lines) <= set(gone)
