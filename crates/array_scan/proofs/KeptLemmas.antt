@@ -28,13 +28,13 @@ use Rattle.array_scan.proofs.LostLemmas.{both_true}
 use Rattle.array_scan.proofs.OriginLemmas.{sorted_fates}
 use Rattle.array_scan.proofs.SortedLemmas.{sorted_sound}
 
-list_at : (lists : List Listing) (d : ℕ) (e : Listing) → d < length lists → get_or (lists_of lists) d [] ≡ files_of (get_or lists d e)
+pub list_at : (lists : List Listing) (d : ℕ) (e : Listing) → d < length lists → get_or (lists_of lists) d [] ≡ files_of (get_or lists d e)
 list_at lists d e within = get_or-map files_of lists d e [] within
 
 abbrev kept_of : SetupValue → List (List ListedFile) → ℕ → List ListedFile
 kept_of setup lists d = kept_files setup d (get_or lists d [])
 
-kept_each : (setup : SetupValue) (lists : List (List ListedFile)) (d : ℕ) → d < length lists → get_or (kept_lists setup lists) d [] ≡ kept_files setup d (get_or lists d [])
+pub kept_each : (setup : SetupValue) (lists : List (List ListedFile)) (d : ℕ) → d < length lists → get_or (kept_lists setup lists) d [] ≡ kept_files setup d (get_or lists d [])
 kept_each setup lists d within = get_or-map-range_with_len (kept_of setup lists) 0 (length lists) d d [] within (omega arith)
 
 pub kept_at : (setup : SetupValue) (lists : List Listing) (d : ℕ) (e : Listing) → d < length lists → get_or (kept_lists setup (lists_of lists)) d [] ≡ kept_files setup d (files_of (get_or lists d e))

@@ -40,7 +40,7 @@ itself a =
     ∙ ap (λ (t : Bool). t && (a.stamp.nanos == a.stamp.nanos)) ((Decides-int_eq a.stamp.seconds a.stamp.seconds).1 refl)
     ∙ eq-eqb a.stamp.nanos a.stamp.nanos refl
 
-own_at : (records : List Record) (k : ℕ) → k < length records → file_of (own_files records) k ≡ ((record_of records k).path, (record_of records k).meta)
+pub own_at : (records : List Record) (k : ℕ) → k < length records → file_of (own_files records) k ≡ ((record_of records k).path, (record_of records k).meta)
 own_at records k within = get_or-map (λ (kept : Record). (kept.path, kept.meta)) records k no_record ([], no_meta) within
 
 -- no path is less than itself
@@ -76,7 +76,7 @@ own_fate column k order within =
 abbrev own_sorted : List Record → ℕ → Sorted
 own_sorted records k = record { path = (record_of records k).path; meta = (record_of records k).meta; fate = Unchanged k }
 
-length-own : (records : List Record) → length (own_files records) ≡ length records
+pub length-own : (records : List Record) → length (own_files records) ≡ length records
 length-own records = length-map records (λ (kept : Record). (kept.path, kept.meta))
 
 -- two lists made of a number each are equal where the elements are

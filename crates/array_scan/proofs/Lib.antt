@@ -17,3 +17,4 @@ pub mod MemoryLemmas
 pub mod EndLemmas
 pub mod ContainsLemmas
 pub mod KeepingLemmas
+pub mod UnchangedLemmas

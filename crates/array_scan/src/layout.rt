@@ -13,6 +13,7 @@ use crate::kept::kept;
 use crate::placing::place_all;
 use crate::refusing::refusal;
 use crate::sorting::{ColumnFiles, sort_files};
+use crate::unchanged::is_unchanged;
 use crate::{Listing, ScanFault};
 use disk_model::NoMemory;
 use file_table::{Mark, Table};
@@ -24,6 +25,13 @@ use std::alloc::Global;
 pub struct Plan {
     pub table: Table,
     pub pending: Vec<u32>,
+}
+
+/// Why files were not laid out, and the table over which they were to be.
+#[derive(Drop)]
+pub struct Unlaid {
+    pub fault: ScanFault,
+    pub table: Table,
 }
 
 // The kept files of each column, sorted by what became of them.
@@ -107,5 +115,44 @@ pub fn lay_out(
         }
         // The layout is valid, so the builder refuses it for memory alone.
         Err(_) => Err(ScanFault::Memory),
+    }
+}
+
+/// What `lay_out` gives. Where the kept files are just the records, it is the old table, and none is made beside it. A
+/// refusal hands the old table back.
+pub fn lay_out_in_place(
+    alloc: Global,
+    old: Table,
+    lists: &[Listing],
+    setup: &Setup,
+    way: &SyncWay,
+) -> Result<Plan, Unlaid>
+    requires lists { length lists.now ≡ length old.columns }
+    requires disks { length setup.now.disks ≡ length old.columns }
+    requires order { All IsListing (lists_of lists.now) }
+    ensures laid { IfOk result (λ plan. plan.table
+        ≡ layout old (kept_lists (setup_value setup.now) (lists_of lists.now))) }
+    ensures pending { IfOk result (λ plan. plan.pending.items ≡ pending_stripes plan.table.infos) }
+    ensures unrefused { IfOk result (λ plan. refusal way.now.force_zero way.now.force_empty old
+        (all_sorted old (kept_lists (setup_value setup.now) (lists_of lists.now))) ≡ None) }
+    ensures refused { IfErr result (λ unlaid. IsCause (refusal way.now.force_zero way.now.force_empty old
+        (all_sorted old (kept_lists (setup_value setup.now) (lists_of lists.now)))) unlaid.fault) }
+    ensures back { IfErr result (λ unlaid. unlaid.table ≡ old) }
+{
+    if !is_unchanged(&old, lists, setup) {
+        return match lay_out(alloc, &old, lists, setup, way) {
+            Ok(plan) => Ok(plan),
+            Err(fault) => Err(Unlaid { fault, table: old }),
+        };
+    }
+    match pending_stripes(alloc, &old) {
+        Ok(pending) => Ok(Plan {
+            table: old,
+            pending,
+        }),
+        Err(_) => Err(Unlaid {
+            fault: ScanFault::Memory,
+            table: old,
+        }),
     }
 }

@@ -5,7 +5,7 @@
 //! others take the lowest free positions (`placing.rt`, `specs/Laying.antt`). `listings` asks each folder once.
 //! Proved: `lay_out` gives that table, and refuses exactly what `specs/Refusals.antt` says, in that order; `laws.rt`:
 //! the layout of a table whose records are just the kept files is that table, and so is that of a layout over the same
-//! files. A layout is valid, so that its builder refuses it for memory alone.
+//! files. `lay_out_in_place` gives that table itself then (`unchanged.rt`). A layout is valid, so that its builder refuses it for memory alone.
 //! Not here: what the files hold.
 #![tactic(auto)]
 
@@ -19,7 +19,8 @@ mod lost;
 mod placing;
 mod refusing;
 mod sorting;
+mod unchanged;
 
 pub use fault::ScanFault;
-pub use layout::{Plan, lay_out};
+pub use layout::{Plan, Unlaid, lay_out, lay_out_in_place};
 pub use listing::{Listing, ListingFault, listings};

@@ -5,7 +5,7 @@ ghost use Rattle.array_scan.specs.Kept.{lists_of};
 
 use crate::tests::array::{File, listed_files, no_files, setup};
 use crate::tests::synced::synced_plan;
-use array_scan::{Listing, Plan, ScanFault, lay_out};
+use array_scan::{Listing, Plan, ScanFault, lay_out, lay_out_in_place};
 use file_table::{Block, Table};
 use snap_config::{Setup, SyncWay};
 use std::alloc::Global;
@@ -89,7 +89,25 @@ pub fn lay(
     lay_out(alloc, old, &lists, setup, way)
 }
 
-// The layout of some files over the synced layout of others.
+// The same in the place of the old table.
+fn lay_in_place(
+    alloc: Global,
+    old: Table,
+    lists: Vec<Listing>,
+    setup: &Setup,
+    way: &SyncWay,
+) -> Result<Plan, ScanFault>
+    requires columns { length old.columns ≡ length lists.items }
+    requires disks { length setup.now.disks ≡ length lists.items }
+    requires order { All IsListing (lists_of lists.items) }
+{
+    match lay_out_in_place(alloc, old, &lists, setup, way) {
+        Ok(plan) => Ok(plan),
+        Err(unlaid) => Err(unlaid.fault),
+    }
+}
+
+// The layout of some files over the synced layout of others, which is the same in its place.
 fn laid_over(
     alloc: Global,
     before: &[File],
@@ -104,7 +122,10 @@ fn laid_over(
         .ok_or("refused")?;
     let old = synced_plan(alloc, &first)?;
     let outcome = lay(alloc, &old, listed_files(alloc, after)?, &setup, way);
-    outcome_of(alloc, &outcome)
+    let text = outcome_of(alloc, &outcome)?;
+    let in_place = lay_in_place(alloc, old, listed_files(alloc, after)?, &setup, way);
+    let same = outcome_of(alloc, &in_place)? == text;
+    Ok(same.then_some(text).ok_or("another layout in place")?)
 }
 
 // Whether that is the outcome.
