@@ -1,7 +1,9 @@
 // A table as the bytes of a content file, in pieces.
 ghost use Rattle.std.specs.Prelude.{◌≡◌, ◌≢◌, ◌↔◌, ◌+◌, ◌-◌, ◌<◌, ◌≤◌, [], ◌++◌, length, take, drop, min, IsTrue};
+ghost use Rattle.content_file.specs.Encoding.{IsDigestOf};
 ghost use Rattle.content_file.specs.Spelling.{spelling};
 
+use crate::TableDigest;
 use crate::field::Field;
 use crate::remaining::Remaining;
 use arrayvec::ArrayVec;
@@ -29,11 +31,13 @@ impl<'a> Model for Encoder<'a> {
 }
 
 impl<'a> Encoder<'a> {
-    pub fn new(table: &'a Table) -> Encoder<'a>
+    /// Of a table and its digest.
+    pub fn new(table: &'a Table, digest: TableDigest) -> Encoder<'a>
+        requires { IsDigestOf table.now digest }
         ensures { result ≡ spelling table.now }
     {
         Encoder {
-            fields: Remaining::new(table),
+            fields: Remaining::new(table, digest),
             field: ArrayVec::new(),
             given: 0,
         }

@@ -1,7 +1,7 @@
 // A field as bytes, without taking memory.
 ghost use Rattle.arrayvec.specs.ArrayVec.{array_vec_len};
 ghost use Rattle.std.specs.Int.{w16, w32, w64, to_le_bytes};
-ghost use Rattle.std.specs.Prelude.{◌≡◌, ◌+◌, ◌∷◌, ◌++◌, [], ◌≤◌, length};
+ghost use Rattle.std.specs.Prelude.{◌≡◌, ◌+◌, ◌∷◌, ◌++◌, [], ◌<◌, ◌≤◌, length};
 ghost use Rattle.content_file.specs.Spelling.{short_text, long_text, kind_code, shape_bytes, meta_bytes, hash_bytes, block_bytes, flags, info_bytes};
 ghost use Rattle.file_table.specs.Valid.{IsShape, IsBlockSize, HasDigest};
 
@@ -36,14 +36,16 @@ fn put_u16(field: &mut Field, number: u16)
 
 pub(crate) fn put_u32(field: &mut Field, number: u32)
     requires { array_vec_len field.old + 4 ≤ 4118 }
-    ensures { field.new.items ≡ field.old.items ++ to_le_bytes w32 number }
+    ensures bytes { field.new.items ≡ field.old.items ++ to_le_bytes w32 number }
+    ensures long { length field.new.items ≡ length field.old.items + 4 }
 {
     put_bytes(field, &number.to_le_bytes());
 }
 
 fn put_u64(field: &mut Field, number: u64)
     requires { array_vec_len field.old + 8 ≤ 4118 }
-    ensures { field.new.items ≡ field.old.items ++ to_le_bytes w64 number }
+    ensures bytes { field.new.items ≡ field.old.items ++ to_le_bytes w64 number }
+    ensures long { length field.new.items ≡ length field.old.items + 8 }
 {
     put_bytes(field, &number.to_le_bytes());
 }
@@ -99,7 +101,9 @@ pub(crate) fn put_meta(field: &mut Field, meta: Meta)
 
 fn put_hash(field: &mut Field, hash: Option<Digest16>)
     requires { array_vec_len field.old + 17 ≤ 4118 }
-    ensures { field.new.items ≡ field.old.items ++ hash_bytes hash }
+    ensures bytes { field.new.items ≡ field.old.items ++ hash_bytes hash }
+    ensures few { length field.new.items ≤ length field.old.items + 17 }
+    ensures some { length field.old.items < length field.new.items }
 {
     match hash {
         None => put_byte(field, 0),
@@ -112,7 +116,9 @@ fn put_hash(field: &mut Field, hash: Option<Digest16>)
 
 pub(crate) fn put_block(field: &mut Field, block: Block)
     requires { array_vec_len field.old + 21 ≤ 4118 }
-    ensures { field.new.items ≡ field.old.items ++ block_bytes block }
+    ensures bytes { field.new.items ≡ field.old.items ++ block_bytes block }
+    ensures few { length field.new.items ≤ length field.old.items + 21 }
+    ensures some { length field.old.items < length field.new.items }
 {
     put_u32(field, block.position);
     put_hash(field, block.hash);
@@ -132,7 +138,9 @@ fn flags_of(info: Info) -> u8
 
 pub(crate) fn put_info(field: &mut Field, info: Info)
     requires { array_vec_len field.old + 9 ≤ 4118 }
-    ensures { field.new.items ≡ field.old.items ++ info_bytes info }
+    ensures bytes { field.new.items ≡ field.old.items ++ info_bytes info }
+    ensures few { length field.new.items ≤ length field.old.items + 9 }
+    ensures some { length field.old.items < length field.new.items }
 {
     put_byte(field, flags_of(info));
     put_u64(field, info.last);

@@ -4,7 +4,7 @@
 //! `saving.rt`; the format is `specs/Spelling.antt`, and the first wrong field of bytes `specs/FirstFlaw.antt`.
 //! Proved: a `Decoder`, and `decode` by it, gives the table that its pieces spell, however they are cut, and refuses
 //! exactly the bytes that spell none, with their first wrong field; the pieces of an `Encoder` are the spelling of a
-//! table. `load` gives the table of the first copy that can be read and spells one. `save` leaves
+//! table with its `TableDigest`. `load` gives the table of the first copy that can be read and spells one. `save` leaves
 //! each copy as it was or whole, at every moment. Each other answer has its cause.
 //! A table has one spelling, no spelling begins another, and bytes have a first wrong field exactly where they spell
 //! none (module `laws`).
@@ -16,6 +16,7 @@ mod checked;
 mod damages;
 mod decoder;
 mod decoding;
+mod digest;
 mod encoder;
 mod ending;
 mod fault;
@@ -31,6 +32,7 @@ mod saving;
 pub use damages::Damages;
 pub use decoder::Decoder;
 pub use decoding::decode;
+pub use digest::TableDigest;
 pub use encoder::Encoder;
 pub use fault::{Damage, DecodeFault, Flaw};
 pub use loading::{LoadFault, load};

@@ -1,9 +1,14 @@
 // The fields of a table's spelling, one after another.
 ghost use Rattle.std.specs.Prelude.{◌≡◌, ◌≢◌, ◌<◌, ◌++◌, List, ℕ, ◌+◌, length};
-ghost use Rattle.content_file.specs.Encoding.{IsPlace, IsBody, field_of, from, blocks_from, records_from, columns_from, stripes_from};
+ghost use Rattle.content_file.specs.Encoding.{IsPlace, IsBody, field_of, from, blocks_from, records_from, columns_from, stripes_from, most_blocks_at_once, most_stripes_at_once};
 ghost use Rattle.file_table.specs.Table.{column_at, record_at};
 
 use file_table::Table;
+
+/// How many blocks, or stripes, one field has at most.
+pub(crate) const MOST_BLOCKS_AT_ONCE: usize = 128;
+
+pub(crate) const MOST_STRIPES_AT_ONCE: u32 = 256;
 
 /// Which field comes next, by numbers of the table.
 #[derive(Clone, Copy)]
@@ -14,10 +19,10 @@ pub(crate) enum Place {
     Column(u32),
     /// Path, size and stamp of a record of a column.
     Record(u32, u32),
-    /// A block of a record of a column.
-    Block(u32, u32, usize),
-    /// What is known of a stripe.
-    Stripe(u32),
+    /// Blocks of a record of a column, from one on.
+    Blocks(u32, u32, usize),
+    /// What is known of stripes, from one on.
+    Stripes(u32),
     Digest,
     /// None is left.
     End,
@@ -30,13 +35,14 @@ impl Place {
         ensures place { IsPlace table.now result }
         ensures rest { (end : List ℕ) → from table.now end self ≡ field_of table.now end self ++ from table.now end result }
         ensures more { result ≢ Place.End → IsBody self }
+        ensures body { IsBody self → result ≢ Place.End }
     {
         match self {
             Place::Head => first_column(table),
             Place::Column(d) => first_record(table, d),
             Place::Record(d, i) => first_block(table, d, i),
-            Place::Block(d, i, k) => next_block(table, d, i, k),
-            Place::Stripe(s) => next_stripe(table, s),
+            Place::Blocks(d, i, k) => next_blocks(table, d, i, k),
+            Place::Stripes(s) => next_stripes(table, s),
             Place::Digest | Place::End => Place::End,
         }
     }
@@ -44,6 +50,7 @@ impl Place {
 
 fn first_column(table: &Table) -> Place
     ensures place { IsPlace table.now result }
+    ensures more { result ≢ Place.End }
     ensures rest { (end : List ℕ) → from table.now end result ≡ columns_from table.now end 0 }
 {
     if table.disks() > 0 {
@@ -55,6 +62,7 @@ fn first_column(table: &Table) -> Place
 fn next_column(table: &Table, d: u32) -> Place
     requires { d < length table.now.columns }
     ensures place { IsPlace table.now result }
+    ensures more { result ≢ Place.End }
     ensures rest { (end : List ℕ) → from table.now end result ≡ columns_from table.now end (d + 1) }
 {
     let count = table.disks();
@@ -67,6 +75,7 @@ fn next_column(table: &Table, d: u32) -> Place
 fn first_record(table: &Table, d: u32) -> Place
     requires { d < length table.now.columns }
     ensures place { IsPlace table.now result }
+    ensures more { result ≢ Place.End }
     ensures rest { (end : List ℕ) → from table.now end result ≡ records_from table.now end d 0 }
 {
     if table.records(d) > 0 {
@@ -79,6 +88,7 @@ fn next_record(table: &Table, d: u32, i: u32) -> Place
     requires column { d < length table.now.columns }
     requires rec { i < length (column_at table.now.columns d).records }
     ensures place { IsPlace table.now result }
+    ensures more { result ≢ Place.End }
     ensures rest { (end : List ℕ) → from table.now end result ≡ records_from table.now end d (i + 1) }
 {
     let count = table.records(d);
@@ -92,46 +102,50 @@ fn first_block(table: &Table, d: u32, i: u32) -> Place
     requires column { d < length table.now.columns }
     requires rec { i < length (column_at table.now.columns d).records }
     ensures place { IsPlace table.now result }
+    ensures more { result ≢ Place.End }
     ensures rest { (end : List ℕ) → from table.now end result ≡ blocks_from table.now end d i 0 }
 {
     if table.blocks(d, i).is_empty() {
         return next_record(table, d, i);
     }
-    Place::Block(d, i, 0)
+    Place::Blocks(d, i, 0)
 }
 
-fn next_block(table: &Table, d: u32, i: u32, k: usize) -> Place
+fn next_blocks(table: &Table, d: u32, i: u32, k: usize) -> Place
     requires column { d < length table.now.columns }
     requires rec { i < length (column_at table.now.columns d).records }
     requires block { k < length (record_at table.now.columns d i).blocks }
     ensures place { IsPlace table.now result }
-    ensures rest { (end : List ℕ) → from table.now end result ≡ blocks_from table.now end d i (k + 1) }
+    ensures more { result ≢ Place.End }
+    ensures rest { (end : List ℕ) → from table.now end result ≡ blocks_from table.now end d i (k + most_blocks_at_once) }
 {
-    let count = table.blocks(d, i).len();
-    if k + 1 < count {
-        return Place::Block(d, i, k + 1);
+    let left = table.blocks(d, i).len() - k;
+    if left > MOST_BLOCKS_AT_ONCE {
+        return Place::Blocks(d, i, k + MOST_BLOCKS_AT_ONCE);
     }
     next_record(table, d, i)
 }
 
 fn first_stripe(table: &Table) -> Place
     ensures place { IsPlace table.now result }
+    ensures more { result ≢ Place.End }
     ensures rest { (end : List ℕ) → from table.now end result ≡ stripes_from table.now end 0 }
 {
     if table.length() > 0 {
-        return Place::Stripe(0);
+        return Place::Stripes(0);
     }
     Place::Digest
 }
 
-fn next_stripe(table: &Table, s: u32) -> Place
+fn next_stripes(table: &Table, s: u32) -> Place
     requires { s < length table.now.infos }
     ensures place { IsPlace table.now result }
-    ensures rest { (end : List ℕ) → from table.now end result ≡ stripes_from table.now end (s + 1) }
+    ensures more { result ≢ Place.End }
+    ensures rest { (end : List ℕ) → from table.now end result ≡ stripes_from table.now end (s + most_stripes_at_once) }
 {
-    let count = table.length();
-    if s + 1 < count {
-        return Place::Stripe(s + 1);
+    let left = table.length() - s;
+    if left > MOST_STRIPES_AT_ONCE {
+        return Place::Stripes(s + MOST_STRIPES_AT_ONCE);
     }
     Place::Digest
 }

@@ -1,29 +1,28 @@
 // A table's spelling, field by field.
 ghost use Rattle.sha2.specs.Sha256.{sha256};
-ghost use Rattle.std.specs.Prelude.{◌≡◌, ◌≢◌, ◌↔◌, ℕ, ◌<◌, List, [], ◌++◌, length, IsTrue};
-ghost use Rattle.content_file.specs.Encoding.{IsPlace, IsBody, from, field_of, head_of, column_head, record_head};
-ghost use Rattle.content_file.specs.Hashed.{HoldsFront};
-ghost use Rattle.content_file.specs.Spelling.{body, spelling};
+ghost use Rattle.std.specs.List.{flat_map};
+ghost use Rattle.std.specs.Prelude.{◌≡◌, ◌≢◌, ◌↔◌, ℕ, ◌+◌, ◌<◌, ◌≤◌, List, [], ◌++◌, drop, length, take, IsTrue};
+ghost use Rattle.content_file.specs.Encoding.{IsPlace, IsBody, IsDigestOf, from, field_of, head_of, column_head, record_head, most_blocks_at_once, most_stripes_at_once};
+ghost use Rattle.content_file.specs.Spelling.{block_bytes, body, info_bytes, spelling};
 ghost use Rattle.file_table.specs.Table.{column_at, record_at};
 ghost use Rattle.file_table.specs.Valid.{IsValid};
 
+use crate::TableDigest;
 use crate::field::{
     Field, put_block, put_byte, put_bytes, put_info, put_long_text, put_meta, put_shape,
     put_short_text, put_u32,
 };
 use crate::head::{MAGIC, VERSION};
-use crate::place::Place;
-use file_table::Table;
-use sha2::{Digest, Sha256};
+use crate::place::{MOST_BLOCKS_AT_ONCE, MOST_STRIPES_AT_ONCE, Place};
+use file_table::{Block, Table};
 use std::marker::Model;
 
 /// The fields of a table that are still to be written, seen as their bytes.
 #[derive(Drop)]
 pub(crate) struct Remaining<'a> {
     table: &'a Table,
+    digest: TableDigest,
     place: Place,
-    // It holds all fields before the place.
-    hasher: Sha256,
 }
 
 impl<'a> Model for Remaining<'a> {
@@ -31,21 +30,22 @@ impl<'a> Model for Remaining<'a> {
 
     ghost Value = { List ℕ };
 
-    ghost use Rattle.content_file.specs.EncodingState.{left_of, IsHashed};
+    ghost use Rattle.content_file.specs.EncodingState.{left_of, IsUnderway};
 
     ghost view = { left_of };
 
-    ghost invariant = { IsHashed };
+    ghost invariant = { IsUnderway };
 }
 
 impl<'a> Remaining<'a> {
-    pub(crate) fn new(table: &'a Table) -> Remaining<'a>
+    pub(crate) fn new(table: &'a Table, digest: TableDigest) -> Remaining<'a>
+        requires { IsDigestOf table.now digest }
         ensures { result ≡ spelling table.now }
     {
         Remaining {
             table,
+            digest,
             place: Place::Head,
-            hasher: Sha256::new(),
         }
     }
 
@@ -62,44 +62,65 @@ impl<'a> Remaining<'a> {
         ensures some { 0 < length self.old → 0 < length field.new.items }
     {
         field.clear();
-        put_next(field, self.table, self.place, &mut self.hasher);
+        put_next(field, self.table, self.digest, self.place);
         self.place = self.place.after(self.table);
     }
 }
 
-// The field of a place, and the hasher of all fields before it that it goes into.
-fn put_next(field: &mut Field, table: &Table, place: Place, hasher: &mut Sha256)
+// The field of a place.
+fn put_next(field: &mut Field, table: &Table, digest: TableDigest, place: Place)
     requires place { IsPlace table.now place }
+    requires digest { IsDigestOf table.now digest }
     requires empty { field.old.items ≡ [] }
-    requires hashed { place ≢ Place.End → HoldsFront table.now hasher.old (from table.now [] place) }
     ensures field { field.new.items ≡ field_of table.now (sha256 (body table.now)) place }
     ensures some { place ≢ Place.End → 0 < length field.new.items }
-    ensures hashed { IsBody place → (rest : List ℕ) → HoldsFront table.now hasher.old (field_of table.now [] place ++ rest) →
-        HoldsFront table.now hasher.new rest }
 {
     match place {
-        Place::End => {}
-        Place::Digest => put_bytes(field, &hasher.finalize_reset()),
-        _ => {
-            put_field(field, table, place);
-            hasher.update(field.as_slice());
-        }
+        Place::Digest => put_bytes(field, &digest.0),
+        _ => put_field(field, table, place),
     }
 }
 
-// The field of a place, but for the digest.
-fn put_field(field: &mut Field, table: &Table, place: Place)
+/// The field of a place, but for the digest.
+pub(crate) fn put_field(field: &mut Field, table: &Table, place: Place)
     requires place { IsPlace table.now place }
     requires empty { field.old.items ≡ [] }
-    ensures { field.new.items ≡ field_of table.now [] place }
+    ensures field { field.new.items ≡ field_of table.now [] place }
+    ensures some { IsBody place → 0 < length field.new.items }
 {
     match place {
         Place::Head => put_head(field, table),
         Place::Column(d) => put_column(field, table, d),
         Place::Record(d, i) => put_record(field, table, d, i),
-        Place::Block(d, i, k) => put_block(field, table.blocks(d, i)[k]),
-        Place::Stripe(s) => put_info(field, table.info(s)),
+        Place::Blocks(d, i, k) => put_blocks(field, table.blocks(d, i), k),
+        Place::Stripes(s) => put_infos(field, table, s),
         Place::Digest | Place::End => {}
+    }
+}
+
+// Blocks from this one on.
+fn put_blocks(field: &mut Field, blocks: &[Block], first: usize)
+    requires block { first < length blocks.now }
+    requires empty { field.old.items ≡ [] }
+    ensures bytes { field.new.items ≡ flat_map block_bytes (take most_blocks_at_once (drop first blocks.now)) }
+    ensures some { 0 < length field.new.items }
+{
+    let count = (blocks.len() - first).min(MOST_BLOCKS_AT_ONCE);
+    for k in 0..count {
+        put_block(field, blocks[first + k]);
+    }
+}
+
+// What is known of the stripes from this one on.
+fn put_infos(field: &mut Field, table: &Table, first: u32)
+    requires stripe { first < length table.now.infos }
+    requires empty { field.old.items ≡ [] }
+    ensures bytes { field.new.items ≡ flat_map info_bytes (take most_stripes_at_once (drop first table.now.infos)) }
+    ensures some { 0 < length field.new.items }
+{
+    let count = (table.length() - first).min(MOST_STRIPES_AT_ONCE);
+    for k in 0..count {
+        put_info(field, table.info(first + k));
     }
 }
 

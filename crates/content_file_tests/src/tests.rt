@@ -4,7 +4,7 @@ ghost use Rattle.disk_model.specs.Vault.{copies_of};
 ghost use Rattle.disk_memory.specs.Vault.{vault_view};
 
 use crate::samples::{NO_FILE, ONE_FILE, THREE_DISKS};
-use content_file::{Damage, Encoder, Flaw, LoadFault, decode, load, save};
+use content_file::{Damage, Encoder, Flaw, LoadFault, TableDigest, decode, load, save};
 use disk_memory::MemVault;
 use disk_model::{Failed, Vault};
 use file_table::Table;
@@ -138,7 +138,7 @@ fn a_copy_in_several_pieces(rt: HostRuntime) -> Result<(), Fail> {
 // What an encoder gives in so many pieces as long as the buffer.
 fn pieces(alloc: Global, table: &Table, buffer: &mut [u8]) -> Result<Vec<u8>, AllocError> {
     let mut written = Vec::new(alloc);
-    let mut encoder = Encoder::new(table);
+    let mut encoder = Encoder::new(table, TableDigest::of(table));
     for _ in 0..300 {
         let count = encoder.next(buffer);
         written.extend_from_slice(&buffer[..count])?;
@@ -176,7 +176,8 @@ fn saved(alloc: Global, failing: u64) -> Result<(Result<(), Failed>, bool, bool)
     let table = decode(alloc, &ONE_FILE)?;
     let mut vault = MemVault::new(alloc, 1, 2)?;
     vault.fail_at(failing)?;
-    let answer = save(&mut vault, &table, &mut [0; 50]);
+    let digest = TableDigest::of(&table);
+    let answer = save(&mut vault, &table, digest, &mut [0; 50]);
     let first = holds(&mut vault, 0, &ONE_FILE)?;
     let second = holds(&mut vault, 1, &ONE_FILE)?;
     Ok((answer, first, second))
@@ -201,7 +202,8 @@ fn copies_saved_in_order(rt: HostRuntime) -> Result<(), Fail> {
 fn a_copy_saved_in_one_piece(rt: HostRuntime) -> Result<(), Fail> {
     let table = decode(rt.alloc(), &ONE_FILE)?;
     let mut vault = MemVault::new(rt.alloc(), 1, 1)?;
-    assert!(rt; save(&mut vault, &table, &mut [0; 200]).is_ok());
+    let digest = TableDigest::of(&table);
+    assert!(rt; save(&mut vault, &table, digest, &mut [0; 200]).is_ok());
     assert!(rt; holds(&mut vault, 0, &ONE_FILE)?);
     Ok(())
 }

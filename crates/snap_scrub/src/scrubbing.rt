@@ -11,7 +11,7 @@ ghost use Rattle.snap_scrub.specs.Saving.{Saves};
 use crate::beginning::begin;
 use crate::marking::mark_all;
 use crate::passing::look_over;
-use content_file::save;
+use content_file::{TableDigest, save};
 use disk_model::{Failed, Folder, Sink, Vault};
 use file_table::Table;
 use snap_config::ScrubWay;
@@ -44,7 +44,7 @@ fn save_marked<V: Vault>(
     if stripes.is_empty() {
         return Ok(());
     }
-    save(vault, table, piece)
+    save(vault, table, TableDigest::of(table), piece)
 }
 
 // The end of a scrub of these stripes: its last line is told.

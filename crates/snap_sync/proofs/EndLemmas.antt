@@ -1,5 +1,5 @@
 -- The last checkpoint, and the last line.
-use Rattle.std.proofs.Common.{◌≡◌, ℕ, ◌+◌, ◌*◌, ◌≤◌, List, [], ◌++◌, length, take, drop, true, false, Option, sym, ap, ap₂, ◌∙◌, subst, arith}
+use Rattle.std.proofs.Common.{◌≡◌, ℕ, ◌+◌, ◌*◌, ◌≤◌, List, [], ◌∷◌, ◌++◌, length, take, drop, true, false, Option, sym, ap, ap₂, ◌∙◌, subst, arith}
 use Rattle.std.proofs.lemmas.List.{append-nil}
 use Rattle.std.proofs.lemmas.List.Sums.{count_by-le-length}
 use Rattle.array_scan.specs.Layout.{pending_stripes}
@@ -122,3 +122,8 @@ module _ {W R : Type 0} {view : W → SinkView} {standing : R → ReportView} {s
     laid = laid;
     breaks = subst (λ (its : SyncPlan). Breaks view standing stands its (outside listed vault lines reports) (outside news vault_new lines_new reports_new)) same breaks;
   }
+
+-- where no stripe was read, the table is as it was laid out
+pub none_read : (readings : List StripeReading) (now : ℕ) (start table : TableValue) → length readings ≡ 0 → table ≡ closed now start readings → table ≡ start
+none_read [] now start table none is = is
+none_read (reading ∷ readings) now start table none is = absurd (omega (arith, none))

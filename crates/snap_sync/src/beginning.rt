@@ -7,7 +7,7 @@ ghost use Rattle.snap_sync.specs.Work.{IsRoomFor};
 
 use crate::SyncFault;
 use crate::room::Room;
-use array_scan::{Plan, lay_out, listings};
+use array_scan::{Plan, lay_out_in_place, listings};
 use disk_model::Folder;
 use file_table::Table;
 use snap_config::{Setup, SyncWay};
@@ -38,10 +38,11 @@ pub(crate) fn begin<F: Folder>(
     ensures failed { IfErr result (BeginsNot (setup_value setup.now) way.now old (map F.view folders.old) (map F.view folders.new)) }
 {
     let lists = listings(alloc, folders)?;
-    let Plan { table, pending } = match lay_out(alloc, &old, lists.as_slice(), setup, way) {
+    let plan = match lay_out_in_place(alloc, old, lists.as_slice(), setup, way) {
         Ok(plan) => plan,
-        Err(fault) => return Err(SyncFault::Scan(fault, old)),
+        Err(unlaid) => return Err(SyncFault::Scan(unlaid.fault, unlaid.table)),
     };
+    let Plan { table, pending } = plan;
     let Ok(room) = Room::make(alloc, &table, pending.len()) else {
         return Err(SyncFault::Run(RunFault::Memory));
     };

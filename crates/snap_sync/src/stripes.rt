@@ -1,5 +1,6 @@
 // The pending stripes of a sync, window by window.
 ghost use Rattle.std.specs.Prelude.{◌≡◌, ◌<◌, ◌≤◌, ◌+◌, ◌^◌, IfSome, IfOk, OnErr, IsOk, IsTrue, length, map, take, false};
+ghost use Rattle.content_file.specs.Encoding.{IsDigestOf};
 ghost use Rattle.snap_report.specs.Told.{Told};
 ghost use Rattle.stripe_reader.specs.Columns.{ReadsWindow};
 ghost use Rattle.snap_sync.specs.Closing.{closed};
@@ -16,6 +17,7 @@ use crate::judging::{Counts, judge};
 use crate::opening::{checkpoint, open};
 use crate::schedule::{is_checkpoint, window_count};
 use crate::turning::{Ahead, Judged, turn};
+use content_file::TableDigest;
 use disk_model::{Failed, Folder, Sink, Vault};
 use file_table::Table;
 use snap_report::{Lines, Report};
@@ -198,7 +200,8 @@ fn save_behind<V: Vault>(
         IsOk result × (vault.new ≡ vault.old) }
 {
     if is_checkpoint(pace.every, done) && done as usize != work.pending.len() {
-        checkpoint(vault, &work.table, work.room.piece.as_mut_slice())
+        let digest = TableDigest::of(&work.table);
+        checkpoint(vault, &work.table, digest, work.room.piece.as_mut_slice())
     } else {
         Ok(())
     }
@@ -217,11 +220,12 @@ fn swap_windows(work: &mut Work)
     swap(&mut room.near, &mut room.far);
 }
 
-/// Saves the laid out table, gives the levels their lengths, and goes through all pending stripes, window by window: each
+/// Saves the laid out table, whose digest this is, gives the levels their lengths, and goes through all pending stripes, window by window: each
 /// is judged, and written while the next one is read.
 pub(crate) fn sync_stripes<R: Threads + Sync, F: Folder, V: Vault, W: Sink>(
     rt: &R,
     work: &mut Work,
+    digest: TableDigest,
     pace: Pace,
     folders: &mut [F],
     vault: &mut V,
@@ -229,6 +233,7 @@ pub(crate) fn sync_stripes<R: Threads + Sync, F: Folder, V: Vault, W: Sink>(
     reports: &mut Vec<Box<dyn Report>>,
 ) -> Result<Progress, Failed>
     requires begun { IsBegun pace.every work.old }
+    requires digest { IsDigestOf work.old.table digest }
     requires disks { AreDisksOf work.old.table (length folders.old) (V.view vault.old) }
     ensures all { IfOk result (λ progress. progress.done ≡ all_of work.old) }
     ensures synced { IfOk result (λ progress. HasSynced W.view standing stands
@@ -239,7 +244,7 @@ pub(crate) fn sync_stripes<R: Threads + Sync, F: Folder, V: Vault, W: Sink>(
         (outside (map F.view folders.old) (V.view vault.old) lines.old reports.old.items)
         (outside (map F.view folders.new) (V.view vault.new) lines.new reports.new.items)) }
 {
-    open(vault, &work.table, work.room.piece.as_mut_slice())?;
+    open(vault, &work.table, digest, work.room.piece.as_mut_slice())?;
     read_first(rt, work, pace, folders);
     let all = work.pending.len() as u32;
     let mut progress = Progress {

@@ -11,5 +11,5 @@ returns c =
     let seconds = to_le_bytes w64 (cast_unsigned w64 c.args.meta.stamp.seconds) in
     let nanos = to_le_bytes w32 c.args.meta.stamp.nanos in
     let is : c.cast_unsigned.result ≡ cast_unsigned w64 c.args.meta.stamp.seconds = omega (arith, ints) in
-    let two = then_appended field c.put_u64.new.field.items c.put_u64-2.new.field.items size (to_le_bytes w64 c.cast_unsigned.result) seconds c.put_u64.ensures c.put_u64-2.ensures (ap (λ n. to_le_bytes w64 n) is) in
-    then_appended field c.put_u64-2.new.field.items c.put_u32.new.field.items (size ++ seconds) nanos nanos two c.put_u32.ensures refl
+    let two = then_appended field c.put_u64.new.field.items c.put_u64-2.new.field.items size (to_le_bytes w64 c.cast_unsigned.result) seconds c.put_u64.ensures.bytes c.put_u64-2.ensures.bytes (ap (λ n. to_le_bytes w64 n) is) in
+    then_appended field c.put_u64-2.new.field.items c.put_u32.new.field.items (size ++ seconds) nanos nanos two c.put_u32.ensures.bytes refl

@@ -2,14 +2,17 @@ use Rattle.std.proofs.Common.{map, All, sym, subst, arith}
 use Rattle.std.proofs.lemmas.List.{length-map}
 use Rattle.disk_model.specs.Tree.{IsListing}
 use Rattle.file_table.specs.Valid.{IsValid}
+use Rattle.file_table.specs.Table.{TableValue}
 use Rattle.snap_config.specs.Setup.{setup_value}
 use Rattle.array_scan.specs.Kept.{lists_of}
 use Rattle.array_scan.specs.Listings.{ListsAll}
+use Rattle.snap_sync.specs.Beginning.{BeginsNot}
+use Rattle.snap_sync.specs.declared.fault.SyncFault.TheVariants.{Scan}
 use Rattle.snap_sync.proofs.BeginLemmas.{lists_are_listings, layout_refused, all_listed}
 use Rattle.snap_sync.proofs.beginning.begin.Goals as goal
 
-pub lay_out-requires-clause-order : goal.lay_out-requires-clause-order
-lay_out-requires-clause-order g c =
+pub lay_out_in_place-requires-clause-order : goal.lay_out_in_place-requires-clause-order
+lay_out_in_place-requires-clause-order g c =
     let listed = lists_are_listings _ _ _ c.in_ok-lists.ensures.listed in
     subst (λ lists. All IsListing (lists_of lists)) (sym c.as_slice.ensures.value) listed
 
@@ -17,8 +20,10 @@ pub returns-in-Err-clause-failed : goal.returns-in-Err-clause-failed
 returns-in-Err-clause-failed g c =
     let olds = map g.F.Folder.view c.args.folders.now in
     let news = map g.F.Folder.view c.listings.new.folders in
-    layout_refused (setup_value c.args.setup.now) c.args.way.now c.args.old olds news (lists_of c.as_slice.result.now) c.in-Err.fault
-    (subst (λ lists. ListsAll olds news (lists_of lists)) (sym c.as_slice.ensures.value) c.in_ok-lists.ensures.listed) c.in-Err.ensures.refused
+    let unlaid = c.in-Err.unlaid in
+    subst (λ (table : TableValue). BeginsNot (setup_value c.args.setup.now) c.args.way.now c.args.old olds news (Scan unlaid.fault table)) (sym c.in-Err.ensures.back)
+    (layout_refused (setup_value c.args.setup.now) c.args.way.now c.args.old olds news (lists_of c.as_slice.result.now) unlaid.fault
+    (subst (λ lists. ListsAll olds news (lists_of lists)) (sym c.as_slice.ensures.value) c.in_ok-lists.ensures.listed) c.in-Err.ensures.refused)
 
 pub returns-in_default-clause-failed : goal.returns-in_default-clause-failed
 returns-in_default-clause-failed g c =

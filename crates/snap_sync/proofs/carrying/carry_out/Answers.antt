@@ -1,12 +1,20 @@
 -- All pending stripes were read; the last checkpoint and the last line come to it.
-use Rattle.std.proofs.Common.{◌≡◌, ◌+◌, ◌-◌, length, map, refl, ap, ◌∙◌, arith}
+use Rattle.std.proofs.Common.{◌≡◌, ◌+◌, ◌-◌, length, map, refl, sym, subst, ap, ◌∙◌, arith}
 use Rattle.std.proofs.lemmas.List.{length-map}
+use Rattle.content_file.specs.Encoding.{IsDigestOf}
+use Rattle.file_table.specs.Table.{TableValue}
 use Rattle.snap_sync.specs.Course.{outside}
 use Rattle.snap_sync.specs.Run.{all_of}
 use Rattle.snap_sync.proofs.BehindLemmas.{saved_is, saves_not}
-use Rattle.snap_sync.proofs.EndLemmas.{synced_within, breaks_ending, ends_with}
+use Rattle.snap_sync.proofs.EndLemmas.{none_read, synced_within, breaks_ending, ends_with}
 use Rattle.snap_sync.proofs.RunLemmas.{setting_of, on_err}
 use Rattle.snap_sync.proofs.carrying.carry_out.Goals as goal
+
+pub digest_after-digest-requires : goal.digest_after-digest-requires
+digest_after-digest-requires g c = λ none.
+    let so_far = c.in_ok-progress.ensures.synced in
+    let same : c.sync_stripes.new.work.table ≡ c.args.work.table = none_read so_far.readings c.args.pace.now c.args.work.table c.sync_stripes.new.work.table (so_far.count ∙ none) so_far.table in
+    subst (λ (table : TableValue). IsDigestOf table c.of-start.result) (sym same) c.of-start.ensures
 
 pub returns-in_err-checkpoint-clause-broke : goal.returns-in_err-checkpoint-clause-broke
 returns-in_err-checkpoint-clause-broke g c =

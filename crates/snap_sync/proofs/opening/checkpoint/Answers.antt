@@ -45,7 +45,7 @@ returns g c =
     let settled = c.in_ok-settle.ensures.settled in
     let formed = g.V.Vault.well_formed c.save.new.vault in
     let as_many = its.calls.goes_on.copies in
-    let saves = subst (λ (size : ℕ). Ran (piecewise_calls size (copies_of mid) bytes) c.save.result (state_of mid) (state_of new)) c.requires it.ran in
+    let saves = subst (λ (size : ℕ). Ran (piecewise_calls size (copies_of mid) bytes) c.save.result (state_of mid) (state_of new)) c.requires.piece it.ran in
     record {
       calls = calls_then old mid new its.calls it.calls;
       ran =
