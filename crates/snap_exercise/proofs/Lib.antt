@@ -1,0 +1,15 @@
+pub mod AfterFixLemmas
+pub mod AfterSyncLemmas
+pub mod AlikeLemmas
+pub mod CheckLemmas
+pub mod ClosingLemmas
+pub mod EngineLemmas
+pub mod FirstTableLemmas
+pub mod FixLemmas
+pub mod GeneratedLemmas
+pub mod HeldLemmas
+pub mod LawLemmas
+pub mod PathLemmas
+pub mod SeenLemmas
+pub mod TellingLemmas
+pub mod WholeLemmas

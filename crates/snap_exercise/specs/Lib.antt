@@ -1,0 +1,3 @@
+pub mod Exercise
+pub mod Exercised
+pub mod Generated
