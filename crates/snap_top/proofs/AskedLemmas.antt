@@ -1,6 +1,7 @@
 -- Two runs that were asked for the same over one array begin with the same setup and the same table.
 use Rattle.std.proofs.Common.{◌≡◌, ◌≢◌, ◌⊎◌, inl, inr, ⊎_elim, ℕ, zero, suc, ◌≤◌, List, take, Bool, true, false, IsTrue, Option, Ok, refl, sym, ap, ◌∙◌, subst, arith}
 use Rattle.content_file.specs.Load.{HasFailed}
+use Rattle.disk_model.specs.Cause.{Rose, RoseBy}
 use Rattle.disk_model.specs.Files.{Files}
 use Rattle.disk_model.specs.Vault.{copies_of}
 use Rattle.file_table.specs.Table.{TableValue}
@@ -8,13 +9,18 @@ use Rattle.snap_config.specs.Config.{read_setup}
 use Rattle.snap_config.specs.Setup.{SetupValue}
 use Rattle.snap_config.specs.declared.options.Command.{Command}
 use Rattle.snap_config.specs.declared.options.Options.{Options}
+use Rattle.snap_sync.specs.Part.{SyncRun}
 use Rattle.snap_top.specs.Alike.{HoldAlike, NothingRose}
 use Rattle.snap_top.specs.Array.{empty_table}
 use Rattle.snap_top.specs.Ended.{IsEndStatus}
+use Rattle.snap_top.specs.Loading.{Loading, ReadsWell}
+use Rattle.snap_top.specs.Moment.{BreaksBehind, IsDidOf, LoadsWell}
 use Rattle.snap_top.specs.Opening.{IsConfigured, asked_by}
 use Rattle.snap_top.specs.Run.{Entry, Exit}
 use Rattle.snap_top.specs.Sync.{BeginsFrom}
+use Rattle.snap_top.specs.Task.{Did, fixes, reads_only, scrubs, syncs}
 use Rattle.snap_top.proofs.CompleteLemmas.{same_ok}
+use Rattle.snap_top.proofs.OfSyncLemmas.{failed_since}
 use Rattle.snap_top.proofs.ResumeLemmas.{begins_same}
 use Rattle.snap_top.proofs.SyncedLemmas.{OneTable}
 
@@ -39,9 +45,32 @@ one_setup before before_then hold asked asked_then words words_then log command 
     ∙ ap (λ (it : Option (List ℕ)). read_setup (take 1048577 before_then.opener.config) it) log
     ∙ setup_read before_then hold.tells_then.tells asked_then words_then command_then readers_then setup_then is_then)
 
--- where the vault's count of faults did not rise, no copy's reading failed
-pub unfailed : (before : Entry) (exit : Exit) → NothingRose before exit → (copy : ℕ) → ¬ (HasFailed before.opener.vault exit.after.vault copy)
-unfailed before exit well copy failed = well.vault failed.rose
+-- where no copy's reading failed in the whole run, none failed while its table was loaded
+pub well_in : (before : Entry) (exit : Exit) {setup : SetupValue} {table : TableValue} (loading : Loading before exit setup table)
+    → ((copy : ℕ) → ¬ (HasFailed before.opener.vault exit.after.vault copy)) → ReadsWell before loading.at
+well_in before exit loading none copy failed = none copy (failed_since before.opener.vault exit.after.vault loading.at loading.later copy failed)
+
+pub loads_well : (before : Entry) (exit : Exit) (did : Did) (is : IsDidOf before exit did) → ((copy : ℕ) → ¬ (HasFailed before.opener.vault exit.after.vault copy)) → LoadsWell before exit did is
+loads_well before exit reads_only is none = tt
+loads_well before exit (syncs failed run) is none = well_in before exit is.loading none
+loads_well before exit (fixes failed run) is none = well_in before exit is.loading none
+loads_well before exit (scrubs failed run) is none = well_in before exit is.loading none
+
+-- so it is where a sync broke off, and the vault's count of faults rose by one at most
+rose_twice : (a b c : ℕ) → Rose a b → Rose b c → RoseBy 2 a c
+rose_twice a b c first then_too = omega (arith, first, then_too)
+
+pub once_well : (before : Entry) (exit : Exit) (did : Did) (is : IsDidOf before exit did) → BreaksBehind before exit did is → (sync : SyncRun) → did ≡ syncs true sync
+    → ¬ (RoseBy 2 before.opener.vault.faults exit.after.vault.faults) → LoadsWell before exit did is
+once_well before exit reads_only is broke sync did_is once = tt
+once_well before exit (syncs true run) is broke sync did_is once = λ copy failed. once (rose_twice before.opener.vault.faults is.loading.at.faults exit.after.vault.faults failed.rose broke)
+once_well before exit (syncs false run) is broke sync did_is once = absurd (let clash : syncs false run ≡ syncs true sync = did_is in cc)
+once_well before exit (fixes failed run) is broke sync did_is once = absurd (let clash : fixes failed run ≡ syncs true sync = did_is in cc)
+once_well before exit (scrubs failed run) is broke sync did_is once = absurd (let clash : scrubs failed run ≡ syncs true sync = did_is in cc)
+
+-- so it is where the vault's count of faults did not rise
+pub unfailed : (before : Entry) (exit : Exit) {setup : SetupValue} {table : TableValue} (loading : Loading before exit setup table) → NothingRose before exit → ReadsWell before loading.at
+unfailed before exit loading well = well_in before exit loading (λ copy failed. well.vault failed.rose)
 
 module _ (one_table : OneTable) (before before_then : Entry) (hold : HoldAlike before before_then) where
   -- so they load the same

@@ -41,7 +41,7 @@ use Rattle.snap_top.specs.Does.{DoesCommand, IsDone}
 use Rattle.snap_top.specs.Task.{Task, Did, reads_only, Left}
 use Rattle.snap_top.specs.Views.{World, world_view, world_of, view_of, outside_of, AllReadOnly}
 use Rattle.snap_top.proofs.DoneLemmas.{by_output, nothing_more}
-use Rattle.snap_top.proofs.FolderLemmas.{all_listed, first_listed, failed_at}
+use Rattle.snap_top.proofs.FolderLemmas.{all_listed, column_reads_only, first_listed, failed_at}
 use Rattle.snap_top.proofs.SyncLemmas.{changes_of, printed_lines, listing_failed}
 use Rattle.snap_top.proofs.ViewsLemmas.{some_calls_of, sink_stays, all_read_then}
 
@@ -76,7 +76,7 @@ levels_of plan stripes old new read = record {
 folders_read : (plan : FixPlan) (starts : StartsValue) (stripes : List StripeFacts) (olds news : List FolderView) → AreRead plan starts stripes olds news → AllReadOnly olds news
 folders_read plan starts stripes olds news read = record {
   count = read.folders;
-  each = λ d below. let folder = (read.each d below).folder in record { calls = record { done = folder.done; goes_on = folder.goes_on }; tree = folder.tree };
+  each = λ d below. column_reads_only (read.each d below);
 }
 
 begun_not : (olds news : List FolderView) (fault : RunFault) → length news ≡ length olds → BeginsNot olds news fault → AllReadOnly olds news

@@ -1,5 +1,6 @@
 -- Folders that a sync listed and read were only read.
-use Rattle.std.proofs.Common.{◌≡◌, ℕ, ◌<◌, ◌≤◌, ◌⊎◌, inl, inr, List, [], ◌∷◌, length, sym, subst, arith}
+use Rattle.std.proofs.Common.{◌≡◌, ℕ, ◌<◌, ◌≤◌, ◌⊎◌, inl, inr, List, [], ◌∷◌, length, refl, sym, subst, arith}
+use Rattle.std.proofs.lemmas.List.Elements.{All-cons, All-nil, All-weaker}
 use Rattle.std.proofs.lemmas.Bool.{cases_lt}
 use Rattle.disk_model.specs.Folder.{FolderView, IsFolderReading, ListFiles}
 use Rattle.disk_model.specs.declared.answer.Answer.{Answer}
@@ -7,19 +8,38 @@ use Rattle.disk_model.specs.declared.answer.Answer.TheVariants.{Done, Failed}
 use Rattle.array_scan.specs.Kept.{ListedFile}
 use Rattle.array_scan.specs.Listings.{ListsAll, FailsAt, ListsFirst}
 use Rattle.file_table.specs.Table.{TableValue}
+use Rattle.file_table.specs.declared.shape.Shape.{Shape}
 use Rattle.snap_config.specs.declared.options.SyncWay.{SyncWay}
 use Rattle.snap_report.specs.declared.answer.RunFault.TheVariants as runs
 use Rattle.snap_sync.specs.Beginning.{BeginsNot}
 use Rattle.stripe_findings.specs.Reading.{StripeReading}
+use Rattle.stripe_reader.specs.Column.{ReadsColumn}
+use Rattle.stripe_reader.specs.Reading.{Task as CellTask}
+use Rattle.stripe_reader.specs.SlotValue.{SlotValue}
+use Rattle.file_restorer.specs.State.{WellCall}
+use Rattle.file_restorer.proofs.FolderCallLemmas.{well_column}
 use Rattle.snap_sync.specs.Reading.{ReadsFirst}
 use Rattle.snap_sync.specs.declared.fault.SyncFault.{SyncFault}
 use Rattle.snap_sync.specs.declared.fault.SyncFault.TheVariants.{Scan, Run}
 use Rattle.snap_top.specs.Task.{Task}
 use Rattle.snap_top.specs.Views.{folder_at, ReadsOnly, AllReadOnly}
-use Rattle.snap_top.proofs.ViewsLemmas.{read_nothing}
+use Rattle.snap_top.proofs.ViewsLemmas.{IsReadingCall, IsReadingDone, read_nothing}
 
 listing_reads_only : (answer : Answer) (old new : FolderView) → IsFolderReading ListFiles answer old new → ReadsOnly old new
-listing_reads_only answer old new is = record { calls = record { done = record { call = ListFiles; answer = answer } ∷ []; goes_on = is.called.goes_on }; tree = is.tree }
+listing_reads_only answer old new is = record {
+  calls = record { done = record { call = ListFiles; answer = answer } ∷ []; goes_on = is.called.goes_on };
+  reads = All-cons IsReadingDone (record { call = ListFiles; answer = answer }) [] refl (All-nil IsReadingDone);
+  tree = is.tree;
+}
+
+-- cells of a column were read
+pub column_reads_only : {shape : Shape} {tasks : List CellTask} {slots : List SlotValue} {old new : FolderView} → ReadsColumn shape tasks slots old new → ReadsOnly old new
+column_reads_only {tasks = tasks} read = record {
+  calls = record { done = read.folder.done; goes_on = read.folder.goes_on };
+  reads = All-weaker (WellCall IsReadingCall) IsReadingDone (λ done well. well.0) read.folder.done
+      (well_column IsReadingCall (λ path lost. refl) (λ path lost at n. refl) tasks read.readings read.folder.done read.folder.are);
+  tree = read.folder.tree;
+}
 
 same_reads_only : (old new : FolderView) → new ≡ old → ReadsOnly old new
 same_reads_only old new same = subst (λ v. ReadsOnly old v) (sym same) (read_nothing old)
@@ -48,7 +68,7 @@ failed_at disk olds news many fails = record { count = many; each = λ d below. 
 pub stripes_read : (start : TableValue) (readings : List StripeReading) (olds news : List FolderView) → ReadsFirst start readings olds news → AllReadOnly olds news
 stripes_read start readings olds news reads = record {
   count = reads.read.folders;
-  each = λ d below. let folder = (reads.read.each d below).folder in record { calls = record { done = folder.done; goes_on = folder.goes_on }; tree = folder.tree };
+  each = λ d below. column_reads_only (reads.read.each d below);
 }
 
 pub begun_not : (task : Task) (way : SyncWay) (table : TableValue) (olds news : List FolderView) (fault : SyncFault) → length news ≡ length olds → BeginsNot task.setup way table olds news fault → AllReadOnly olds news

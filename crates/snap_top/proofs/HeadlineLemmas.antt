@@ -13,20 +13,20 @@ use Rattle.snap_sync.specs.Images.{AtWork, Opening, StandsBy, rows_after}
 use Rattle.snap_sync.specs.Part.{AllTell, tree_at, trees_of, SyncRun, IsToldRun}
 use Rattle.stripe_reader.specs.Columns.{folder_at}
 use Rattle.snap_top.specs.Ended.{has_ended}
-use Rattle.snap_top.specs.Headline.{ArrivesAtItsEnd, FixesAreResumed, FixesSpare, GoesOn, LeavesCopies, Headline, IsQuiet, IsSoundStanding, SyncsLast}
+use Rattle.snap_top.specs.Headline.{ArrivesAtItsEnd, ChecksName, FixesAreResumed, FixesSpare, GoesOn, LeavesCopies, Headline, IsQuiet, IsSoundStanding, SyncsLast, TreesStay}
 use Rattle.snap_top.specs.History.{AreSoundBy, synced_by, LastSynced}
 use Rattle.snap_top.specs.Fix.{FixRun, MayStandFixed}
 use Rattle.snap_top.specs.NextFix.{IsNextFix}
 use Rattle.snap_top.specs.Undamaged.{HasEnough}
 use Rattle.snap_top.specs.Moment.{AreOfRun, IsFixOf, IsDidOf, IsSoundAlways, EndsInPart}
 use Rattle.snap_top.specs.Opening.{asked_by}
-use Rattle.snap_top.specs.Step.{ChangesFiles, EndsBy}
+use Rattle.snap_top.specs.Step.{ChangesFiles, EndsBy, LeavesEachTree}
 use Rattle.snap_top.specs.Resumed.{RunOf}
 use Rattle.snap_top.specs.Run.{Entry, Exit}
 use Rattle.snap_top.specs.Spared.{SparesBy, SparesCells}
 use Rattle.snap_top.specs.Stopping.{FindsNoLess, FolderStandsIn, SparesFiles, stop_of}
 use Rattle.snap_top.specs.Standing.{BeginsOver, GoesOver, HasClosed, IsHistory, IsOrigin, LeavesTrees, MeetsNoChance, Stage, Standing, after_of, before_of}
-use Rattle.snap_top.specs.Task.{Did, fixes, folders_after, may_stand, reads_only, scrubs, syncs, end_table}
+use Rattle.snap_top.specs.Task.{Did, fixes, folders_after, has_fixed, may_stand, reads_only, scrubs, syncs, end_table}
 use Rattle.snap_top.specs.Views.{AllReadOnly}
 use Rattle.snap_top.proofs.CompleteLemmas.{same_ok}
 use Rattle.snap_top.proofs.EndedLemmas.{only_read}
@@ -252,6 +252,31 @@ module _ {O F V W : Type 0} (opener_view : O → OpenerView) (folder_view : F �
         },
       )
 
+  -- ---- a check names what is lost
+
+  names_over : (standing : Standing) → IsSoundStanding standing → ChecksName opener_view folder_view vault_view sink_view standing
+  names_over standing sound run over ends genuine =
+      let before : Entry = begun run in
+      let checks = ends.has.is_check.over in
+      let are : AreSoundBy (copies_of before.opener.vault) before.opener.vault.files standing.last
+      = subst (λ (k : ℕ). AreSoundBy k before.opener.vault.files standing.last) (sym over.copies) (subst (λ (fs : Files). AreSoundBy standing.copies fs standing.last) (sym over.files) sound.sound) in
+      ends.named standing.last.snapshot standing.last.is_changed
+      (loaded_sound (copies_of before.opener.vault) ends.run.loaded before.opener.vault.files standing.last.snapshot standing.last.is_changed checks.valid checks.is_loaded are) genuine
+
+  -- ---- trees at each moment of a run
+
+  trees_over : (standing : Standing) → TreesStay opener_view folder_view vault_view sink_view standing
+  trees_over standing run d left over step has none at = by step.always.did none (step.stops has)
+    where
+      held : (folder_held (begun run).opener d).tree ≡ tree_at standing.trees d
+      held = sym (tree_of_folder (begun run).opener.folders d) ∙ ap (λ (trees : List Tree). tree_at trees d) over.trees
+
+      by : (did : Did) → has_fixed did ≡ false → LeavesEachTree did (begun run) (ended run) → left ≡ tree_at standing.trees d
+      by reads_only unfixed stays = stays d left at ∙ held
+      by (syncs failed sync) unfixed stays = stays d left at ∙ held
+      by (fixes failed fix) unfixed stays = absurd (let clash : true ≡ false = unfixed in cc)
+      by (scrubs failed scrub) unfixed stays = stays d left at ∙ held
+
   -- ---- what stands at the end of a run
 
   trees_same : (olds news : List FolderView) → length news ≡ length olds → ((d : ℕ) → d < length olds → (folder_at news d).tree ≡ (folder_at olds d).tree) → trees_of news ≡ trees_of olds
@@ -302,8 +327,10 @@ module _ {O F V W : Type 0} (opener_view : O → OpenerView) (folder_view : F �
         restores = restored_over opener_view folder_view vault_view sink_view holds genuine mended as_check are_finished standing sound;
         spares = spares_over says standing;
         resumes = resumes_over holds keeps_sound says standing sound;
+        names = names_over standing sound;
         copies = copies_over standing;
         quiet = quiet_over standing;
+        trees = trees_over standing;
         goes_on = goes_on_over standing;
         arrives = arrives_over standing;
       }

@@ -145,46 +145,61 @@ module _ (plan : FixPlan) (table : TableValue) (table_is : plan.table ≡ table)
       levels = levels_given v table.shape.block_size tells stripes readings (subst (λ (t : TableValue). AreAllLevelsOf t.shape.block_size v stripes readings) table_is are) failed;
     }
 
-  -- ---- the cells of a fix
+-- ---- the cells of a fix
 
-  found_unread : (shape : Shape) (reading : CellReading) → is_not_found (kept shape reading).cell.found ≡ is_unread reading
-  found_unread shape NoBlock = refl
-  found_unread shape Nowhere = refl
-  found_unread shape Beyond = refl
-  found_unread shape (Unread seen) = refl
-  found_unread shape (Gone seen) = refl
-  found_unread shape (Part seen got) = refl
-  found_unread shape (Whole seen bytes) = refl
+no_one : (n : ℕ) → 1 ≤ n → n ≡ 0 → ⊥
+no_one n some none = omega (arith, some, none)
 
-  module _ (present : ArePresent plan (starts_of table lists) mids stripes)
-      (unread : (d : ℕ) → d < length plan.table.columns → RoseBy (unread_cells d stripes) (folder_at olds d).faults (folder_at news d).faults) where
-    fixed_slot : (k d : ℕ) → k < length stripes → d < length table.columns → KeptAlike (slot_of (facts_at stripes k) d) (held_slot table lists (trees_of olds) d (facts_at stripes k).stripe)
-    fixed_slot k d within lt =
-        let below : d < length olds = omega (arith, lt, columns) in
-        let of : d < length plan.table.columns = subst (λ (t : TableValue). d < length t.columns) (sym table_is) lt in
-        let facts : StripeFacts = facts_at stripes k in
-        let slot : SlotValue = slot_of facts d in
-        let its = present k no_facts within d of in
-        let reading : CellReading = its.reading in
-        let task : Task = task_at plan.table (starts_of table lists) d facts.stripe in
-        let is_it : (λ (it : StripeFacts). is_not_found (slot_of it d).cell.found) facts ≡ is_unread reading
-        = ap is_not_found its.found ∙ found_unread plan.table.shape reading in
-        let came : is_unread reading ≡ false = not_true (is_unread reading) (λ failed. none d below
-        (rose_since _ _ _ _ (one_counted (λ (it : StripeFacts). is_not_found (slot_of it d).cell.found) stripes k no_facts within (is_it ∙ failed)) (omega arith) (unread d of))) in
-        let given : reading ≡ given_by (tree_at (trees_of olds) d) task = its.is_of.given (tells_then olds mids lists listed tell d below) came
-        ∙ ap (λ (tree : Tree). given_by tree task) (tree_then olds mids lists listed tell d below) in
-        let held : kept plan.table.shape reading ≡ held_slot table lists (trees_of olds) d facts.stripe = ap (kept plan.table.shape) given
-        ∙ ap (λ (t : TableValue). kept t.shape (given_by (tree_at (trees_of olds) d) (task_at t (starts_of table lists) d facts.stripe))) table_is in
-        record {
-          found = its.found ∙ ap (λ (it : SlotValue). it.cell.found) held;
-          got = its.got ∙ ap (λ (it : SlotValue). it.cell.got) held;
-          digest = its.digest ∙ ap (λ (it : SlotValue). it.digest) held;
-          block = its.block ∙ ap (λ (it : SlotValue). it.block) held;
-        }
+found_unread : (shape : Shape) (reading : CellReading) → is_not_found (kept shape reading).cell.found ≡ is_unread reading
+found_unread shape NoBlock = refl
+found_unread shape Nowhere = refl
+found_unread shape Beyond = refl
+found_unread shape (Unread seen) = refl
+found_unread shape (Gone seen) = refl
+found_unread shape (Part seen got) = refl
+found_unread shape (Whole seen bytes) = refl
 
-    pub fix_held : (v : VaultView) (readings : List (List LevelReading)) → AreAllLevelsOf plan.table.shape.block_size v stripes readings → IsTrue v.tells → unread_in readings ≡ 0
-        → CameAsHeld table lists (trees_of olds) v.files stripes
-    fix_held v readings are tells failed = record {
-      slots = fixed_slot;
-      levels = levels_given v table.shape.block_size tells stripes readings (subst (λ (t : TableValue). AreAllLevelsOf t.shape.block_size v stripes readings) table_is are) failed;
-    }
+module _ (plan : FixPlan) (table : TableValue) (table_is : plan.table ≡ table) (lists : List (List ListedFile)) (stripes : List StripeFacts) (olds mids : List FolderView) (listed : ListsAll olds mids lists)
+    (columns : length olds ≡ length table.columns) (tell : AllTell olds) (present : ArePresent plan (starts_of table lists) mids stripes)
+    (all_read : (d : ℕ) → d < length plan.table.columns → unread_cells d stripes ≡ 0) where
+  fixed_slot : (k d : ℕ) → k < length stripes → d < length table.columns → KeptAlike (slot_of (facts_at stripes k) d) (held_slot table lists (trees_of olds) d (facts_at stripes k).stripe)
+  fixed_slot k d within lt =
+      let below : d < length olds = omega (arith, lt, columns) in
+      let of : d < length plan.table.columns = subst (λ (t : TableValue). d < length t.columns) (sym table_is) lt in
+      let facts : StripeFacts = facts_at stripes k in
+      let slot : SlotValue = slot_of facts d in
+      let its = present k no_facts within d of in
+      let reading : CellReading = its.reading in
+      let task : Task = task_at plan.table (starts_of table lists) d facts.stripe in
+      let is_it : (λ (it : StripeFacts). is_not_found (slot_of it d).cell.found) facts ≡ is_unread reading
+      = ap is_not_found its.found ∙ found_unread plan.table.shape reading in
+      let came : is_unread reading ≡ false = not_true (is_unread reading) (λ failed.
+      no_one (unread_cells d stripes) (one_counted (λ (it : StripeFacts). is_not_found (slot_of it d).cell.found) stripes k no_facts within (is_it ∙ failed)) (all_read d of)) in
+      let given : reading ≡ given_by (tree_at (trees_of olds) d) task = its.is_of.given (tells_then olds mids lists listed tell d below) came
+      ∙ ap (λ (tree : Tree). given_by tree task) (tree_then olds mids lists listed tell d below) in
+      let held : kept plan.table.shape reading ≡ held_slot table lists (trees_of olds) d facts.stripe = ap (kept plan.table.shape) given
+      ∙ ap (λ (t : TableValue). kept t.shape (given_by (tree_at (trees_of olds) d) (task_at t (starts_of table lists) d facts.stripe))) table_is in
+      record {
+        found = its.found ∙ ap (λ (it : SlotValue). it.cell.found) held;
+        got = its.got ∙ ap (λ (it : SlotValue). it.cell.got) held;
+        digest = its.digest ∙ ap (λ (it : SlotValue). it.digest) held;
+        block = its.block ∙ ap (λ (it : SlotValue). it.block) held;
+      }
+
+  pub read_held : (v : VaultView) (readings : List (List LevelReading)) → AreAllLevelsOf plan.table.shape.block_size v stripes readings → IsTrue v.tells → unread_in readings ≡ 0
+      → CameAsHeld table lists (trees_of olds) v.files stripes
+  read_held v readings are tells failed = record {
+    slots = fixed_slot;
+    levels = levels_given v table.shape.block_size tells stripes readings (subst (λ (t : TableValue). AreAllLevelsOf t.shape.block_size v stripes readings) table_is are) failed;
+  }
+
+-- where no count rose, no reading failed
+pub fix_held : (plan : FixPlan) (table : TableValue) (table_is : plan.table ≡ table) (lists : List (List ListedFile)) (stripes : List StripeFacts) (olds mids news : List FolderView) → ListsAll olds mids lists
+    → length olds ≡ length table.columns → AllTell olds → NoneRose olds news → ArePresent plan (starts_of table lists) mids stripes
+    → ((d : ℕ) → d < length plan.table.columns → RoseBy (unread_cells d stripes) (folder_at olds d).faults (folder_at news d).faults) → (v : VaultView) (readings : List (List LevelReading))
+    → AreAllLevelsOf plan.table.shape.block_size v stripes readings → IsTrue v.tells → unread_in readings ≡ 0 → CameAsHeld table lists (trees_of olds) v.files stripes
+fix_held plan table table_is lists stripes olds mids news listed columns tell none present unread =
+    read_held plan table table_is lists stripes olds mids listed columns tell present
+    (λ d of.
+    let wide : length plan.table.columns ≡ length table.columns = ap (λ (t : TableValue). length t.columns) table_is in
+    none_risen (unread_cells d stripes) (folder_at olds d).faults (folder_at news d).faults (none d (omega (arith, of, wide, columns))) (unread d of))

@@ -110,28 +110,17 @@ ParityBy start trees readings old new =
 abbrev sync_lines : TableValue → List StripeReading → List ℕ
 sync_lines start readings = lines_of start.columns (events_of start readings) ++ sync_text (verified_in start readings) (length readings - verified_in start readings)
 
-none_rose : (folders olds news : List FolderView) → folders ≡ olds → NoneRose olds news → NoneRose folders news
+pub none_rose : (folders olds news : List FolderView) → folders ≡ olds → NoneRose olds news → NoneRose folders news
 none_rose folders olds news are none = subst (λ (fs : List FolderView). NoneRose fs news) (sym are) none
 
-pub syncs_of_one_array : OneTable → (before before_then : Entry) (exit exit_then : Exit) (status status_then : ℕ) (one : EndsInPart before exit status) (other : EndsInPart before_then exit_then status_then)
-    → HoldAlike before before_then → AskSame before before_then → NothingRose before exit → NothingRose before_then exit_then
+-- that began with the same, laid out the same and read the same
+pub syncs_read_alike : (before before_then : Entry) (exit exit_then : Exit) (status status_then : ℕ) (one : EndsInPart before exit status) (other : EndsInPart before_then exit_then status_then) → HoldAlike before before_then
+    → one.run.loaded ≡ other.run.loaded → one.run.plan.start ≡ other.run.plan.start → one.run.readings ≡ other.run.readings
     → SyncsAlike one.run other.run exit exit_then × PrintAlike before before_then exit exit_then status status_then
-syncs_of_one_array one_table before before_then exit exit_then status status_then one other hold ask well well_then =
-    let is = one.is_sync in
-    let is_then = other.is_sync in
+syncs_read_alike before before_then exit exit_then status status_then one other hold loaded start readings =
     let run = one.run in
     let again = other.run in
-    let set : run.setup ≡ again.setup = one_setup before before_then hold ask.asked ask.asked_then ask.words ask.words_then ask.log _ _ is.readers is_then.readers run.setup again.setup is.configured is_then.configured in
-    let loaded : run.loaded ≡ again.loaded = same_loaded one_table before before_then hold run.setup again.setup run.loaded again.loaded set
-    (is.from (unfailed before exit well)).begins (is_then.from (unfailed before_then exit_then well_then)).begins in
-    let trees : run_trees run ≡ run_trees again = ap trees_of is.folders_are ∙ hold.trees ∙ sym (ap trees_of is_then.folders_are) in
-    let start : run.plan.start ≡ again.plan.start = one.laid ∙ ap (λ (s : SetupValue). layout_by s run.loaded (run_trees run)) set
-    ∙ ap (λ (t : TableValue). layout_by again.setup t (run_trees run)) loaded ∙ ap (layout_by again.setup again.loaded) trees ∙ sym other.laid in
-    let readings : run.readings ≡ again.readings =
-    one.given (none_rose run.folders before.opener.folders exit.after.folders is.folders_are well.folders)
-    ∙ ap (λ (t : TableValue). readings_by t (run_trees run) (pending_stripes t.infos)) start
-    ∙ ap (λ (ts : List Tree). readings_by again.plan.start ts (pending_stripes again.plan.start.infos)) trees
-    ∙ sym (other.given (none_rose again.folders before_then.opener.folders exit_then.after.folders is_then.folders_are well_then.folders)) in
+    let trees : run_trees run ≡ run_trees again = ap trees_of one.is_sync.folders_are ∙ hold.trees ∙ sym (ap trees_of other.is_sync.folders_are) in
     let lines : sync_lines run.plan.start run.readings ≡ sync_lines again.plan.start again.readings = ap₂ sync_lines start readings in (
       record {
         loaded = loaded;
@@ -166,6 +155,27 @@ syncs_of_one_array one_table before before_then exit exit_then status status_the
             one.status_is other.status_is;
       },
     )
+
+pub syncs_of_one_array : OneTable → (before before_then : Entry) (exit exit_then : Exit) (status status_then : ℕ) (one : EndsInPart before exit status) (other : EndsInPart before_then exit_then status_then)
+    → HoldAlike before before_then → AskSame before before_then → NothingRose before exit → NothingRose before_then exit_then
+    → SyncsAlike one.run other.run exit exit_then × PrintAlike before before_then exit exit_then status status_then
+syncs_of_one_array one_table before before_then exit exit_then status status_then one other hold ask well well_then =
+    let is = one.is_sync in
+    let is_then = other.is_sync in
+    let run = one.run in
+    let again = other.run in
+    let set : run.setup ≡ again.setup = one_setup before before_then hold ask.asked ask.asked_then ask.words ask.words_then ask.log _ _ is.readers is_then.readers run.setup again.setup is.configured is_then.configured in
+    let loaded : run.loaded ≡ again.loaded = same_loaded one_table before before_then hold run.setup again.setup run.loaded again.loaded set
+    (is.loading.from (unfailed before exit is.loading well)) (is_then.loading.from (unfailed before_then exit_then is_then.loading well_then)) in
+    let trees : run_trees run ≡ run_trees again = ap trees_of is.folders_are ∙ hold.trees ∙ sym (ap trees_of is_then.folders_are) in
+    let start : run.plan.start ≡ again.plan.start = one.laid ∙ ap (λ (s : SetupValue). layout_by s run.loaded (run_trees run)) set
+    ∙ ap (λ (t : TableValue). layout_by again.setup t (run_trees run)) loaded ∙ ap (layout_by again.setup again.loaded) trees ∙ sym other.laid in
+    let readings : run.readings ≡ again.readings =
+    one.given (none_rose run.folders before.opener.folders exit.after.folders is.folders_are well.folders)
+    ∙ ap (λ (t : TableValue). readings_by t (run_trees run) (pending_stripes t.infos)) start
+    ∙ ap (λ (ts : List Tree). readings_by again.plan.start ts (pending_stripes again.plan.start.infos)) trees
+    ∙ sym (other.given (none_rose again.folders before_then.opener.folders exit_then.after.folders is_then.folders_are well_then.folders)) in
+    syncs_read_alike before before_then exit exit_then status status_then one other hold loaded start readings
 
 -- ---- two scrubs
 
@@ -234,39 +244,21 @@ module _ (table : TableValue) (v v_then : VaultView) (tells : IsTrue v.tells) (t
     reading_same = ap₂ (λ (c : StripeReading) (ls : List LevelReading). let it : ScrubReading = record { cells = c; levels = ls } in it) cells_same
         (ext_get_or None one.levels other.levels many level_same)
 
-  same_readings : ones ≡ others
+  pub same_readings : ones ≡ others
   same_readings = ext_get_or no_reading ones others as_many reading_same
 
 -- what a scrub prints
 abbrev scrub_lines : TableValue → List ScrubReading → List ℕ
 scrub_lines table readings = lines_of table.columns (events_scrubbed_in table readings) ++ scrub_text (length readings) (at_most (length (events_scrubbed_in table readings)))
 
-pub scrubs_of_one_array : OneTable → (before before_then : Entry) (exit exit_then : Exit) (status status_then : ℕ) (one : EndsScrubbed before exit status) (other : EndsScrubbed before_then exit_then status_then)
-    → HoldAlike before before_then → AskSame before before_then → before.moment ≡ before_then.moment → NothingRose before exit → NothingRose before_then exit_then
+-- that began with the same at one moment, and read the same
+pub scrubs_read_alike : (before before_then : Entry) (exit exit_then : Exit) (status status_then : ℕ) (one : EndsScrubbed before exit status) (other : EndsScrubbed before_then exit_then status_then) → HoldAlike before before_then
+    → before.moment ≡ before_then.moment → one.run.loaded ≡ other.run.loaded → one.run.readings ≡ other.run.readings
     → ScrubsAlike one.run other.run exit exit_then × PrintAlike before before_then exit exit_then status status_then
-scrubs_of_one_array one_table before before_then exit exit_then status status_then one other hold ask moments well well_then =
-    let is = one.is_scrub in
-    let is_then = other.is_scrub in
+scrubs_read_alike before before_then exit exit_then status status_then one other hold moments loaded readings =
     let run = one.run in
     let again = other.run in
-    let set : run.setup ≡ again.setup = one_setup before before_then hold ask.asked ask.asked_then ask.words ask.words_then ask.log _ _ is.readers is_then.readers run.setup again.setup is.configured is_then.configured in
-    let loaded : run.loaded ≡ again.loaded = same_loaded one_table before before_then hold run.setup again.setup run.loaded again.loaded set
-    (is.from (unfailed before exit well)) (is_then.from (unfailed before_then exit_then well_then)) in
-    let way : run.way ≡ again.way = one_way run.way again.way (command_asked before hold.tells.tells ask.asked ask.words _ is.readers run.setup is.configured ∙ ask.command
-    ∙ sym (command_asked before_then hold.tells_then.tells ask.asked_then ask.words_then _ is_then.readers again.setup is_then.configured)) in
-    let now : run.now ≡ again.now = is.moment_is ∙ moments ∙ sym is_then.moment_is in
-    let trees : trees_of run.folders ≡ trees_of again.folders = ap trees_of is.folders_are ∙ hold.trees ∙ sym (ap trees_of is_then.folders_are) in
-    let cells : cells_of run.readings ≡ cells_of again.readings =
-    one.given (none_rose run.folders before.opener.folders exit.after.folders is.folders_are well.folders)
-    ∙ ap (λ (t : TableValue). readings_by t (trees_of run.folders) (plan_of t run.way run.now)) loaded
-    ∙ ap (λ (ts : List Tree). readings_by again.loaded ts (plan_of again.loaded run.way run.now)) trees
-    ∙ ap₂ (λ (w : ScrubWay) (n : ℕ). readings_by again.loaded (trees_of again.folders) (plan_of again.loaded w n)) way now
-    ∙ sym (other.given (none_rose again.folders before_then.opener.folders exit_then.after.folders is_then.folders_are well_then.folders)) in
-    let readings : run.readings ≡ again.readings = same_readings again.loaded before.opener.vault before_then.opener.vault hold.tells.tells_vault hold.tells_then.tells_vault hold.files run.readings again.readings
-    (subst (λ (t : TableValue). All (HasLevels t) run.readings) loaded is.over.due) is_then.over.due
-    (subst (λ (t : TableValue). All (AreLevelsOf before.opener.vault t.shape.block_size) run.readings) loaded is.over.levels) is_then.over.levels
-    (none_risen (sum_by unread_levels run.readings) before.opener.vault.faults exit.after.vault.faults well.vault one.unread_levels_of)
-    (none_risen (sum_by unread_levels again.readings) before_then.opener.vault.faults exit_then.after.vault.faults well_then.vault other.unread_levels_of) cells in
+    let now : run.now ≡ again.now = one.is_scrub.moment_is ∙ moments ∙ sym other.is_scrub.moment_is in
     let lines : scrub_lines run.loaded run.readings ≡ scrub_lines again.loaded again.readings = ap₂ scrub_lines loaded readings in
     let events : events_scrubbed_in run.loaded run.readings ≡ events_scrubbed_in again.loaded again.readings = ap₂ events_scrubbed_in loaded readings in (
       record {
@@ -288,3 +280,31 @@ scrubs_of_one_array one_table before before_then exit exit_then status status_th
         statuses = same_status status status_then one.output_failed other.output_failed _ _ (λ clean. sym events ∙ clean) (λ clean. events ∙ clean) one.status_is other.status_is;
       },
     )
+
+pub scrubs_of_one_array : OneTable → (before before_then : Entry) (exit exit_then : Exit) (status status_then : ℕ) (one : EndsScrubbed before exit status) (other : EndsScrubbed before_then exit_then status_then)
+    → HoldAlike before before_then → AskSame before before_then → before.moment ≡ before_then.moment → NothingRose before exit → NothingRose before_then exit_then
+    → ScrubsAlike one.run other.run exit exit_then × PrintAlike before before_then exit exit_then status status_then
+scrubs_of_one_array one_table before before_then exit exit_then status status_then one other hold ask moments well well_then =
+    let is = one.is_scrub in
+    let is_then = other.is_scrub in
+    let run = one.run in
+    let again = other.run in
+    let set : run.setup ≡ again.setup = one_setup before before_then hold ask.asked ask.asked_then ask.words ask.words_then ask.log _ _ is.readers is_then.readers run.setup again.setup is.configured is_then.configured in
+    let loaded : run.loaded ≡ again.loaded = same_loaded one_table before before_then hold run.setup again.setup run.loaded again.loaded set
+    (is.loading.from (unfailed before exit is.loading well)) (is_then.loading.from (unfailed before_then exit_then is_then.loading well_then)) in
+    let way : run.way ≡ again.way = one_way run.way again.way (command_asked before hold.tells.tells ask.asked ask.words _ is.readers run.setup is.configured ∙ ask.command
+    ∙ sym (command_asked before_then hold.tells_then.tells ask.asked_then ask.words_then _ is_then.readers again.setup is_then.configured)) in
+    let now : run.now ≡ again.now = is.moment_is ∙ moments ∙ sym is_then.moment_is in
+    let trees : trees_of run.folders ≡ trees_of again.folders = ap trees_of is.folders_are ∙ hold.trees ∙ sym (ap trees_of is_then.folders_are) in
+    let cells : cells_of run.readings ≡ cells_of again.readings =
+    one.given (none_rose run.folders before.opener.folders exit.after.folders is.folders_are well.folders)
+    ∙ ap (λ (t : TableValue). readings_by t (trees_of run.folders) (plan_of t run.way run.now)) loaded
+    ∙ ap (λ (ts : List Tree). readings_by again.loaded ts (plan_of again.loaded run.way run.now)) trees
+    ∙ ap₂ (λ (w : ScrubWay) (n : ℕ). readings_by again.loaded (trees_of again.folders) (plan_of again.loaded w n)) way now
+    ∙ sym (other.given (none_rose again.folders before_then.opener.folders exit_then.after.folders is_then.folders_are well_then.folders)) in
+    let readings : run.readings ≡ again.readings = same_readings again.loaded before.opener.vault before_then.opener.vault hold.tells.tells_vault hold.tells_then.tells_vault hold.files run.readings again.readings
+    (subst (λ (t : TableValue). All (HasLevels t) run.readings) loaded is.over.due) is_then.over.due
+    (subst (λ (t : TableValue). All (AreLevelsOf before.opener.vault t.shape.block_size) run.readings) loaded is.over.levels) is_then.over.levels
+    (none_risen (sum_by unread_levels run.readings) before.opener.vault.faults exit.after.vault.faults well.vault one.unread_levels_of)
+    (none_risen (sum_by unread_levels again.readings) before_then.opener.vault.faults exit_then.after.vault.faults well_then.vault other.unread_levels_of) cells in
+    scrubs_read_alike before before_then exit exit_then status status_then one other hold moments loaded readings

@@ -1,6 +1,7 @@
 -- What stands at each moment of a run is sound.
-use Rattle.std.proofs.Common.{◌≡◌, ◌⊎◌, inl, inr, ⊎_elim, ℕ, ◌<◌, ◌^◌, List, length, get_or, Bool, IsTrue, Option, None, Some, refl, sym, ap, ◌∙◌, subst, arith}
+use Rattle.std.proofs.Common.{◌≡◌, ◌⊎◌, inl, inr, ⊎_elim, ℕ, ◌<◌, ◌^◌, List, length, get_or, Bool, true, false, IsTrue, Option, None, Some, refl, sym, ap, ◌∙◌, subst, arith}
 use Rattle.content_file.specs.Spelling.{spelling}
+use Rattle.disk_model.specs.Cause.{Rose}
 use Rattle.disk_model.specs.Files.{Files, content_of}
 use Rattle.disk_model.specs.Folder.{FolderView}
 use Rattle.disk_model.specs.Moments.{ComesBy}
@@ -21,7 +22,7 @@ use Rattle.snap_sync.specs.Part.{AreOfPartSyncs, IsToldRun, SyncRun, layout_by, 
 use Rattle.snap_sync.specs.Soundness.{AreSound, changed_without, snapshot_with}
 use Rattle.snap_top.specs.Fix.{FixRun, MayStandFixed}
 use Rattle.snap_top.specs.End.{status_of}
-use Rattle.snap_top.specs.Moment.{EndsSound, EveryMomentIsSound, HoldsFresh, ChangesNothing, IsFixOf, IsScrubOf, IsSoundAlways, IsSoundAtEnd, IsSyncOf, StandsIn, SyncsToItsEnd}
+use Rattle.snap_top.specs.Moment.{BreaksBehind, EndsSound, EveryMomentIsSound, HoldsFresh, ChangesNothing, IsFixOf, IsScrubOf, IsSoundAlways, IsSoundAtEnd, IsSyncOf, StandsIn, SyncsToItsEnd}
 use Rattle.snap_top.specs.Opening.{asked_by}
 use Rattle.snap_top.specs.Run.{Entry, Exit, Ran}
 use Rattle.snap_top.specs.Scrub.{MayStandMarked, ScrubRun}
@@ -55,6 +56,11 @@ FixKeepsSound = (plan : FixPlan) (starts : StartsValue) (firsts : List FolderVie
     → AreGenuineOf plan starts firsts read snapshot is_changed stripes → table.shape.block_size ≡ plan.table.shape.block_size → KeepsLevels plan.table.shape.block_size (IsMendedLevel plan stripes) files left
     → Sound table files snapshot is_changed → Sound table left snapshot is_changed
 
+-- by whether it broke off
+breaks_behind : (before : Entry) (exit : Exit) (failed : Bool) (run : SyncRun) (is : IsSyncOf before exit run) → (IsTrue failed → Rose is.loading.at.faults exit.after.vault.faults) → BreaksBehind before exit (syncs failed run) is
+breaks_behind before exit true run is broke = broke refl
+breaks_behind before exit false run is broke = tt
+
 -- ---- what stands at a moment
 
 module _ (before : Entry) (exit : Exit) (status : ℕ) (fresh : HoldsFresh before) (synced : SyncsToItsEnd before exit status → IsSoundAtEnd before exit status) where
@@ -82,6 +88,7 @@ module _ (before : Entry) (exit : Exit) (status : ℕ) (fresh : HoldsFresh befor
   sound_reading still = record {
     did = reads_only;
     is_did = tt;
+    broke = tt;
     reads = λ asked words none. refl;
     moments = still;
     copies = still;
@@ -105,6 +112,7 @@ module _ (before : Entry) (exit : Exit) (status : ℕ) (fresh : HoldsFresh befor
       record {
         did = fixes failed run;
         is_did = is;
+        broke = tt;
         reads = λ asked words none.
             let same = same_ok (asked_by before.texts) is.configured.asked asked is.configured.read words in
             absurd (subst ChangesNothing (sym (is.configured.command_is ∙ ap (λ (a : Options). a.command) same)) none);
@@ -134,6 +142,7 @@ module _ (before : Entry) (exit : Exit) (status : ℕ) (fresh : HoldsFresh befor
       record {
         did = scrubs failed run;
         is_did = is;
+        broke = tt;
         reads = λ asked words none.
             let same = same_ok (asked_by before.texts) is.configured.asked asked is.configured.read words in
             absurd (subst ChangesNothing (sym (is.configured.command_is ∙ ap (λ (a : Options). a.command) same)) none);
@@ -151,12 +160,14 @@ module _ (before : Entry) (exit : Exit) (status : ℕ) (fresh : HoldsFresh befor
 
   module _ (laid : LayoutIsOfTrees) (of_parts : CopiesAreOfPartSyncs) (sound : MomentsAreSound) (keeps_sound : FixKeepsSound) (one_table : OneTable) (marks_valid : ScrubKeepsValid) (marks_sound : ScrubKeepsSound) where
     -- a sync
-    sound_syncing : (failed : Bool) (run : SyncRun) → IsSyncOf before exit run → EndsSound (syncs failed run) before exit status → ((files : Files) → StandsIn before exit files → MayStand run.plan run.readings old files) → IsSoundAlways before exit status
-    sound_syncing failed run is ends moments =
+    sound_syncing : (failed : Bool) (run : SyncRun) (is : IsSyncOf before exit run) → (IsTrue failed → Rose is.loading.at.faults exit.after.vault.faults) → EndsSound (syncs failed run) before exit status
+        → ((files : Files) → StandsIn before exit files → MayStand run.plan run.readings old files) → IsSoundAlways before exit status
+    sound_syncing failed run is broke ends moments =
         let over = is.over in
         record {
           did = syncs failed run;
           is_did = is;
+          broke = breaks_behind before exit failed run is broke;
           reads = λ asked words none.
               let same = same_ok (asked_by before.texts) is.configured.asked asked is.configured.read words in
               absurd (subst ChangesNothing (sym (is.configured.command_is ∙ ap (λ (a : Options). a.command) same)) none);
@@ -183,7 +194,7 @@ module _ (before : Entry) (exit : Exit) (status : ℕ) (fresh : HoldsFresh befor
     pub sound_run : (did : Did) → EndsSound did before exit status → ChangesBy (may_stand did) before.opener.vault exit.after.vault → (did ≡ reads_only) ⊎ (HasSync before exit did ⊎ (HasFix before exit did ⊎ HasScrub before exit did)) → IsSoundAlways before exit status
     sound_run did ends changes (inl read) = sound_reading (stands_by reads_only (subst (λ d. ChangesBy (may_stand d) before.opener.vault exit.after.vault) read changes))
     sound_run did ends changes (inr (inl sync)) =
-        sound_syncing sync.failed sync.run sync.is_sync (subst (λ d. EndsSound d before exit status) sync.did_is ends) (stands_by (syncs sync.failed sync.run) (subst (λ d. ChangesBy (may_stand d) before.opener.vault exit.after.vault) sync.did_is changes))
+        sound_syncing sync.failed sync.run sync.is_sync sync.broke (subst (λ d. EndsSound d before exit status) sync.did_is ends) (stands_by (syncs sync.failed sync.run) (subst (λ d. ChangesBy (may_stand d) before.opener.vault exit.after.vault) sync.did_is changes))
     sound_run did ends changes (inr (inr (inl fix))) =
         sound_fixing keeps_sound fix.failed fix.run fix.is_fix (stands_by (fixes fix.failed fix.run) (subst (λ d. ChangesBy (may_stand d) before.opener.vault exit.after.vault) fix.did_is changes))
     sound_run did ends changes (inr (inr (inr scrub))) =

@@ -67,7 +67,7 @@ use Rattle.snap_top.proofs.EndedLemmas.{GoesToItsEnd, IsDoneAnswer, done_status,
 use Rattle.snap_top.proofs.LostEvents.{lost_is_told, told_is_lost}
 use Rattle.snap_top.proofs.LostLemmas.{AreAscending, FactsAreGenuine, same_facts, stripes_ascending}
 use Rattle.snap_top.proofs.OfFixLemmas.{check_did, levels_held, levels_in}
-use Rattle.snap_top.proofs.OfSyncLemmas.{configured_for, start_files as files_held, start_folders, start_out as out_held, start_tells as tells_held, table_among, table_begins, table_loaded}
+use Rattle.snap_top.proofs.OfSyncLemmas.{configured_for, start_files as files_held, start_folders, start_out as out_held, start_tells as tells_held, table_among, table_loading, table_loaded}
 use Rattle.snap_top.proofs.PrintingLemmas.{ended_printed}
 use Rattle.snap_top.proofs.RestoringLemmas.{none_left, rose_from}
 
@@ -188,7 +188,7 @@ module _ (rows : RowsAreKnown) (genuine_facts : FactsAreGenuine) (before : Entry
         no_gifts = ends.no_gifts;
       };
       begins = table_among before exit tells.tells tells.tells_vault setup (Answered answer named) told ran left one;
-      from = table_begins before exit tells.tells tells.tells_vault setup (Answered answer named) told ran left one (record { done = _; goes_on = ends.levels.goes_on });
+      loading = table_loading before exit tells.tells tells.tells_vault setup (Answered answer named) told ran left one (record { done = _; goes_on = ends.levels.goes_on });
     }
 
     unread_levels : RoseBy (unread_in run.readings) before.opener.vault.faults exit.after.vault.faults

@@ -2,6 +2,7 @@
 use Rattle.std.proofs.Common.{◌≡◌, ◌⊎◌, inl, inr, ⊎_elim, ℕ, ◌*◌, ◌^◌, ◌<◌, List, [], ◌∷◌, ◌++◌, length, get_or, append-nil, Bool, true, false, IsTrue, IfSome, None, Some, refl, sym, ap, ◌∙◌, subst, arith}
 use Rattle.std.proofs.lemmas.List.Elements.{All-cons}
 use Rattle.disk_model.specs.Bytes.{read_from}
+use Rattle.disk_model.specs.Cause.{Rose}
 use Rattle.disk_model.specs.Files.{Files, parity_of}
 use Rattle.disk_model.specs.Folder.{FolderView}
 use Rattle.disk_model.specs.Vault.{VaultView, VaultState, SomeCalls}
@@ -40,7 +41,7 @@ use Rattle.snap_top.specs.Views.{World, view_of, world_of}
 use Rattle.snap_top.specs.declared.end.Ending.{Ending}
 use Rattle.snap_top.specs.declared.end.Ending.TheVariants.{NotLoaded, NoTable, OtherArray, Answered}
 use Rattle.snap_top.proofs.OfScrubLemmas.{HasScrubCourse, reading_held, scrub_did, scrub_is}
-use Rattle.snap_top.proofs.OfSyncLemmas.{KeepsItsStripes, HasCourse, configured_for, given_files, given_folders, given_is, start_folders, sync_did, sync_of, table_among, table_begins, table_loaded}
+use Rattle.snap_top.proofs.OfSyncLemmas.{KeepsItsStripes, HasCourse, configured_for, given_files, given_folders, given_is, start_folders, sync_broke, sync_did, sync_of, table_among, table_loading, table_loaded}
 
 -- ---- what a command did: it only read, it synced, it fixed, or it scrubbed
 
@@ -148,6 +149,7 @@ pub record HasSync (before : Entry) (exit : Exit) (did : Did) : Type 0 where
   pub run : SyncRun
   pub did_is : did ≡ syncs failed run
   pub is_sync : IsSyncOf before exit run
+  pub broke : IsTrue failed → Rose is_sync.loading.at.faults exit.after.vault.faults
 
 pub record HasFix (before : Entry) (exit : Exit) (did : Did) : Type 0 where
   pub failed : Bool
@@ -200,7 +202,7 @@ module _ (before : Entry) (exit : Exit) (tells : IsTrue before.opener.tells) (te
           };
           makes = subst (λ (olds : List FolderView). AllFixed fixed olds exit.after.folders) (given_folders before exit tells tells_vault setup ending told ran)
               (subst (λ (did : Did). folders_after did ran.given.folders exit.after.folders) course.did_is ran.keeps.folders);
-          from = table_begins before exit tells tells_vault setup ending told ran left one course_of.calls;
+          loading = table_loading before exit tells tells_vault setup ending told ran left one course_of.calls;
         }
 
   pub run_did : KeepsItsStripes → before.moment < 2 ^ 64 → (setup : SetupValue) (ending : Ending) (told : List Event) (ran : IsRun before exit setup ending told) → (ran.did ≡ reads_only) ⊎ (HasSync before exit ran.did ⊎ (HasFix before exit ran.did ⊎ HasScrub before exit ran.did))
@@ -216,6 +218,7 @@ module _ (before : Entry) (exit : Exit) (tells : IsTrue before.opener.tells) (te
         run = _;
         did_is = course_of.course.did_is;
         is_sync = sync_of before exit tells tells_vault setup (Answered answer named) told ran left one keeps in_time course_of;
+        broke = sync_broke before exit tells tells_vault setup (Answered answer named) told ran left one keeps in_time course_of;
       }))
       (λ went. inr (⊎_elim
       (λ course_of. inl (record {

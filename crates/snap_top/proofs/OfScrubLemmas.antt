@@ -31,7 +31,7 @@ use Rattle.snap_top.specs.Scrubbing.{ScrubCourse, ScrubsBy, scrub_of}
 use Rattle.snap_top.specs.Task.{Did, Left, Task, reads_only}
 use Rattle.snap_top.specs.Views.{World, view_of, world_of}
 use Rattle.snap_top.specs.declared.end.Ending.{Ending}
-use Rattle.snap_top.proofs.OfSyncLemmas.{configured_for, given_copies, start_files, start_folders, start_tells, table_among, table_begins, table_loaded}
+use Rattle.snap_top.proofs.OfSyncLemmas.{configured_for, given_copies, start_files, start_folders, start_tells, table_among, table_loading, table_loaded}
 use Rattle.snap_top.proofs.SyncedLemmas.{OneTable}
 
 -- ---- what snap_scrub says of the table that a scrub leaves
@@ -102,7 +102,7 @@ module _ (before : Entry) (exit : Exit) (tells : IsTrue before.opener.tells) (te
           in_time = subst (λ (n : ℕ). n < 2 ^ 64) (sym ran.moment_is) in_time;
         };
         begins = table_among before exit tells tells_vault setup ending told ran left one;
-        from = table_begins before exit tells tells_vault setup ending told ran left one course.vault.calls;
+        loading = table_loading before exit tells tells_vault setup ending told ran left one course.vault.calls;
       }
 
 -- ---- soundness: parity stays, and the table that is saved calls the same stripes synced

@@ -1,5 +1,5 @@
 -- Of which sync a run is.
-use Rattle.std.proofs.Common.{◌≡◌, ◌⊎◌, inl, inr, ⊎_elim, ℕ, ◌^◌, ◌<◌, ◌≤◌, List, ◌∷◌, ◌++◌, length, append_assoc, Bool, true, false, IsTrue, Option, None, Some, refl, sym, ap, ◌∙◌, subst, arith}
+use Rattle.std.proofs.Common.{◌≡◌, ◌⊎◌, inl, inr, ⊎_elim, ℕ, ◌^◌, ◌<◌, ◌≤◌, List, ◌∷◌, ◌++◌, length, append_assoc, Bool, true, false, IsTrue, Option, None, Some, Ok, refl, sym, ap, ◌∙◌, subst, arith}
 use Rattle.std.proofs.lemmas.List.{ext_get_or, length-replicate}
 use Rattle.array_scan.specs.Keeping.{KeepsStripes}
 use Rattle.array_scan.specs.Kept.{ListedFile, kept_lists}
@@ -27,7 +27,8 @@ use Rattle.snap_sync.specs.Soundness.{IsLoadedFrom}
 use Rattle.snap_top.specs.Array.{empty_table}
 use Rattle.snap_top.specs.Moment.{IsSyncOf}
 use Rattle.snap_top.specs.Opening.{IsConfigured}
-use Rattle.snap_top.specs.Run.{Entry, Exit, BeginsWith, IsAnswered, IsRun, LoadsFrom}
+use Rattle.snap_top.specs.Loading.{Loading}
+use Rattle.snap_top.specs.Run.{Entry, Exit, BeginsWith, IsAnswered, IsRun, LoadsFrom, LoadsInOrder, ReadsCopies}
 use Rattle.snap_top.specs.Sync.{BeginsAmong, BeginsFrom, HoldsNoContent, SyncsOver}
 use Rattle.snap_top.specs.Syncing.{SyncCourse, SyncsBy, run_of}
 use Rattle.snap_top.specs.Task.{Task, Did, reads_only, Left}
@@ -90,7 +91,7 @@ module _ (files : Files) (given mid : VaultState) (files_are : given.files ≡ f
       let same : damaged.bytes ≡ bytes = cc in
       damaged.damaged (subst IsContent (sym same) content)
 
-  begins_from : (setup : SetupValue) (seed : List ℕ) (loaded : Option TableValue) (table : TableValue) → LoadsFrom given mid loaded → BeginsWith setup seed loaded table
+  pub begins_from : (setup : SetupValue) (seed : List ℕ) (loaded : Option TableValue) (table : TableValue) → LoadsFrom given mid loaded → BeginsWith setup seed loaded table
       → ((k : ℕ) → ¬ (HasFailed (view_of given) (view_of mid) k)) → BeginsFrom setup seed (copies_of (view_of given)) files table
   begins_from setup seed None table loads begins none =
       inr (λ copy below. sym (ap (λ (fs : Files). content_of fs copy) files_are) ∙ loads.none tells copy below, begins)
@@ -102,22 +103,27 @@ module _ (files : Files) (given mid : VaultState) (files_are : given.files ≡ f
     first = λ k below. ⊎_elim (λ useless. useless_copy k useless) (λ failed. absurd (none k failed)) (loads.earlier tells k below);
   })
 
+-- a reading that failed since something was given failed since that was held
+failed_of : (held : VaultView) (given mid : VaultState) → given ≡ state_of held → (copy : ℕ) → HasFailed (view_of given) (view_of mid) copy → HasFailed held (view_of mid) copy
+failed_of held given mid same copy failed =
+    let is : HasFailed (view_of (state_of held)) (view_of mid) copy = subst (λ (s : VaultState). HasFailed (view_of s) (view_of mid) copy) same failed in
+    record { within = is.within; rose = is.rose; earlier = is.earlier; call = is.call; later = is.later; read = is.read; made = is.made }
+
 -- a reading that failed while the content was loaded is one of the run
-failed_since : (held after : VaultView) (given mid : VaultState) → given ≡ state_of held → SomeCalls (view_of mid) (view_of (state_of after)) → (copy : ℕ) → HasFailed (view_of given) (view_of mid) copy → HasFailed held after copy
-failed_since held after given mid same calls copy failed =
-    let of_held : HasFailed (view_of (state_of held)) (view_of mid) copy = subst (λ (s : VaultState). HasFailed (view_of s) (view_of mid) copy) same failed in
-    let first : VaultDone = plain_done of_held.call true in
+pub failed_since : (held after : VaultView) (mid : VaultState) → SomeCalls (view_of mid) (view_of (state_of after)) → (copy : ℕ) → HasFailed held (view_of mid) copy → HasFailed held after copy
+failed_since held after mid calls copy is =
+    let first : VaultDone = plain_done is.call true in
     record {
-      within = of_held.within;
-      rose = let rose = of_held.rose in let later = calls.goes_on.later in rose_later held.faults mid.faults after.faults rose later;
-      earlier = of_held.earlier;
-      call = of_held.call;
-      later = of_held.later ++ calls.done;
-      read = of_held.read;
+      within = is.within;
+      rose = let rose = is.rose in let later = calls.goes_on.later in rose_later held.faults mid.faults after.faults rose later;
+      earlier = is.earlier;
+      call = is.call;
+      later = is.later ++ calls.done;
+      read = is.read;
       made = λ told.
           calls.goes_on.calls.more told
-          ∙ ap (λ (cs : List VaultDone). cs ++ calls.done) (of_held.made (calls.goes_on.calls.told told))
-          ∙ append_assoc (held.calls ++ of_held.earlier) (first ∷ of_held.later) calls.done;
+          ∙ ap (λ (cs : List VaultDone). cs ++ calls.done) (is.made (calls.goes_on.calls.told told))
+          ∙ append_assoc (held.calls ++ is.earlier) (first ∷ is.later) calls.done;
     }
   where
     rose_later : (a b c : ℕ) → Rose a b → b ≤ c → Rose a c
@@ -130,7 +136,7 @@ module _ (before : Entry) (exit : Exit) (tells : IsTrue before.opener.tells) (te
   pub given_is : ran.given.vault ≡ state_of before.opener.vault
   given_is = ran.is_given.state.whole tells
 
-  given_tells : IsTrue ran.given.vault.tells
+  pub given_tells : IsTrue ran.given.vault.tells
   given_tells = ap (λ (s : VaultState). s.tells) given_is ∙ tells_vault
 
   pub given_files : ran.given.vault.files ≡ before.opener.vault.files
@@ -170,12 +176,20 @@ module _ (before : Entry) (exit : Exit) (tells : IsTrue before.opener.tells) (te
         (subst (λ (seed : List ℕ). BeginsAmong ran.task.setup seed (copies_of (view_of ran.given.vault)) before.opener.vault.files one.table) ran.seed_is
         (begins_among before.opener.vault.files ran.given.vault one.start.vault given_files given_tells ran.task.setup ran.task.seed one.loaded one.table one.loads one.begins))
 
-    pub table_begins : SomeCalls (view_of one.start.vault) (view_of (state_of exit.after.vault)) → ((copy : ℕ) → ¬ (HasFailed before.opener.vault exit.after.vault copy))
-        → BeginsFrom ran.task.setup before.seed (copies_of before.opener.vault) before.opener.vault.files one.table
-    table_begins calls none = subst (λ (n : ℕ). BeginsFrom ran.task.setup before.seed n before.opener.vault.files one.table) given_copies
-        (subst (λ (seed : List ℕ). BeginsFrom ran.task.setup seed (copies_of (view_of ran.given.vault)) before.opener.vault.files one.table) ran.seed_is
-        (begins_from before.opener.vault.files ran.given.vault one.start.vault given_files given_tells ran.task.setup ran.task.seed one.loaded one.table one.loads one.begins
-        (λ k failed. none k (failed_since before.opener.vault exit.after.vault ran.given.vault one.start.vault given_is calls k failed))))
+    pub table_loading : SomeCalls (view_of one.start.vault) (view_of (state_of exit.after.vault)) → Loading before exit ran.task.setup one.table
+    table_loading calls = record {
+      at = one.start.vault;
+      loaded = one.loaded;
+      reads = subst (λ (s : VaultState). ReadsCopies s one.start.vault) given_is one.reads.vault;
+      loads = subst (λ (s : VaultState). LoadsFrom s one.start.vault one.loaded) given_is one.loads;
+      order = subst (λ (s : VaultState). LoadsInOrder (Ok one.loaded) s one.start.vault) given_is one.order;
+      begins = subst (λ (seed : List ℕ). BeginsWith ran.task.setup seed one.loaded one.table) ran.seed_is one.begins;
+      later = calls;
+      from = λ well. subst (λ (n : ℕ). BeginsFrom ran.task.setup before.seed n before.opener.vault.files one.table) given_copies
+          (subst (λ (seed : List ℕ). BeginsFrom ran.task.setup seed (copies_of (view_of ran.given.vault)) before.opener.vault.files one.table) ran.seed_is
+          (begins_from before.opener.vault.files ran.given.vault one.start.vault given_files given_tells ran.task.setup ran.task.seed one.loaded one.table one.loads one.begins
+          (λ k failed. well k (failed_of before.opener.vault ran.given.vault one.start.vault given_is k failed))));
+    }
 
     -- ---- the sync of a run: it is that which its command ran from the table that was loaded
 
@@ -217,5 +231,11 @@ module _ (before : Entry) (exit : Exit) (tells : IsTrue before.opener.tells) (te
             over = over;
             begins = table_among;
             bytes = sync_bytes run over.listed over.stands.keeps.columns;
-            from = λ none. record { over = over; begins = table_begins course.vault.calls none };
+            loading = table_loading course.vault.calls;
           }
+
+      -- where it broke off, a call failed after its table was loaded
+      pub sync_broke : (course_of : HasCourse ran.task.command ran.task one.table one.start (world_of exit.after) left ran.did) → IsTrue course_of.failed
+          → Rose (sync_of course_of).loading.at.faults exit.after.vault.faults
+      unfolding sync_of table_loading
+      sync_broke course_of failed = (course_of.course.vault.broke failed).rose

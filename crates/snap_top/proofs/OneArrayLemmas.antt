@@ -78,10 +78,10 @@ module _ (determined : IsDetermined) (plan : FixPlan) (valid : IsValid plan.tabl
     its_then : AreFacts plan other
     its_then = are_then k no_facts within_then
 
-    stripe_same : one.stripe ≡ other.stripe
+    pub stripe_same : one.stripe ≡ other.stripe
     stripe_same = sym (get_or-map number ones k no_facts 0 within) ∙ ap (λ (ns : List ℕ). get_or ns k 0) numbers ∙ get_or-map number others k no_facts 0 within_then
 
-    slot_alike : (d : ℕ) → KeptAlike (slot_of one d) (slot_of other d)
+    pub slot_alike : (d : ℕ) → KeptAlike (slot_of one d) (slot_of other d)
     slot_alike d = ⊎_elim
         (λ below. kept_both (slot_of one d) (slot_of other d) (held_slot plan.table lists trees d one.stripe)
         (came.slots k d within below)
@@ -90,7 +90,7 @@ module _ (determined : IsDetermined) (plan : FixPlan) (valid : IsValid plan.tabl
         (get_or_past one.slots d no_slot (omega (arith, past, its.slots)) ∙ sym (get_or_past other.slots d no_slot (omega (arith, past, its_then.slots)))))
         (cases_lt d (length plan.table.columns))
 
-    gifts_same : one.gifts ≡ other.gifts
+    pub gifts_same : one.gifts ≡ other.gifts
     gifts_same = ext_get_or None one.gifts other.gifts (its.gifts ∙ sym its_then.gifts) (λ d below. none k no_facts within d ∙ sym (none_then k no_facts within_then d))
 
     -- as many levels, by whether a recovery is tried
@@ -98,7 +98,7 @@ module _ (determined : IsDetermined) (plan : FixPlan) (valid : IsValid plan.tabl
     level_count true a b = a.0 ∙ sym b.0
     level_count false a b = ap (λ (levels : List LevelValue). length levels) (a.1 ∙ sym b.1)
 
-    levels_same : one.levels ≡ other.levels
+    pub levels_same : one.levels ≡ other.levels
     levels_same =
         let many : length one.levels ≡ length other.levels
         = level_count (is_searched plan one.stripe) its.tried (subst (λ (s : ℕ). IsTried plan other (is_searched plan s)) (sym stripe_same) its_then.tried) in
@@ -127,7 +127,7 @@ chosen none (commands.Audit selection) = selection
 chosen none (commands.Fix selection) = selection
 chosen none _ = none
 
-one_selection : (mode : Mode) (a b : Selection) → command_in mode a ≡ command_in mode b → a ≡ b
+pub one_selection : (mode : Mode) (a b : Selection) → command_in mode a ≡ command_in mode b → a ≡ b
 unfolding chosen
 one_selection modes.Check a b same = ap (chosen a) same
 one_selection modes.Audit a b same = ap (chosen a) same
@@ -139,7 +139,7 @@ selection_is : (mode : Mode) (before : Entry) → IsTrue before.opener.tells →
 selection_is mode before tells readers asked selection words command its setup is = one_selection mode its selection (command_asked before tells asked words (command_in mode its) readers setup is ∙ command)
 
 -- a plan of the same
-plan_as : (mode : Mode) (selection selection_then : Selection) (names names_then : List (List ℕ)) (table table_then : TableValue) (lists lists_then : List (List ListedFile)) (plan : FixPlan)
+pub plan_as : (mode : Mode) (selection selection_then : Selection) (names names_then : List (List ℕ)) (table table_then : TableValue) (lists lists_then : List (List ListedFile)) (plan : FixPlan)
     → selection ≡ selection_then → names ≡ names_then → table ≡ table_then → lists ≡ lists_then → IsPlan mode selection_then names_then table_then lists_then plan → IsPlan mode selection names table lists plan
 plan_as mode selection selection_then names names_then table table_then lists lists_then plan a b c d is =
     subst (λ (s : Selection). IsPlan mode s names table lists plan) (sym a)
@@ -147,7 +147,7 @@ plan_as mode selection selection_then names names_then table table_then lists li
     (subst (λ (t : TableValue). IsPlan mode selection_then names_then t lists plan) (sym c)
     (subst (λ (ls : List (List ListedFile)). IsPlan mode selection_then names_then table_then ls plan) (sym d) is)))
 
-came_as : (table table_then : TableValue) (lists lists_then : List (List ListedFile)) (trees trees_then : List Tree) (files files_then : Files) (stripes : List StripeFacts)
+pub came_as : (table table_then : TableValue) (lists lists_then : List (List ListedFile)) (trees trees_then : List Tree) (files files_then : Files) (stripes : List StripeFacts)
     → table ≡ table_then → lists ≡ lists_then → trees ≡ trees_then → files ≡ files_then → CameAsHeld table_then lists_then trees_then files_then stripes → CameAsHeld table lists trees files stripes
 came_as table table_then lists lists_then trees trees_then files files_then stripes a b c d came =
     subst (λ (t : TableValue). CameAsHeld t lists trees files stripes) (sym a)
@@ -198,7 +198,7 @@ module _ (before : Entry) (exit : Exit) (status : ℕ) (tells : TellsAll before)
   pub fix_came : CameAsHeld fix.loaded fix.lists (trees_of fix.folders) before.opener.vault.files (facts_of fix.stripes)
   fix_came =
       let over = ends.is_fix.over in
-      fix_held fix.plan fix.loaded over.plan_is.table_is fix.lists (facts_of fix.stripes) fix.folders fix.listed fix.ended over.listed over.as_many over.columns fix_tells fix_well over.finds.cells ends.unread
+      fix_held fix.plan fix.loaded over.plan_is.table_is fix.lists (facts_of fix.stripes) fix.folders fix.listed fix.ended over.listed over.columns fix_tells fix_well over.finds.cells ends.unread
       before.opener.vault fix.readings over.finds.levels tells.tells_vault
       (none_risen (unread_in fix.readings) before.opener.vault.faults exit.after.vault.faults well.vault ends.unread_levels)
 
@@ -215,7 +215,7 @@ checks_of_one_array determined one_table mode before before_then exit exit_then 
     let set : one.setup ≡ other.setup
     = setups mode mode before before_then hold ask one.selection other.selection one.setup other.setup is.readers is_then.readers is.configured is_then.configured in
     let loaded : one.loaded ≡ other.loaded
-    = same_loaded one_table before before_then hold one.setup other.setup one.loaded other.loaded set (is.from (unfailed before exit well)) (is_then.from (unfailed before_then exit_then well_then)) in
+    = same_loaded one_table before before_then hold one.setup other.setup one.loaded other.loaded set (is.loading.from (unfailed before exit is.loading well)) (is_then.loading.from (unfailed before_then exit_then is_then.loading well_then)) in
     let trees : trees_of one.folders ≡ trees_of other.folders = ap trees_of is.folders_are ∙ hold.trees ∙ sym (ap trees_of is_then.folders_are) in
     let lists : one.lists ≡ other.lists = lists_same one.folders one.listed other.folders other.listed one.lists other.lists over.listed over_then.listed
     (check_tells mode before exit status hold.tells well one has) (check_tells mode before_then exit_then status_then hold.tells_then well_then other has_then) trees in
@@ -257,7 +257,7 @@ a_fix_of_one_array determined in_mode says one_table before before_then exit exi
     let set : one.setup ≡ other.setup
     = setups modes.Check modes.Fix before before_then hold ask one.selection other.selection one.setup other.setup is.readers is_then.readers is.configured is_then.configured in
     let loaded : one.loaded ≡ other.loaded
-    = same_loaded one_table before before_then hold one.setup other.setup one.loaded other.loaded set (is.from (unfailed before exit well)) (is_then.from (unfailed before_then exit_then well_then)) in
+    = same_loaded one_table before before_then hold one.setup other.setup one.loaded other.loaded set (is.loading.from (unfailed before exit is.loading well)) (is_then.loading.from (unfailed before_then exit_then is_then.loading well_then)) in
     let trees : trees_of one.folders ≡ trees_of other.folders = ap trees_of is.folders_are ∙ hold.trees ∙ sym (ap trees_of is_then.folders_are) in
     let tell : AllTell other.folders = fix_tells before_then exit_then status_then hold.tells_then well_then ends in
     let lists : one.lists ≡ other.lists = lists_same one.folders one.listed other.folders other.listed one.lists other.lists over.listed over_then.listed

@@ -17,7 +17,7 @@ use Rattle.snap_top.specs.Task.{Left}
 use Rattle.snap_top.specs.Views.{World, view_of, world_of}
 use Rattle.snap_top.specs.declared.end.Ending.{Ending}
 use Rattle.snap_top.proofs.EndedLemmas.{done_status, output_rose}
-use Rattle.snap_top.proofs.OfSyncLemmas.{configured_for, start_out, table_among, table_begins}
+use Rattle.snap_top.proofs.OfSyncLemmas.{configured_for, start_out, table_among, table_loading}
 
 pub ended_printed : (before : Entry) (exit : Exit) (tells : TellsAll before) (setup : SetupValue) (ending : Ending) (told : List Event) (ran : IsRun before exit setup ending told) (left : Left)
     (one : IsAnswered ran.task ran.given (world_of exit.after) left ran.did) (command : Command) → ran.task.command ≡ command → (text : TableValue → List ℕ) (counted : TableValue → ℕ) (status : ℕ) → status ≡ answer_status left.answer
@@ -33,7 +33,7 @@ ended_printed before exit tells setup ending told ran left one command command_i
       table = one.table;
       valid = one.valid;
       begins = table_among before exit tells.tells tells.tells_vault setup ending told ran left one;
-      from = table_begins before exit tells.tells tells.tells_vault setup ending told ran left one calls;
+      loading = table_loading before exit tells.tells tells.tells_vault setup ending told ran left one calls;
       output_failed = failed;
       printed = subst (λ (out : SinkView). Tells (text one.table) (between false out) (between failed exit.after.out))
           (start_out before exit tells.tells tells.tells_vault setup ending told ran left one) alone.prints.told;

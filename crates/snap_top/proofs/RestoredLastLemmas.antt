@@ -82,7 +82,7 @@ told_so told found it is has = among_all is_finding told it (subst (λ (events :
 
 -- ---- a level is wrong only where the row of its stripe is known, and so searched for
 
-unknown_right : (block_size r : ℕ) (state : LevelRead) (block : List ℕ) (selected : Bool) → (selected && is_wrong_by block_size r state block None) ≡ true → ⊥
+pub unknown_right : (block_size r : ℕ) (state : LevelRead) (block : List ℕ) (selected : Bool) → (selected && is_wrong_by block_size r state block None) ≡ true → ⊥
 unknown_right block_size r here.Bytes block true wrong = cc
 unknown_right block_size r here.Short block true wrong = cc
 unknown_right block_size r here.Unread block true wrong = cc

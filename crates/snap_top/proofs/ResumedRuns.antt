@@ -1,5 +1,5 @@
 -- Runs that are stopped one after another: their syncs are those of the law on syncs.
-use Rattle.std.proofs.Common.{◌≡◌, ◌⊎◌, inl, inr, ⊎_elim, ℕ, List, [], ◌∷◌, length, take, Bool, Ok, sym, ap, ◌∙◌, subst, arith}
+use Rattle.std.proofs.Common.{◌≡◌, ◌⊎◌, inl, inr, ⊎_elim, ℕ, List, [], ◌∷◌, length, take, Bool, Ok, sym, ap, ◌∙◌, subst}
 use Rattle.content_file.specs.Save.{HasSaved}
 use Rattle.content_file.specs.Spelling.{spelling}
 use Rattle.disk_model.specs.Files.{Files}
@@ -19,8 +19,8 @@ use Rattle.snap_sync.specs.Part.{AllTell, AllVerified, IsFullSync, SyncRun, run_
 use Rattle.snap_sync.specs.Resumed.{EndsAs}
 use Rattle.snap_sync.specs.Soundness.{AreSound}
 use Rattle.snap_top.specs.Array.{empty_table}
-use Rattle.snap_top.specs.Ended.{ByStatus}
-use Rattle.snap_top.specs.Moment.{EndsInPart, EveryMomentIsSound, IsDidOf, IsSoundAlways, IsSyncOf, StandsIn}
+use Rattle.snap_top.specs.Loading.{ReadsWell}
+use Rattle.snap_top.specs.Moment.{IsDidOf, IsSoundAlways, IsSyncOf, LoadsWell, StandsIn}
 use Rattle.snap_top.specs.Opening.{asked_by}
 use Rattle.snap_top.specs.Resumed.{AreStoppedRuns, AsksForSync, EndAlike, EndsClean, IsBetween, IsStopped, RunOf, StoppedRun, end_of, entry_of}
 use Rattle.snap_top.specs.Run.{Entry, Exit}
@@ -38,7 +38,7 @@ SyncsAreResumed = (setup : SetupValue) (trees : List Tree) (seed : List ℕ) (co
 
 -- ---- the sync of a run that was asked for one
 
-module _ (setup : SetupValue) (trees : List Tree) (seed : List ℕ) (files : Files) (before : Entry) (exit : Exit) (asks : AsksForSync setup trees seed files before exit) (run : SyncRun) (is : IsSyncOf before exit run) where
+module _ (setup : SetupValue) (trees : List Tree) (seed : List ℕ) (files : Files) (before : Entry) (exit : Exit) (asks : AsksForSync setup trees seed files before) (run : SyncRun) (is : IsSyncOf before exit run) where
   abbrev copies : ℕ
   copies = length setup.contents
 
@@ -61,11 +61,11 @@ module _ (setup : SetupValue) (trees : List Tree) (seed : List ℕ) (files : Fil
     trees_are = ap trees_of is.folders_are ∙ asks.trees_are;
   }
 
-  pub from_files : SyncsFrom seed copies files run
-  from_files =
+  pub from_files : ReadsWell before is.loading.at → SyncsFrom seed copies files run
+  from_files well =
       let here : SyncsFrom before.seed copies files run
       = subst (λ (fs : Files). SyncsFrom before.seed copies fs run) asks.files_are
-      (subst (λ (n : ℕ). SyncsFrom before.seed n before.opener.vault.files run) same_copies (is.from asks.reads_well)) in
+      (subst (λ (n : ℕ). SyncsFrom before.seed n before.opener.vault.files run) same_copies (record { over = is.over; begins = is.loading.from well })) in
       record {
         over = here.over;
         begins = ⊎_elim
@@ -77,16 +77,16 @@ module _ (setup : SetupValue) (trees : List Tree) (seed : List ℕ) (files : Fil
 -- ---- the stops
 
 -- what a run did is to read, so that all is as it was, or to sync: it was asked for that
-by_did : (setup : SetupValue) (trees : List Tree) (seed : List ℕ) (files : Files) (before : Entry) (exit : Exit) → AsksForSync setup trees seed files before exit
-    → (old left : Files) (did : Did) → IsDidOf before exit did → may_stand did old left
-    → (left ≡ old) ⊎ ((run : SyncRun) × IsSyncOf before exit run × MayStand run.plan run.readings old left)
-by_did setup trees seed files before exit asks old left reads_only is moment = inl moment
-by_did setup trees seed files before exit asks old left (syncs failed run) is moment = inr (run, is, moment)
-by_did setup trees seed files before exit asks old left (fixes failed run) is moment =
+by_did : (setup : SetupValue) (trees : List Tree) (seed : List ℕ) (files : Files) (before : Entry) (exit : Exit) → AsksForSync setup trees seed files before
+    → (old left : Files) (did : Did) (is : IsDidOf before exit did) → LoadsWell before exit did is → may_stand did old left
+    → (left ≡ old) ⊎ ((run : SyncRun) × (is_sync : IsSyncOf before exit run) × ReadsWell before is_sync.loading.at × MayStand run.plan run.readings old left)
+by_did setup trees seed files before exit asks old left reads_only is well moment = inl moment
+by_did setup trees seed files before exit asks old left (syncs failed run) is well moment = inr (run, is, well, moment)
+by_did setup trees seed files before exit asks old left (fixes failed run) is well moment =
     let same : is.configured.asked ≡ asks.asked = same_ok (asked_by before.texts) is.configured.asked asks.asked is.configured.read asks.words in
     let clash : commands.Fix run.selection ≡ commands.Sync asks.way = is.configured.command_is ∙ ap (λ (a : Options). a.command) same ∙ asks.command_is in
     absurd cc
-by_did setup trees seed files before exit asks old left (scrubs failed run) is moment =
+by_did setup trees seed files before exit asks old left (scrubs failed run) is well moment =
     let same : is.configured.asked ≡ asks.asked = same_ok (asked_by before.texts) is.configured.asked asks.asked is.configured.read asks.words in
     let clash : commands.Scrub run.way ≡ commands.Sync asks.way = is.configured.command_is ∙ ap (λ (a : Options). a.command) same ∙ asks.command_is in
     absurd cc
@@ -99,27 +99,27 @@ module _ {O F V W : Type 0} (opener_view : O → OpenerView) (folder_view : F �
   StopsTo files left = (list : List Stop) × AreStopped setup trees seed copies_here list files left
 
   -- one that was stopped before, by what it began with and left
-  stopped_at : (before : Entry) (exit : Exit) (status : ℕ) (files mid left : Files) → AsksForSync setup trees seed files before exit → EveryMomentIsSound before exit status → StandsIn before exit mid → StopsTo mid left → StopsTo files left
-  stopped_at before exit status files mid left asks sound stands rest =
-      let always : IsSoundAlways before exit status = sound (record { tells = asks.tells.tells; tells_vault = asks.tells.tells_vault; settled = asks.settled }) in
+  stopped_at : (before : Entry) (exit : Exit) (status : ℕ) (files mid left : Files) → AsksForSync setup trees seed files before → (always : IsSoundAlways before exit status) → LoadsWell before exit always.did always.is_did
+      → StandsIn before exit mid → StopsTo mid left → StopsTo files left
+  stopped_at before exit status files mid left asks always well stands rest =
       ⊎_elim
       (λ still. (rest.0, subst (λ (fs : Files). AreStopped setup trees seed copies_here rest.0 fs left) (still ∙ asks.files_are) rest.1))
       (λ did. (
         record { run = did.0; left = mid } ∷ rest.0,
         (
           record {
-            syncs = from_files setup trees seed files before exit asks did.0 did.1;
+            syncs = from_files setup trees seed files before exit asks did.0 did.1 did.2;
             of_array = of_array setup trees seed files before exit asks did.0 did.1;
-            moment = subst (λ (fs : Files). MayStand did.0.plan did.0.readings fs mid) asks.files_are did.2;
+            moment = subst (λ (fs : Files). MayStand did.0.plan did.0.readings fs mid) asks.files_are did.3;
           },
           rest.1,
         ),
       ))
-      (by_did setup trees seed files before exit asks before.opener.vault.files mid always.did always.is_did (always.moments mid stands))
+      (by_did setup trees seed files before exit asks before.opener.vault.files mid always.did always.is_did well (always.moments mid stands))
 
   stopped_before : (stop : StoppedRun O F V W) (files left : Files) → IsStopped opener_view folder_view vault_view sink_view setup trees seed files stop → StopsTo stop.left left → StopsTo files left
   stopped_before stop files left stopped rest =
-      stopped_at (entry_of opener_view sink_view stop.run) (end_of opener_view folder_view vault_view sink_view stop.run) stop.run.status files stop.left left stopped.asks stopped.sound stopped.stands rest
+      stopped_at (entry_of opener_view sink_view stop.run) (end_of opener_view folder_view vault_view sink_view stop.run) stop.run.status files stop.left left stopped.asks stopped.always stopped.reads_well stopped.stands rest
 
   -- one that changed nothing before
   between_before : (stop : StoppedRun O F V W) (files left : Files) → IsBetween opener_view folder_view vault_view sink_view setup trees seed files stop → StopsTo stop.left left → StopsTo files left
@@ -138,22 +138,17 @@ module _ {O F V W : Type 0} (opener_view : O → OpenerView) (folder_view : F �
       (λ between. between_before stop files left between (stops_are stops stop.left left are.1))
       are.0
 
-  -- a run that ended with status 0
-  pub ends_in_part : (files : Files) (run : RunOf O F V W) (left : Files) → EndsClean opener_view folder_view vault_view sink_view setup trees seed files run left
-      → EndsInPart (entry_of opener_view sink_view run) (end_of opener_view folder_view vault_view sink_view run) run.status
-  ends_in_part files run left clean = let zero = clean.clean in clean.ends clean.asks.tells (ByStatus (omega (arith, zero))) clean.asks.asked clean.asks.way clean.asks.words clean.asks.command_is
-
-  -- so all is verified
+  -- a run that ended with status 0: so all is verified
   pub all_verified : (files : Files) (run : RunOf O F V W) (left : Files) (clean : EndsClean opener_view folder_view vault_view sink_view setup trees seed files run left)
-      → (let sync = (ends_in_part files run left clean).run in AllVerified sync.plan.start sync.readings)
-  all_verified files run left clean = ((ends_in_part files run left clean).status_is.clean.0 clean.clean).1
+      → (let sync = clean.ends.run in AllVerified sync.plan.start sync.readings)
+  all_verified files run left clean = (clean.ends.status_is.clean.0 clean.clean).1
 
   pub full_of : (files : Files) (run : RunOf O F V W) (left : Files) (clean : EndsClean opener_view folder_view vault_view sink_view setup trees seed files run left)
-      → (let sync = (ends_in_part files run left clean).run in IsFullSync setup sync.loaded trees sync.plan.now files (end_table sync) left)
+      → (let sync = clean.ends.run in IsFullSync setup sync.loaded trees sync.plan.now files (end_table sync) left)
   full_of files run left clean =
       let before : Entry = entry_of opener_view sink_view run in
       let exit : Exit = end_of opener_view folder_view vault_view sink_view run in
-      let part = ends_in_part files run left clean in
+      let part = clean.ends in
       let sync : SyncRun = part.run in
       let of : IsOfArray setup trees sync = of_array setup trees seed files before exit clean.asks sync part.is_sync in
       let full : IsFullSync sync.setup sync.loaded (run_trees sync) sync.plan.now before.opener.vault.files (end_table sync) left
@@ -163,11 +158,11 @@ module _ {O F V W : Type 0} (opener_view : O → OpenerView) (folder_view : F �
       (subst (λ (s : SetupValue). IsFullSync s sync.loaded (run_trees sync) sync.plan.now before.opener.vault.files (end_table sync) left) of.setup_is full))
 
   pub saved_by : (files : Files) (run : RunOf O F V W) (left : Files) (clean : EndsClean opener_view folder_view vault_view sink_view setup trees seed files run left)
-      → HasSaved copies_here (spelling (end_table (ends_in_part files run left clean).run)) left
+      → HasSaved copies_here (spelling (end_table clean.ends.run)) left
   saved_by files run left clean =
       let before : Entry = entry_of opener_view sink_view run in
       let exit : Exit = end_of opener_view folder_view vault_view sink_view run in
-      let part = ends_in_part files run left clean in
+      let part = clean.ends in
       subst (λ (n : ℕ). HasSaved n (spelling (end_table part.run)) left) (same_copies setup trees seed files before exit clean.asks part.run part.is_sync)
       (stands_then (HasSaved (copies_of before.opener.vault) (spelling (end_table part.run))) exit left part.tells part.saved clean.stands)
 
@@ -177,8 +172,8 @@ module _ {O F V W : Type 0} (opener_view : O → OpenerView) (folder_view : F �
       → EndAlike copies_here is_changed one other
   ends_alike resumed keeps stops files left one other whole last snapshot is_changed clean are stopped later =
       let list = stops_are stops files left stopped in
-      let first = ends_in_part files whole one clean in
-      let second = ends_in_part left last other later in
+      let first = clean.ends in
+      let second = later.ends in
       let shapes = keeps first.run.setup first.run.loaded (run_trees first.run) first.run.plan.now (end_table first.run) (entry_of opener_view sink_view whole).opener.vault.files one
       (stands_then _ (end_of opener_view folder_view vault_view sink_view whole) one first.tells (first.full (all_verified files whole one clean)) clean.stands) in
       let same : (first.run.plan.start.shape ≡ (end_table first.run).shape) × (length first.run.plan.start.infos ≡ length (end_table first.run).infos)
@@ -189,8 +184,8 @@ module _ {O F V W : Type 0} (opener_view : O → OpenerView) (folder_view : F �
         saved = saved_by files whole one clean;
         other_saved = saved_by left last other later;
         alike = by_shape first.run.plan.start (end_table first.run) same.0 same.1 is_changed (end_table first.run) (end_table second.run) one other (resumed setup trees seed copies_here list.0 files left first.run second.run snapshot is_changed first.run.plan.now second.run.plan.now (end_table first.run) (end_table second.run) one other
-            (from_files setup trees seed files _ _ clean.asks first.run first.is_sync) (of_array setup trees seed files _ _ clean.asks first.run first.is_sync) are list.1
-            (from_files setup trees seed left _ _ later.asks second.run second.is_sync) (of_array setup trees seed left _ _ later.asks second.run second.is_sync)
+            (from_files setup trees seed files _ _ clean.asks first.run first.is_sync clean.reads_well) (of_array setup trees seed files _ _ clean.asks first.run first.is_sync) are list.1
+            (from_files setup trees seed left _ _ later.asks second.run second.is_sync later.reads_well) (of_array setup trees seed left _ _ later.asks second.run second.is_sync)
             (full_of files whole one clean) (full_of left last other later));
       }
 

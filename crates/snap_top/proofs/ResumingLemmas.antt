@@ -15,13 +15,14 @@ use Rattle.snap_config.specs.declared.options.Command.TheVariants as commands
 use Rattle.snap_config.specs.declared.options.Options.{Options}
 use Rattle.snap_sync.specs.Part.{IsFullSync, IsToldRun, SyncRun, layout_by, run_trees}
 use Rattle.snap_top.specs.Ended.{has_ended}
-use Rattle.snap_top.specs.Headline.{AreStoppedSyncs, EndsInFull, IsAskedToSync, IsResumed, IsSoundStanding, Syncs, SyncsClean}
+use Rattle.snap_top.specs.Headline.{AreStoppedSyncs, EndsInFull, IsAskedToSync, IsResumed, IsSoundStanding, IsSyncOver, Syncs, SyncsClean}
 use Rattle.snap_top.specs.History.{AreSoundBy}
-use Rattle.snap_top.specs.Moment.{EndsInPart, IsDidOf}
+use Rattle.snap_top.specs.Loading.{ReadsWell}
+use Rattle.snap_top.specs.Moment.{EndsInPart, IsDidOf, IsSyncOf, LoadsWell}
 use Rattle.snap_top.specs.Opening.{asked_by}
 use Rattle.snap_top.specs.Resumed.{AreStoppedRuns, AsksForSync, EndsClean, RunOf, StoppedRun}
 use Rattle.snap_top.specs.Run.{Entry, Exit}
-use Rattle.snap_top.specs.Standing.{Change, Configures, Damages, Edits, Follows, GoesOver, IsHistory, Runs, Stage, Standing, after_of, before_of}
+use Rattle.snap_top.specs.Standing.{Change, Configures, Damages, Edits, GoesOver, IsHistory, Runs, Stage, Standing, after_of, before_of}
 use Rattle.snap_top.specs.Step.{ChangesFiles, EndsBy}
 use Rattle.snap_top.specs.Sync.{AreStopped, BeginsFrom, IsOfArray, Stop, SyncsFrom}
 use Rattle.snap_top.specs.Task.{Did, end_table, fixes, reads_only, scrubs, syncs}
@@ -29,8 +30,19 @@ use Rattle.snap_top.proofs.CompleteLemmas.{same_ok}
 use Rattle.snap_top.proofs.EndedLemmas.{only_read}
 use Rattle.snap_top.proofs.MomentLemmas.{LayoutIsOfTrees}
 use Rattle.snap_top.proofs.ResumeLemmas.{FullKeepsShape, begins_same, by_shape}
-use Rattle.snap_top.proofs.ResumedRuns.{SyncsAreResumed, ends_in_part, from_files, full_of, of_array, runs_resumed, same_copies, saved_by, stops_are}
+use Rattle.snap_top.proofs.ResumedRuns.{SyncsAreResumed, from_files, full_of, of_array, runs_resumed, same_copies, saved_by, stops_are}
 use Rattle.snap_top.proofs.SyncedLemmas.{OneTable}
+
+-- a sync that went to its end, and no reading of a copy failed while its table was loaded
+record EndsWell (before : Entry) (exit : Exit) (status : ℕ) : Type 0 where
+  ends : EndsInPart before exit status
+  reads_well : ReadsWell before ends.is_sync.loading.at
+
+-- it is one where none failed of the sync that it is
+ends_well : (before : Entry) (exit : Exit) (status : ℕ) (sync : SyncRun) (is : IsSyncOf before exit sync) → ReadsWell before is.loading.at → (ends : EndsInPart before exit status) → ends.run ≡ sync → EndsWell before exit status
+ends_well before exit status sync is well ends same =
+    let its = subst (λ (run : SyncRun). (there : IsSyncOf before exit run) × ReadsWell before there.loading.at) (sym same) (is, well) in
+    record { ends = record ends { is_sync = its.0 }; reads_well = its.1 }
 
 module _ {O F V W : Type 0} (opener_view : O → OpenerView) (folder_view : F → FolderView) (vault_view : V → VaultView) (sink_view : W → SinkView) where
   abbrev begun : RunOf O F V W → Entry
@@ -46,7 +58,7 @@ module _ {O F V W : Type 0} (opener_view : O → OpenerView) (folder_view : F �
     abbrev Asked : Standing → RunOf O F V W → Type 0
     Asked standing run = IsAskedToSync opener_view folder_view vault_view sink_view setup trees seed standing run
 
-    asks : (run : RunOf O F V W) (standing next : Standing) → Goes run standing next → Asked standing run → AsksForSync setup trees seed standing.files (begun run) (after run)
+    asks : (run : RunOf O F V W) (standing next : Standing) → Goes run standing next → Asked standing run → AsksForSync setup trees seed standing.files (begun run)
     asks run standing next goes asked =
         let over = goes.over in
         record {
@@ -60,21 +72,20 @@ module _ {O F V W : Type 0} (opener_view : O → OpenerView) (folder_view : F �
           trees_are = over.trees ∙ asked.trees_are;
           files_are = over.files;
           seed_is = asked.seed_is;
-          reads_well = asked.reads_well;
         }
 
     abbrev StopsTo : Files → Files → Type 0
     StopsTo files left = (stops : List (StoppedRun O F V W)) × AreStoppedRuns opener_view folder_view vault_view sink_view setup trees seed stops files left
 
-    sync_first : (change : Change O F V W) (standing next : Standing) (left : Files) → Follows opener_view folder_view vault_view sink_view change standing next
-        → Syncs opener_view folder_view vault_view sink_view setup trees seed standing change → StopsTo next.files left → StopsTo standing.files left
-    sync_first (Runs run) standing next left goes asked rest = (
+    sync_first : (change : Change O F V W) (standing next : Standing) (left : Files)
+        → Syncs opener_view folder_view vault_view sink_view setup trees seed standing change next → StopsTo next.files left → StopsTo standing.files left
+    sync_first (Runs run) standing next left sync rest = (
       record { run = run; left = next.files } ∷ rest.0,
-      (inl (record { asks = asks run standing next goes asked; sound = λ fresh. goes.step.always; stands = goes.files }), rest.1),
+      (inl (record { asks = asks run standing next sync.goes sync.asked; always = sync.goes.step.always; reads_well = sync.reads_well; stands = sync.goes.files }), rest.1),
     )
-    sync_first Edits standing next left follows none rest = absurd none
-    sync_first Damages standing next left follows none rest = absurd none
-    sync_first Configures standing next left follows none rest = absurd none
+    sync_first Edits standing next left none rest = absurd none
+    sync_first Damages standing next left none rest = absurd none
+    sync_first Configures standing next left none rest = absurd none
 
     stops_to : (stages : List (Stage O F V W)) (standing later : Standing) → IsHistory opener_view folder_view vault_view sink_view standing stages later
         → AreStoppedSyncs opener_view folder_view vault_view sink_view setup trees seed standing stages → StopsTo standing.files later.files
@@ -82,47 +93,53 @@ module _ {O F V W : Type 0} (opener_view : O → OpenerView) (folder_view : F �
     stops_to (stage ∷ stages) standing later history are =
         let rest : StopsTo stage.next.files later.files = stops_to stages stage.next later history.1 are.1 in
         ⊎_elim
-        (λ synced. sync_first stage.change standing stage.next later.files history.0 synced rest)
+        (λ synced. sync_first stage.change standing stage.next later.files synced rest)
         (λ still. subst (λ (fs : Files). StopsTo fs later.files) still rest)
         are.0
 
     -- with status 0 it ended as the part sync of its layout
-    part_by : (before : Entry) (exit : Exit) (status : ℕ) → AsksForSync setup trees seed before.opener.vault.files before exit → (did : Did) → IsDidOf before exit did → has_ended did ≡ true → EndsBy did before exit status → EndsInPart before exit status
-    part_by before exit status asks reads_only is ended ends = absurd (only_read reads_only refl ended)
-    part_by before exit status asks (syncs failed sync) is ended ends = ends.0
-    part_by before exit status asks (fixes failed fix) is ended ends =
+    part_by : (before : Entry) (exit : Exit) (status : ℕ) → AsksForSync setup trees seed before.opener.vault.files before → (did : Did) (is : IsDidOf before exit did) → LoadsWell before exit did is → has_ended did ≡ true
+        → EndsBy did before exit status → EndsWell before exit status
+    part_by before exit status asks reads_only is well ended ends = absurd (only_read reads_only refl ended)
+    part_by before exit status asks (syncs failed sync) is well ended ends = ends_well before exit status sync is well ends.0 ends.1
+    part_by before exit status asks (fixes failed fix) is well ended ends =
         let same : is.configured.asked ≡ asks.asked = same_ok (asked_by before.texts) is.configured.asked asks.asked is.configured.read asks.words in
         let clash : commands.Fix fix.selection ≡ commands.Sync asks.way = is.configured.command_is ∙ ap (λ (a : Options). a.command) same ∙ asks.command_is in
         absurd cc
-    part_by before exit status asks (scrubs failed scrub) is ended ends =
+    part_by before exit status asks (scrubs failed scrub) is well ended ends =
         let same : is.configured.asked ≡ asks.asked = same_ok (asked_by before.texts) is.configured.asked asks.asked is.configured.read asks.words in
         let clash : commands.Scrub scrub.way ≡ commands.Sync asks.way = is.configured.command_is ∙ ap (λ (a : Options). a.command) same ∙ asks.command_is in
         absurd cc
 
-    ends_in_its_part : (run : RunOf O F V W) (standing next : Standing) → Goes run standing next → Asked standing run → run.status ≡ 0 → EndsInPart (begun run) (after run) run.status
-    ends_in_its_part run standing next goes asked zero =
-        let step = goes.step in
+    ends_in_its_part : (run : RunOf O F V W) (standing next : Standing) → IsSyncOver opener_view folder_view vault_view sink_view setup trees seed standing run next → run.status ≡ 0
+        → EndsWell (begun run) (after run) run.status
+    ends_in_its_part run standing next sync zero =
+        let asked = sync.asked in
+        let step = sync.goes.step in
         let ended : has_ended step.always.did ≡ true = step.done asked.asked asked.words (subst ChangesFiles (sym asked.command_is) tt) (inl (omega (arith, zero))) in
         part_by (begun run) (after run) run.status
-        (subst (λ (fs : Files). AsksForSync setup trees seed fs (begun run) (after run)) (sym goes.over.files) (asks run standing next goes asked))
-        step.always.did step.always.is_did ended (step.at_end ended)
+        (subst (λ (fs : Files). AsksForSync setup trees seed fs (begun run)) (sym sync.goes.over.files) (asks run standing next sync.goes asked))
+        step.always.did step.always.is_did sync.reads_well ended (step.at_end ended)
 
     abbrev Clean : Standing → RunOf O F V W → Standing → Type 0
     Clean standing run next = SyncsClean opener_view folder_view vault_view sink_view setup trees seed standing run next
 
     clean_of : (run : RunOf O F V W) (standing next : Standing) → Clean standing run next → EndsClean opener_view folder_view vault_view sink_view setup trees seed standing.files run next.files
-    clean_of run standing next clean = record {
-      asks = asks run standing next clean.goes clean.asked;
-      ends = λ tells went asked way words command. ends_in_its_part run standing next clean.goes clean.asked clean.clean;
-      clean = clean.clean;
-      stands = clean.stands;
-    }
+    clean_of run standing next clean =
+        let well = ends_in_its_part run standing next clean.sync clean.clean in
+        record {
+          asks = asks run standing next clean.sync.goes clean.sync.asked;
+          ends = well.ends;
+          reads_well = well.reads_well;
+          clean = clean.clean;
+          stands = clean.stands;
+        }
 
     -- there are as many copies as its configuration names
     copies_named : (run : RunOf O F V W) (standing next : Standing) → Clean standing run next → standing.copies ≡ length setup.contents
     copies_named run standing next clean =
-        let part = ends_in_part opener_view folder_view vault_view sink_view setup trees seed standing.files run next.files (clean_of run standing next clean) in
-        sym clean.goes.over.copies ∙ same_copies setup trees seed standing.files (begun run) (after run) (asks run standing next clean.goes clean.asked) part.run part.is_sync
+        let part = (clean_of run standing next clean).ends in
+        sym clean.sync.goes.over.copies ∙ same_copies setup trees seed standing.files (begun run) (after run) (asks run standing next clean.sync.goes clean.sync.asked) part.run part.is_sync
 
   -- a sync that was never stopped
   pub resumed_over : SyncsAreResumed → FullKeepsShape → (standing : Standing) → IsSoundStanding standing → IsResumed opener_view folder_view vault_view sink_view standing
@@ -154,8 +171,8 @@ module _ {O F V W : Type 0} (opener_view : O → OpenerView) (folder_view : F �
         let stops = stops_to setup trees seed stages standing later history are in
         let list = stops_are opener_view folder_view vault_view sink_view setup trees seed stops.0 standing.files later.files stops.1 in
         let ends : EndsClean opener_view folder_view vault_view sink_view setup trees seed later.files last again.files = clean_of setup trees seed last later again clean in
-        let part = ends_in_part opener_view folder_view vault_view sink_view setup trees seed later.files last again.files ends in
-        let last_from : SyncsFrom seed copies_here later.files part.run = from_files setup trees seed later.files (begun last) (after last) ends.asks part.run part.is_sync in
+        let part = ends.ends in
+        let last_from : SyncsFrom seed copies_here later.files part.run = from_files setup trees seed later.files (begun last) (after last) ends.asks part.run part.is_sync ends.reads_well in
         let last_of : IsOfArray setup trees part.run = of_array setup trees seed later.files (begun last) (after last) ends.asks part.run part.is_sync in
         let first = first_sync list.0 standing.files later.files part.run list.1 last_from last_of in
         let first_begins : BeginsFrom setup seed copies_here standing.files first.0.loaded

@@ -43,6 +43,7 @@ use Rattle.snap_top.specs.Scrubbing.{ScrubEnds, ScrubsBy, scrub_of}
 use Rattle.snap_top.specs.Task.{Did, Left, Task, reads_only, scrubs}
 use Rattle.snap_top.specs.Views.{AllReadOnly, World, outside_of, view_of, world_of, world_view}
 use Rattle.snap_top.proofs.DoneLemmas.{by_output, nothing_more}
+use Rattle.snap_top.proofs.FolderLemmas.{column_reads_only}
 use Rattle.snap_top.proofs.RunLemmas.{any_later}
 use Rattle.snap_top.proofs.SyncLemmas.{broke_more, changes_of, holds_of, printed_lines}
 use Rattle.snap_top.proofs.ViewsLemmas.{all_read_nothing, sink_stays, some_calls_of}
@@ -57,7 +58,7 @@ UnreadAreTold = (table : TableValue) (readings : List ScrubReading) → count_by
 cells_read : (table : TableValue) (readings : List StripeReading) (olds news : List FolderView) → AreRead table readings olds news → AllReadOnly olds news
 cells_read table readings olds news read = record {
   count = read.folders;
-  each = λ d below. let folder = (read.each d below).folder in record { calls = record { done = folder.done; goes_on = folder.goes_on }; tree = folder.tree };
+  each = λ d below. column_reads_only (read.each d below);
 }
 
 -- ---- the vault

@@ -51,7 +51,7 @@ kept_both one other third a b = record {
   block = a.block ∙ sym b.block;
 }
 
-damaged_same : (seen : Option CellView) (one other : SlotValue) → KeptAlike one other → is_damaged seen one ≡ is_damaged seen other
+pub damaged_same : (seen : Option CellView) (one other : SlotValue) → KeptAlike one other → is_damaged seen one ≡ is_damaged seen other
 damaged_same None one other alike = refl
 damaged_same (Some cell) one other alike = ap (λ (came : Option Digest16). not (is_some came && agrees cell.hash came)) alike.digest
 
@@ -94,7 +94,7 @@ module _ (determined : IsDetermined) (plan : FixPlan) (valid : IsValid plan.tabl
   abbrev mid : StripeFacts
   mid = record other { slots = one.slots }
 
-  missing : (d : ℕ) → is_missing plan mid d ≡ is_missing plan other d
+  pub missing : (d : ℕ) → is_missing plan mid d ≡ is_missing plan other d
   missing d = ap (λ (damaged : Bool). damaged && not (is_some (gift_of other d))) (damaged_same (seen_at plan other.stripe d) (slot_of one d) (slot_of other d) (alike d))
 
   missing_same : ◌≡◌ {A = ℕ → Bool} (λ d. is_missing plan mid d) (λ d. is_missing plan other d)
@@ -127,7 +127,7 @@ module _ (determined : IsDetermined) (plan : FixPlan) (valid : IsValid plan.tabl
     tried = tried (is_searched plan other.stripe) are_then.tried;
   }
 
-  is_mid : one ≡ mid
+  pub is_mid : one ≡ mid
   is_mid = determined plan plan one mid (record { table = refl; audits = refl }) valid are mid_are (record { stripe = stripe; slots = refl; gifts = gifts; levels = levels })
 
   pub rows_same : one.row ≡ other.row

@@ -49,6 +49,7 @@ use Rattle.snap_top.proofs.OfFixLemmas.{HasFix, HasScrub, HasSync, check_did, ru
 use Rattle.snap_top.proofs.OfScrubLemmas.{ScrubKeepsSound, ScrubKeepsValid}
 use Rattle.snap_top.proofs.OfSyncLemmas.{KeepsItsStripes, given_folders}
 use Rattle.snap_top.proofs.PartLemmas.{PendingIsFound, ReadIsGiven, ReadIsPartSync, VerifiedIsFullSync, ended_in_part, ended_run}
+use Rattle.snap_top.proofs.ReadStopLemmas.{each_tree_stays}
 use Rattle.snap_top.proofs.RefusalLemmas.{ending_untouched}
 use Rattle.snap_top.proofs.RestoringLemmas.{BlocksAreKnown, CellsAreLost, CellsAreRestored, LostAreUnknown, UnknownAreLost, done_by_did as fix_is_done, ended_fixed, ended_fixed_run}
 use Rattle.snap_top.proofs.ScrubbedLemmas.{done_by_did as scrub_is_done, ended_scrubbed, ended_scrubbed_run}
@@ -214,6 +215,7 @@ module _ (says : BelowSays) (before : Entry) (exit : Exit) (tells : TellsAll bef
       record {
         always = sound_reading before exit status fresh synced still;
         folders = λ has. absurd (let clash : false ≡ true = sym ran.no_vault ∙ has in cc);
+        stops = λ has. absurd (let clash : false ≡ true = sym ran.no_vault ∙ has in cc);
         refused = λ refused. read;
         done = λ asked words changes well. absurd (done_end before exit (Refused why) told status tells.tells is ran well);
         at_end = λ ended. absurd (only_read _ read ended);
@@ -228,10 +230,13 @@ module _ (says : BelowSays) (before : Entry) (exit : Exit) (tells : TellsAll bef
       = sound_run before exit status fresh synced says.laid says.of_parts says.moments says.keeps_sound says.one_table says.marks_valid says.marks_sound ran.did ends (ran.changes tells.tells) how in
       let same : always.did ≡ ran.did
       = run_did_is before exit status fresh synced says.laid says.of_parts says.moments says.keeps_sound says.one_table says.marks_valid says.marks_sound ran.did ends (ran.changes tells.tells) how in
+      let kept : folders_after always.did before.opener.folders exit.after.folders
+      = subst (λ (did : Did). folders_after did before.opener.folders exit.after.folders) (sym same)
+      (subst (λ (olds : List FolderView). folders_after ran.did olds exit.after.folders) (given_folders before exit tells.tells tells.tells_vault (setup_value setup) ending told ran) ran.keeps.folders) in
       record {
         always = always;
-        folders = λ has. subst (λ (did : Did). folders_after did before.opener.folders exit.after.folders) (sym same)
-            (subst (λ (olds : List FolderView). folders_after ran.did olds exit.after.folders) (given_folders before exit tells.tells tells.tells_vault (setup_value setup) ending told ran) ran.keeps.folders);
+        folders = λ has. kept;
+        stops = λ has. each_tree_stays always.did before exit kept;
         refused = λ refused. same ∙ (ending_untouched ending ran.task ran.given (world_of exit.after) told ran.did ran.goes (subst (λ (n : ℕ). (n ≡ 2) ⊎ (n ≡ 5)) is refused)).did_is;
         done = λ asked words changes well. ap has_ended same
             ∙ done_in (setup_value setup) ending told ran is asked words changes (done_ending ending (done_end before exit (Worked setup ending) told status tells.tells is ran well));

@@ -1,8 +1,10 @@
 -- Objects that were not touched, and one thing done after another.
-use Rattle.std.proofs.Common.{List, [], ◌++◌, arith, refl, sym, ap, ◌∙◌, append_assoc}
+use Rattle.std.proofs.Common.{◌≡◌, List, [], ◌++◌, None, arith, refl, sym, ap, ◌∙◌, append_assoc}
 use Rattle.std.proofs.lemmas.List.{append-nil}
-use Rattle.disk_model.specs.Folder.{FolderView}
+use Rattle.std.proofs.lemmas.List.Elements.{All-append, All-nil}
+use Rattle.disk_model.specs.Folder.{FolderView, FolderCall, FolderDone}
 use Rattle.disk_model.specs.Sink.{SinkView, SinkGoesOn}
+use Rattle.disk_model.specs.Stopped.{written_path}
 use Rattle.disk_model.specs.Vault.{VaultView, SomeCalls, state_of}
 use Rattle.disk_model.proofs.VaultLemmas.{no_calls, calls_then}
 use Rattle.snap_top.specs.Views.{World, view_of, folder_at, ReadsOnly, AllReadOnly, KeepsBy}
@@ -13,12 +15,20 @@ sink_stays out = record { later = omega arith; tells = refl }
 pub sink_then : (old mid new : SinkView) → SinkGoesOn old mid → SinkGoesOn mid new → SinkGoesOn old new
 sink_then old mid new one two = record { later = omega (arith, one.later, two.later); tells = two.tells ∙ one.tells }
 
+-- no call of a folder that was only read writes
+abbrev pub IsReadingCall : FolderCall → Type 0
+IsReadingCall call = written_path call ≡ None
+
+abbrev pub IsReadingDone : FolderDone → Type 0
+IsReadingDone done = IsReadingCall done.call
+
 pub read_nothing : (v : FolderView) → ReadsOnly v v
 read_nothing v = record {
   calls = record {
     done = [];
     goes_on = record { later = omega arith; keeps_stamps = refl; closed = refl; tells = refl; calls = record { told = λ t. t; more = λ t. sym (append-nil v.calls) } };
   };
+  reads = All-nil IsReadingDone;
   tree = λ t. refl;
 }
 
@@ -40,6 +50,7 @@ read_then old mid new one two =
           };
         };
       };
+      reads = All-append IsReadingDone one.calls.done two.calls.done one.reads two.reads;
       tree = λ t. two.tree (a.tells ∙ t) ∙ one.tree t;
     }
 

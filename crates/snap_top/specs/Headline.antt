@@ -1,6 +1,5 @@
 -- What is promised of whatever stands after a history: it is sound, a stopped sync is resumed, and a fix restores what was last synced.
 use Rattle.std.specs.Prelude.{◌≡◌, ◌⊎◌, ℕ, ◌<◌, ◌≤◌, List, [], ◌∷◌, length, take, Bool, true, false, Some, Ok}
-use Rattle.content_file.specs.Load.{HasFailed}
 use Rattle.content_file.specs.Save.{HasSaved}
 use Rattle.content_file.specs.Spelling.{spelling}
 use Rattle.disk_model.specs.Files.{Files, content_of}
@@ -17,13 +16,16 @@ use Rattle.snap_config.specs.declared.options.Command.TheVariants as commands
 use Rattle.snap_config.specs.declared.options.Options.{Options}
 use Rattle.snap_config.specs.declared.options.Selection.{Selection}
 use Rattle.snap_config.specs.declared.options.SyncWay.{SyncWay}
-use Rattle.snap_sync.specs.Part.{IsFullSync, trees_of}
+use Rattle.snap_sync.specs.Part.{IsFullSync, tree_at, trees_of}
+use Rattle.snap_fix.specs.Genuine.{AreGenuine}
 use Rattle.snap_sync.specs.Resumed.{EndsAs}
 use Rattle.snap_top.specs.Alike.{NothingRose}
 use Rattle.snap_top.specs.Complete.{NothingBroke}
 use Rattle.snap_top.specs.Fix.{FixRun}
 use Rattle.snap_top.specs.History.{AreSoundBy, IsOfBytes}
-use Rattle.snap_top.specs.Moment.{AreOfRun, ChangesNothing, StandsAfter, StandsIn}
+use Rattle.snap_top.specs.Lost.{NamesLost}
+use Rattle.snap_top.specs.Moment.{AreOfRun, ChangesNothing, LoadsWell, StandsAfter, StandsIn}
+use Rattle.snap_top.specs.Naming.{EndsChecked, events_found}
 use Rattle.snap_top.specs.NextFix.{RestoresAgain}
 use Rattle.snap_top.specs.Opening.{asked_by}
 use Rattle.snap_top.specs.RestoredLast.{IsRestored}
@@ -31,9 +33,10 @@ use Rattle.snap_top.specs.Resumed.{EndAlike, RunOf}
 use Rattle.snap_top.specs.Spared.{SparesBy}
 use Rattle.snap_top.specs.Standing.{BeginsOver, Change, GoesOver, IsHistory, LeavesTrees, MeetsNoChance, Runs, Stage, Standing, after_of, before_of}
 use Rattle.snap_top.specs.Step.{RunStep}
+use Rattle.snap_top.specs.Stopping.{FolderStandsIn}
 use Rattle.snap_top.specs.Sync.{BeginsFrom, HasNoCopy}
 use Rattle.snap_top.specs.SyncedLast.{IsSyncedLast}
-use Rattle.snap_top.specs.Task.{fixes}
+use Rattle.snap_top.specs.Task.{fixes, has_fixed}
 
 -- ---- it is sound
 
@@ -59,8 +62,7 @@ pub record EndsInFull (copies : ℕ) (is_changed : ℕ → ℕ → Bool) (table 
   pub alike : EndsAs table is_changed table other_table full files
 
 module _ {O F V W : Type 0} (opener_view : O → OpenerView) (folder_view : F → FolderView) (vault_view : V → VaultView) (sink_view : W → SinkView) where
-  -- A run over what stands was asked for a sync by this setup and over these trees, and the reading of no copy failed. The seed matters
-  -- only where there is no copy.
+  -- A run over what stands was asked for a sync by this setup and over these trees. The seed matters only where there is no copy.
   pub record IsAskedToSync (setup : SetupValue) (trees : List Tree) (seed : List ℕ) (standing : Standing) (run : RunOf O F V W) : Type 0 where
     pub asked : Options
     pub way : SyncWay
@@ -69,23 +71,27 @@ module _ {O F V W : Type 0} (opener_view : O → OpenerView) (folder_view : F �
     pub says : read_setup (take 1048577 standing.config) asked.log ≡ Ok setup
     pub trees_are : standing.trees ≡ trees
     pub seed_is : HasNoCopy (length setup.contents) standing.files → run.seed ≡ seed
-    pub reads_well : (copy : ℕ) → ¬ (HasFailed (before_of opener_view folder_view vault_view sink_view run).opener.vault
-        (after_of opener_view folder_view vault_view sink_view run).after.vault copy)
 
-  abbrev pub Syncs : SetupValue → List Tree → List ℕ → Standing → Change O F V W → Type 0
-  Syncs setup trees seed standing (Runs run) = IsAskedToSync setup trees seed standing run
-  Syncs setup trees seed standing _ = ⊥
+  -- Such a run, stopped at any moment of it or ended with any status. No reading of a copy failed while its table was loaded.
+  pub record IsSyncOver (setup : SetupValue) (trees : List Tree) (seed : List ℕ) (standing : Standing) (run : RunOf O F V W) (next : Standing) : Type 0 where
+    pub goes : GoesOver opener_view folder_view vault_view sink_view run standing next
+    pub asked : IsAskedToSync setup trees seed standing run
+    pub reads_well : LoadsWell (before_of opener_view folder_view vault_view sink_view run) (after_of opener_view folder_view vault_view sink_view run)
+        goes.step.always.did goes.step.always.is_did
+
+  abbrev pub Syncs : SetupValue → List Tree → List ℕ → Standing → Change O F V W → Standing → Type 0
+  Syncs setup trees seed standing (Runs run) next = IsSyncOver setup trees seed standing run next
+  Syncs setup trees seed standing _ next = ⊥
 
   -- Each stage is such a sync, stopped at any moment or ended with any status, or it leaves the vault's files as they are.
   abbrev pub AreStoppedSyncs : SetupValue → List Tree → List ℕ → Standing → List (Stage O F V W) → Type 0
   AreStoppedSyncs setup trees seed standing [] = Unit {0}
   AreStoppedSyncs setup trees seed standing (stage ∷ stages) =
-      (Syncs setup trees seed standing stage.change ⊎ (stage.next.files ≡ standing.files)) × AreStoppedSyncs setup trees seed stage.next stages
+      (Syncs setup trees seed standing stage.change stage.next ⊎ (stage.next.files ≡ standing.files)) × AreStoppedSyncs setup trees seed stage.next stages
 
   -- such a sync was not stopped, and its status is 0
   pub record SyncsClean (setup : SetupValue) (trees : List Tree) (seed : List ℕ) (standing : Standing) (run : RunOf O F V W) (next : Standing) : Type 0 where
-    pub goes : GoesOver opener_view folder_view vault_view sink_view run standing next
-    pub asked : IsAskedToSync setup trees seed standing run
+    pub sync : IsSyncOver setup trees seed standing run next
     pub clean : run.status ≡ 0
     pub stands : StandsAfter (after_of opener_view folder_view vault_view sink_view run) next.files
 
@@ -168,12 +174,30 @@ module _ {O F V W : Type 0} (opener_view : O → OpenerView) (folder_view : F �
       → NothingRose (before_of opener_view folder_view vault_view sink_view again) (after_of opener_view folder_view vault_view sink_view again)
       → RestoresAgain fix fix_again standing next
 
+  -- ---- a check names
+
+  -- A check of what stands that went to its end names what is lost by what was last synced, if it met no recorded hash by chance.
+  abbrev pub ChecksName : Standing → Type 0
+  ChecksName standing = (run : RunOf O F V W) → BeginsOver standing (before_of opener_view folder_view vault_view sink_view run)
+      → (ends : EndsChecked (before_of opener_view folder_view vault_view sink_view run) (after_of opener_view folder_view vault_view sink_view run) run.status)
+      → AreGenuine ends.run.plan standing.last.snapshot ends.run.stripes
+      → NamesLost ends.run.plan ends.run.stripes standing.last.snapshot (events_found ends.run)
+
   -- ---- all of it
 
   -- Each copy is as it was, or spells a table of that very run: of a part sync of what was laid out, or with the marks of a scrub.
   abbrev pub LeavesCopies : Standing → Type 0
   LeavesCopies standing = (run : RunOf O F V W) (next : Standing) → (goes : GoesOver opener_view folder_view vault_view sink_view run standing next)
       → AreOfRun goes.step.always.did standing.copies standing.files next.files
+
+  -- Trees stay, as a history supposes: at each moment of a run that fixed nothing the files of a folder are those that stood, at a stop before
+  -- its end if the folder tells its calls.
+  abbrev pub TreesStay : Standing → Type 0
+  TreesStay standing = (run : RunOf O F V W) (d : ℕ) (left : Tree) → BeginsOver standing (before_of opener_view folder_view vault_view sink_view run)
+      → (step : RunStep (before_of opener_view folder_view vault_view sink_view run) (after_of opener_view folder_view vault_view sink_view run) run.status)
+      → (after_of opener_view folder_view vault_view sink_view run).has_vault ≡ true → has_fixed step.always.did ≡ false
+      → FolderStandsIn (before_of opener_view folder_view vault_view sink_view run) (after_of opener_view folder_view vault_view sink_view run) d left
+      → left ≡ tree_at standing.trees d
 
   -- Whatever moment a run over what stands is stopped at, something stands next.
   abbrev pub GoesOn : Standing → Type 0
@@ -201,7 +225,9 @@ module _ {O F V W : Type 0} (opener_view : O → OpenerView) (folder_view : F �
     pub restores : FixesRestore standing
     pub spares : FixesSpare standing
     pub resumes : FixesAreResumed standing
+    pub names : ChecksName standing
     pub copies : LeavesCopies standing
     pub quiet : IsQuiet opener_view folder_view vault_view sink_view standing
+    pub trees : TreesStay standing
     pub goes_on : GoesOn standing
     pub arrives : ArrivesAtItsEnd standing

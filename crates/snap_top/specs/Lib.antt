@@ -1,5 +1,6 @@
 pub mod Alike
 pub mod Array
+pub mod BrokeOff
 pub mod Check
 pub mod Checking
 pub mod Complete
@@ -7,12 +8,14 @@ pub mod Does
 pub mod End
 pub mod Ended
 pub mod Fix
+pub mod FixedAlike
 pub mod Fixing
 pub mod Headline
 pub mod History
 pub mod Known
 pub mod LeftAlike
 pub mod Levels
+pub mod Loading
 pub mod Lost
 pub mod Moment
 pub mod Naming
@@ -33,6 +36,7 @@ pub mod Stopping
 pub mod Sync
 pub mod SyncedLast
 pub mod Syncing
+pub mod Taken
 pub mod Task
 pub mod Undamaged
 pub mod Views

@@ -2,7 +2,6 @@
 use Rattle.std.specs.Prelude.{◌≡◌, ◌⊎◌, ℕ, ◌≤◌, ◌++◌, ◌-◌, length, All, Bool, false, IsTrue, Ok, true}
 use Rattle.array_scan.specs.Layout.{pending_stripes}
 use Rattle.cauchy.specs.Recovery.{AreBytes}
-use Rattle.content_file.specs.Load.{HasFailed}
 use Rattle.content_file.specs.Save.{HasSaved}
 use Rattle.content_file.specs.Spelling.{spelling}
 use Rattle.disk_model.specs.Cause.{Rose}
@@ -26,17 +25,18 @@ use Rattle.snap_sync.specs.Part.{AllTell, AllVerified, AreOfPartSyncs, IsFullSyn
 use Rattle.stripe_findings.specs.Reading.{StripeReading, is_verified, row_of, stripes_of}
 use Rattle.snap_sync.specs.Soundness.{AreSound, changed_without, snapshot_with}
 use Rattle.snap_top.specs.Ended.{IsEndStatus, WentToItsEnd}
+use Rattle.snap_top.specs.Loading.{Loading, ReadsWell}
 use Rattle.snap_top.specs.Opening.{IsConfigured, asked_by}
 use Rattle.snap_top.specs.Run.{Entry, Exit}
 use Rattle.snap_top.specs.Fix.{AllFixed, FixRun, FixesOver, IsGenuineFix}
 use Rattle.snap_top.specs.Scrub.{MayStandMarked, ScrubRun, ScrubsOver}
-use Rattle.snap_top.specs.Sync.{BeginsAmong, BeginsFrom, SyncsFrom, SyncsOver}
+use Rattle.snap_top.specs.Sync.{BeginsAmong, SyncsOver}
 use Rattle.snap_top.specs.Task.{Did, fixes, reads_only, scrubs, syncs, may_stand, end_table}
 
 -- ---- what a run did
 
 -- The sync of a run: it is by the configuration that was asked for, over the folders and the vault that the opener held. The rows that
--- it read are of bytes. Where no copy's reading failed, the table that it loaded is that of the first copy that is a content file.
+-- it read are of bytes. Where no copy's reading failed while its table was loaded, that is the first copy's that is a content file.
 pub record IsSyncOf (before : Entry) (exit : Exit) (run : SyncRun) : Type 0 where
   pub way : SyncWay
   pub readers : ℕ
@@ -48,11 +48,10 @@ pub record IsSyncOf (before : Entry) (exit : Exit) (run : SyncRun) : Type 0 wher
   pub over : SyncsOver (copies_of before.opener.vault) before.opener.vault.files run
   pub begins : BeginsAmong run.setup before.seed (copies_of before.opener.vault) before.opener.vault.files run.loaded
   pub bytes : All (λ (reading : StripeReading). AreBytes (row_of reading)) run.readings
-  pub from : ((copy : ℕ) → ¬ (HasFailed before.opener.vault exit.after.vault copy))
-      → SyncsFrom before.seed (copies_of before.opener.vault) before.opener.vault.files run
+  pub loading : Loading before exit run.setup run.loaded
 
 -- The fix of a run, by the configuration that was asked for, over the folders and the vault that the opener held. Where no copy's reading
--- failed, the table that it loaded is that of the first copy that is a content file.
+-- failed while its table was loaded, that is the first copy's that is a content file.
 pub record IsFixOf (before : Entry) (exit : Exit) (run : FixRun) : Type 0 where
   pub readers : ℕ
   pub configured : IsConfigured before.texts before.opener (commands.Fix run.selection) readers run.setup
@@ -62,11 +61,10 @@ pub record IsFixOf (before : Entry) (exit : Exit) (run : FixRun) : Type 0 where
   pub begins : BeginsAmong run.setup before.seed (copies_of before.opener.vault) before.opener.vault.files run.loaded
   -- only its calls were made of the folders
   pub makes : AllFixed run before.opener.folders exit.after.folders
-  pub from : ((copy : ℕ) → ¬ (HasFailed before.opener.vault exit.after.vault copy))
-      → BeginsFrom run.setup before.seed (copies_of before.opener.vault) before.opener.vault.files run.loaded
+  pub loading : Loading before exit run.setup run.loaded
 
 -- The scrub of a run, by the configuration that was asked for, over the folders and the vault that the opener held. Where no copy's reading
--- failed, the table that it loaded is that of the first copy that is a content file.
+-- failed while its table was loaded, that is the first copy's that is a content file.
 pub record IsScrubOf (before : Entry) (exit : Exit) (run : ScrubRun) : Type 0 where
   pub readers : ℕ
   pub configured : IsConfigured before.texts before.opener (commands.Scrub run.way) readers run.setup
@@ -75,8 +73,7 @@ pub record IsScrubOf (before : Entry) (exit : Exit) (run : ScrubRun) : Type 0 wh
   pub moment_is : run.now ≡ before.moment
   pub over : ScrubsOver (copies_of before.opener.vault) before.opener.vault run
   pub begins : BeginsAmong run.setup before.seed (copies_of before.opener.vault) before.opener.vault.files run.loaded
-  pub from : ((copy : ℕ) → ¬ (HasFailed before.opener.vault exit.after.vault copy))
-      → BeginsFrom run.setup before.seed (copies_of before.opener.vault) before.opener.vault.files run.loaded
+  pub loading : Loading before exit run.setup run.loaded
 
 -- a run that did more than to read is one that synced, fixed or scrubbed, and this is its sync, its fix or its scrub
 abbrev pub IsDidOf : Entry → Exit → Did → Type 0
@@ -84,6 +81,21 @@ IsDidOf before exit reads_only = Unit {0}
 IsDidOf before exit (syncs failed run) = IsSyncOf before exit run
 IsDidOf before exit (fixes failed run) = IsFixOf before exit run
 IsDidOf before exit (scrubs failed run) = IsScrubOf before exit run
+
+-- no reading of a copy failed while the table was loaded that it synced, fixed or scrubbed by
+abbrev pub LoadsWell : (before : Entry) (exit : Exit) (did : Did) → IsDidOf before exit did → Type 0
+LoadsWell before exit reads_only is = Unit {0}
+LoadsWell before exit (syncs failed run) is = ReadsWell before is.loading.at
+LoadsWell before exit (fixes failed run) is = ReadsWell before is.loading.at
+LoadsWell before exit (scrubs failed run) is = ReadsWell before is.loading.at
+
+-- a sync that broke off did so after its table was loaded: the vault's count of faults rose since
+abbrev pub BreaksBehind : (before : Entry) (exit : Exit) (did : Did) → IsDidOf before exit did → Type 0
+BreaksBehind before exit reads_only is = Unit {0}
+BreaksBehind before exit (syncs true run) is = Rose is.loading.at.faults exit.after.vault.faults
+BreaksBehind before exit (syncs false run) is = Unit {0}
+BreaksBehind before exit (fixes failed run) is = Unit {0}
+BreaksBehind before exit (scrubs failed run) is = Unit {0}
 
 -- the commands that change nothing
 abbrev pub ChangesNothing : Command → Type 0
@@ -188,6 +200,7 @@ EndsSound (scrubs failed run) before exit status = Unit {0}
 pub record IsSoundAlways (before : Entry) (exit : Exit) (status : ℕ) : Type 0 where
   pub did : Did
   pub is_did : IsDidOf before exit did
+  pub broke : BreaksBehind before exit did is_did
   pub reads : (asked : Options) → asked_by before.texts ≡ Ok asked → ChangesNothing asked.command → did ≡ reads_only
   pub moments : (files : Files) → StandsIn before exit files → may_stand did before.opener.vault.files files
   pub copies : (files : Files) → StandsIn before exit files

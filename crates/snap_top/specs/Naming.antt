@@ -1,6 +1,5 @@
 -- What a run tells that was asked to check an array, or for another thing that changes no files.
 use Rattle.std.specs.Prelude.{◌≡◌, ◌↔◌, ℕ, List, ◌++◌, Bool, false, IsTrue, Ok, count_by}
-use Rattle.content_file.specs.Load.{HasFailed}
 use Rattle.disk_model.specs.Cause.{Rose, RoseBy}
 use Rattle.disk_model.specs.Vault.{copies_of}
 use Rattle.file_table.specs.Table.{TableValue}
@@ -25,12 +24,13 @@ use Rattle.snap_report.specs.Telling.{Tells, between}
 use Rattle.snap_report.specs.declared.events.Event.{Event}
 use Rattle.snap_top.specs.Check.{CheckRun, ChecksOver}
 use Rattle.snap_top.specs.Ended.{IsEndStatus, WentToItsEnd}
+use Rattle.snap_top.specs.Loading.{Loading}
 use Rattle.snap_top.specs.Lost.{NamesLost, NamesPending}
 use Rattle.snap_top.specs.Moment.{TellsAll}
 use Rattle.snap_top.specs.Opening.{IsConfigured, asked_by}
 use Rattle.snap_top.specs.Printing.{EndsPrinted}
 use Rattle.snap_top.specs.Run.{Entry, Exit}
-use Rattle.snap_top.specs.Sync.{BeginsAmong, BeginsFrom}
+use Rattle.snap_top.specs.Sync.{BeginsAmong}
 
 -- the command of a run in a mode
 abbrev pub command_in : Mode → Selection → Command
@@ -39,7 +39,7 @@ command_in modes.Audit selection = commands.Audit selection
 command_in modes.Fix selection = commands.Fix selection
 
 -- The check or the audit of a run, by the configuration that was asked for, over the folders and the vault that the
--- opener held. Where no copy's reading failed, the table that it loaded is that of the first copy that is a content file.
+-- opener held. Where no copy's reading failed while its table was loaded, that is the first copy's that is a content file.
 pub record IsCheckOf (mode : Mode) (before : Entry) (exit : Exit) (run : CheckRun) : Type 0 where
   pub readers : ℕ
   pub configured : IsConfigured before.texts before.opener (command_in mode run.selection) readers run.setup
@@ -47,8 +47,7 @@ pub record IsCheckOf (mode : Mode) (before : Entry) (exit : Exit) (run : CheckRu
   pub ended_is : run.ended ≡ exit.after.folders
   pub over : ChecksOver mode (copies_of before.opener.vault) before.opener.vault run
   pub begins : BeginsAmong run.setup before.seed (copies_of before.opener.vault) before.opener.vault.files run.loaded
-  pub from : ((copy : ℕ) → ¬ (HasFailed before.opener.vault exit.after.vault copy))
-      → BeginsFrom run.setup before.seed (copies_of before.opener.vault) before.opener.vault.files run.loaded
+  pub loading : Loading before exit run.setup run.loaded
 
 -- all events of a check
 abbrev pub events_found : CheckRun → List Event

@@ -1,6 +1,5 @@
 -- What a run leaves that was asked to list the files, or for the status.
 use Rattle.std.specs.Prelude.{◌≡◌, ℕ, List, Bool, false, IsTrue}
-use Rattle.content_file.specs.Load.{HasFailed}
 use Rattle.disk_model.specs.Cause.{Rose}
 use Rattle.disk_model.specs.Vault.{copies_of}
 use Rattle.file_table.specs.Table.{TableValue}
@@ -9,14 +8,15 @@ use Rattle.snap_config.specs.Setup.{SetupValue}
 use Rattle.snap_config.specs.declared.options.Command.{Command}
 use Rattle.snap_report.specs.Telling.{Tells, between}
 use Rattle.snap_top.specs.Ended.{IsEndStatus}
+use Rattle.snap_top.specs.Loading.{Loading}
 use Rattle.snap_top.specs.Opening.{IsConfigured}
 use Rattle.snap_top.specs.Run.{Entry, Exit}
-use Rattle.snap_top.specs.Sync.{BeginsAmong, BeginsFrom}
+use Rattle.snap_top.specs.Sync.{BeginsAmong}
 
 -- A command that prints a text of the table that it began with went to its end. A copy spells that table, or there is no copy, and it is that
--- of an array without content. Where no copy's reading failed, it is that of the first copy that is a content file. It printed the whole text,
--- or a prefix where the output failed; its status is 0 exactly where that did not and nothing is counted in the table. A failure of the output
--- is counted.
+-- of an array without content. Where no copy's reading failed while it was loaded, it is that of the first copy that is a content file. It
+-- printed the whole text, or a prefix where the output failed; its status is 0 exactly where that did not and nothing is counted in the table.
+-- A failure of the output is counted.
 pub record EndsPrinted (command : Command) (text : TableValue → List ℕ) (counted : TableValue → ℕ) (before : Entry) (exit : Exit) (status : ℕ) : Type 0 where
   pub setup : SetupValue
   pub readers : ℕ
@@ -24,8 +24,7 @@ pub record EndsPrinted (command : Command) (text : TableValue → List ℕ) (cou
   pub table : TableValue
   pub valid : IsValid table
   pub begins : BeginsAmong setup before.seed (copies_of before.opener.vault) before.opener.vault.files table
-  pub from : ((copy : ℕ) → ¬ (HasFailed before.opener.vault exit.after.vault copy))
-      → BeginsFrom setup before.seed (copies_of before.opener.vault) before.opener.vault.files table
+  pub loading : Loading before exit setup table
   pub output_failed : Bool
   pub printed : Tells (text table) (between false before.out) (between output_failed exit.after.out)
   pub status_is : IsEndStatus status output_failed (counted table ≡ 0)

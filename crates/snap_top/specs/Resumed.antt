@@ -1,6 +1,5 @@
 -- Syncs of runs that are stopped one after another, said by what `run` says of each of them. Runs that change nothing may stand between.
 use Rattle.std.specs.Prelude.{◌≡◌, ◌⊎◌, ℕ, List, [], ◌∷◌, length, take, Bool, Option, Ok}
-use Rattle.content_file.specs.Load.{HasFailed}
 use Rattle.content_file.specs.Save.{HasSaved}
 use Rattle.content_file.specs.Spelling.{spelling}
 use Rattle.disk_model.specs.Files.{Files}
@@ -17,7 +16,8 @@ use Rattle.snap_config.specs.declared.options.Options.{Options}
 use Rattle.snap_config.specs.declared.options.SyncWay.{SyncWay}
 use Rattle.snap_sync.specs.Part.{trees_of}
 use Rattle.snap_sync.specs.Resumed.{EndsAs}
-use Rattle.snap_top.specs.Moment.{ChangesNothing, EveryMomentIsSound, HoldsFresh, StandsAfter, StandsIn, SyncsEndInPart, TellsAll}
+use Rattle.snap_top.specs.Loading.{ReadsWell}
+use Rattle.snap_top.specs.Moment.{ChangesNothing, EndsInPart, EveryMomentIsSound, HoldsFresh, IsSoundAlways, LoadsWell, StandsAfter, StandsIn, TellsAll}
 use Rattle.snap_top.specs.Opening.{asked_by}
 use Rattle.snap_top.specs.Run.{Entry, Exit, at_entry, entry_seen, exit_of, exit_seen}
 use Rattle.snap_top.specs.Sync.{HasNoCopy}
@@ -53,9 +53,9 @@ end_of opener_view folder_view vault_view sink_view run =
 
 -- ---- a sync of an array
 
--- A run was asked for a sync by this setup, over these trees and a vault that holds these files, opened anew. All is told, and the reading of no
--- copy failed. The seed matters only where there is no copy.
-pub record AsksForSync (setup : SetupValue) (trees : List Tree) (seed : List ℕ) (files : Files) (before : Entry) (exit : Exit) : Type 0 where
+-- A run was asked for a sync by this setup, over these trees and a vault that holds these files, opened anew. All is told. The seed matters only
+-- where there is no copy.
+pub record AsksForSync (setup : SetupValue) (trees : List Tree) (seed : List ℕ) (files : Files) (before : Entry) : Type 0 where
   pub asked : Options
   pub way : SyncWay
   pub words : asked_by before.texts ≡ Ok asked
@@ -66,21 +66,22 @@ pub record AsksForSync (setup : SetupValue) (trees : List Tree) (seed : List ℕ
   pub trees_are : trees_of before.opener.folders ≡ trees
   pub files_are : before.opener.vault.files ≡ files
   pub seed_is : HasNoCopy (length setup.contents) files → before.seed ≡ seed
-  pub reads_well : (copy : ℕ) → ¬ (HasFailed before.opener.vault exit.after.vault copy)
 
 module _ {O F V W : Type 0} (opener_view : O → OpenerView) (folder_view : F → FolderView) (vault_view : V → VaultView) (sink_view : W → SinkView)
     (setup : SetupValue) (trees : List Tree) (seed : List ℕ) where
-  -- such a sync ended with status 0, and this is what it left
+  -- Such a sync ended with status 0, and this is what it left. No reading of a copy failed while its table was loaded.
   pub record EndsClean (files : Files) (run : RunOf O F V W) (left : Files) : Type 0 where
-    pub asks : AsksForSync setup trees seed files (entry_of opener_view sink_view run) (end_of opener_view folder_view vault_view sink_view run)
-    pub ends : SyncsEndInPart (entry_of opener_view sink_view run) (end_of opener_view folder_view vault_view sink_view run) run.status
+    pub asks : AsksForSync setup trees seed files (entry_of opener_view sink_view run)
+    pub ends : EndsInPart (entry_of opener_view sink_view run) (end_of opener_view folder_view vault_view sink_view run) run.status
+    pub reads_well : ReadsWell (entry_of opener_view sink_view run) ends.is_sync.loading.at
     pub clean : run.status ≡ 0
     pub stands : StandsAfter (end_of opener_view folder_view vault_view sink_view run) left
 
-  -- such a sync was stopped at some moment, or ended with whatever status
+  -- Such a sync was stopped at some moment, or ended with whatever status. No reading of a copy failed while its table was loaded.
   pub record IsStopped (files : Files) (stop : StoppedRun O F V W) : Type 0 where
-    pub asks : AsksForSync setup trees seed files (entry_of opener_view sink_view stop.run) (end_of opener_view folder_view vault_view sink_view stop.run)
-    pub sound : EveryMomentIsSound (entry_of opener_view sink_view stop.run) (end_of opener_view folder_view vault_view sink_view stop.run) stop.run.status
+    pub asks : AsksForSync setup trees seed files (entry_of opener_view sink_view stop.run)
+    pub always : IsSoundAlways (entry_of opener_view sink_view stop.run) (end_of opener_view folder_view vault_view sink_view stop.run) stop.run.status
+    pub reads_well : LoadsWell (entry_of opener_view sink_view stop.run) (end_of opener_view folder_view vault_view sink_view stop.run) always.did always.is_did
     pub stands : StandsIn (entry_of opener_view sink_view stop.run) (end_of opener_view folder_view vault_view sink_view stop.run) stop.left
 
   -- A run of a command that changes nothing, by whichever configuration and over whichever trees, was stopped at some moment or ended. The vault was

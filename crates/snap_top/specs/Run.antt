@@ -238,3 +238,14 @@ pub record EndsWith {R : Type 0} (standing : R → ReportView) (stands : R → L
   pub ran : RanWith standing stands before exit olds news end
   pub status_is : status ≡ status_of end
   pub said : IsSaid (line_of end) err err_new
+
+-- How a run ended, the events that it told, and all that it did.
+pub record HasAccount (before : Entry) (exit : Exit) (status : ℕ) : Type 0 where
+  pub end : End
+  pub told : List Event
+  pub ran : Ran before exit end told
+  pub status_is : status ≡ status_of end
+
+-- so it is of each run whose opener tells what it holds
+abbrev pub IsAccounted : Entry → Exit → ℕ → Type 0
+IsAccounted before exit status = IsTrue before.opener.tells → HasAccount before exit status

@@ -64,7 +64,8 @@ pub record BeginsOver (standing : Standing) (before : Entry) : Type 0 where
   pub copies : copies_of before.opener.vault ≡ standing.copies
   pub files : before.opener.vault.files ≡ standing.files
 
--- The trees after it stay. Only where it is a fix, each is one that its calls of that folder leave, or a stop within them.
+-- The trees after it stay, as they do at each moment of it over folders that tell their calls (`TreesStay`). Only where it is a fix, each is one
+-- that its calls of that folder leave, or a stop within them.
 abbrev pub LeavesTrees : Did → Entry → Exit → List Tree → List Tree → Type 0
 LeavesTrees (fixes failed run) before exit old new =
     (length new ≡ length old) × ((d : ℕ) → d < length old → FolderStandsIn before exit d (tree_at new d))

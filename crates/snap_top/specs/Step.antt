@@ -1,5 +1,7 @@
 -- A run as one step: what it did, what stands at each moment of it, and what it leaves at its end.
 use Rattle.std.specs.Prelude.{◌≡◌, ◌⊎◌, ℕ, ◌≤◌, true, Ok}
+use Rattle.disk_model.specs.Opener.{folder_held}
+use Rattle.disk_model.specs.Tree.{Tree}
 use Rattle.disk_model.specs.Vault.{IsSettled}
 use Rattle.snap_config.specs.declared.options.Command.{Command}
 use Rattle.snap_config.specs.declared.options.Command.TheVariants as commands
@@ -12,6 +14,7 @@ use Rattle.snap_top.specs.Opening.{asked_by}
 use Rattle.snap_top.specs.Restoring.{EndsFixed}
 use Rattle.snap_top.specs.Run.{Entry, Exit}
 use Rattle.snap_top.specs.Scrubbed.{EndsScrubbed}
+use Rattle.snap_top.specs.Stopping.{FolderStandsIn}
 use Rattle.snap_top.specs.Task.{Did, fixes, folders_after, reads_only, scrubs, syncs}
 
 -- the commands that change files of the vault or of the folders
@@ -28,6 +31,12 @@ EndsBy (fixes failed run) before exit status = (ends : EndsFixed before exit sta
 EndsBy (scrubs failed run) before exit status = (ends : EndsScrubbed before exit status) × (ends.run ≡ run)
 EndsBy reads_only before exit status = Unit {0}
 
+-- The files of a folder at each moment of a run that is no fix are those at its beginning: at its end, and at a stop before, if the folder
+-- tells its calls (`FolderStandsIn`).
+abbrev pub LeavesEachTree : Did → Entry → Exit → Type 0
+LeavesEachTree (fixes failed run) before exit = Unit {0}
+LeavesEachTree _ before exit = (d : ℕ) (left : Tree) → FolderStandsIn before exit d left → left ≡ (folder_held before.opener d).tree
+
 -- What a run did, and what stands at each moment of it. What was opened is only read, or changed as that says. With status 2 or 5 it
 -- only read. A sync, a fix or a scrub with status 0 or 1 did not break off, nor does one with status 3 where nothing failed but the
 -- output and readings; and so it ends by that. A check that went to its end names what is lost, an audit finds what is changed, and a
@@ -35,6 +44,7 @@ EndsBy reads_only before exit status = Unit {0}
 pub record RunStep (before : Entry) (exit : Exit) (status : ℕ) : Type 0 where
   pub always : IsSoundAlways before exit status
   pub folders : exit.has_vault ≡ true → folders_after always.did before.opener.folders exit.after.folders
+  pub stops : exit.has_vault ≡ true → LeavesEachTree always.did before exit
   pub refused : (status ≡ 2) ⊎ (status ≡ 5) → always.did ≡ reads_only
   pub done : (asked : Options) → asked_by before.texts ≡ Ok asked → ChangesFiles asked.command
       → (status ≤ 1) ⊎ ((status ≡ 3) × NothingBroke before exit) → has_ended always.did ≡ true

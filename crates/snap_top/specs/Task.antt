@@ -50,6 +50,11 @@ pub data Did : Type 0 where
   fixes : (failed : Bool) → FixRun → Did
   scrubs : (failed : Bool) → ScrubRun → Did
 
+-- whether it fixed
+abbrev pub has_fixed : Did → Bool
+has_fixed (fixes failed run) = true
+has_fixed _ = false
+
 -- whatever the run did and whenever it is stopped, each image comes by this from one that there was before it
 abbrev pub may_stand : Did → Files → Files → Type 0
 may_stand reads_only = Stays

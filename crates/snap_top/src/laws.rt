@@ -1,6 +1,8 @@
 //! What follows for one run after another. The calls do nothing: their contracts are laws.
 ghost use Rattle.std.specs.Prelude.{◌≡◌, ℕ, List, Bool, IsTrue, true, length, Contains};
 ghost use Rattle.cauchy.specs.Matrix.{byte_of};
+ghost use Rattle.content_file.specs.Load.{HasFailed};
+ghost use Rattle.disk_model.specs.Cause.{RoseBy};
 ghost use Rattle.disk_model.specs.Files.{Files};
 ghost use Rattle.disk_model.specs.Opener.{folder_held};
 ghost use Rattle.disk_model.specs.Tree.{Tree};
@@ -19,31 +21,41 @@ ghost use Rattle.snap_fix.specs.Restored.{HoldsCell};
 ghost use Rattle.snap_sync.specs.Part.{IsFullSync, SyncRun};
 ghost use Rattle.snap_sync.specs.Resumed.{EndsAs};
 ghost use Rattle.snap_sync.specs.Soundness.{AreSound};
+ghost use Rattle.snap_config.specs.declared.options.Command.{Command};
+ghost use Rattle.stripe_findings.specs.Findings.{events_of};
 ghost use Rattle.snap_top.specs.Alike.{AskAlike, CheckAlike, FindAlike, FixAlike, FixFindsAlike, HoldAlike, NothingRose, ReadAlike, seen_by};
+ghost use Rattle.snap_top.specs.BrokeOff.{BrokeOff, EndedEarly, FixBrokeOff, PrintsFront, RoseOnce};
 ghost use Rattle.snap_top.specs.Check.{CheckRun};
 ghost use Rattle.snap_top.specs.Fix.{FixRun};
+ghost use Rattle.snap_top.specs.FixedAlike.{FixesAlike, KeepStampsAlike};
 ghost use Rattle.snap_top.specs.Headline.{Headline};
 ghost use Rattle.snap_top.specs.History.{AreSoundBy, IsHistory as IsHistoryOfRuns, LastSynced, StaysSound, Step};
 ghost use Rattle.snap_top.specs.LeftAlike.{AskSame, PrintAlike, ScrubsAlike, SyncsAlike};
-ghost use Rattle.snap_top.specs.Moment.{EndsInPart, IsFixOf, TellsAll};
+ghost use Rattle.snap_top.specs.Moment.{EndsInPart, IsDidOf, IsFixOf, IsSoundAlways, LoadsWell, TellsAll};
 ghost use Rattle.snap_top.specs.Naming.{HasChecked};
 ghost use Rattle.snap_top.specs.NextFix.{IsNextFix};
-ghost use Rattle.snap_top.specs.Restoring.{EndsFixed, Restores};
+ghost use Rattle.snap_top.specs.Printing.{EndsPrinted};
+ghost use Rattle.snap_top.specs.Restoring.{EndsFixed, Restores, events_in};
 ghost use Rattle.snap_top.specs.Resumed.{AreStoppedRuns, EndAlike, EndsClean, RunOf, StoppedRun, end_of, entry_of};
-ghost use Rattle.snap_top.specs.Scrubbed.{EndsScrubbed};
+ghost use Rattle.snap_top.specs.Scrubbed.{EndsScrubbed, events_scrubbed};
 ghost use Rattle.snap_top.specs.Spared.{SparesCells};
-ghost use Rattle.snap_top.specs.Standing.{IsHistory, IsOrigin, Stage, Standing};
+ghost use Rattle.snap_top.specs.Standing.{BeginsOver, GoesOver, IsHistory, IsOrigin, MeetsNoChance, Stage, Standing, after_of, before_of};
 ghost use Rattle.snap_top.specs.Stopping.{FindsNoLess, FolderStandsIn, SparesFiles, stop_of};
 ghost use Rattle.snap_top.specs.Sync.{AreStopped, IsOfArray, Stop, SyncsFrom};
+ghost use Rattle.snap_top.specs.Taken.{OnlyTakenAway};
+ghost use Rattle.snap_top.specs.Task.{Did, syncs};
 ghost use Rattle.snap_top.specs.Undamaged.{HasEnough, IsRecoverable, IsUndamaged};
 ghost use Rattle.snap_top.specs.Views.{folder_at};
 
 use content_file::laws::one_table_has_a_spelling;
 use disk_model::{Folder, Opener, Sink, Vault};
+use file_table::laws::a_cell_stands_at_its_position;
+use gf256::laws::products;
 use parity_writer::laws::a_whole_level_is_what_the_file_holds;
 use snap_fix::laws::{
     a_check_finds_what_a_fix_finds, a_fix_finishes_files, a_fix_keeps_what_is_sound,
-    a_stop_within_a_fix_changes_written_blocks_alone, a_stopped_fix_misses_no_more,
+    a_fix_leaves_the_rest, a_stop_within_a_fix_changes_written_blocks_alone,
+    a_stopped_fix_misses_no_more, a_stripe_is_restorable_by_counting,
 };
 use snap_scrub::laws::a_scrub_keeps_what_is_synced;
 use snap_sync::laws::{
@@ -80,8 +92,8 @@ pub fn stopped_syncs_are_resumed()
 /// The same of runs, by what `run` says of each of them. Syncs by one configuration and over the same trees were stopped
 /// one after another, or ended with whatever status, and `last` after them ended with status 0. Runs of commands that
 /// change nothing, `list`, `status` and `check`, may stand between. `whole` is a sync of what there was before the first
-/// of them, which ended with status 0. Then both left the same table in every copy, but for the times of the last checks,
-/// and the same parity, but for what was changed from outside.
+/// of them, which ended with status 0. No reading of a copy failed while a sync loaded its table. Then both left the same
+/// table in every copy, but for the times of the last checks, and the same parity, but for what was changed from outside.
 pub fn stopped_runs_are_resumed<O: Opener, F: Folder, V: Vault, W: Sink>()
     ensures { (setup : SetupValue) (trees : List Tree) (seed : List ℕ) (stops : List (StoppedRun O F V W))
         (files left one other : Files) (whole last : RunOf O F V W) (snapshot : Snapshot) (is_changed : ℕ → ℕ → Bool) →
@@ -190,7 +202,7 @@ pub fn what_is_read_alike_is_found_alike<O: Opener, F: Folder, V: Vault, W: Sink
 /// Two checks or audits over one array, or a check and a fix, find the same: where they were asked for the same, their openers
 /// tell all and hold the same, and no count of faults of a folder or of the vault rose in them. So two checks print the same and
 /// have the same status, where the output of neither failed. What of a file's size and stamp a fix saw may be later: no finding
-/// depends on that.
+/// depends on that. Two lists print the same, too, and so do two runs that ask for the status.
 pub fn one_array_is_found_alike<O: Opener, F: Folder, V: Vault, W: Sink>()
     ensures checks { (mode : Mode) (run again : RunOf O F V W) (one other : CheckRun) →
         HoldAlike (entry_of O.view W.view run) (entry_of O.view W.view again) →
@@ -208,16 +220,27 @@ pub fn one_array_is_found_alike<O: Opener, F: Folder, V: Vault, W: Sink>()
         NothingRose (entry_of O.view W.view again) (end_of O.view F.view V.view W.view again) →
         HasChecked modes.Check (entry_of O.view W.view run) (end_of O.view F.view V.view W.view run) run.status one →
         FixAlike one ends.run ends.finishes }
+    ensures prints { (command : Command) (text : TableValue → List ℕ) (counted : TableValue → ℕ) (run again : RunOf O F V W)
+        (one : EndsPrinted command text counted (entry_of O.view W.view run) (end_of O.view F.view V.view W.view run) run.status)
+        (other : EndsPrinted command text counted (entry_of O.view W.view again) (end_of O.view F.view V.view W.view again) again.status) →
+        HoldAlike (entry_of O.view W.view run) (entry_of O.view W.view again) →
+        AskSame (entry_of O.view W.view run) (entry_of O.view W.view again) →
+        NothingRose (entry_of O.view W.view run) (end_of O.view F.view V.view W.view run) →
+        NothingRose (entry_of O.view W.view again) (end_of O.view F.view V.view W.view again) →
+        (one.table ≡ other.table) × PrintAlike (entry_of O.view W.view run) (entry_of O.view W.view again)
+        (end_of O.view F.view V.view W.view run) (end_of O.view F.view V.view W.view again) run.status again.status }
 {
     one_table_has_a_spelling();
     what_is_read_determines_what_is_found();
     a_check_finds_what_a_fix_finds();
 }
 
-/// Two syncs of one array leave the same, and so do two scrubs that began at one moment: where they were asked for the same, their
-/// openers tell all and hold the same, and no count of faults of a folder or of the vault rose in them. They begin with the same table and
-/// read the same. Two syncs end with the same parity and the same table, but for the times of the last checks where their moments
-/// differ. They print the same, and have the same status where the output of neither failed; the number of readers may differ.
+/// Two syncs of one array leave the same, and so do two scrubs that began at one moment, and two fixes: where they were asked for the
+/// same, their openers tell all and hold the same, and no count of faults of a folder or of the vault rose in them. They begin with
+/// the same table and read the same. Two syncs end with the same parity and the same table, but for the times of the last checks where
+/// their moments differ. Two fixes leave the same bytes in all folders and in the vault, where their folders keep stamps alike; and in
+/// a folder that keeps them all stamps but those of finished files with a lost block. They print the same, and have the same status
+/// where the output of neither failed; the number of readers may differ.
 pub fn one_array_is_left_alike<O: Opener, F: Folder, V: Vault, W: Sink>()
     ensures syncs { (run again : RunOf O F V W)
         (one : EndsInPart (entry_of O.view W.view run) (end_of O.view F.view V.view W.view run) run.status)
@@ -239,9 +262,119 @@ pub fn one_array_is_left_alike<O: Opener, F: Folder, V: Vault, W: Sink>()
         ScrubsAlike one.run other.run (end_of O.view F.view V.view W.view run) (end_of O.view F.view V.view W.view again)
         × PrintAlike (entry_of O.view W.view run) (entry_of O.view W.view again)
         (end_of O.view F.view V.view W.view run) (end_of O.view F.view V.view W.view again) run.status again.status }
+    ensures fixes { (run again : RunOf O F V W)
+        (one : EndsFixed (entry_of O.view W.view run) (end_of O.view F.view V.view W.view run) run.status)
+        (other : EndsFixed (entry_of O.view W.view again) (end_of O.view F.view V.view W.view again) again.status) →
+        HoldAlike (entry_of O.view W.view run) (entry_of O.view W.view again) →
+        AskSame (entry_of O.view W.view run) (entry_of O.view W.view again) →
+        KeepStampsAlike (entry_of O.view W.view run) (entry_of O.view W.view again) →
+        NothingRose (entry_of O.view W.view run) (end_of O.view F.view V.view W.view run) →
+        NothingRose (entry_of O.view W.view again) (end_of O.view F.view V.view W.view again) →
+        FixesAlike one.run other.run one.finishes other.finishes
+        (end_of O.view F.view V.view W.view run) (end_of O.view F.view V.view W.view again)
+        × PrintAlike (entry_of O.view W.view run) (entry_of O.view W.view again)
+        (end_of O.view F.view V.view W.view run) (end_of O.view F.view V.view W.view again) run.status again.status }
 {
     one_table_has_a_spelling();
+    what_is_read_determines_what_is_found();
+    a_fix_leaves_the_rest();
+    a_fix_finishes_files();
 }
+
+/// What is read determines what is left, whatever readings failed. Two syncs, or two scrubs that began at one moment, leave and print
+/// the same over one array, where they began with the same table and read the same. So do two fixes that were asked for the same of
+/// disks with the same names, and listed the same, where their folders keep stamps alike.
+pub fn what_is_read_alike_is_left_alike<O: Opener, F: Folder, V: Vault, W: Sink>()
+    ensures syncs { (run again : RunOf O F V W)
+        (one : EndsInPart (entry_of O.view W.view run) (end_of O.view F.view V.view W.view run) run.status)
+        (other : EndsInPart (entry_of O.view W.view again) (end_of O.view F.view V.view W.view again) again.status) →
+        HoldAlike (entry_of O.view W.view run) (entry_of O.view W.view again) → one.run.loaded ≡ other.run.loaded →
+        one.run.plan.start ≡ other.run.plan.start → one.run.readings ≡ other.run.readings →
+        SyncsAlike one.run other.run (end_of O.view F.view V.view W.view run) (end_of O.view F.view V.view W.view again)
+        × PrintAlike (entry_of O.view W.view run) (entry_of O.view W.view again)
+        (end_of O.view F.view V.view W.view run) (end_of O.view F.view V.view W.view again) run.status again.status }
+    ensures scrubs { (run again : RunOf O F V W)
+        (one : EndsScrubbed (entry_of O.view W.view run) (end_of O.view F.view V.view W.view run) run.status)
+        (other : EndsScrubbed (entry_of O.view W.view again) (end_of O.view F.view V.view W.view again) again.status) →
+        HoldAlike (entry_of O.view W.view run) (entry_of O.view W.view again) → run.moment ≡ again.moment →
+        one.run.loaded ≡ other.run.loaded → one.run.readings ≡ other.run.readings →
+        ScrubsAlike one.run other.run (end_of O.view F.view V.view W.view run) (end_of O.view F.view V.view W.view again)
+        × PrintAlike (entry_of O.view W.view run) (entry_of O.view W.view again)
+        (end_of O.view F.view V.view W.view run) (end_of O.view F.view V.view W.view again) run.status again.status }
+    ensures fixes { (run again : RunOf O F V W)
+        (one : EndsFixed (entry_of O.view W.view run) (end_of O.view F.view V.view W.view run) run.status)
+        (other : EndsFixed (entry_of O.view W.view again) (end_of O.view F.view V.view W.view again) again.status) →
+        HoldAlike (entry_of O.view W.view run) (entry_of O.view W.view again) →
+        KeepStampsAlike (entry_of O.view W.view run) (entry_of O.view W.view again) →
+        ReadAlike (seen_by one.run) (seen_by other.run) → FixesAlike one.run other.run one.finishes other.finishes
+        (end_of O.view F.view V.view W.view run) (end_of O.view F.view V.view W.view again)
+        × PrintAlike (entry_of O.view W.view run) (entry_of O.view W.view again)
+        (end_of O.view F.view V.view W.view run) (end_of O.view F.view V.view W.view again) run.status again.status }
+{
+    what_is_read_determines_what_is_found();
+    a_fix_leaves_the_rest();
+    a_fix_finishes_files();
+}
+
+/// What a run told and printed that broke off is a front of what a run tells and prints over the same array in which nothing
+/// failed but its output. Both were asked for the same, and their openers tell all and hold the same. Of a sync or a scrub that broke
+/// off, no folder's count of faults rose, and the vault's by one at most: so that call broke it off, and no reading failed. Scrubs
+/// begin at one moment. A fix broke off once the folders were listed; by its account no reading failed of what it looked at, and the
+/// folders of both keep stamps alike. A run that ended early printed nothing: it was refused, or it only read and did not come to its
+/// end.
+pub fn a_broken_run_prints_a_front<O: Opener, F: Folder, V: Vault, W: Sink>()
+    ensures syncs { (run again : RunOf O F V W)
+        (other : EndsInPart (entry_of O.view W.view again) (end_of O.view F.view V.view W.view again) again.status)
+        (broke : BrokeOff (entry_of O.view W.view run) (end_of O.view F.view V.view W.view run)) →
+        HoldAlike (entry_of O.view W.view run) (entry_of O.view W.view again) →
+        AskSame (entry_of O.view W.view run) (entry_of O.view W.view again) →
+        RoseOnce (entry_of O.view W.view run) (end_of O.view F.view V.view W.view run) →
+        NothingRose (entry_of O.view W.view again) (end_of O.view F.view V.view W.view again) →
+        PrintsFront broke.told (events_of other.run.plan.start other.run.readings) (entry_of O.view W.view run)
+        (entry_of O.view W.view again) (end_of O.view F.view V.view W.view run) (end_of O.view F.view V.view W.view again) again.status }
+    ensures scrubs { (run again : RunOf O F V W)
+        (other : EndsScrubbed (entry_of O.view W.view again) (end_of O.view F.view V.view W.view again) again.status)
+        (broke : BrokeOff (entry_of O.view W.view run) (end_of O.view F.view V.view W.view run)) →
+        HoldAlike (entry_of O.view W.view run) (entry_of O.view W.view again) →
+        AskSame (entry_of O.view W.view run) (entry_of O.view W.view again) → run.moment ≡ again.moment →
+        RoseOnce (entry_of O.view W.view run) (end_of O.view F.view V.view W.view run) →
+        NothingRose (entry_of O.view W.view again) (end_of O.view F.view V.view W.view again) →
+        PrintsFront broke.told (events_scrubbed other.run) (entry_of O.view W.view run) (entry_of O.view W.view again)
+        (end_of O.view F.view V.view W.view run) (end_of O.view F.view V.view W.view again) again.status }
+    ensures fixes { (run again : RunOf O F V W)
+        (other : EndsFixed (entry_of O.view W.view again) (end_of O.view F.view V.view W.view again) again.status)
+        (off : FixBrokeOff (entry_of O.view W.view run) (end_of O.view F.view V.view W.view run)) →
+        HoldAlike (entry_of O.view W.view run) (entry_of O.view W.view again) →
+        AskSame (entry_of O.view W.view run) (entry_of O.view W.view again) →
+        KeepStampsAlike (entry_of O.view W.view run) (entry_of O.view W.view again) →
+        NothingRose (entry_of O.view W.view again) (end_of O.view F.view V.view W.view again) →
+        PrintsFront off.broke.told (events_in other.run other.finishes) (entry_of O.view W.view run) (entry_of O.view W.view again)
+        (end_of O.view F.view V.view W.view run) (end_of O.view F.view V.view W.view again) again.status }
+    ensures early { (run : RunOf O F V W) →
+        EndedEarly (entry_of O.view W.view run) (end_of O.view F.view V.view W.view run) →
+        (end_of O.view F.view V.view W.view run).after.out ≡ (entry_of O.view W.view run).out }
+{
+    one_table_has_a_spelling();
+    a_sync_is_a_part_sync();
+    what_is_read_determines_what_is_found();
+}
+
+/// That no reading of a copy failed while a run loaded its table can be known from outside. None did where none failed in
+/// the whole run. Nor did one where a sync broke off, and the vault's count of faults rose by one at most: that was the call
+/// that broke it off. So over levels of several files, of which no call is told, such a sync is resumed too.
+pub fn what_a_run_loaded_is_known<O: Opener, F: Folder, V: Vault, W: Sink>()
+    ensures none { (run : RunOf O F V W)
+        (always : IsSoundAlways (entry_of O.view W.view run) (end_of O.view F.view V.view W.view run) run.status) →
+        ((copy : ℕ) → ¬ (HasFailed (entry_of O.view W.view run).opener.vault
+        (end_of O.view F.view V.view W.view run).after.vault copy)) →
+        LoadsWell (entry_of O.view W.view run) (end_of O.view F.view V.view W.view run) always.did always.is_did }
+    ensures once { (run : RunOf O F V W)
+        (always : IsSoundAlways (entry_of O.view W.view run) (end_of O.view F.view V.view W.view run) run.status)
+        (sync : SyncRun) → always.did ≡ syncs true sync →
+        ¬ (RoseBy 2 (entry_of O.view W.view run).opener.vault.faults
+        (end_of O.view F.view V.view W.view run).after.vault.faults) →
+        LoadsWell (entry_of O.view W.view run) (end_of O.view F.view V.view W.view run) always.did always.is_did }
+{}
 
 /// The headline. Whatever happened to an array since it had no content, by runs of any commands, each of which ended or was
 /// stopped at some moment, by edits, by damage to the vault and by other configurations: what stands then is sound; a sync
@@ -271,4 +404,25 @@ pub fn headline<O: Opener, F: Folder, V: Vault, W: Sink>()
     a_fix_finishes_files();
     a_stop_within_a_fix_changes_written_blocks_alone();
     a_stopped_fix_misses_no_more();
+}
+
+/// The premise of the headline on hashes is met where an array without content was run over once, wherever that run was
+/// stopped, and then files were only taken away, each only where none stands under PATH`.unrecoverable` then. A fix of what
+/// stands then meets no block that has a recorded hash by chance: each block that it reads whole is the one that the sync
+/// read, and each level that it reads whole is a sum of these.
+pub fn a_fix_of_what_is_left_meets_no_chance<O: Opener, F: Folder, V: Vault, W: Sink>()
+    ensures { (once fix : RunOf O F V W) (first next : Standing) (trees : List Tree) (did : Did) → IsOrigin first →
+        GoesOver O.view F.view V.view W.view once first next → OnlyTakenAway next.trees trees →
+        BeginsOver (record next { trees = trees }) (before_of O.view F.view V.view W.view fix) →
+        IsDidOf (before_of O.view F.view V.view W.view fix) (after_of O.view F.view V.view W.view fix) did →
+        MeetsNoChance did next.last.snapshot }
+{
+    headline::<O, F, V, W>();
+    undamaged_levels_restore::<O, F, V, W>();
+    a_stripe_is_restorable_by_counting();
+    a_stop_within_a_fix_changes_written_blocks_alone();
+    one_table_has_a_spelling();
+    what_a_sync_saves_is_valid();
+    a_cell_stands_at_its_position();
+    products();
 }

@@ -11,7 +11,7 @@ ghost use Rattle.snap_top.specs.Naming.{ChecksEnd};
 ghost use Rattle.snap_top.specs.Restoring.{FixesEnd};
 ghost use Rattle.snap_top.specs.Scrubbed.{ScrubsEnd};
 ghost use Rattle.snap_top.specs.Task.{IsBuilt, task_of};
-ghost use Rattle.snap_top.specs.Run.{BeginsWith, BeginsNot, ByLevels, Works, Ran, RanWith, EndsWith, at_entry, exit_of};
+ghost use Rattle.snap_top.specs.Run.{BeginsWith, BeginsNot, ByLevels, IsAccounted, Works, Ran, RanWith, EndsWith, at_entry, exit_of};
 ghost use Rattle.snap_top.specs.Step.{EveryRunSteps};
 ghost use Rattle.snap_top.specs.Views.{AreAllOpen, world_view};
 
@@ -245,6 +245,9 @@ pub fn run<R: Threads + Sync, O: Opener, W: Sink, E: Sink>(
     ensures ended { EndsWith standing stands (at_entry (map string_bytes words.now) (O.view opener.old) (W.view out.old) now seed)
         (exit_of O.Folder.view O.Vault.view (O.view opener.new) result.folders.items result.vault (W.view out.new))
         reports.old.items reports.new.items result.status (E.view err.old) (E.view err.new) }
+    ensures account { ByLevels IsAccounted (at_entry (map string_bytes words.now) (O.view opener.old) (W.view out.old) now seed)
+        (exit_of O.Folder.view O.Vault.view (O.view opener.new) result.folders.items result.vault (W.view out.new))
+        result.status }
     ensures refused { ByLevels RefusalsTouchNothing (at_entry (map string_bytes words.now) (O.view opener.old) (W.view out.old) now seed)
         (exit_of O.Folder.view O.Vault.view (O.view opener.new) result.folders.items result.vault (W.view out.new))
         result.status }

@@ -4,5 +4,6 @@ mod damaged;
 mod failing;
 mod fixed;
 mod obstacles;
+mod reports;
 mod selected;
 mod stopped;

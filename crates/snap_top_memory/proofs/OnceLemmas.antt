@@ -16,7 +16,7 @@ use Rattle.snap_top.specs.Standing.{BeginsOver, Edits, GoesOver, IsHistory, IsOr
 use Rattle.snap_top.specs.Task.{Did}
 use Rattle.snap_top_memory.specs.Lived.{AskForFix, AskForNoFix, HasHistory, IsLeftOf, RunsOver, files_seen, standing_of}
 use Rattle.snap_top_memory.specs.Once.{IsFixedWhole, IsLeftOfOne}
-use Rattle.snap_top_memory.specs.Taken.{IsTakenFrom, OnlyTakenAway}
+use Rattle.snap_top.specs.Taken.{IsTakenFrom, OnlyTakenAway}
 use Rattle.snap_top_memory.proofs.LivedLemmas.{goes_with, stands_left, stands_next}
 use Rattle.snap_top_memory.proofs.ResumedLemmas.{HoldsAlways, begins_nothing}
 use Rattle.snap_top_memory.proofs.TakenTrees.{more_taken, nothing_taken}

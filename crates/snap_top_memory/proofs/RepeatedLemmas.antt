@@ -82,11 +82,11 @@ same_table one_table before before_then exit exit_then fix again is is_then tell
     let files_then : Files = before_then.opener.vault.files in
     let setups : fix.setup ≡ again.setup = same_ok (read_setup (take 1048577 before.opener.config) asked.log) fix.setup again.setup (setup_read before tells.tells asked words _ is.readers fix.setup is.configured)
     (ap (λ (bytes : List ℕ). read_setup (take 1048577 bytes) asked.log) config ∙ setup_read before_then tells_then.tells asked words_then _ is_then.readers again.setup is_then.configured) in
-    let begins : BeginsFrom fix.setup before.seed (copies_of before.opener.vault) files fix.loaded = is.from (unfailed before exit well) in
+    let begins : BeginsFrom fix.setup before.seed (copies_of before.opener.vault) files fix.loaded = is.loading.from (unfailed before exit is.loading well) in
     let begins_then : BeginsFrom fix.setup before.seed (copies_of before.opener.vault) files_then again.loaded =
     subst (λ (s : SetupValue). BeginsFrom s before.seed (copies_of before.opener.vault) files_then again.loaded) (sym setups)
     (subst (λ (it : List ℕ). BeginsFrom again.setup it (copies_of before.opener.vault) files_then again.loaded) (sym seed)
-    (subst (λ (n : ℕ). BeginsFrom again.setup before_then.seed n files_then again.loaded) (sym copies) (is_then.from (unfailed before_then exit_then well_then)))) in
+    (subst (λ (n : ℕ). BeginsFrom again.setup before_then.seed n files_then again.loaded) (sym copies) (is_then.loading.from (unfailed before_then exit_then is_then.loading well_then)))) in
     begins_same one_table fix.setup before.seed (copies_of before.opener.vault) files again.loaded fix.loaded
     (same_copies fix.setup before.seed (copies_of before.opener.vault) files files_then again.loaded contents begins_then) begins
 

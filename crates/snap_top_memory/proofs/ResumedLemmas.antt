@@ -12,7 +12,7 @@ use Rattle.snap_config.specs.Setup.{SetupValue}
 use Rattle.snap_config.specs.declared.options.Command.{Command}
 use Rattle.snap_config.specs.declared.options.Command.TheVariants as commands
 use Rattle.snap_sync.specs.Part.{trees_of}
-use Rattle.snap_top.specs.Headline.{FixesToItsEnd, Headline, IsAskedToSync, SyncsClean, SyncsWell}
+use Rattle.snap_top.specs.Headline.{FixesToItsEnd, Headline, IsAskedToSync, IsSyncOver, SyncsClean, SyncsWell}
 use Rattle.snap_top.specs.History.{LastSynced}
 use Rattle.snap_top.specs.Levels.{said_by}
 use Rattle.snap_top.specs.Moment.{ChangesNothing}
@@ -20,6 +20,7 @@ use Rattle.snap_top.specs.Opening.{asked_by}
 use Rattle.snap_top.specs.Resumed.{RunOf}
 use Rattle.snap_top.specs.Run.{Entry, Exit, vault_in}
 use Rattle.snap_top.specs.Standing.{GoesOver, IsHistory, IsOrigin, Runs, Stage, Standing, after_of, before_of, nothing_synced}
+use Rattle.snap_top.proofs.AskedLemmas.{loads_well}
 use Rattle.snap_top_memory.specs.Lived.{AskForFix, AskForNoChange, AskForNoFix, AskForSync, HasHistory, IsFixedAtLast, IsLeftOf, IsNoFix, IsResumedOnce, IsSyncedAtLast, RunsOver, files_seen, standing_of}
 use Rattle.snap_top_memory.proofs.BeginLemmas.{origin}
 use Rattle.snap_top_memory.proofs.SeenLemmas.{faults_seen}
@@ -70,11 +71,12 @@ module _ {O F V W : Type 0} (opener_view : O → OpenerView) (folder_view : F �
   none_failed config texts seed folders vault status left_folders left runs calm copy failed =
       not_risen (begun runs.run).opener.vault.faults (ended runs.run).after.vault.faults (none_rose config texts seed folders vault status left_folders left runs calm) failed.rose
 
+  -- it was asked for a sync
   is_asked : (config : List ℕ) (texts : List (List ℕ)) (seed : List ℕ) (folders : List FolderView) (vault : VaultView) (last : LastSynced) (trees : List Tree) (status : ℕ) (left_folders : List F) (left : V)
-      → (runs : RunsOver opener_view folder_view vault_view sink_view config texts seed folders vault status left_folders left) → (vault_view left).faults ≡ 0
+      → (runs : RunsOver opener_view folder_view vault_view sink_view config texts seed folders vault status left_folders left)
       → (asks : AskForSync texts config) → trees_of folders ≡ trees
       → IsAskedToSync opener_view folder_view vault_view sink_view asks.setup.setup trees seed (standing_of config folders vault last) runs.run
-  is_asked config texts seed folders vault last trees status left_folders left runs calm asks same =
+  is_asked config texts seed folders vault last trees status left_folders left runs asks same =
       record {
         asked = asks.asked;
         way = asks.way;
@@ -83,7 +85,17 @@ module _ {O F V W : Type 0} (opener_view : O → OpenerView) (folder_view : F �
         says = asks.setup.says;
         trees_are = same;
         seed_is = λ none. runs.seed_is;
-        reads_well = none_failed config texts seed folders vault status left_folders left runs calm;
+      }
+
+  is_sync : (config : List ℕ) (texts : List (List ℕ)) (seed : List ℕ) (folders : List FolderView) (vault : VaultView) (last : LastSynced) (trees : List Tree) (status : ℕ) (left_folders : List F) (left : V) (next : Standing)
+      → (runs : RunsOver opener_view folder_view vault_view sink_view config texts seed folders vault status left_folders left) → (vault_view left).faults ≡ 0
+      → (asks : AskForSync texts config) → trees_of folders ≡ trees → Goes runs.run (standing_of config folders vault last) next
+      → IsSyncOver opener_view folder_view vault_view sink_view asks.setup.setup trees seed (standing_of config folders vault last) runs.run next
+  is_sync config texts seed folders vault last trees status left_folders left next runs calm asks same goes =
+      record {
+        goes = goes;
+        asked = is_asked config texts seed folders vault last trees status left_folders left runs asks same;
+        reads_well = loads_well (begun runs.run) (ended runs.run) goes.step.always.did goes.step.always.is_did (none_failed config texts seed folders vault status left_folders left runs calm);
       }
 
   -- a sync that ended with status 0
@@ -99,8 +111,7 @@ module _ {O F V W : Type 0} (opener_view : O → OpenerView) (folder_view : F �
       (no_chance step.always.did (quiet_run opener_view folder_view vault_view sink_view config texts seed folders vault status left_folders left runs (no_fix texts config asks) step.always.did step.always.is_did) last.snapshot) in (
         at_end.0,
         record {
-          goes = at_end.3;
-          asked = is_asked config texts seed folders vault last trees status left_folders left runs calm asks same;
+          sync = is_sync config texts seed folders vault last trees status left_folders left at_end.0 runs calm asks same at_end.3;
           clean = runs.status_is ∙ zero;
           stands = inl at_end.1;
         },
@@ -124,10 +135,10 @@ module _ {O F V W : Type 0} (opener_view : O → OpenerView) (folder_view : F �
 
   -- one array is synced whole; and it is synced and stopped, read, and synced again
   resumed_by : (setup : SetupValue) (trees : List Tree) (seed : List ℕ) (first later still once again : Standing) (stopped between whole last : RunOf O F V W)
-      → IsOrigin first → Headline opener_view folder_view vault_view sink_view first → Goes stopped first later → IsAskedToSync opener_view folder_view vault_view sink_view setup trees seed first stopped
+      → IsOrigin first → Headline opener_view folder_view vault_view sink_view first → IsSyncOver opener_view folder_view vault_view sink_view setup trees seed first stopped later
       → Goes between later still → still ≡ later → SyncsClean opener_view folder_view vault_view sink_view setup trees seed first whole once
       → SyncsClean opener_view folder_view vault_view sink_view setup trees seed still last again → IsResumedOnce opener_view folder_view vault_view sink_view
-  resumed_by setup trees seed first later still once again stopped between whole last is_first headline goes asked goes_between same clean resumed =
+  resumed_by setup trees seed first later still once again stopped between whole last is_first headline sync goes_between same clean resumed =
       let stays : still.files ≡ later.files = ap (λ (standing : Standing). standing.files) same in
       record {
         first = first;
@@ -143,50 +154,49 @@ module _ {O F V W : Type 0} (opener_view : O → OpenerView) (folder_view : F �
         whole = whole;
         last = last;
         origin = is_first;
-        goes = goes;
-        asked = asked;
+        sync = sync;
         goes_between = goes_between;
         stays = stays;
         clean = clean;
         resumed = resumed;
         alike = headline.resumed setup trees seed (record { change = Runs stopped; next = later } ∷ record { change = Runs between; next = still } ∷ [])
-            still once again whole last (goes, (goes_between, refl)) (inl asked, (inr stays, tt)) clean resumed;
+            still once again whole last (sync.goes, (goes_between, refl)) (inl sync, (inr stays, tt)) clean resumed;
       }
 
   -- the last sync, of what stands after the run between
   resumed_last : (config : List ℕ) (texts : List (List ℕ)) (seed : List ℕ) (trees : List Tree) (first later once : Standing) (stopped between whole : RunOf O F V W) (folders : List FolderView) (kept : VaultView)
       (then : LastSynced) (status : ℕ) (last_folders : List F) (left : V)
-      → HoldsAlways → IsOrigin first → (asks : AskForSync texts config) → Goes stopped first later → IsAskedToSync opener_view folder_view vault_view sink_view asks.setup.setup trees seed first stopped
+      → HoldsAlways → IsOrigin first → (asks : AskForSync texts config) → IsSyncOver opener_view folder_view vault_view sink_view asks.setup.setup trees seed first stopped later
       → Goes between later (standing_of config folders kept then) → standing_of config folders kept then ≡ later → later.trees ≡ trees
       → SyncsClean opener_view folder_view vault_view sink_view asks.setup.setup trees seed first whole once
       → RunsOver opener_view folder_view vault_view sink_view config texts seed folders kept status last_folders left → (vault_view left).faults ≡ 0 → status ≡ 0
       → IsResumedOnce opener_view folder_view vault_view sink_view
-  resumed_last config texts seed trees first later once stopped between whole folders kept then status last_folders left holds is_first asks goes asked goes_between same trees_are clean last calm zero =
+  resumed_last config texts seed trees first later once stopped between whole folders kept then status last_folders left holds is_first asks sync goes_between same trees_are clean last calm zero =
       let still : Standing = standing_of config folders kept then in
       let history : IsHistory opener_view folder_view vault_view sink_view first (record { change = Runs stopped; next = later } ∷ record { change = Runs between; next = still } ∷ []) still
-      = (goes, (goes_between, refl)) in
+      = (sync.goes, (goes_between, refl)) in
       let again = syncs_clean config texts seed folders kept then trees status last_folders left
       (holds first still (record { change = Runs stopped; next = later } ∷ record { change = Runs between; next = still } ∷ []) is_first history) last calm asks
       (ap (λ (standing : Standing). standing.trees) same ∙ trees_are) zero in
-      resumed_by asks.setup.setup trees seed first later still once again.0 stopped between whole last.run is_first (holds first first [] is_first refl) goes asked goes_between same clean again.1
+      resumed_by asks.setup.setup trees seed first later still once again.0 stopped between whole last.run is_first (holds first first [] is_first refl) sync goes_between same clean again.1
 
   -- the run between, over what the stopped sync left
   resumed_between : (config : List ℕ) (texts other_texts : List (List ℕ)) (seed : List ℕ) (trees : List Tree) (first once : Standing) (stopped whole : RunOf O F V W) (folders : List FolderView) (made kept : VaultView)
       (then : LastSynced) (status_between status_last : ℕ) (between_folders last_folders : List F) (left_between left_last : V)
       → HoldsAlways → IsOrigin first → (asks : AskForSync texts config) → AskForNoChange other_texts
-      → Goes stopped first (standing_of config folders made then) → IsAskedToSync opener_view folder_view vault_view sink_view asks.setup.setup trees seed first stopped → trees_of folders ≡ trees
+      → IsSyncOver opener_view folder_view vault_view sink_view asks.setup.setup trees seed first stopped (standing_of config folders made then) → trees_of folders ≡ trees
       → SyncsClean opener_view folder_view vault_view sink_view asks.setup.setup trees seed first whole once
       → RunsOver opener_view folder_view vault_view sink_view config other_texts seed folders made status_between between_folders left_between
       → IsLeftOf (vault_view left_between) kept → copies_of kept ≡ copies_of made
       → RunsOver opener_view folder_view vault_view sink_view config texts seed (map folder_view between_folders) kept status_last last_folders left_last → (vault_view left_last).faults ≡ 0 → status_last ≡ 0
       → IsResumedOnce opener_view folder_view vault_view sink_view
   resumed_between config texts other_texts seed trees first once stopped whole folders made kept then status_between status_last between_folders last_folders left_between left_last
-      holds is_first asks asks_nothing goes asked trees_are clean between kept_of as_many last calm zero =
+      holds is_first asks asks_nothing sync trees_are clean between kept_of as_many last calm zero =
       let later : Standing = standing_of config folders made then in
-      let headline = holds first later (record { change = Runs stopped; next = later } ∷ []) is_first (goes, refl) in
+      let headline = holds first later (record { change = Runs stopped; next = later } ∷ []) is_first (sync.goes, refl) in
       let going = goes_with opener_view folder_view vault_view sink_view config other_texts seed folders made kept then status_between between_folders left_between
       headline between (no_fix_of other_texts asks_nothing) kept_of as_many in
-      resumed_last config texts seed trees first later once stopped between.run whole (map folder_view between_folders) kept going.0 status_last last_folders left_last holds is_first asks goes asked going.1
+      resumed_last config texts seed trees first later once stopped between.run whole (map folder_view between_folders) kept going.0 status_last last_folders left_last holds is_first asks sync going.1
       (kept_by later (standing_of config (map folder_view between_folders) kept going.0) between.run headline going.1 (subst AskForNoChange (sym between.texts_are) asks_nothing)) trees_are clean last calm zero
 
   pub resumed_once : (config : List ℕ) (texts other_texts : List (List ℕ)) (seed : List ℕ) (levels copies : ℕ) (value other : VaultValue) (folders : List FolderView) (made kept : VaultView)
@@ -215,9 +225,9 @@ module _ {O F V W : Type 0} (opener_view : O → OpenerView) (folder_view : F �
       let going = goes_with opener_view folder_view vault_view sink_view config texts seed (map folder_view left_folders) (view_of other) made nothing_synced status_then then_folders left_then headline_too stopped asks_no_fix left_of as_many in
       resumed_between config texts other_texts seed (trees_of folders) first once.0 stopped.run whole.run (map folder_view then_folders) made kept going.0 status_between status_last between_folders last_folders
       left_between left_last holds is_first asks asks_nothing
-      (subst (λ (s : Standing). Goes stopped.run s (standing_of config (map folder_view then_folders) made going.0)) are_one going.1)
-      (subst (λ (s : Standing). IsAskedToSync opener_view folder_view vault_view sink_view asks.setup.setup (trees_of folders) seed s stopped.run) are_one
-      (is_asked config texts seed (map folder_view left_folders) (view_of other) nothing_synced (trees_of folders) status_then then_folders left_then stopped calm_then asks same))
+      (subst (λ (s : Standing). IsSyncOver opener_view folder_view vault_view sink_view asks.setup.setup (trees_of folders) seed s stopped.run (standing_of config (map folder_view then_folders) made going.0)) are_one
+      (is_sync config texts seed (map folder_view left_folders) (view_of other) nothing_synced (trees_of folders) status_then then_folders left_then (standing_of config (map folder_view then_folders) made going.0)
+      stopped calm_then asks same going.1))
       same_too once.1 between kept_of as_many_still last calm_last zero_last
 
   pub synced_at_last : (config : List ℕ) (texts : List (List ℕ)) (seed : List ℕ) (folders : List FolderView) (vault : VaultView) (statuses : List ℕ) (status : ℕ) (left_folders : List F) (left : V)

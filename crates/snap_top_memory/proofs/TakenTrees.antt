@@ -8,7 +8,7 @@ use Rattle.disk_model.specs.Folder.{FolderView}
 use Rattle.disk_model.specs.Tree.{Tree, file_of, path_of}
 use Rattle.disk_model.proofs.TreeLemmas.{gone_here, gone_other}
 use Rattle.snap_sync.specs.Part.{tree_at, trees_of}
-use Rattle.snap_top_memory.specs.Taken.{IsTakenFrom, OnlyTakenAway}
+use Rattle.snap_top.specs.Taken.{IsTakenFrom, OnlyTakenAway}
 
 pub nothing_taken : (tree : Tree) → IsTakenFrom tree tree
 nothing_taken tree = record { plain = λ path. inl refl; lost = λ path. inl refl }

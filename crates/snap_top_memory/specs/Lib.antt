@@ -2,4 +2,3 @@ pub mod Changed
 pub mod Lived
 pub mod Once
 pub mod Repeated
-pub mod Taken

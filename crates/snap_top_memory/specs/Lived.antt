@@ -19,7 +19,7 @@ use Rattle.snap_top.specs.History.{LastSynced}
 use Rattle.snap_top.specs.Levels.{by_setup, said_by}
 use Rattle.snap_top.specs.Moment.{ChangesNothing, StandsAfter}
 use Rattle.snap_top.specs.Opening.{asked_by}
-use Rattle.snap_top.specs.Headline.{FixesToItsEnd, IsAskedToSync, SyncsClean, SyncsWell}
+use Rattle.snap_top.specs.Headline.{FixesToItsEnd, IsSyncOver, SyncsClean, SyncsWell}
 use Rattle.snap_top.specs.RestoredLast.{IsRestored}
 use Rattle.snap_top.specs.Resumed.{EndAlike, RunOf}
 use Rattle.snap_top.specs.Standing.{BeginsOver, Change, GoesOver, IsHistory, IsOrigin, MeetsNoChance, Runs, Stage, Standing, after_of, before_of}
@@ -141,8 +141,7 @@ module _ {O F V W : Type 0} (opener_view : O → OpenerView) (folder_view : F �
     pub whole : RunOf O F V W
     pub last : RunOf O F V W
     pub origin : IsOrigin first
-    pub goes : GoesOver opener_view folder_view vault_view sink_view stopped first later
-    pub asked : IsAskedToSync opener_view folder_view vault_view sink_view setup trees seed first stopped
+    pub sync : IsSyncOver opener_view folder_view vault_view sink_view setup trees seed first stopped later
     pub goes_between : GoesOver opener_view folder_view vault_view sink_view between later still
     pub stays : still.files ≡ later.files
     pub clean : SyncsClean opener_view folder_view vault_view sink_view setup trees seed first whole once

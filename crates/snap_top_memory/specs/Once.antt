@@ -10,7 +10,7 @@ use Rattle.snap_top.specs.RestoredLast.{IsRestored}
 use Rattle.snap_top.specs.Resumed.{RunOf}
 use Rattle.snap_top.specs.Standing.{GoesOver, IsHistory, IsOrigin, Stage, Standing, after_of, before_of}
 use Rattle.snap_top_memory.specs.Lived.{standing_of}
-use Rattle.snap_top_memory.specs.Taken.{OnlyTakenAway}
+use Rattle.snap_top.specs.Taken.{OnlyTakenAway}
 
 module _ {O F V W : Type 0} (opener_view : O → OpenerView) (folder_view : F → FolderView) (vault_view : V → VaultView) (sink_view : W → SinkView) where
   -- A run over an array without content ended with this status. What stands now is what it left, or a stop at some moment of it, but for files

@@ -11,6 +11,7 @@ use crate::arrays::{
 use crate::damage::{Copied, Damage, damaged, with_contents};
 use crate::left::{Level, compare, compare_kept};
 use disk_memory::{MemFolder, MemVault};
+use snap_report::Report;
 use std::alloc::Global;
 use std::test::Fail;
 use std::thread::Threads;
@@ -181,16 +182,30 @@ pub fn run_case<R: Threads + Sync>(
     requires settled { IsSettled (vault_view vault) }
     requires drafts { HasNoDraft (vault_view vault) }
 {
+    let mut reports = Vec::new(alloc);
+    run_case_told(rt, alloc, case, vault, &mut reports)
+}
+
+/// The same with reports.
+pub fn run_case_told<R: Threads + Sync>(
+    rt: &R,
+    alloc: Global,
+    case: &Case,
+    vault: MemVault,
+    reports: &mut Vec<Box<dyn Report>>,
+) -> Result<Left, Fail>
+    requires settled { IsSettled (vault_view vault) }
+    requires drafts { HasNoDraft (vault_view vault) }
+{
     let vault = failing_vault(with_contents(vault, case.put)?, case.failing)?;
     let folders = failing_folders(alloc, case.array, case.failing)?;
-    let mut reports = Vec::new(alloc);
     run_told(
         rt,
         alloc,
         case.asked(),
         folders,
         vault,
-        &mut reports,
+        reports,
         case.failing,
     )
 }

@@ -8,7 +8,6 @@ ghost use Rattle.snap_top_memory.specs.Once.{IsLeftOfOne};
 ghost use Rattle.snap_top_memory.specs.Repeated.{AskForCheck, IsCheckedTwice, IsFixedAgain, are_calm};
 
 use crate::arrays::{Array, owned};
-use crate::laws::a_fix_of_what_is_left_meets_no_chance;
 use crate::lived::{Lived, Made, SEED, Told, left_of, run_anew};
 use crate::next::WRITTEN;
 use crate::resumed::ask_for_fix;
@@ -18,7 +17,7 @@ use disk_memory::{MemFolder, MemOpener, MemSink, MemVault};
 use disk_model::{Folder, Opener, Vault};
 use snap_config::{Command, read_words_among};
 use snap_top::COMMANDS;
-use snap_top::laws::{headline, one_array_is_found_alike};
+use snap_top::laws::{a_fix_of_what_is_left_meets_no_chance, headline, one_array_is_found_alike};
 use std::alloc::Global;
 use std::test::Fail;
 use std::thread::Threads;

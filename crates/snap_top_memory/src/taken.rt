@@ -6,15 +6,14 @@ ghost use Rattle.disk_memory.specs.Sink.{sink_view};
 ghost use Rattle.disk_memory.specs.Vault.{vault_view};
 ghost use Rattle.snap_top_memory.specs.Lived.{HasHistory, IsNew};
 ghost use Rattle.snap_top_memory.specs.Once.{IsFixedWhole, IsLeftOfOne};
-ghost use Rattle.snap_top_memory.specs.Taken.{IsTakenFrom};
+ghost use Rattle.snap_top.specs.Taken.{IsTakenFrom};
 
 use crate::arrays::{Array, folders, owned};
-use crate::laws::a_fix_of_what_is_left_meets_no_chance;
 use crate::lived::{Lived, Told, ask_for_no_fix, left_of, run_anew};
 use crate::resumed::ask_for_fix;
 use disk_memory::{MemFolder, MemOpener, MemSink, MemVault};
 use disk_model::{FileFault, Folder, Opener, Path, Vault};
-use snap_top::laws::headline;
+use snap_top::laws::{a_fix_of_what_is_left_meets_no_chance, headline};
 use std::alloc::Global;
 use std::test::Fail;
 use std::thread::Threads;

@@ -1,4 +1,5 @@
 use Rattle.snap_top.proofs.OneArrayLemmas.{a_fix_of_one_array, checks_of_one_array}
+use Rattle.snap_top.proofs.PrintsAlikeLemmas.{prints_of_one_array}
 use Rattle.snap_top.proofs.laws.one_array_is_found_alike.Goals as goal
 
 pub returns-clause-checks : goal.returns-clause-checks
@@ -14,3 +15,6 @@ returns-clause-fix g c run again one ends =
       events = says.events;
       fixed = says.fixed;
     }) c.one_table_has_a_spelling.ensures _ _ _ _ run.status again.status one ends
+
+pub returns-clause-prints : goal.returns-clause-prints
+returns-clause-prints g c command text counted run again one other = prints_of_one_array c.one_table_has_a_spelling.ensures command text counted _ _ _ _ run.status again.status one other

@@ -13,6 +13,11 @@ use Rattle.snap_top.proofs.running.run.Goals as goal
 pub returns-clause-refused : goal.returns-clause-refused
 returns-clause-refused g c = refused_seen _ _ _ _ _ _ _ c.work-end.ensures _ c.status.ensures
 
+pub returns-clause-account : goal.returns-clause-account
+returns-clause-account g c tells =
+    let ran = c.work-end.ensures in
+    record { end = c.work-end.result.end; told = ran.told; ran = by_said _ _ _ _ _ _ _ ran tells; status_is = c.status.ensures }
+
 pub returns-clause-silent : goal.returns-clause-silent
 returns-clause-silent g c = done_is_silent c.work-end.result.end _ _ _ c.status.ensures c.say.ensures
 

@@ -3,7 +3,7 @@ use Rattle.disk_memory.specs.Folder.{folder_view}
 use Rattle.disk_memory.specs.Sink.{sink_view}
 use Rattle.disk_memory.specs.Vault.{vault_view}
 use Rattle.disk_memory.specs.declared.folder.MemFolder.{MemFolder}
-use Rattle.snap_top_memory.specs.Taken.{IsTakenFrom}
+use Rattle.snap_top.specs.Taken.{IsTakenFrom}
 use Rattle.snap_top_memory.proofs.OnceLemmas.{taken_on}
 use Rattle.snap_top_memory.proofs.taken.take_away.Goals as goal
 

@@ -5,7 +5,7 @@ use Rattle.disk_model.specs.Tree.{Tree, file_of, path_of}
 use Rattle.disk_model.specs.declared.fault.FileFault.{FileFault}
 use Rattle.disk_model.specs.declared.meta.Meta.{Meta}
 use Rattle.disk_memory.specs.Folder.{folder_view}
-use Rattle.snap_top_memory.specs.Taken.{IsTakenFrom}
+use Rattle.snap_top.specs.Taken.{IsTakenFrom}
 use Rattle.snap_top_memory.proofs.TakenTrees.{one_taken}
 use Rattle.snap_top_memory.proofs.taken.take_from.Goals as goal
 

@@ -32,8 +32,8 @@ use Rattle.stripe_reader.specs.WindowValue.{no_slot}
 use Rattle.stripe_reader.specs.declared.starts.Place.{Place}
 use Rattle.stripe_reader.specs.declared.starts.Place.TheVariants as place
 use Rattle.stripe_reader.specs.declared.starts.Start.{Start}
-use Rattle.snap_top_memory.specs.Taken.{StandsOrIsGone}
-use Rattle.snap_top_memory.proofs.SyncedRows.{IsGivenRow}
+use Rattle.snap_top.specs.Taken.{StandsOrIsGone}
+use Rattle.snap_top.proofs.SyncedRows.{IsGivenRow}
 
 -- ---- a block that came whole
 

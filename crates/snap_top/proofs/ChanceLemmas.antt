@@ -61,10 +61,10 @@ use Rattle.snap_top.proofs.OneSizeLemmas.{SavesValidTables}
 use Rattle.snap_top.proofs.RestoredLastLemmas.{tree_of_folder}
 use Rattle.snap_top.proofs.StoppingLemmas.{ListedStandInPlace}
 use Rattle.snap_top.proofs.SyncedLemmas.{OneTable}
-use Rattle.snap_top_memory.specs.Taken.{OnlyTakenAway, StandsOrIsGone}
-use Rattle.snap_top_memory.proofs.MetLemmas.{BlocksFollow, IsMet, MeetsSnapshot, meets_no_chance}
-use Rattle.snap_top_memory.proofs.SyncedRows.{IsGivenRow, rows_given}
-use Rattle.snap_top_memory.proofs.TakenLemmas.{StandThere, is_in_row}
+use Rattle.snap_top.specs.Taken.{OnlyTakenAway, StandsOrIsGone}
+use Rattle.snap_top.proofs.MetLemmas.{BlocksFollow, IsMet, MeetsSnapshot, meets_no_chance}
+use Rattle.snap_top.proofs.SyncedRows.{IsGivenRow, rows_given}
+use Rattle.snap_top.proofs.TakenLemmas.{StandThere, is_in_row}
 
 -- what snap_top says of the levels of a fix, where the table was sound
 abbrev pub LevelsAreIntact : Entry → FixRun → Type 0

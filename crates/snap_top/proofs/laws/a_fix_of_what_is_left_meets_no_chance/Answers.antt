@@ -1,5 +1,5 @@
-use Rattle.snap_top_memory.proofs.ChanceLemmas.{no_chance_met}
-use Rattle.snap_top_memory.proofs.laws.a_fix_of_what_is_left_meets_no_chance.Goals as goal
+use Rattle.snap_top.proofs.ChanceLemmas.{no_chance_met}
+use Rattle.snap_top.proofs.laws.a_fix_of_what_is_left_meets_no_chance.Goals as goal
 
 pub returns : goal.returns
 returns g c =

@@ -1,0 +1,150 @@
+-- A scrub that broke off told and printed a front of what one does over the same array in which nothing failed.
+use Rattle.std.proofs.Common.{◌≡◌, ◌⊎◌, ⊎_elim, ℕ, zero, suc, ◌+◌, ◌≤◌, List, [], ◌++◌, length, append-nil, false, refl, sym, ap, ap₂, ◌∙◌, subst, arith}
+use Rattle.std.specs.Prelude.{All, sum_by}
+use Rattle.disk_model.specs.Cause.{Rose, RoseBy}
+use Rattle.disk_model.specs.Sink.{SinkView}
+use Rattle.disk_model.specs.Tree.{Tree}
+use Rattle.file_table.specs.Table.{TableValue}
+use Rattle.snap_config.specs.declared.options.Command.TheVariants as commands
+use Rattle.snap_config.specs.declared.options.ScrubWay.{ScrubWay}
+use Rattle.snap_report.specs.EndLines.{scrub_text}
+use Rattle.snap_report.specs.EventLines.{lines_of}
+use Rattle.snap_report.specs.Telling.{Tells, between}
+use Rattle.snap_report.specs.declared.events.Event.{Event}
+use Rattle.snap_scrub.specs.Findings.{events_of as scrub_events_of}
+use Rattle.snap_scrub.specs.Marks.{at_most}
+use Rattle.snap_scrub.specs.Plan.{plan_of}
+use Rattle.snap_scrub.specs.Reading.{AreLevelsOf, HasLevels, ScrubReading, cells_of, unread_levels}
+use Rattle.snap_sync.specs.Part.{AllTell, readings_by, trees_of}
+use Rattle.snap_top.specs.Alike.{HoldAlike, NothingRose}
+use Rattle.snap_top.specs.BrokeOff.{BrokeOff, PrintsFront, RoseOnce}
+use Rattle.snap_top.specs.LeftAlike.{AskSame}
+use Rattle.snap_top.specs.Run.{Entry, Exit, IsAnswered}
+use Rattle.snap_top.specs.Scrubbed.{EndsScrubbed}
+use Rattle.snap_top.specs.Scrubbing.{ScrubBreaks}
+use Rattle.snap_top.specs.Views.{view_of, world_of}
+use Rattle.snap_top.proofs.AskedLemmas.{command_asked, one_setup, same_loaded, unfailed}
+use Rattle.snap_top.proofs.HeldLemmas.{none_risen}
+use Rattle.snap_top.proofs.LeftAlikeLemmas.{none_rose, same_readings}
+use Rattle.snap_top.proofs.ScrubGiven.{stripes_given}
+use Rattle.snap_top.proofs.SyncedLemmas.{OneTable}
+use Rattle.snap_top.proofs.BrokeOffLemmas.{LeftUntold, begun, configured, does_as, files_are, folders_are, given_faults, left, one, out_is, printed_nothing, scrub_broke, table_is, vault_tells}
+
+-- ---- a scrub
+
+none_unread : (n a b c : ℕ) → a ≤ b → RoseBy (n + 1) b c → ¬ (RoseBy 2 a c) → n ≡ 0
+none_unread zero a b c later rose once = refl
+none_unread (suc n) a b c later rose once = absurd (once (twice later rose))
+  where
+    twice : a ≤ b → RoseBy (suc n + 1) b c → RoseBy 2 a c
+    twice begins two = omega (arith, begins, two)
+
+module _ (one_table : OneTable) (before before_then : Entry) (exit exit_then : Exit) (status_then : ℕ) (broke : BrokeOff before exit)
+    (other : EndsScrubbed before_then exit_then status_then) (hold : HoldAlike before before_then) (ask : AskSame before before_then) (moments : before.moment ≡ before_then.moment) (once : RoseOnce before exit)
+    (well_then : NothingRose before_then exit_then) where
+  abbrev its : IsAnswered broke.ran.task broke.ran.given (world_of exit.after) (left before exit hold.tells.tells hold.tells.tells_vault broke) broke.ran.did
+  its = one before exit hold.tells.tells hold.tells.tells_vault broke
+
+  abbrev way : ScrubWay
+  way = other.run.way
+
+  command_is : broke.ran.task.command ≡ commands.Scrub way
+  command_is =
+      command_asked before hold.tells.tells ask.asked ask.words _ _ _ (configured before exit hold.tells.tells hold.tells.tells_vault broke)
+      ∙ ask.command
+      ∙ sym (command_asked before_then hold.tells_then.tells ask.asked_then ask.words_then _ other.is_scrub.readers other.run.setup other.is_scrub.configured)
+
+  setup_is : broke.ran.task.setup ≡ other.run.setup
+  setup_is = one_setup before before_then hold ask.asked ask.asked_then ask.words ask.words_then ask.log _ _ broke.ran.task.readers other.is_scrub.readers broke.ran.task.setup other.run.setup
+      (configured before exit hold.tells.tells hold.tells.tells_vault broke) other.is_scrub.configured
+
+  abbrev scrub_lines : TableValue → List ScrubReading → List ℕ
+  scrub_lines table readings = lines_of table.columns (scrub_events_of table readings)
+
+  abbrev end_text : TableValue → List ScrubReading → List ℕ
+  end_text table readings = scrub_text (length readings) (at_most (length (scrub_events_of table readings)))
+
+  abbrev all_told : List Event
+  all_told = scrub_events_of other.run.loaded other.run.readings
+
+  no_lines : LeftUntold its.start (world_of exit.after) (left before exit hold.tells.tells hold.tells.tells_vault broke) → PrintsFront broke.told all_told before before_then exit exit_then status_then
+  no_lines none = record {
+    more = all_told;
+    events = ap (λ (told : List Event). told ++ all_told) (sym none.untold);
+    text = [];
+    rest = scrub_lines other.run.loaded other.run.readings ++ end_text other.run.loaded other.run.readings;
+    failed = false;
+    printed = printed_nothing before exit hold.tells.tells hold.tells.tells_vault broke none.out;
+    printed_then = record { failed = other.output_failed; status_is = other.status_is.failed; told = other.printed };
+  }
+
+  module _ (breaks : ScrubBreaks way broke.ran.task its.table its.start (world_of exit.after) (left before exit hold.tells.tells hold.tells.tells_vault broke) broke.ran.did) where
+    abbrev readings : List ScrubReading
+    readings = breaks.course.readings
+
+    begun_before : before.opener.vault.faults ≤ its.start.vault.faults
+    begun_before = subst (λ (n : ℕ). n ≤ its.start.vault.faults) (given_faults before exit hold.tells.tells hold.tells.tells_vault broke) (begun before exit hold.tells.tells hold.tells.tells_vault broke)
+
+    unread : sum_by unread_levels readings ≡ 0
+    unread = none_unread (sum_by unread_levels readings) before.opener.vault.faults its.start.vault.faults exit.after.vault.faults begun_before breaks.rose once.vault
+
+    rose : Rose its.start.vault.faults exit.after.vault.faults
+    rose = by (sum_by unread_levels readings) its.start.vault.faults exit.after.vault.faults breaks.rose
+      where
+        by : (n a b : ℕ) → RoseBy (n + 1) a b → Rose a b
+        by n a b more = omega (arith, more)
+
+    loaded_is : its.table ≡ other.run.loaded
+    loaded_is = same_loaded one_table before before_then hold broke.ran.task.setup other.run.setup its.table other.run.loaded setup_is
+        (table_is before exit hold.tells.tells hold.tells.tells_vault broke rose once)
+        (other.is_scrub.loading.from (unfailed before_then exit_then other.is_scrub.loading well_then))
+
+    now_is : broke.ran.task.moment ≡ other.run.now
+    now_is = broke.ran.moment_is ∙ moments ∙ sym other.is_scrub.moment_is
+
+    trees_are : trees_of its.start.folders ≡ trees_of other.run.folders
+    trees_are = ap trees_of (folders_are before exit hold.tells.tells hold.tells.tells_vault broke) ∙ hold.trees ∙ sym (ap trees_of other.is_scrub.folders_are)
+
+    all_tell : AllTell its.start.folders
+    all_tell = subst AllTell (sym (folders_are before exit hold.tells.tells hold.tells.tells_vault broke)) hold.tells.tells_folders
+
+    cells_are : cells_of readings ≡ cells_of other.run.readings
+    cells_are =
+        stripes_given its.table (cells_of readings) its.start.folders exit.after.folders breaks.course.cells its.columns all_tell
+        (none_rose its.start.folders before.opener.folders exit.after.folders (folders_are before exit hold.tells.tells hold.tells.tells_vault broke) once.folders)
+        ∙ ap (readings_by its.table (trees_of its.start.folders)) breaks.course.stripes
+        ∙ ap (λ (t : TableValue). readings_by t (trees_of its.start.folders) (plan_of t way broke.ran.task.moment)) loaded_is
+        ∙ ap (λ (ts : List Tree). readings_by other.run.loaded ts (plan_of other.run.loaded way broke.ran.task.moment)) trees_are
+        ∙ ap (λ (n : ℕ). readings_by other.run.loaded (trees_of other.run.folders) (plan_of other.run.loaded way n)) now_is
+        ∙ sym (other.given (none_rose other.run.folders before_then.opener.folders exit_then.after.folders other.is_scrub.folders_are well_then.folders))
+
+    read_same : readings ≡ other.run.readings
+    read_same = same_readings other.run.loaded (view_of its.start.vault) before_then.opener.vault (vault_tells before exit hold.tells.tells hold.tells.tells_vault broke) hold.tells_then.tells_vault
+        (files_are before exit hold.tells.tells hold.tells.tells_vault broke ∙ hold.files) readings other.run.readings
+        (subst (λ (t : TableValue). All (HasLevels t) readings) loaded_is breaks.course.due) other.is_scrub.over.due
+        (subst (λ (t : TableValue). All (AreLevelsOf (view_of its.start.vault) t.shape.block_size) readings) loaded_is breaks.course.vault.are) other.is_scrub.over.levels
+        unread
+        (none_risen (sum_by unread_levels other.run.readings) before_then.opener.vault.faults exit_then.after.vault.faults well_then.vault other.unread_levels_of) cells_are
+
+    all_lines : PrintsFront broke.told all_told before before_then exit exit_then status_then
+    all_lines =
+        let lines : scrub_lines other.run.loaded other.run.readings ≡ scrub_lines its.table readings = ap₂ scrub_lines (sym loaded_is) (sym read_same) in
+        record {
+          more = [];
+          events = ap₂ scrub_events_of (sym loaded_is) (sym read_same) ∙ sym breaks.course.told_is ∙ sym (append-nil broke.told);
+          text = scrub_lines its.table readings;
+          rest = end_text other.run.loaded other.run.readings;
+          failed = breaks.output_failed;
+          printed = subst (λ (out : SinkView). Tells (scrub_lines its.table readings) (between false out) (between breaks.output_failed exit.after.out))
+              (out_is before exit hold.tells.tells hold.tells.tells_vault broke) breaks.printed;
+          printed_then = record {
+            failed = other.output_failed;
+            status_is = other.status_is.failed;
+            told = subst (λ (text : List ℕ). Tells (text ++ end_text other.run.loaded other.run.readings) (between false before_then.out) (between other.output_failed exit_then.after.out)) lines other.printed;
+          };
+        }
+
+  pub scrub_front : PrintsFront broke.told all_told before before_then exit exit_then status_then
+  scrub_front = ⊎_elim no_lines all_lines
+      (scrub_broke broke.fault way broke.ran.task its.table its.start (world_of exit.after) (left before exit hold.tells.tells hold.tells.tells_vault broke) broke.ran.did
+      (does_as before exit hold.tells.tells hold.tells.tells_vault broke (commands.Scrub way) command_is))

@@ -1,0 +1,21 @@
+use Rattle.snap_top.proofs.FixFrontLemmas.{fix_front}
+use Rattle.snap_top.proofs.BrokeOffLemmas.{early_front}
+use Rattle.snap_top.proofs.ScrubFrontLemmas.{scrub_front}
+use Rattle.snap_top.proofs.SyncFrontLemmas.{sync_front}
+use Rattle.snap_top.proofs.laws.a_broken_run_prints_a_front.Goals as goal
+
+pub returns-clause-syncs : goal.returns-clause-syncs
+returns-clause-syncs g c run again other broke hold ask once well =
+    let says = c.a_sync_is_a_part_sync.ensures in
+    sync_front says.laid says.given c.one_table_has_a_spelling.ensures _ _ _ _ again.status broke other hold ask once well
+
+pub returns-clause-scrubs : goal.returns-clause-scrubs
+returns-clause-scrubs g c run again other broke hold ask moments once well =
+    scrub_front c.one_table_has_a_spelling.ensures _ _ _ _ again.status broke other hold ask moments once well
+
+pub returns-clause-fixes : goal.returns-clause-fixes
+returns-clause-fixes g c run again other off hold ask stamps well =
+    fix_front c.what_is_read_determines_what_is_found.ensures.stripe c.one_table_has_a_spelling.ensures _ _ _ _ again.status off other hold ask stamps well
+
+pub returns-clause-early : goal.returns-clause-early
+returns-clause-early g c run early = early_front _ _ early

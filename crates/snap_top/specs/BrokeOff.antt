@@ -1,0 +1,83 @@
+-- A run that broke off told and printed a front of what one does that did not, and a run that ended early printed nothing.
+use Rattle.std.specs.Prelude.{◌≡◌, ℕ, ◌<◌, List, ◌++◌, length, Bool, true, false, Option}
+use Rattle.content_file.specs.Load.{HasFailed}
+use Rattle.disk_model.specs.Cause.{RoseBy}
+use Rattle.file_table.specs.Table.{TableValue}
+use Rattle.snap_config.specs.Setup.{SetupValue}
+use Rattle.snap_config.specs.declared.options.Command.TheVariants as commands
+use Rattle.snap_config.specs.declared.options.Selection.{Selection}
+use Rattle.snap_fix.specs.Fixing.{facts_of}
+use Rattle.snap_report.specs.Telling.{Tells, between}
+use Rattle.snap_report.specs.declared.answer.Answer.TheVariants as answers
+use Rattle.snap_report.specs.declared.answer.RunFault.{RunFault}
+use Rattle.snap_report.specs.declared.events.Event.{Event}
+use Rattle.snap_sync.specs.Part.{NoneRose}
+use Rattle.stripe_examiner.specs.Looking.{unread_cells, unread_in}
+use Rattle.snap_top.specs.Fixing.{FixBroke}
+use Rattle.snap_top.specs.LeftAlike.{HasPrinted}
+use Rattle.snap_top.specs.Run.{Entry, Exit, IsAnswered, IsRefused, IsRun}
+use Rattle.snap_top.specs.Task.{Left, reads_only}
+use Rattle.snap_top.specs.Views.{view_of, world_of}
+use Rattle.snap_top.specs.declared.end.Ending.{Ending}
+use Rattle.snap_top.specs.declared.end.Ending.TheVariants.{Answered}
+use Rattle.snap_top.specs.declared.end.Refusal.{Refusal}
+
+-- A run broke off in its command: a call failed there, or memory ran out.
+pub record BrokeOff (before : Entry) (exit : Exit) : Type 0 where
+  pub setup : SetupValue
+  pub fault : RunFault
+  pub named : Option TableValue
+  pub told : List Event
+  pub ran : IsRun before exit setup (Answered (answers.Broken fault) named) told
+
+-- what such a run left to be said
+abbrev pub left_of : {before : Entry} {exit : Exit} → BrokeOff before exit → Left
+left_of broke = record { answer = answers.Broken broke.fault; named = broke.named; counted = broke.ran.goes.0; told = broke.told }
+
+-- and what it did behind the reading of the copies
+abbrev pub answered : {before : Entry} {exit : Exit} → (broke : BrokeOff before exit)
+    → IsAnswered broke.ran.task broke.ran.given (world_of exit.after) (left_of broke) broke.ran.did
+answered broke = broke.ran.goes.1
+
+-- A fix broke off once the folders were listed. No reading of a copy failed in it, and none of a cell or a level of the stripes that
+-- it looked at.
+pub record FixBrokeOff (before : Entry) (exit : Exit) : Type 0 where
+  pub broke : BrokeOff before exit
+  pub selection : Selection
+  pub command_is : broke.ran.task.command ≡ commands.Fix selection
+  pub fix : FixBroke broke.fault selection broke.ran.task (answered broke).table (answered broke).start (world_of exit.after)
+      (left_of broke) broke.ran.did
+  pub copies : (copy : ℕ) → ¬ (HasFailed (view_of broke.ran.given.vault) (view_of (answered broke).start.vault) copy)
+  pub cells : (d : ℕ) → d < length fix.course.plan.table.columns → unread_cells d (facts_of fix.course.stripes) ≡ 0
+  pub levels : unread_in fix.course.readings ≡ 0
+
+-- the count of faults of no folder rose, and that of the vault by one at most
+pub record RoseOnce (before : Entry) (exit : Exit) : Type 0 where
+  pub folders : NoneRose before.opener.folders exit.after.folders
+  pub vault : ¬ (RoseBy 2 before.opener.vault.faults exit.after.vault.faults)
+
+-- One run told a front of the events that another told, and its text is a front of the text of the other. Of each of the two texts a
+-- front was written, if its output failed; of the other one this is shown by status 3.
+pub record PrintsFront (told told_then : List Event) (before before_then : Entry) (exit exit_then : Exit) (status_then : ℕ) : Type 0 where
+  pub more : List Event
+  pub events : told_then ≡ told ++ more
+  pub text : List ℕ
+  pub rest : List ℕ
+  pub failed : Bool
+  pub printed : Tells text (between false before.out) (between failed exit.after.out)
+  pub printed_then : HasPrinted (text ++ rest) before_then exit_then status_then
+
+-- ---- runs that ended early
+
+-- The command did not come to its end: nothing was loaded, or the content is another array's, or the command refused or broke off.
+abbrev pub is_undone : Ending → Bool
+is_undone (Answered answers.Clean named) = false
+is_undone (Answered answers.Found named) = false
+is_undone (Answered answers.OutputFailed named) = false
+is_undone _ = true
+
+-- A run was refused. Or its command did not come to its end, and did no more than to read.
+pub data EndedEarly (before : Entry) (exit : Exit) : Type 0 where
+  WasRefused : (why : Refusal) (told : List Event) → IsRefused before exit why told → EndedEarly before exit
+  WasUndone : (setup : SetupValue) (ending : Ending) (told : List Event) (ran : IsRun before exit setup ending told)
+      → is_undone ending ≡ true → ran.did ≡ reads_only → EndedEarly before exit
