@@ -185,4 +185,5 @@ module _ {W R : Type 0} (view : W → SinkView) (standing : R → ReportView) (s
               (λ d within. subst (λ (its : List Mended). FolderMakes (AnyCall (IsStripeCall plan starts d its)) (folder_at mids d) (folder_at folders_mid d)) (sym broke.stripes_are)
               (files_any plan fault starts states broke.earlier broke.last mids folders_mid broke.makes d within));
           broke = broke_opened plan fault broke.first mids folders_mid old.vault vault_mid broke.broke;
+          rose = broke.rose;
         }

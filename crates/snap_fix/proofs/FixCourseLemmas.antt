@@ -1,5 +1,5 @@
 -- A fix as a whole, by what its stripes, the sync of its levels and the finish of its files left.
-use Rattle.std.proofs.Common.{◌≡◌, inl, inr, ℕ, ◌<◌, ◌≤◌, List, [], ◌++◌, length, get_or, Bool, false, refl, sym, ap, ◌∙◌, subst, arith, append_assoc}
+use Rattle.std.proofs.Common.{◌≡◌, inl, inr, ℕ, ◌+◌, ◌<◌, ◌≤◌, List, [], ◌++◌, length, get_or, Bool, false, refl, sym, ap, ◌∙◌, subst, arith, append_assoc}
 use Rattle.std.specs.List.{count_by}
 use Rattle.std.proofs.lemmas.List.{append-nil}
 use Rattle.std.proofs.lemmas.List.Elements.{All-nil}
@@ -66,6 +66,7 @@ use Rattle.file_restorer.proofs.FolderFailsLemmas.{fails_gained, in_column_any}
 use Rattle.snap_fix.proofs.KeptStartsLemmas.{stripes_any}
 use Rattle.snap_fix.proofs.ReadsLemmas.{quiet_in_column, reads_on, reads_wider}
 use Rattle.snap_fix.proofs.WindowsLemmas.{some_room}
+use Rattle.snap_fix.proofs.FixSinceLemmas.{rose_past}
 use Rattle.snap_fix.proofs.FixStartedLemmas.{IsPresentAt, its_plan, started_underway, listed_since, first_present}
 
 module _ {W R : Type 0} (view : W → SinkView) (standing : R → ReportView) (stands : R → List Event → Type 0) (mode : Mode) (selection : Selection) (names : List (List ℕ))
@@ -241,6 +242,8 @@ module _ {W R : Type 0} (view : W → SinkView) (standing : R → ReportView) (s
               rose = omega (arith, sum, none, before, rose);
               call = vault_gained old.vault vault_mid vault_new fixed.fixes.mends.vault.calls not_synced.calls not_synced.call;
             };
+            rose = subst (λ (its : List (List LevelReading)). RoseBy (unread_in its + 1) old.vault.faults vault_new.faults) (sym (append-nil readings))
+                (rose_past (unread_in readings) old.vault.faults vault_mid.faults vault_new.faults fixed.fixes.unread rose);
           }
 
       module _ (levels : List Bool) (synced : SyncsWritten levels vault_mid vault_new)
@@ -327,6 +330,8 @@ module _ {W R : Type 0} (view : W → SinkView) (standing : R → ReportView) (s
                       (fails_gained (FinishesOne plan disk starts_mid states_mid) fails.here);
                 },
               );
+              rose = subst (λ (its : List StripeFacts). RoseBy (unread_cells disk its + 1) (folder_at mids disk).faults (folder_at folders_new disk).faults) (sym (append-nil (facts_of stripes)))
+                  (rose_past (unread_cells disk (facts_of stripes)) (folder_at mids disk).faults (folder_at folders_mid disk).faults (folder_at folders_new disk).faults (fixed.unread disk fails.within) rose);
             }
 
         -- all was done

@@ -23,7 +23,7 @@ use Rattle.stripe_examiner.specs.Asking.{AsksSpare}
 use Rattle.stripe_examiner.specs.Facts.{StripeFacts}
 use Rattle.stripe_examiner.specs.Spare.{SpareView}
 use Rattle.snap_fix.specs.BrokenStripe.{BreaksLevels}
-use Rattle.snap_fix.specs.FixRun.{AreAscending, BreaksFolders, BreaksInLast, BreaksInto, FixesInto, HasBrokenInto, MendsAll, MendsInto, MendsNotInto}
+use Rattle.snap_fix.specs.FixRun.{AreAscending, BreaksFolders, BreaksInLast, BreaksInto, FixesInto, HasBrokenInto, MendsAll, MendsInto, MendsNotInto, RoseBeyond}
 use Rattle.snap_fix.specs.Fixing.{AreTotals, BreaksStripe, FixScene, FixesStripe, IsBrokenBy, MendsVault, SceneFits, facts_of, fix_scene, levels_begun, with_answers}
 use Rattle.stripe_examiner.specs.Known.{AreFacts}
 use Rattle.stripe_examiner.specs.Looking.{AreAllLevelsOf, LevelsAreRead, facts_at, no_facts, numbers_of, unread_in}
@@ -311,6 +311,13 @@ module _ {W R : Type 0} (view : W → SinkView) (standing : R → ReportView) (s
           }
       broke_with Memory broke = broke
 
+      -- that call counts beside all readings of the window
+      rose_with : (by : RunFault) → IsBrokenBy plan by old.folders new.folders vault new.vault
+          → RoseBeyond by [] (split.front ++ split.back) old.folders new.folders old.vault new.vault
+      rose_with (Folder disk) broke = broke.1.rose
+      rose_with Vault broke = let all_unread = ap unread_in split.whole_is in let rose = broke.rose in omega (arith, all_unread, levels.unread, rose)
+      rose_with Memory broke = broke
+
       pub into_breaks : BreaksInto view standing stands plan numbers window old new fault
       into_breaks = record {
         earlier = it.earlier;
@@ -338,4 +345,5 @@ module _ {W R : Type 0} (view : W → SinkView) (standing : R → ReportView) (s
         makes = it.makes;
         quiet = it.quiet;
         broke = broke_with fault it.broke;
+        rose = rose_with fault it.broke;
       }

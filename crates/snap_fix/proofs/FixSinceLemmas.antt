@@ -1,15 +1,24 @@
 -- What was done to the stripes of a window after it was read: it was done since before.
-use Rattle.std.proofs.Common.{◌≡◌, ℕ, ◌<◌, List, [], length, refl, ◌∙◌, arith}
+use Rattle.std.proofs.Common.{◌≡◌, ℕ, ◌+◌, ◌<◌, List, [], ◌++◌, length, refl, ◌∙◌, arith}
+use Rattle.std.specs.List.{count_by}
+use Rattle.std.proofs.lemmas.List.Sums.{sum_by-append}
+use Rattle.disk_model.specs.Cause.{Rose, RoseBy}
 use Rattle.disk_model.specs.Folder.{FolderView}
 use Rattle.disk_model.specs.Sink.{SinkView}
+use Rattle.disk_model.specs.Vault.{VaultView}
+use Rattle.parity_writer.specs.LevelReading.{LevelReading, has_failed}
 use Rattle.snap_report.specs.Report.{ReportView}
+use Rattle.snap_report.specs.declared.answer.RunFault.{RunFault}
+use Rattle.snap_report.specs.declared.answer.RunFault.TheVariants.{Folder, Vault, Memory}
 use Rattle.snap_report.specs.declared.events.Event.{Event}
 use Rattle.stripe_reader.specs.Columns.{ReadsWindow, folder_at}
 use Rattle.stripe_reader.specs.WindowValue.{WindowValue}
 use Rattle.snap_fix.specs.declared.fixing.Totals.{Totals}
-use Rattle.snap_fix.specs.FixRun.{FixesAll, FixesStripes, MendsAll, with_folders}
+use Rattle.snap_fix.specs.FixRun.{FixesAll, FixesStripes, HasBrokenInto, MendsAll, RoseBeyond, with_folders}
 use Rattle.snap_fix.specs.Fixing.{AreTotals, FixScene, SceneFits}
 use Rattle.snap_fix.specs.Mended.{Mended}
+use Rattle.stripe_examiner.specs.Facts.{StripeFacts}
+use Rattle.stripe_examiner.specs.Looking.{unread_cells, unread_in}
 use Rattle.stripe_examiner.specs.Plan.{FixPlan}
 use Rattle.file_restorer.specs.State.{FolderMakesBy}
 use Rattle.snap_fix.specs.Underway.{AreStripeCalls}
@@ -18,6 +27,22 @@ use Rattle.snap_fix.proofs.FixReadLemmas.{underway_read, window_makes}
 use Rattle.snap_fix.proofs.KeptStartsLemmas.{well_then}
 use Rattle.snap_fix.proofs.ReadsLemmas.{stripes_unread}
 use Rattle.snap_fix.proofs.StartsKeptLemmas.{keeps_starts_same}
+
+-- a call that failed after readings counts beside them
+pub rose_past : (n before mid now : ℕ) → RoseBy n before mid → Rose mid now → RoseBy (n + 1) before now
+rose_past n before mid now read rose = omega (arith, read, rose)
+
+-- so does the one that broke off a window, beside all readings before the window, too
+pub rose_since : (plan : FixPlan) (by : RunFault) (stripes : List StripeFacts) (first more : List (List LevelReading)) (told : List Event) (olds mids news : List FolderView) (old mid new : VaultView)
+    → HasBrokenInto plan by told mids news mid new
+    → ((d : ℕ) → d < length plan.table.columns → RoseBy (unread_cells d stripes) (folder_at olds d).faults (folder_at mids d).faults)
+    → RoseBy (unread_in first) old.faults mid.faults → RoseBeyond by [] more mids news mid new → RoseBeyond by stripes (first ++ more) olds news old new
+rose_since plan (Folder disk) stripes first more told olds mids news old mid new broke cells levels rose =
+    rose_past (unread_cells disk stripes) (folder_at olds disk).faults (folder_at mids disk).faults (folder_at news disk).faults (cells disk broke.0) rose
+rose_since plan Vault stripes first more told olds mids news old mid new broke cells levels rose =
+    let counted : unread_in (first ++ more) ≡ unread_in first + unread_in more = sum_by-append (count_by has_failed) first more in
+    omega (arith, counted, levels, rose)
+rose_since plan Memory stripes first more told olds mids news old mid new broke cells levels rose = rose
 
 module _ {W R : Type 0} (view : W → SinkView) (standing : R → ReportView) (stands : R → List Event → Type 0) (plan : FixPlan) where
   pub stripes_none : (totals : Totals) (s : FixScene W R) → SceneFits plan s → AreTotals plan [] totals → FixesStripes view standing stands plan [] s s totals

@@ -23,7 +23,7 @@ use Rattle.stripe_reader.specs.Slot.{kept}
 use Rattle.stripe_reader.specs.WindowValue.{WindowValue}
 use Rattle.snap_fix.specs.declared.fixing.Totals.{Totals}
 use Rattle.stripe_examiner.specs.Facts.{StripeFacts, slot_of}
-use Rattle.snap_fix.specs.FixRun.{AreAscending, BreaksFolders, BreaksInLast, BreaksInto, BreaksStripes, FixesInto, FixesStripes, HasBroken, HasBrokenInto, with_folders}
+use Rattle.snap_fix.specs.FixRun.{AreAscending, BreaksFolders, BreaksInLast, BreaksInto, BreaksStripes, FixesInto, FixesStripes, HasBroken, HasBrokenInto, RoseBeyond, with_folders}
 use Rattle.snap_fix.specs.Fixing.{AreReadThen, AreTotals, FixScene, IsReadThen, SceneFits, facts_of, mended_at, no_mended, unwritten}
 use Rattle.stripe_examiner.specs.Asking.{AsksSpare}
 use Rattle.stripe_examiner.specs.Known.{AreFacts}
@@ -46,7 +46,7 @@ use Rattle.snap_fix.proofs.StartsKeptLemmas.{keeps_starts_same}
 use Rattle.snap_fix.proofs.WindowsLemmas.{all_full, fill_more}
 use Rattle.snap_fix.specs.Windows.{FillWindows, IsFull, window_size}
 use Rattle.snap_fix.proofs.AscendingLemmas.{front_ascending, precede_ahead}
-use Rattle.snap_fix.proofs.FixSinceLemmas.{since_read}
+use Rattle.snap_fix.proofs.FixSinceLemmas.{rose_since, since_read}
 
 module _ {W R : Type 0} (view : W → SinkView) (standing : R → ReportView) (stands : R → List Event → Type 0) (plan : FixPlan) where
   module _ (numbers : List ℕ) (before window : WindowValue) (mid : FixScene W R) (mids : List FolderView) (read : ReadsWindow plan.table mid.starts numbers before window mid.folders mids)
@@ -281,6 +281,12 @@ module _ {W R : Type 0} (view : W → SinkView) (standing : R → ReportView) (s
           (λ done is. (mid.starts, subst (λ (its : List StripeFacts). AreReadBy plan old.starts mid.starts d its done) facts_all is))
           (reads_on By (both_read first one old so_far here [] numbers_here slots_here d below refl) (into.quiet d below))
 
+      unread_here : (d n : ℕ) → d < length plan.table.columns → (folder_at mids d).faults ≤ n
+          → RoseBy (unread_cells d (facts_of (so_far.stripes ++ into.stripes) ++ into.ahead.stripes)) (folder_at old.folders d).faults n
+      unread_here d n below later =
+          subst (λ (its : List StripeFacts). RoseBy (unread_cells d its) (folder_at old.folders d).faults n) facts_all
+          (unread_since first one old so_far here [] numbers_here slots_here d n below later)
+
       -- the failed readings of the window count too, and those before it
       broke_then : (by : RunFault) → HasBrokenInto plan by into.first mids new.folders mid.vault new.vault
           → HasBroken plan by (all_mended_events plan so_far.stripes ++ into.first) old.folders new.folders old.vault new.vault
@@ -386,13 +392,14 @@ module _ {W R : Type 0} (view : W → SinkView) (standing : R → ReportView) (s
                 before_last (windows_full first one old so_far items done within fill first_is) so_far.fixes.windows_are so_far.fixes.ran so_far.fixes.mends.vault so_far.fixes.mends.holds into.ran);
             unread = subst (λ (its : List (List LevelReading)). RoseBy (unread_in its) old.vault.faults new.vault.faults) (sym read_apart)
                 (unread_then so_far.fixes.readings (into.readings ++ into.ahead.readings) old.vault.faults mid.vault.faults new.vault.faults so_far.fixes.unread into.unread);
-            unread_cells_of = λ d below.
-                subst (λ (its : List StripeFacts). RoseBy (unread_cells d its) (folder_at old.folders d).faults (folder_at new.folders d).faults) facts_all
-                (unread_since first one old so_far here [] numbers_here slots_here d (folder_at new.folders d).faults below (into_any d below).goes_on.later);
+            unread_cells_of = λ d below. unread_here d (folder_at new.folders d).faults below (into_any d below).goes_on.later;
             spare = subst (λ (its : List StripeFacts). AsksSpare plan its old.spare new.spare)
                 (sym (ap (λ (its : List StripeFacts). its ++ ahead) (facts_append xs ys) ∙ append_assoc (facts_of xs) (facts_of ys) ahead))
                 (asks_then plan (facts_of xs) (facts_of ys ++ ahead) old.spare mid.spare new.spare so_far.fixes.spare into.spare);
             makes = files_then plan fault old.starts mid.starts old.states mid.states so_far.fixes.mends.stood xs into.earlier into.last
                 old.folders mid.folders new.folders so_far.fixes.mends.makes so_far.fixes.mends.underway since;
             broke = broke_then fault into.broke;
+            rose = subst (λ (its : List (List LevelReading)). RoseBeyond fault (facts_of (xs ++ ys) ++ ahead) its old.folders new.folders old.vault new.vault) (sym read_apart)
+                (rose_since plan fault (facts_of (xs ++ ys) ++ ahead) so_far.fixes.readings (into.readings ++ into.ahead.readings) into.first old.folders mids new.folders old.vault mid.vault new.vault
+                into.broke (λ d below. unread_here d (folder_at mids d).faults below (omega arith)) so_far.fixes.unread into.rose);
           }

@@ -27,7 +27,7 @@ use Rattle.snap_fix.specs.Course.{IsPlan, Outside}
 use Rattle.snap_fix.specs.Ending.{AreDone, FailsInFinish, FailsInRecord, all_finish_news, column_news_at}
 use Rattle.stripe_examiner.specs.Findings.{opening_events}
 use Rattle.snap_fix.specs.FixCourse.{FixFinds, FixesVault, MakeFixCalls, WritesFiles, Written, mend_syncs}
-use Rattle.snap_fix.specs.FixRun.{BreaksInLast, HasBroken, HoldAllWrong, LooksAhead}
+use Rattle.snap_fix.specs.FixRun.{BreaksInLast, HasBroken, HoldAllWrong, LooksAhead, RoseBeyond}
 use Rattle.snap_fix.specs.Fixing.{MendsVault, facts_of}
 use Rattle.stripe_examiner.specs.Looking.{numbers_of, unread_cells, unread_in}
 use Rattle.snap_fix.specs.Mended.{Mended, all_mended_events}
@@ -179,6 +179,7 @@ pub record FixBreaks {W R : Type 0} (view : W → SinkView) (standing : R → Re
       → FolderReads (AreAllRead plan (starts_of table lists) d (facts_of stripes ++ ahead.stripes))
       (folder_at mids d) (folder_at new.folders d)
   pub broke : HasBroken plan fault first mids new.folders old.vault new.vault
+  pub rose : RoseBeyond fault (facts_of stripes ++ ahead.stripes) (readings ++ ahead.readings) mids new.folders old.vault new.vault
 
 -- why a fix did not end: it did not begin, and nothing but the folders was touched, or it broke off
 abbrev pub FixesNot : {W R : Type 0} → (W → SinkView) → (R → ReportView) → (R → List Event → Type 0) → Mode → Selection

@@ -153,6 +153,15 @@ HasBroken plan (Folder disk) told olds news old new =
 HasBroken plan Vault told olds news old new = VaultFailedBy told old new
 HasBroken plan Memory told olds news old new = ⊥
 
+-- The count of faults of the object that failed rose by one more than by its failed readings: of the cells of these stripes, or of
+-- these levels.
+abbrev pub RoseBeyond : RunFault → List StripeFacts → List (List LevelReading) → List FolderView → List FolderView → VaultView → VaultView
+    → Type 0
+RoseBeyond (Folder disk) stripes readings olds news old new =
+    RoseBy (unread_cells disk stripes + 1) (folder_at olds disk).faults (folder_at news disk).faults
+RoseBeyond Vault stripes readings olds news old new = RoseBy (unread_in readings + 1) old.faults new.faults
+RoseBeyond Memory stripes readings olds news old new = ⊥
+
 -- A fix broke off in the last one of these stripes, or where it was to be written: of the vault all calls for the windows
 -- before that stripe's were made; then the levels of all stripes of that window were read, also of those behind it, and the
 -- wrong ones of the stripes before it written. Of its own wrong levels, where a folder failed, none was written, and where a
@@ -263,6 +272,7 @@ pub record BreaksStripes {W R : Type 0} (view : W → SinkView) (standing : R �
   pub spare : AsksSpare plan (facts_of stripes ++ ahead.stripes) old.spare new.spare
   pub makes : BreaksFolders plan old.starts old.states fault earlier last old.folders new.folders
   pub broke : HasBroken plan fault first old.folders new.folders old.vault new.vault
+  pub rose : RoseBeyond fault (facts_of stripes ++ ahead.stripes) (readings ++ ahead.readings) old.folders new.folders old.vault new.vault
 
 -- The same within a window, which was read before: the failed readings that were told of its cells were counted then.
 abbrev pub HasBrokenInto : FixPlan → RunFault → List Event → List FolderView → List FolderView → VaultView → VaultView
@@ -300,6 +310,7 @@ pub record BreaksInto {W R : Type 0} (view : W → SinkView) (standing : R → R
   pub quiet : (d : ℕ) → d < length plan.table.columns
       → FolderReads IsQuiet (folder_at old.folders d) (folder_at new.folders d)
   pub broke : HasBrokenInto plan fault first old.folders new.folders old.vault new.vault
+  pub rose : RoseBeyond fault [] (readings ++ ahead.readings) old.folders new.folders old.vault new.vault
 
 -- Stripes were read into the window, and then it broke off.
 pub record BreaksWindow {W R : Type 0} (view : W → SinkView) (standing : R → ReportView)
