@@ -223,7 +223,7 @@ module _ (plan : FixPlan) (starts : StartsValue) (stripes : List Mended) (finish
 -- ---- what two of them left
 
 -- whether a name is one of the records'
-name_among : (records : List Record) (name : List ℕ) → (IsNameOf records name) ⊎ (¬ (IsNameOf records name))
+pub name_among : (records : List Record) (name : List ℕ) → (IsNameOf records name) ⊎ (¬ (IsNameOf records name))
 name_among [] name = inr (λ one. omega (arith, one.2))
 name_among (kept ∷ records) name = by_test (name_among records name) (bytes_eq name (path_of kept.path false)) (bytes_eq name (path_of kept.path true)) refl refl
   where

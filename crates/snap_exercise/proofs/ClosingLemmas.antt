@@ -119,7 +119,7 @@ found_read shape (Gone seen) = refl
 found_read shape (Part seen got) = refl
 found_read shape (Whole seen bytes) = refl
 
-slot_read : (table : TableValue) (those : List Tree) (stripe d : ℕ) → is_unread (slot_by table those stripe d).cell.found ≡ false
+pub slot_read : (table : TableValue) (those : List Tree) (stripe d : ℕ) → is_unread (slot_by table those stripe d).cell.found ≡ false
 slot_read table those stripe d =
     found_read table.shape (given_by (tree_at those d) (task_at table (recorded_starts table) d stripe))
     ∙ cell_read (tree_at those d) table.shape.block_size (column_at table.columns d) (starts_at (recorded_starts table).columns d) (cell_in (column_at table.columns d) stripe)
@@ -159,7 +159,7 @@ no_cell_events stripe d column (Some cell) slot read bare_all each =
     (no_wrong (is_unread slot.cell.found) (is_recorded seen.meta slot) d (event.Io stripe d cell.rec cell.index ∷ []) (silent_event stripe d cell seen.hash slot.digest) stripe cell.rec cell.index slot.cell.seen slot.cell.got read
     (no_silent stripe d cell seen.hash slot.digest (bare_all cell.rec cell.index)))
 
-flat_empty : (f : ℕ → List Event) (xs : List ℕ) → ((k : ℕ) → k < length xs → f (get_or xs k 0) ≡ []) → flat_map f xs ≡ []
+pub flat_empty : (f : ℕ → List Event) (xs : List ℕ) → ((k : ℕ) → k < length xs → f (get_or xs k 0) ≡ []) → flat_map f xs ≡ []
 flat_empty f [] each = refl
 flat_empty f (x ∷ xs) each = ap₂ (λ (first rest : List Event). first ++ rest) (each 0 (omega arith)) (flat_empty f xs (λ k within. each (suc k) (omega (arith, within))))
 

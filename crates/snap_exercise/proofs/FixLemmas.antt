@@ -59,7 +59,7 @@ use Rattle.stripe_reader.specs.Starts.{start_in, starts_at}
 
 -- ---- what finishing tells is nothing that is left
 
-none_left : {X : Type 0} (f : X → List Event) (xs : List X) (e : X) → ((k : ℕ) → k < length xs → count_by is_left (f (get_or xs k e)) ≡ 0) → count_by is_left (flat_map f xs) ≡ 0
+pub none_left : {X : Type 0} (f : X → List Event) (xs : List X) (e : X) → ((k : ℕ) → k < length xs → count_by is_left (f (get_or xs k e)) ≡ 0) → count_by is_left (flat_map f xs) ≡ 0
 none_left f [] e each = refl
 none_left f (x ∷ xs) e each =
     let here : count_by is_left (f x) ≡ 0 = each 0 (omega arith) in

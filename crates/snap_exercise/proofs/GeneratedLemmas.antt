@@ -65,7 +65,7 @@ before_none n = refl
 
 -- ---- the trees
 
-digits_apart : (i j : ℕ) → i < 10000 → j < 10000 → path_of i ≡ path_of j → i ≡ j
+pub digits_apart : (i j : ℕ) → i < 10000 → j < 10000 → path_of i ≡ path_of j → i ≡ j
 digits_apart i j first second same =
     let a = ap (λ (p : List ℕ). get_or p 1 0) same in
     let b = ap (λ (p : List ℕ). get_or p 2 0) same in
@@ -73,7 +73,7 @@ digits_apart i j first second same =
     let d = ap (λ (p : List ℕ). get_or p 4 0) same in
     omega (arith, a, b, c, d, first, second)
 
-not_tied : (a b : List ℕ) → (a ≡ b → ⊥) → eq_by_cmp (slice_cmp nat_cmp) a b ≡ false
+pub not_tied : (a b : List ℕ) → (a ≡ b → ⊥) → eq_by_cmp (slice_cmp nat_cmp) a b ≡ false
 not_tied a b apart = by_cases (slice_cmp nat_cmp a b) refl
   where
     by_cases : (o : Ordering) → slice_cmp nat_cmp a b ≡ o → eq_by_cmp (slice_cmp nat_cmp) a b ≡ false
@@ -82,7 +82,7 @@ not_tied a b apart = by_cases (slice_cmp nat_cmp a b) refl
     by_cases Greater at = ap is_eq at
 
 -- no file before has the path of a file
-new_path : (g : Lcg) (column : ℕ) (turns : Bool) (count file : ℕ) → count ≤ file → file < 10000 → finite.find (slice_cmp nat_cmp) (path_of file) (entries_from g column turns count) ≡ None
+pub new_path : (g : Lcg) (column : ℕ) (turns : Bool) (count file : ℕ) → count ≤ file → file < 10000 → finite.find (slice_cmp nat_cmp) (path_of file) (entries_from g column turns count) ≡ None
 new_path g column turns zero file below few = refl
 new_path g column turns (suc count) file below few =
     let next : suc count ≡ count + 1 = omega arith in

@@ -8,13 +8,13 @@ use Rattle.disk_model.specs.Path.{IsComponent, IsValidPath, components, with_fro
 use Rattle.snap_exercise.specs.Generated.{digit, path_of}
 
 -- an ASCII byte behind the slash
-abbrev IsPlain : ℕ → Type 0
+abbrev pub IsPlain : ℕ → Type 0
 IsPlain byte = (48 ≤ byte) × (byte < 128)
 
 plain_digit : (k : ℕ) → IsPlain (digit k)
 plain_digit k = (omega arith, omega arith)
 
-plain_name : (file : ℕ) → All IsPlain (path_of file)
+pub plain_name : (file : ℕ) → All IsPlain (path_of file)
 plain_name file =
     let a = digit (file / 1000) in
     let b = digit (file / 100) in
@@ -32,7 +32,7 @@ not_true : (b : Bool) → (b ≡ true → ⊥) → b ≡ false
 not_true true wrong = absurd (wrong refl)
 not_true false wrong = refl
 
-one_part : (bytes : List ℕ) → All IsPlain bytes → components bytes ≡ bytes ∷ []
+pub one_part : (bytes : List ℕ) → All IsPlain bytes → components bytes ≡ bytes ∷ []
 one_part [] plain = refl
 one_part (byte ∷ bytes) plain =
     let here = (plain 0 byte (omega arith)).0 in

@@ -55,7 +55,7 @@ pub damaged_same : (seen : Option CellView) (one other : SlotValue) → KeptAlik
 damaged_same None one other alike = refl
 damaged_same (Some cell) one other alike = ap (λ (came : Option Digest16). not (is_some came && agrees cell.hash came)) alike.digest
 
-bytes_same : (one other : SlotValue) → KeptAlike one other → bytes_of one ≡ bytes_of other
+pub bytes_same : (one other : SlotValue) → KeptAlike one other → bytes_of one ≡ bytes_of other
 bytes_same one other alike =
     ap (λ (found : Found). bytes_found found one.cell.got one.block) alike.found
     ∙ ap (λ (got : ℕ). bytes_found other.cell.found got one.block) alike.got

@@ -50,7 +50,7 @@ at_most_none zero none = refl
 at_most_none (suc k) none = absurd (omega (arith, none))
 
 -- all records are selected
-selected_of : (n d i : ℕ) → d < length (fix_plan n).table.columns → i < length (records_in (fix_plan n).table d) → (entry_at (fix_plan n) d i).selected ≡ true
+pub selected_of : (n d i : ℕ) → d < length (fix_plan n).table.columns → i < length (records_in (fix_plan n).table d) → (entry_at (fix_plan n) d i).selected ≡ true
 selected_of n d i below inside =
     let table : TableValue = table_of_sync n in
     let names : List (List ℕ) = names_of setup in
@@ -98,13 +98,13 @@ module _ (laid : IsLaidByTrees) (read : IsReadByTrees) (n : ℕ) (synced : SyncE
       = subst (λ (p : FixPlan). (c k : ℕ) → c < length p.table.columns → k < length (records_in p.table c) → (entry_at p c k).selected ≡ true) (sym plan_is) (selected_of n) d i below inside in
       ap₂ (λ (a b : Bool). a && not b) selected (all_free plan audits (omega (arith, total)) d i below inside selected)
 
-  kept : (d i : ℕ) → d < length plan.table.columns → has_lost plan stripes d i ≡ false
+  pub kept : (d i : ℕ) → d < length plan.table.columns → has_lost plan stripes d i ≡ false
   kept = none_lost plan stripes audits (omega (arith, total)) (is_seen synced.table worn is.after_fix fixed is.fix its_tell before is.sync_unfailed.vault is.fix_unfailed columns).answered
 
   in_worn : (d : ℕ) → d < length plan.table.columns → d < length worn.folders
   in_worn d below = omega (arith, below, many_columns synced.table worn is.after_fix fixed is.fix its_tell before is.sync_unfailed.vault is.fix_unfailed columns)
 
-  tells : (d : ℕ) → d < length plan.table.columns → IsTrue (folder_at is.fix.mids d).tells
+  pub tells : (d : ℕ) → d < length plan.table.columns → IsTrue (folder_at is.fix.mids d).tells
   tells = tells_listed synced.table worn is.after_fix fixed is.fix its_tell before is.sync_unfailed.vault is.fix_unfailed columns
 
   keeps : (d : ℕ) → d < length plan.table.columns → (folder_at is.fix.mids d).keeps_stamps ≡ true
@@ -114,7 +114,7 @@ module _ (laid : IsLaidByTrees) (read : IsReadByTrees) (n : ℕ) (synced : SyncE
   left_at : (d : ℕ) → d < length plan.table.columns → IsLeft plan stripes d (folder_at is.fix.mids d).tree (folder_at is.after_fix.folders d).tree
   left_at d below = is_left_of plan _ stripes is.fix.finishes is.fix.mids is.after_fix.folders is.fix.files tells keeps finished kept d below
 
-  first_is : (d : ℕ) → d < length plan.table.columns → (folder_at is.fix.mids d).tree ≡ tree_at (damaged_trees n) d
+  pub first_is : (d : ℕ) → d < length plan.table.columns → (folder_at is.fix.mids d).tree ≡ tree_at (damaged_trees n) d
   first_is d below = tree_then worn.folders is.fix.mids is.fix.lists is.fix.listed its_tell d (in_worn d below)
       ∙ ap (λ (ts : List Tree). tree_at ts d) (trees_worn laid read n synced fixed checked last is)
 

@@ -1,3 +1,4 @@
 pub mod Exercise
 pub mod Exercised
 pub mod Generated
+pub mod Mends

@@ -3,7 +3,7 @@
 //! Start at `exercise` in `exercising.rt`. The array is `array.rt`, its files are `files.rt`, what befalls it is `damage.rt`, the
 //! engines are called in `engines.rt`, and `telling.rt` tells. `specs/Generated.antt` defines the array as a function of the
 //! number, `specs/Exercise.antt` the text, `specs/Exercised.antt` what an exercise comes to.
-//! Not here: the engines, and the words that ask for it. No run uses it yet.
+//! Not here: the engines, and the words that ask for it, which `run` of snap_top reads.
 #![tactic(auto)]
 
 mod array;
