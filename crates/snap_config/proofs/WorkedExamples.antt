@@ -14,7 +14,7 @@ use Rattle.snap_config.specs.declared.options.WordsFault.{WordsFault}
 use Rattle.snap_config.specs.declared.options.WordsFault.TheVariants.{Command, Unfit, Usage, Value}
 
 abbrev all : List CommandName
-all = names.Sync ∷ names.Scrub ∷ names.Check ∷ names.Fix ∷ names.Status ∷ names.List ∷ []
+all = names.Sync ∷ names.Scrub ∷ names.Check ∷ names.Fix ∷ names.Status ∷ names.List ∷ names.Exercise ∷ []
 
 abbrev line : List Text → Result Options WordsFault
 line words = reading_among all (codes "snapraid" ∷ words)
@@ -133,3 +133,23 @@ behind_dashes = refl
 conf_twice : line (codes "list" ∷ codes "-c" ∷ codes "a" ∷ codes "-c" ∷ codes "b" ∷ []) ≡ Err Usage
 unfolding clap_on_literals reading_among usage_faults matches_in first_option
 conf_twice = refl
+
+-- the array of a number, with an option between the command and the number
+numbered_exercise : line (codes "exercise" ∷ codes "-l" ∷ codes "x" ∷ codes "7" ∷ []) ≡ Ok (record {
+  conf = codes "/etc/snapraid.conf";
+  log = Some (codes "x");
+  readers = 4;
+  command = commands.Exercise 7;
+})
+unfolding clap_on_literals reading_among usage_faults matches_in first_option
+numbered_exercise = refl
+
+-- an exercise without its number
+no_number : line (codes "exercise" ∷ []) ≡ Err (Value 14)
+unfolding clap_on_literals reading_among usage_faults matches_in first_option
+no_number = refl
+
+-- a number behind another command
+number_of_a_list : line (codes "list" ∷ codes "7" ∷ []) ≡ Err (Unfit 14 names.List)
+unfolding clap_on_literals reading_among usage_faults matches_in first_option
+number_of_a_list = refl

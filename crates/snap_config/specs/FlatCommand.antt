@@ -1,18 +1,22 @@
--- The command line as one flat simple command of clap: the options in any place, and one required positional.
-use Rattle.std.specs.Prelude.{◌≡◌, ◌≢◌, ◌⊎◌, true, List, [], fold, Some, codes}
+-- The command line as one flat simple command of clap: the options in any place, one required positional, and one that may follow it.
+use Rattle.std.specs.Prelude.{◌≡◌, ◌≢◌, ◌⊎◌, true, List, [], fold, None, Option, Some, codes, if◌then◌else◌}
 use Rattle.clap.specs.Words.{App, Row, Rule, Text, fault_of, matches_of, new_app, new_rule, with_rule}
 use Rattle.clap.specs.Kinds.{Kinds}
 use Rattle.clap.specs.declared.error.kind.ErrorKind.{ErrorKind}
 use Rattle.clap.specs.declared.error.kind.ErrorKind.TheVariants.{OutOfMemory}
-use Rattle.snap_config.specs.OptionTable.{action_of, all_options, letter_of, name_of}
+use Rattle.snap_config.specs.OptionTable.{action_of, all_options, is_positional, letter_of, name_of}
 use Rattle.snap_config.specs.declared.option_table.OptionName.{OptionName}
 use Rattle.snap_config.specs.declared.options.WordsFault.{WordsFault}
 use Rattle.snap_config.specs.declared.options.WordsFault.TheVariants.{Memory, Usage}
 
+-- the name behind two dashes, where there is one
+abbrev pub long_of : OptionName → Option Text
+long_of option = if is_positional option then None else Some (name_of option)
+
 -- what clap is to know of an option
 abbrev pub rule_for : OptionName → Rule
 rule_for option = record (new_rule (name_of option)) {
-  long = Some (name_of option);
+  long = long_of option;
   short = letter_of option;
   action = Some (action_of option);
 }
@@ -20,7 +24,7 @@ rule_for option = record (new_rule (name_of option)) {
 abbrev pub command_id : Text
 command_id = codes "command"
 
--- the positional, which is required
+-- the positional for the command, which is required and comes first
 abbrev pub command_rule : Rule
 command_rule = record (new_rule command_id) { required = true }
 
@@ -34,7 +38,7 @@ abbrev pub with_option : App → OptionName → App
 with_option app option = with_rule app (rule_for option)
 
 abbrev pub flat_app : App
-flat_app = with_rule (fold with_option bare_app all_options) command_rule
+flat_app = fold with_option (with_rule bare_app command_rule) all_options
 
 -- why clap refuses the words; nothing where it takes them
 unfoldable pub usage_faults : List Text → Kinds

@@ -15,13 +15,14 @@ command_word commands.Check = codes "check"
 command_word commands.Fix = codes "fix"
 command_word commands.Status = codes "status"
 command_word commands.List = codes "list"
+command_word commands.Exercise = codes "exercise"
 
 -- the options in the order of their rows
 abbrev pub all_options : List OptionName
 all_options = options.Conf ∷ options.Log ∷ options.Filter ∷ options.FilterDisk
     ∷ options.FilterMissing ∷ options.FilterError ∷ options.AuditOnly ∷ options.Plan
     ∷ options.OlderThan ∷ options.ForceZero ∷ options.ForceEmpty ∷ options.SaveEvery
-    ∷ options.Readers ∷ []
+    ∷ options.Readers ∷ options.Number ∷ []
 
 -- the row of an option, from 1
 abbrev pub row_of : OptionName → ℕ
@@ -38,12 +39,13 @@ row_of options.ForceZero = 10
 row_of options.ForceEmpty = 11
 row_of options.SaveEvery = 12
 row_of options.Readers = 13
+row_of options.Number = 14
 
 -- the option of a row
 abbrev pub option_in : ℕ → Option OptionName
 option_in row = find (λ option. row_of option == row) all_options
 
--- the name that stands behind two dashes
+-- the name, which stands behind two dashes where the option has one
 abbrev pub name_of : OptionName → List ℕ
 name_of options.Conf = codes "conf"
 name_of options.Log = codes "log"
@@ -58,6 +60,12 @@ name_of options.ForceZero = codes "force-zero"
 name_of options.ForceEmpty = codes "force-empty"
 name_of options.SaveEvery = codes "save-every"
 name_of options.Readers = codes "readers"
+name_of options.Number = codes "number"
+
+-- the number alone stands among the words without a name
+abbrev pub is_positional : OptionName → Bool
+is_positional options.Number = true
+is_positional _ = false
 
 -- the letter that stands behind one dash
 abbrev pub letter_of : OptionName → Option ℕ
@@ -74,6 +82,7 @@ letter_of options.ForceZero = Some 90
 letter_of options.ForceEmpty = Some 69
 letter_of options.SaveEvery = None
 letter_of options.Readers = None
+letter_of options.Number = None
 
 -- what a use of an option does: filters collect their values, the other values are taken once, and flags take none
 abbrev pub action_of : OptionName → ArgAction
@@ -90,6 +99,7 @@ action_of options.ForceZero = SetTrue
 action_of options.ForceEmpty = SetTrue
 action_of options.SaveEvery = Set
 action_of options.Readers = Set
+action_of options.Number = Set
 
 abbrev pub is_sync : CommandName → Bool
 is_sync commands.Sync = true
@@ -107,6 +117,10 @@ abbrev pub is_fix : CommandName → Bool
 is_fix commands.Fix = true
 is_fix _ = false
 
+abbrev pub is_exercise : CommandName → Bool
+is_exercise commands.Exercise = true
+is_exercise _ = false
+
 -- whether an option goes with a command
 abbrev pub goes_with : OptionName → CommandName → Bool
 goes_with options.Conf command = true
@@ -122,3 +136,4 @@ goes_with options.ForceZero command = is_sync command
 goes_with options.ForceEmpty command = is_sync command
 goes_with options.SaveEvery command = is_sync command
 goes_with options.Readers command = is_sync command || is_scrub command || is_check command || is_fix command
+goes_with options.Number command = is_exercise command

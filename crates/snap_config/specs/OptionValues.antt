@@ -6,8 +6,9 @@ use Rattle.std.specs.Option.{option_map_or}
 use Rattle.clap.specs.Words.{Row, Text}
 use Rattle.snap_config.specs.Given.{value_of, values_of}
 use Rattle.snap_config.specs.Number.{number_of}
-use Rattle.snap_config.specs.OptionTable.{all_options, row_of}
+use Rattle.snap_config.specs.OptionTable.{all_options, is_exercise, row_of}
 use Rattle.snap_config.specs.Pattern.{is_pattern}
+use Rattle.snap_config.specs.declared.option_table.CommandName.{CommandName}
 use Rattle.snap_config.specs.declared.option_table.OptionName.{OptionName}
 use Rattle.snap_config.specs.declared.option_table.OptionName.TheVariants as options
 use Rattle.snap_config.specs.declared.option_values.OptionValues.{OptionValues}
@@ -37,6 +38,9 @@ stripes_of = number_in 1 67108864
 abbrev pub readers_of : Text → Option ℕ
 readers_of = number_in 1 16
 
+abbrev pub numbers_of : Text → Option ℕ
+numbers_of = number_in 0 999999999
+
 -- a value was given for the option, and this finds none in it
 abbrev pub is_misread : {X : Type 0} → (Text → Option X) → OptionName → List Row → Bool
 is_misread reads option matches = option_map_or (λ text. not (is_some (reads text))) (value_of option matches) false
@@ -45,7 +49,7 @@ is_misread reads option matches = option_map_or (λ text. not (is_some (reads te
 abbrev pub read_or : {X : Type 0} → X → (Text → Option X) → OptionName → List Row → X
 read_or default reads option matches = unwrap_or (option_and_then reads (value_of option matches)) default
 
--- what the options' values come to: 8 percent of the stripes that no check saw in the last 10 days, and 4 readers, unless the words say otherwise
+-- what the options' values come to: 8 percent of the stripes that no check saw in the last 10 days, 4 readers and the number 0, unless the words say otherwise
 abbrev pub values_in : List Row → OptionValues
 values_in matches = record {
   patterns = values_of options.Filter matches;
@@ -53,23 +57,29 @@ values_in matches = record {
   older = read_or 10 days_of options.OlderThan matches;
   save_every = option_and_then stripes_of (value_of options.SaveEvery matches);
   readers = read_or 4 readers_of options.Readers matches;
+  number = read_or 0 numbers_of options.Number matches;
 }
 
--- a value that was given for the option is not of its form
-abbrev pub is_bad : OptionName → List Row → Bool
-is_bad options.Filter matches = not (list_all is_pattern (values_of options.Filter matches))
-is_bad options.Plan matches = is_misread plan_of options.Plan matches
-is_bad options.OlderThan matches = is_misread days_of options.OlderThan matches
-is_bad options.SaveEvery matches = is_misread stripes_of options.SaveEvery matches
-is_bad options.Readers matches = is_misread readers_of options.Readers matches
-is_bad _ matches = false
+-- the number of an exercise is not given, or not of its form
+abbrev pub lacks_number : CommandName → List Row → Bool
+lacks_number command matches = is_exercise command && not (is_some (option_and_then numbers_of (value_of options.Number matches)))
+
+-- a value that was given for the option is not of its form, or an exercise has no number
+abbrev pub is_bad : CommandName → OptionName → List Row → Bool
+is_bad command options.Filter matches = not (list_all is_pattern (values_of options.Filter matches))
+is_bad command options.Plan matches = is_misread plan_of options.Plan matches
+is_bad command options.OlderThan matches = is_misread days_of options.OlderThan matches
+is_bad command options.SaveEvery matches = is_misread stripes_of options.SaveEvery matches
+is_bad command options.Readers matches = is_misread readers_of options.Readers matches
+is_bad command options.Number matches = lacks_number command matches
+is_bad command _ matches = false
 
 -- the first option of which this is so, in the order of the rows
 unfoldable pub first_option : (OptionName → Bool) → Option OptionName
 first_option is_so = find is_so all_options
 
-abbrev pub first_bad : List Row → Option OptionName
-first_bad matches = first_option (λ option. is_bad option matches)
+abbrev pub first_bad : CommandName → List Row → Option OptionName
+first_bad command matches = first_option (λ option. is_bad command option matches)
 
 -- ---- what reading a value comes to
 
@@ -96,9 +106,9 @@ abbrev pub IsPatternFault : List Text → WordsFault → Type 0
 IsPatternFault texts fault = (fault ≡ Memory) ⊎ IsValueFault options.Filter (not (list_all is_pattern texts)) fault
 
 -- memory ran out, or this is the fault of the first option whose value is bad
-abbrev pub IsFirstBad : List Row → WordsFault → Type 0
-IsFirstBad matches fault =
-    (fault ≡ Memory) ⊎ ((option : OptionName) × (first_bad matches ≡ Some option) × (fault ≡ Value (row_of option)))
+abbrev pub IsFirstBad : CommandName → List Row → WordsFault → Type 0
+IsFirstBad command matches fault =
+    (fault ≡ Memory) ⊎ ((option : OptionName) × (first_bad command matches ≡ Some option) × (fault ≡ Value (row_of option)))
 
 -- ---- bounds
 
@@ -114,3 +124,4 @@ pub record AreInBounds (values : OptionValues) : Type 0 where
   pub older : values.older ≤ 36500
   pub save_every : IfSome values.save_every (IsBetween 1 67108864)
   pub readers : IsBetween 1 16 values.readers
+  pub number : values.number ≤ 999999999

@@ -52,6 +52,7 @@ command_of names.Check matches = checking (is_given AuditOnly matches) (selectio
 command_of names.Fix matches = commands.Fix (selection matches)
 command_of names.Status matches = commands.Status
 command_of names.List matches = commands.List
+command_of names.Exercise matches = commands.Exercise (values_in matches).number
 
 abbrev pub default_conf : Text
 default_conf = codes "/etc/snapraid.conf"
@@ -79,7 +80,7 @@ unless_refused (Some option) fault otherwise = Err (fault option)
 abbrev pub options_of : CommandName → List Row → Result Options WordsFault
 options_of command matches =
     unless_refused (first_option (is_unfit command matches)) (λ option. faults.Unfit (row_of option) command)
-    (unless_refused (first_bad matches) (λ option. faults.Value (row_of option))
+    (unless_refused (first_bad command matches) (λ option. faults.Value (row_of option))
     (Ok (asked_for command matches)))
 
 -- the command of a word, among these
@@ -125,11 +126,13 @@ name_of_command (commands.Audit selected) = names.Check
 name_of_command (commands.Fix selected) = names.Fix
 name_of_command commands.Status = names.Status
 name_of_command commands.List = names.List
+name_of_command (commands.Exercise n) = names.Exercise
 
 -- numbers lie within their bounds
 abbrev pub IsWay : Command → Type 0
 IsWay (commands.Sync way) = IfSome way.save_every (IsBetween 1 67108864)
 IsWay (commands.Scrub way) = IsPlan way.plan × (way.older ≤ 36500)
+IsWay (commands.Exercise n) = n ≤ 999999999
 IsWay _ = ⊤
 
 pub record IsOptions (asked : Options) : Type 0 where

@@ -1,4 +1,5 @@
-// The command line as clap reads it: one flat command, with the options in any place and one word for the command.
+// The command line as clap reads it: one flat command, with the options in any place, one word for the command, and
+// behind it at most one for its number.
 ghost use Rattle.std.specs.Prelude.{◌≡◌, [], IfErr, IfOk, MatchOption, Some, map, string_bytes, false};
 ghost use Rattle.clap.specs.Words.{app_of, rule_of};
 ghost use Rattle.snap_config.specs.Given.{rows};
@@ -42,11 +43,12 @@ fn flat_command<'a>(alloc: Global) -> Result<Command<'a>, AllocError>
 {
     let mut command = Command::new(alloc, "snapraid")
         .disable_help_flag(true)
-        .disable_version_flag(true);
+        .disable_version_flag(true)
+        .arg(Arg::new(alloc, COMMAND).required(true))?;
     for option in OptionName::ALL {
         command = command.arg(argument_of(alloc, option))?;
     }
-    command.arg(Arg::new(alloc, COMMAND).required(true))
+    Ok(command)
 }
 
 // What clap is to know of an option.
@@ -55,7 +57,12 @@ fn argument_of<'a>(alloc: Global, option: OptionName) -> Arg<'a>
     ensures local { result.global ≡ false }
 {
     let name: &'a str = option.as_str();
-    let argument = Arg::new(alloc, name).long(name).action(option.action());
+    let argument = Arg::new(alloc, name).action(option.action());
+    let argument = if option.is_positional() {
+        argument
+    } else {
+        argument.long(name)
+    };
     with_letter(argument, option.letter())
 }
 

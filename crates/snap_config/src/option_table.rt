@@ -1,6 +1,6 @@
 // The options of the command line, row by row, and the commands that they go with.
 ghost use Rattle.std.specs.Prelude.{◌≡◌};
-ghost use Rattle.snap_config.specs.OptionTable.{action_of, command_word, goes_with, letter_of, name_of, option_in, row_of};
+ghost use Rattle.snap_config.specs.OptionTable.{action_of, command_word, goes_with, is_positional, letter_of, name_of, option_in, row_of};
 
 use clap::ArgAction;
 
@@ -13,27 +13,30 @@ pub enum CommandName {
     Fix,
     Status,
     List,
+    Exercise,
 }
 
 /// The commands that are built. The word of any other is an unknown command.
-pub const BUILT_COMMANDS: [CommandName; 6] = [
+pub const BUILT_COMMANDS: [CommandName; 7] = [
     CommandName::Sync,
     CommandName::Scrub,
     CommandName::Check,
     CommandName::Fix,
     CommandName::Status,
     CommandName::List,
+    CommandName::Exercise,
 ];
 
 impl CommandName {
     /// All commands, those that are not built yet among them.
-    pub const ALL: [CommandName; 6] = [
+    pub const ALL: [CommandName; 7] = [
         CommandName::Sync,
         CommandName::Scrub,
         CommandName::Check,
         CommandName::Fix,
         CommandName::Status,
         CommandName::List,
+        CommandName::Exercise,
     ];
 
     /// The word that asks for the command.
@@ -47,11 +50,12 @@ impl CommandName {
             CommandName::Fix => "fix",
             CommandName::Status => "status",
             CommandName::List => "list",
+            CommandName::Exercise => "exercise",
         }
     }
 }
 
-/// An option of the command line.
+/// An option of the command line, or the number that stands behind the word for a command.
 #[derive(Clone, Copy, Debug, PartialEq, Eq)]
 pub enum OptionName {
     Conf,
@@ -67,11 +71,12 @@ pub enum OptionName {
     ForceEmpty,
     SaveEvery,
     Readers,
+    Number,
 }
 
 impl OptionName {
     /// All options, in the order of their rows.
-    pub const ALL: [OptionName; 13] = [
+    pub const ALL: [OptionName; 14] = [
         OptionName::Conf,
         OptionName::Log,
         OptionName::Filter,
@@ -85,6 +90,7 @@ impl OptionName {
         OptionName::ForceEmpty,
         OptionName::SaveEvery,
         OptionName::Readers,
+        OptionName::Number,
     ];
 
     /// The row of the option in the table of options, from 1.
@@ -105,6 +111,7 @@ impl OptionName {
             OptionName::ForceEmpty => 11,
             OptionName::SaveEvery => 12,
             OptionName::Readers => 13,
+            OptionName::Number => 14,
         }
     }
 
@@ -118,7 +125,7 @@ impl OptionName {
             .find(|option| option.row() == row)
     }
 
-    /// The name behind two dashes.
+    /// The name, which stands behind two dashes where the option has one.
     pub fn as_str(self) -> &'static str
         ensures { result.now ≡ name_of self }
     {
@@ -136,7 +143,15 @@ impl OptionName {
             OptionName::ForceEmpty => "force-empty",
             OptionName::SaveEvery => "save-every",
             OptionName::Readers => "readers",
+            OptionName::Number => "number",
         }
+    }
+
+    /// Whether it stands among the words without a name.
+    pub(crate) fn is_positional(self) -> bool
+        ensures { result ≡ is_positional self }
+    {
+        matches!(self, OptionName::Number)
     }
 
     /// The letter behind one dash.
@@ -155,7 +170,7 @@ impl OptionName {
             OptionName::OlderThan => Some('o'),
             OptionName::ForceZero => Some('Z'),
             OptionName::ForceEmpty => Some('E'),
-            OptionName::SaveEvery | OptionName::Readers => None,
+            OptionName::SaveEvery | OptionName::Readers | OptionName::Number => None,
         }
     }
 
@@ -191,7 +206,11 @@ impl OptionName {
             OptionName::ForceZero | OptionName::ForceEmpty | OptionName::SaveEvery => {
                 matches!(command, CommandName::Sync)
             }
-            OptionName::Readers => !matches!(command, CommandName::Status | CommandName::List),
+            OptionName::Readers => matches!(
+                command,
+                CommandName::Sync | CommandName::Scrub | CommandName::Check | CommandName::Fix
+            ),
+            OptionName::Number => matches!(command, CommandName::Exercise),
         }
     }
 }

@@ -1,14 +1,15 @@
 // The values that options were given, and their defaults.
-ghost use Rattle.std.specs.Prelude.{◌≡◌, ◌∷◌, [], None, IfErr, IfOk, IfSome, OnOk, true, map};
-ghost use Rattle.snap_config.specs.Given.{rows, values_of};
+ghost use Rattle.std.specs.Prelude.{◌≡◌, ◌∷◌, [], None, IfErr, IfOk, IfSome, OnOk, false, true, map, option_and_then};
+ghost use Rattle.snap_config.specs.Given.{rows, value_of, values_of};
 ghost use Rattle.snap_config.specs.OptionTable.{row_of};
 ghost use Rattle.snap_config.specs.OptionValues.{AreInBounds, ArePatterns, IsBetween, IsPlan, number_in, plan_of, values_in};
-ghost use Rattle.snap_config.specs.OptionValues.{IsFirstBad, IsMisread, IsPatternFault, IsRead, first_bad};
+ghost use Rattle.snap_config.specs.OptionValues.{IsFirstBad, IsMisread, IsPatternFault, IsRead, IsValueFault, first_bad, is_bad, numbers_of};
 ghost use Rattle.snap_config.specs.Pattern.{is_pattern};
 
 use crate::given::{value_of, values_of};
 use crate::{
-    OptionName, Pattern, PatternFault, Patterns, ScrubPlan, WordsFault, read_number, read_pattern,
+    CommandName, OptionName, Pattern, PatternFault, Patterns, ScrubPlan, WordsFault, read_number,
+    read_pattern,
 };
 use clap::ArgMatches;
 use std::alloc::Global;
@@ -23,29 +24,34 @@ pub(crate) struct OptionValues {
     /// In stripes.
     pub(crate) save_every: Option<u32>,
     pub(crate) readers: u32,
+    /// Of an exercise; 0 where no number was given.
+    pub(crate) number: u32,
 }
 
-/// The values of all options. The first bad one is refused.
+/// The values of all options. The first bad one is refused, and an exercise without a number.
 pub(crate) fn read_values(
     alloc: Global,
+    command: CommandName,
     matches: &ArgMatches<'_>,
 ) -> Result<OptionValues, WordsFault>
     ensures ok { IfOk result (λ values. values ≡ values_in (rows matches.now)) }
-    ensures good { OnOk result (first_bad (rows matches.now) ≡ None) }
+    ensures good { OnOk result (first_bad command (rows matches.now) ≡ None) }
     ensures bounds { IfOk result AreInBounds }
-    ensures err { IfErr result (IsFirstBad (rows matches.now)) }
+    ensures err { IfErr result (IsFirstBad command (rows matches.now)) }
 {
     let patterns = patterns_given(alloc, matches)?;
     let plan = plan_given(matches)?;
     let older = number_given(matches, OptionName::OlderThan, 0, 36_500)?;
     let save_every = number_given(matches, OptionName::SaveEvery, 1, 67_108_864)?;
     let readers = number_given(matches, OptionName::Readers, 1, 16)?;
+    let number = exercise_number(command, matches)?;
     Ok(OptionValues {
         patterns,
         plan: plan.unwrap_or(ScrubPlan::Percent(8)),
         older: older.unwrap_or(10),
         save_every,
         readers: readers.unwrap_or(4),
+        number: number.unwrap_or(0),
     })
 }
 
@@ -113,6 +119,26 @@ fn number_given(
         Some(number) => Ok(Some(number)),
         None => Err(bad_value(option)),
     }
+}
+
+// The number of an exercise, which needs one.
+fn exercise_number(
+    command: CommandName,
+    matches: &ArgMatches<'_>,
+) -> Result<Option<u32>, WordsFault>
+    ensures ok { IfOk result (λ number. number ≡ option_and_then numbers_of (value_of OptionName.Number (rows matches.now))) }
+    ensures bounds { IfOk result (λ number. IfSome number (IsBetween 0 999999999)) }
+    ensures good { OnOk result (is_bad command OptionName.Number (rows matches.now) ≡ false) }
+    ensures err { IfErr result (IsValueFault OptionName.Number (is_bad command OptionName.Number (rows matches.now))) }
+{
+    let number = match value_of(matches, OptionName::Number) {
+        Some(text) => number_in(text, 0, 999_999_999),
+        None => None,
+    };
+    if number.is_none() && command == CommandName::Exercise {
+        return Err(bad_value(OptionName::Number));
+    }
+    Ok(number)
 }
 
 fn bad_value(option: OptionName) -> WordsFault

@@ -83,7 +83,7 @@ fn options_of(
             command,
         });
     }
-    let values = read_values(alloc, matches)?;
+    let values = read_values(alloc, command, matches)?;
     let conf = value_of(matches, OptionName::Conf).unwrap_or(DEFAULT_CONF);
     Ok(Options {
         conf: Text::new(alloc, conf)?,
@@ -131,6 +131,7 @@ fn command_of(
         CommandName::Fix => Command::Fix(selection(alloc, matches, values.patterns)?),
         CommandName::Status => Command::Status,
         CommandName::List => Command::List,
+        CommandName::Exercise => Command::Exercise(values.number),
     })
 }
 

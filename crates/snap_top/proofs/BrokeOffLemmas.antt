@@ -51,15 +51,15 @@ refused_sync : (task : Task) (way : SyncWay) (table : TableValue) (before after 
 refused_sync task way table before after left did does = record { untold = ap (λ (l : Left). l.told) does.left_is; out = same_out before after after.folders does.others }
 
 pub sync_broke : (fault : RunFault) (task : Task) (way : SyncWay) (table : TableValue) (before after : World) (left : Left) (did : Did) → SyncsBy (answers.Broken fault) task way table before after left did
-    → LeftUntold before after left ⊎ SyncBreaks task way table before after left did
+    → LeftUntold before after left ⊎ ((fault ≡ runs.Vault) × SyncBreaks task way table before after left did)
 sync_broke (runs.Folder disk) task way table before after left did does = inl (refused_sync task way table before after left did does)
-sync_broke runs.Vault task way table before after left did does = inr does
+sync_broke runs.Vault task way table before after left did does = inr (refl, does)
 sync_broke runs.Memory task way table before after left did does = inl (refused_sync task way table before after left did does)
 
 pub scrub_broke : (fault : RunFault) (way : ScrubWay) (task : Task) (table : TableValue) (before after : World) (left : Left) (did : Did) → ScrubsBy (answers.Broken fault) way task table before after left did
-    → LeftUntold before after left ⊎ ScrubBreaks way task table before after left did
+    → LeftUntold before after left ⊎ ((fault ≡ runs.Vault) × ScrubBreaks way task table before after left did)
 scrub_broke (runs.Folder disk) way task table before after left did does = absurd does
-scrub_broke runs.Vault way task table before after left did does = inr does
+scrub_broke runs.Vault way task table before after left did does = inr (refl, does)
 scrub_broke runs.Memory way task table before after left did does = inl (record { untold = ap (λ (l : Left). l.told) does.left_is; out = ap (λ (w : World). w.out) does.untouched })
 
 check_broke : (fault : RunFault) (mode : Mode) (selection : Selection) (task : Task) (table : TableValue) (before after : World) (left : Left) (did : Did)
@@ -68,11 +68,18 @@ check_broke (runs.Folder disk) mode selection task table before after left did d
 check_broke runs.Vault mode selection task table before after left did does = absurd does
 check_broke runs.Memory mode selection task table before after left did does = same_out before after after.folders does.others
 
-fix_broke : (fault : RunFault) (selection : Selection) (task : Task) (table : TableValue) (before after : World) (left : Left) (did : Did) → FixesBy (answers.Broken fault) selection task table before after left did
-    → CheckRefuses before after left did ⊎ FixBroke fault selection task table before after left did
-fix_broke (runs.Folder disk) selection task table before after left did does = does
+refused_fix : (before after : World) (left : Left) (did : Did) → CheckRefuses before after left did → LeftUntold before after left
+refused_fix before after left did does = record { untold = ap (λ (l : Left). l.told) does.left_is; out = same_out before after after.folders does.others }
+
+pub fix_broke : (fault : RunFault) (selection : Selection) (task : Task) (table : TableValue) (before after : World) (left : Left) (did : Did) → FixesBy (answers.Broken fault) selection task table before after left did
+    → LeftUntold before after left ⊎ FixBroke fault selection task table before after left did
+fix_broke (runs.Folder disk) selection task table before after left did does = by does
+  where
+    by : CheckRefuses before after left did ⊎ FixBroke (runs.Folder disk) selection task table before after left did → LeftUntold before after left ⊎ FixBroke (runs.Folder disk) selection task table before after left did
+    by (inl refuses) = inl (refused_fix before after left did refuses)
+    by (inr breaks) = inr breaks
 fix_broke runs.Vault selection task table before after left did does = inr does
-fix_broke runs.Memory selection task table before after left did does = inl does
+fix_broke runs.Memory selection task table before after left did does = inl (refused_fix before after left did does)
 
 -- an engine that is done does not break off
 not_done : (why : RunFault) (counted : ℕ) (failed : Bool) → answers.Broken why ≡ done_answer counted failed → ⊥
@@ -154,9 +161,9 @@ broken_early commands.Status fault named counted told task table before after di
 broken_early (commands.Sync way) fault named counted told task table before after did does quiet =
     by (sync_broke fault task way table before after (broken_left fault named counted told) did does)
   where
-    by : LeftUntold before after (broken_left fault named counted told) ⊎ SyncBreaks task way table before after (broken_left fault named counted told) did → after.out ≡ before.out
+    by : LeftUntold before after (broken_left fault named counted told) ⊎ ((fault ≡ runs.Vault) × SyncBreaks task way table before after (broken_left fault named counted told) did) → after.out ≡ before.out
     by (inl untold) = untold.out
-    by (inr breaks) = absurd (let clash = sym breaks.course.did_is ∙ quiet in cc)
+    by (inr breaks) = absurd (let clash = sym breaks.1.course.did_is ∙ quiet in cc)
 broken_early (commands.Check selection) fault named counted told task table before after did does quiet =
     check_broke fault modes.Check selection task table before after (broken_left fault named counted told) did does
 broken_early (commands.Audit selection) fault named counted told task table before after did does quiet =
@@ -164,15 +171,16 @@ broken_early (commands.Audit selection) fault named counted told task table befo
 broken_early (commands.Fix selection) fault named counted told task table before after did does quiet =
     by (fix_broke fault selection task table before after (broken_left fault named counted told) did does)
   where
-    by : CheckRefuses before after (broken_left fault named counted told) did ⊎ FixBroke fault selection task table before after (broken_left fault named counted told) did → after.out ≡ before.out
-    by (inl refuses) = same_out before after after.folders refuses.others
+    by : LeftUntold before after (broken_left fault named counted told) ⊎ FixBroke fault selection task table before after (broken_left fault named counted told) did → after.out ≡ before.out
+    by (inl untold) = untold.out
     by (inr breaks) = absurd (let clash = sym breaks.course.did_is ∙ quiet in cc)
 broken_early (commands.Scrub way) fault named counted told task table before after did does quiet =
     by (scrub_broke fault way task table before after (broken_left fault named counted told) did does)
   where
-    by : LeftUntold before after (broken_left fault named counted told) ⊎ ScrubBreaks way task table before after (broken_left fault named counted told) did → after.out ≡ before.out
+    by : LeftUntold before after (broken_left fault named counted told) ⊎ ((fault ≡ runs.Vault) × ScrubBreaks way task table before after (broken_left fault named counted told) did) → after.out ≡ before.out
     by (inl untold) = untold.out
-    by (inr breaks) = absurd (let clash = sym breaks.course.did_is ∙ quiet in cc)
+    by (inr breaks) = absurd (let clash = sym breaks.1.course.did_is ∙ quiet in cc)
+broken_early (commands.Exercise n) fault named counted told task table before after did does quiet = absurd does
 
 early_by : (before : Entry) (exit : Exit) (setup : SetupValue) (ending : Ending) (told : List Event) (ran : IsRun before exit setup ending told) → is_undone ending ≡ true → ran.did ≡ reads_only
     → exit.after.out ≡ before.out

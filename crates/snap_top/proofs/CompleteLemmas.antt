@@ -1,5 +1,5 @@
 -- When a run surely ends well, from its end.
-use Rattle.std.proofs.Common.{◌≡◌, ◌≢◌, ◌⊎◌, inl, inr, ⊎_elim, ℕ, ◌+◌, ◌≤◌, List, ◌∷◌, ◌++◌, take, count_by, Bool, true, false, IsTrue, Option, Some, None, Result, Ok, Err, refl, sym, ap, ◌∙◌, subst, arith, cond, ◌==◌, ◌||◌, slice_get, append_assoc, ap₂}
+use Rattle.std.proofs.Common.{◌≡◌, ◌≢◌, ◌⊎◌, inl, inr, ⊎_elim, ℕ, ◌+◌, ◌≤◌, List, ◌∷◌, ◌++◌, take, count_by, Bool, true, false, IsTrue, Option, Some, None, Result, Ok, Err, refl, sym, ap, ◌∙◌, subst, arith, cond, if◌then◌else◌, ◌==◌, ◌||◌, slice_get, append_assoc, ap₂}
 use Rattle.std.specs.List.{list_any}
 use Rattle.disk_model.specs.declared.answer.Answer.{Answer as CallAnswer}
 use Rattle.disk_model.specs.Cause.{Rose, RoseBy}
@@ -40,8 +40,10 @@ use Rattle.snap_report.specs.declared.answer.Answer.TheVariants.{Clean, Found, O
 use Rattle.snap_report.specs.declared.answer.RunFault.TheVariants.{Folder, Vault, Memory}
 use Rattle.snap_report.specs.declared.events.Event.{Event}
 use Rattle.snap_top.specs.Array.{Matches, DiffersIn}
-use Rattle.snap_top.specs.Complete.{BreaksVault, BreaksFolder, HasContentOrNone, MayBegin, AreHeld, IsSmooth, held_vault, left_vault, SmoothRunsAreDone}
+use Rattle.snap_top.specs.Complete.{BreaksVault, BreaksFolder, HasContentOrNone, MayBegin, AreHeld, IsSmooth, held_vault, left_vault}
+use Rattle.snap_exercise.specs.Exercise.{is_well}
 use Rattle.snap_top.specs.Does.{DoesCommand}
+use Rattle.snap_top.specs.Exercising.{Exercises}
 use Rattle.snap_config.specs.declared.options.SyncWay.{SyncWay}
 use Rattle.snap_scrub.specs.Marks.{scrubbed}
 use Rattle.snap_top.specs.Scrubbing.{ScrubBreaks, ScrubsBy}
@@ -58,19 +60,19 @@ use Rattle.snap_top.proofs.ScrubLemmas.{scrub_broke}
 use Rattle.snap_top.specs.declared.end.Difference.{Difference}
 use Rattle.snap_top.specs.declared.end.Difference.TheVariants.{BlockSize, Levels, DiskName}
 use Rattle.snap_top.specs.declared.end.End.{End}
-use Rattle.snap_top.specs.declared.end.End.TheVariants.{Refused, Worked}
+use Rattle.snap_top.specs.declared.end.End.TheVariants.{Exercised, Refused, Worked}
 use Rattle.snap_top.specs.declared.end.Ending.{Ending}
 use Rattle.snap_top.specs.declared.end.Ending.TheVariants.{NotLoaded, NoTable, OtherArray, Answered}
 use Rattle.snap_top.specs.declared.end.Refusal.{Refusal}
 use Rattle.snap_top.specs.declared.end.Refusal.TheVariants as refusals
 
-abbrev IsDoneOrMemory : ℕ → Type 0
+abbrev pub IsDoneOrMemory : ℕ → Type 0
 IsDoneOrMemory status = (status ≤ 1) ⊎ (status ≡ 4)
 
 pub same_ok : {A E : Type 0} (said : Result A E) (x y : A) → said ≡ Ok x → said ≡ Ok y → x ≡ y
 same_ok said x y one other = let same : Ok x ≡ Ok y = sym one ∙ other in cc
 
-ok_or_err : {A E : Type 0} (said : Result A E) (x : A) (e : E) → said ≡ Ok x → said ≡ Err e → ⊥
+pub ok_or_err : {A E : Type 0} (said : Result A E) (x : A) (e : E) → said ≡ Ok x → said ≡ Err e → ⊥
 ok_or_err said x e one other = let clash : Ok x ≡ Err e = sym one ∙ other in cc
 
 smooth_words : (before : Entry) (exit : Exit) (fault : WordsFault) → IsSmooth before exit → IsWordsFault before.texts fault → IsDoneOrMemory (words_status fault)
@@ -188,6 +190,7 @@ refused_is_sync (commands.Scrub way) task table start after left did does two = 
 refused_is_sync (commands.Check selection) task table start after left did does two = absurd (check_not_refused left.answer modes.Check selection task table start after left did does (inl two))
 refused_is_sync (commands.Audit selection) task table start after left did does two = absurd (check_not_refused left.answer modes.Audit selection task table start after left did does (inl two))
 refused_is_sync (commands.Fix selection) task table start after left did does two = absurd (fix_not_refused left.answer selection task table start after left did does (inl two))
+refused_is_sync (commands.Exercise n) task table start after left did does two = absurd does
 
 -- a fault that is answered with status 2 is one of the layout, which is not for memory
 fault_of_layout : (setup : SetupValue) (way : SyncWay) (table : TableValue) (olds news : List FolderView) (fault : SyncFault) → answer_status (answer_of fault) ≡ 2 → BeginsNot setup way table olds news fault
@@ -251,6 +254,7 @@ vault_broke (commands.Audit selection) task table start after left did does brok
 vault_broke (commands.Fix selection) task table start after left did does broken =
     let broke : FixBroke Vault selection task table start after left did = subst (λ a. FixesBy a selection task table start after left did) broken does in
     (fix_broke left.told (view_of start.vault) (view_of after.vault) broke.broke, broke.vault.calls)
+vault_broke (commands.Exercise n) task table start after left did does broken = absurd does
 
 -- a failure since loading is one since the opening
 pub breaks_since : (given mid new : VaultState) → ReadsCopies given mid → VaultBroke (view_of mid) (view_of new) → SomeCalls (view_of mid) (view_of new) → BreaksVault (view_of given) (view_of new)
@@ -355,7 +359,16 @@ smooth_ending before exit setup (OtherArray difference content) told smooth run 
 smooth_ending before exit setup (Answered answer named) told smooth run given same goes =
     smooth_answer before exit setup (Answered answer named) told smooth run given same answer named goes.0 goes.1
 
-pub smooth_is_done : (before : Entry) (exit : Exit) (end : End) (told : List Event) (status : ℕ) → status ≡ status_of end → Ran before exit end told → SmoothRunsAreDone before exit status
+-- an exercise whose output did not fail
+pub exercise_is_done : (n : ℕ) (out out_new : SinkView) (answer : Answer) → Exercises n out out_new answer → ¬ (Rose out.faults out_new.faults) → IsDoneOrMemory (answer_status answer)
+exercise_is_done n out out_new answer (inl printed) unfailed =
+    inl (subst (λ (a : Answer). answer_status a ≤ 1) (sym printed.prints.answer_is)
+    (done_status (if is_well printed.summary then 0 else 1) printed.prints.failed (λ failed. unfailed (printed.prints.told.cause refl failed))))
+exercise_is_done n out out_new answer (inr ran_out) unfailed = inr (ap answer_status ran_out.answer_is)
+
+pub smooth_is_done : (before : Entry) (exit : Exit) (end : End) (told : List Event) (status : ℕ) → status ≡ status_of end → Ran before exit end told → IsSmooth before exit → IsDoneOrMemory status
 smooth_is_done before exit (Refused why) told status is ran smooth = subst IsDoneOrMemory (sym is) (smooth_refusal before exit why told smooth ran)
 smooth_is_done before exit (Worked setup ending) told status is ran smooth =
     subst IsDoneOrMemory (sym is) (smooth_ending before exit (setup_value setup) ending told smooth ran ran.given.vault (given_held before exit (setup_value setup) ending told ran smooth.tells) ran.goes)
+smooth_is_done before exit (Exercised answer) told status is ran smooth =
+    subst IsDoneOrMemory (sym is) (exercise_is_done ran.number before.out exit.after.out answer ran.exercises smooth.out)

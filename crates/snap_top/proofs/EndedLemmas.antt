@@ -1,5 +1,5 @@
 -- When a sync, a check or a fix went to its end: its answer is that of an engine that is done.
-use Rattle.std.proofs.Common.{◌≡◌, ◌↔◌, ◌⊎◌, inl, inr, ⊎_elim, ℕ, ◌≤◌, ◌==◌, if◌then◌else◌, List, Bool, true, false, IsTrue, Option, refl, sym, ap, ◌∙◌, subst, arith}
+use Rattle.std.proofs.Common.{◌≡◌, ◌↔◌, ◌⊎◌, inl, inr, ⊎_elim, ℕ, ◌≤◌, ◌==◌, if◌then◌else◌, List, Bool, true, false, IsTrue, Ok, Option, refl, sym, ap, ◌∙◌, subst, arith}
 use Rattle.std.proofs.lemmas.Bool.Decides.{Decides-eqb}
 use Rattle.content_file.specs.Load.{LoadFails}
 use Rattle.content_file.specs.declared.loading.LoadFault.TheVariants as loads
@@ -9,6 +9,7 @@ use Rattle.disk_model.specs.Vault.{VaultState, state_of}
 use Rattle.disk_model.specs.declared.fault.OpenFault.TheVariants as opens
 use Rattle.file_table.specs.Table.{TableValue}
 use Rattle.snap_config.specs.Setup.{SetupValue, setup_value}
+use Rattle.snap_config.specs.declared.options.Options.{Options}
 use Rattle.snap_config.specs.declared.options.WordsFault.{WordsFault}
 use Rattle.snap_config.specs.declared.options.WordsFault.TheVariants as words
 use Rattle.snap_config.specs.declared.why.ConfigFault.{ConfigFault}
@@ -22,15 +23,17 @@ use Rattle.snap_top.specs.Complete.{BreaksFolder, BreaksVault, NothingBroke, hel
 use Rattle.snap_top.specs.End.{config_status, ending_status, refusal_status, status_of, words_status}
 use Rattle.snap_top.specs.Ended.{ByFaults, ByRun, ByStatus, IsEndStatus, WentToItsEnd, has_ended, has_failed_output}
 use Rattle.snap_top.specs.Run.{Entry, Exit, IsAnswered, IsRefused, IsRun, Ran}
-use Rattle.snap_top.specs.Task.{Did, Left, reads_only}
+use Rattle.snap_top.specs.Opening.{asked_by}
+use Rattle.snap_top.specs.Task.{Did, Left, WorksOnArray, reads_only}
 use Rattle.snap_top.specs.Views.{folder_at, outside_of, view_of, world_of}
 use Rattle.snap_top.specs.declared.end.End.{End}
-use Rattle.snap_top.specs.declared.end.End.TheVariants.{Refused, Worked}
+use Rattle.snap_top.specs.declared.end.End.TheVariants.{Exercised, Refused, Worked}
 use Rattle.snap_top.specs.declared.end.Ending.{Ending}
 use Rattle.snap_top.specs.declared.end.Ending.TheVariants.{NotLoaded, NoTable, OtherArray, Answered}
 use Rattle.snap_top.specs.declared.end.Refusal.{Refusal}
 use Rattle.snap_top.specs.declared.end.Refusal.TheVariants as refusals
 use Rattle.snap_top.proofs.CompleteLemmas.{are_held, breaks_since, failed_load_breaks, folder_breaks, given_held, vault_broke}
+use Rattle.snap_top.proofs.ExercisingLemmas.{not_exercised}
 use Rattle.snap_top.proofs.SilentLemmas.{load_high, refusal_high}
 
 -- the answers of an engine that is done
@@ -66,12 +69,17 @@ done_by_status (answers.Broken (runs.Folder disk)) low = absurd (omega (arith, l
 done_by_status (answers.Broken runs.Vault) low = absurd (omega (arith, low))
 done_by_status (answers.Broken runs.Memory) low = absurd (omega (arith, low))
 
-by_status : (before : Entry) (exit : Exit) (end : End) (told : List Event) (status : ℕ) → status ≡ status_of end → Ran before exit end told → status ≤ 1 → GoesToItsEnd before exit status
-by_status before exit (Refused why) told status is ran low = absurd (too_high _ status (refusal_high why) is low)
-by_status before exit (Worked setup (NotLoaded fault)) told status is ran low = absurd (too_high _ status (load_high fault) is low)
-by_status before exit (Worked setup NoTable) told status is ran low = absurd (omega (arith, is, low))
-by_status before exit (Worked setup (OtherArray difference content)) told status is ran low = absurd (omega (arith, is, low))
-by_status before exit (Worked setup (Answered answer named)) told status is ran low = record {
+-- the words ask for a command that works on an array
+abbrev AsksForArray : Entry → Type 0
+AsksForArray before = (asked : Options) × (asked_by before.texts ≡ Ok asked) × WorksOnArray asked.command
+
+by_status : (before : Entry) (exit : Exit) (end : End) (told : List Event) (status : ℕ) → status ≡ status_of end → Ran before exit end told → AsksForArray before → status ≤ 1 → GoesToItsEnd before exit status
+by_status before exit (Refused why) told status is ran array low = absurd (too_high _ status (refusal_high why) is low)
+by_status before exit (Exercised answer) told status is ran array low = absurd (not_exercised before.texts array.0 ran.number array.1 array.2 ran.asks)
+by_status before exit (Worked setup (NotLoaded fault)) told status is ran array low = absurd (too_high _ status (load_high fault) is low)
+by_status before exit (Worked setup NoTable) told status is ran array low = absurd (omega (arith, is, low))
+by_status before exit (Worked setup (OtherArray difference content)) told status is ran array low = absurd (omega (arith, is, low))
+by_status before exit (Worked setup (Answered answer named)) told status is ran array low = record {
   setup = setup_value setup;
   answer = answer;
   named = named;
@@ -133,14 +141,15 @@ done_by_faults (answers.Broken (runs.Folder disk)) three folder vault = absurd (
 done_by_faults (answers.Broken runs.Vault) three folder vault = absurd (vault refl)
 done_by_faults (answers.Broken runs.Memory) three folder vault = absurd (omega (arith, three))
 
-by_faults : (before : Entry) (exit : Exit) (end : End) (told : List Event) (status : ℕ) → IsTrue before.opener.tells → status ≡ status_of end → Ran before exit end told → status ≡ 3 → NothingBroke before exit → GoesToItsEnd before exit status
-by_faults before exit (Refused why) told status tells is ran three unbroken = absurd (no_refusal before exit unbroken tells why told ran (sym is ∙ three))
-by_faults before exit (Worked setup (NotLoaded loads.Failed)) told status tells is ran three unbroken = absurd (loaded_well before exit unbroken tells (setup_value setup) told ran)
-by_faults before exit (Worked setup (NotLoaded (loads.Damaged damages))) told status tells is ran three unbroken = absurd (omega (arith, is, three))
-by_faults before exit (Worked setup (NotLoaded loads.Memory)) told status tells is ran three unbroken = absurd (omega (arith, is, three))
-by_faults before exit (Worked setup NoTable) told status tells is ran three unbroken = absurd (omega (arith, is, three))
-by_faults before exit (Worked setup (OtherArray difference content)) told status tells is ran three unbroken = absurd (omega (arith, is, three))
-by_faults before exit (Worked setup (Answered answer named)) told status tells is ran three unbroken =
+by_faults : (before : Entry) (exit : Exit) (end : End) (told : List Event) (status : ℕ) → IsTrue before.opener.tells → status ≡ status_of end → Ran before exit end told → AsksForArray before → status ≡ 3 → NothingBroke before exit → GoesToItsEnd before exit status
+by_faults before exit (Refused why) told status tells is ran array three unbroken = absurd (no_refusal before exit unbroken tells why told ran (sym is ∙ three))
+by_faults before exit (Exercised answer) told status tells is ran array three unbroken = absurd (not_exercised before.texts array.0 ran.number array.1 array.2 ran.asks)
+by_faults before exit (Worked setup (NotLoaded loads.Failed)) told status tells is ran array three unbroken = absurd (loaded_well before exit unbroken tells (setup_value setup) told ran)
+by_faults before exit (Worked setup (NotLoaded (loads.Damaged damages))) told status tells is ran array three unbroken = absurd (omega (arith, is, three))
+by_faults before exit (Worked setup (NotLoaded loads.Memory)) told status tells is ran array three unbroken = absurd (omega (arith, is, three))
+by_faults before exit (Worked setup NoTable) told status tells is ran array three unbroken = absurd (omega (arith, is, three))
+by_faults before exit (Worked setup (OtherArray difference content)) told status tells is ran array three unbroken = absurd (omega (arith, is, three))
+by_faults before exit (Worked setup (Answered answer named)) told status tells is ran array three unbroken =
     let left : Left = record { answer = answer; named = named; counted = ran.goes.0; told = told } in
     let one : IsAnswered ran.task ran.given (world_of exit.after) left ran.did = ran.goes.1 in
     record {
@@ -154,14 +163,16 @@ by_faults before exit (Worked setup (Answered answer named)) told status tells i
           (no_vault before exit unbroken tells (setup_value setup) (Answered answer named) told ran left one));
     }
 
--- ---- so the end is that of an engine that is done
+-- ---- so the end is that of an engine that is done, or of an exercise
 
 abbrev pub IsDoneEnd : End → Type 0
 IsDoneEnd (Worked setup (Answered answer named)) = IsDoneAnswer answer
+IsDoneEnd (Exercised answer) = Unit {0}
 IsDoneEnd _ = ⊥
 
 done_low : (before : Entry) (exit : Exit) (end : End) (told : List Event) (status : ℕ) → status ≡ status_of end → Ran before exit end told → status ≤ 1 → IsDoneEnd end
 done_low before exit (Refused why) told status is ran low = absurd (too_high _ status (refusal_high why) is low)
+done_low before exit (Exercised answer) told status is ran low = tt
 done_low before exit (Worked setup (NotLoaded fault)) told status is ran low = absurd (too_high _ status (load_high fault) is low)
 done_low before exit (Worked setup NoTable) told status is ran low = absurd (omega (arith, is, low))
 done_low before exit (Worked setup (OtherArray difference content)) told status is ran low = absurd (omega (arith, is, low))
@@ -169,6 +180,7 @@ done_low before exit (Worked setup (Answered answer named)) told status is ran l
 
 done_well : (before : Entry) (exit : Exit) (end : End) (told : List Event) (status : ℕ) → IsTrue before.opener.tells → status ≡ status_of end → Ran before exit end told → status ≡ 3 → NothingBroke before exit → IsDoneEnd end
 done_well before exit (Refused why) told status tells is ran three unbroken = absurd (no_refusal before exit unbroken tells why told ran (sym is ∙ three))
+done_well before exit (Exercised answer) told status tells is ran three unbroken = tt
 done_well before exit (Worked setup (NotLoaded loads.Failed)) told status tells is ran three unbroken = absurd (loaded_well before exit unbroken tells (setup_value setup) told ran)
 done_well before exit (Worked setup (NotLoaded (loads.Damaged damages))) told status tells is ran three unbroken = absurd (omega (arith, is, three))
 done_well before exit (Worked setup (NotLoaded loads.Memory)) told status tells is ran three unbroken = absurd (omega (arith, is, three))
@@ -223,11 +235,12 @@ by_run before exit status setup (Answered answer named) told ran is ended = reco
   how = ⊎_elim (λ did. inr did) (λ failed. inl (done_by_output answer named failed)) ended;
 }
 
--- of each run
-pub goes_to_its_end : (before : Entry) (exit : Exit) (end : End) (told : List Event) (status : ℕ) → IsTrue before.opener.tells → status ≡ status_of end → Ran before exit end told → WentToItsEnd before exit status → GoesToItsEnd before exit status
-goes_to_its_end before exit end told status tells is ran (ByStatus low) = by_status before exit end told status is ran low
-goes_to_its_end before exit end told status tells is ran (ByFaults three unbroken) = by_faults before exit end told status tells is ran three unbroken
-goes_to_its_end before exit end told status tells is ran (ByRun run) =
+-- of each run that was asked for a command over an array
+pub goes_to_its_end : (before : Entry) (exit : Exit) (end : End) (told : List Event) (status : ℕ) → IsTrue before.opener.tells → status ≡ status_of end → Ran before exit end told
+    → (asked : Options) → asked_by before.texts ≡ Ok asked → WorksOnArray asked.command → WentToItsEnd before exit status → GoesToItsEnd before exit status
+goes_to_its_end before exit end told status tells is ran asked read array (ByStatus low) = by_status before exit end told status is ran (asked, read, array) low
+goes_to_its_end before exit end told status tells is ran asked read array (ByFaults three unbroken) = by_faults before exit end told status tells is ran (asked, read, array) three unbroken
+goes_to_its_end before exit end told status tells is ran asked read array (ByRun run) =
     by_run before exit status run.setup run.ending run.told run.ran run.status_is run.ended
 
 -- ---- its status, and what must have happened

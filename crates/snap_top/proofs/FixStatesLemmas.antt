@@ -9,7 +9,7 @@ use Rattle.snap_fix.specs.BrokenStripe.{BreaksLevels}
 use Rattle.stripe_examiner.specs.Facts.{StripeFacts}
 use Rattle.snap_fix.specs.FixBreaking.{BreaksAtEnd, BreaksEnding, BreaksOff, BreaksWriting}
 use Rattle.snap_fix.specs.FixCourse.{FixFinds, FixesVault, Written}
-use Rattle.snap_fix.specs.FixRun.{HasBroken, LooksAhead}
+use Rattle.snap_fix.specs.FixRun.{HasBroken, LooksAhead, RoseBeyond}
 use Rattle.snap_fix.specs.Fixing.{MendsVault, facts_of}
 use Rattle.snap_fix.specs.Mended.{Mended}
 use Rattle.stripe_examiner.specs.Plan.{FixPlan}
@@ -69,6 +69,12 @@ pub broken_of : (plan : FixPlan) (fault : RunFault) (told : List Event) (olds ne
 broken_of plan (runs.Folder disk) told olds news old new broke = broke
 broken_of plan runs.Vault told olds news old new broke = record { rose = broke.rose; call = broke.call }
 broken_of plan runs.Memory told olds news old new broke = absurd broke
+
+pub rose_of : (fault : RunFault) (stripes : List StripeFacts) (readings : List (List LevelReading)) (olds news : List FolderView) (old new : VaultView) → RoseBeyond fault stripes readings olds news old new
+    → RoseBeyond fault stripes readings olds news (view_of (state_of old)) (view_of (state_of new))
+rose_of (runs.Folder disk) stripes readings olds news old new rose = rose
+rose_of runs.Vault stripes readings olds news old new rose = rose
+rose_of runs.Memory stripes readings olds news old new rose = absurd rose
 
 -- ---- where it broke off
 

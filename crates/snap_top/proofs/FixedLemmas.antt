@@ -60,7 +60,7 @@ use Rattle.snap_top.specs.Task.{Did, Left, Task, fixes, reads_only}
 use Rattle.snap_top.specs.Views.{World, outside_of, world_of, world_view}
 use Rattle.snap_top.proofs.CheckedLemmas.{none_given, not_begun_done, refusal_of}
 use Rattle.snap_top.proofs.DoneLemmas.{by_output}
-use Rattle.snap_top.proofs.FixStatesLemmas.{broken_of, finds_of, looked_of, mends_of, off_of, vault_of}
+use Rattle.snap_top.proofs.FixStatesLemmas.{broken_of, finds_of, looked_of, mends_of, off_of, rose_of, vault_of}
 use Rattle.snap_top.proofs.SyncLemmas.{any_more, never, printed_lines}
 use Rattle.snap_top.proofs.ViewsLemmas.{some_calls_of}
 
@@ -340,6 +340,7 @@ module _ {W R : Type 0} (standing : R → ReportView) (stands : R → List Event
           calls = is.calls;
           reads = is.reads;
           broke = broken_of is.plan fault is.first is.mids folders_new vault vault_new is.broke;
+          rose = rose_of fault (facts_of is.stripes ++ is.ahead.stripes) (is.readings ++ is.ahead.readings) is.mids folders_new vault vault_new is.rose;
           answer_is = refl;
           named_is = refl;
           counted_is = refl;

@@ -23,21 +23,23 @@ use Rattle.snap_sync.specs.declared.fault.SyncFault.{SyncFault}
 use Rattle.snap_sync.specs.declared.fault.SyncFault.TheVariants.{Scan, Run}
 use Rattle.snap_top.specs.Task.{Task}
 use Rattle.snap_top.specs.Views.{folder_at, ReadsOnly, AllReadOnly}
-use Rattle.snap_top.proofs.ViewsLemmas.{IsReadingCall, IsReadingDone, read_nothing}
+use Rattle.snap_top.proofs.ViewsLemmas.{IsReadingCall, IsReadingDone, read_nothing, reads_since}
 
 listing_reads_only : (answer : Answer) (old new : FolderView) → IsFolderReading ListFiles answer old new → ReadsOnly old new
 listing_reads_only answer old new is = record {
   calls = record { done = record { call = ListFiles; answer = answer } ∷ []; goes_on = is.called.goes_on };
-  reads = All-cons IsReadingDone (record { call = ListFiles; answer = answer }) [] refl (All-nil IsReadingDone);
+  reads = reads_since old new (record { call = ListFiles; answer = answer } ∷ []) is.called.goes_on
+      (All-cons IsReadingDone (record { call = ListFiles; answer = answer }) [] refl (All-nil IsReadingDone));
   tree = is.tree;
 }
 
 -- cells of a column were read
 pub column_reads_only : {shape : Shape} {tasks : List CellTask} {slots : List SlotValue} {old new : FolderView} → ReadsColumn shape tasks slots old new → ReadsOnly old new
-column_reads_only {tasks = tasks} read = record {
+column_reads_only {tasks = tasks} {old = old} {new = new} read = record {
   calls = record { done = read.folder.done; goes_on = read.folder.goes_on };
-  reads = All-weaker (WellCall IsReadingCall) IsReadingDone (λ done well. well.0) read.folder.done
-      (well_column IsReadingCall (λ path lost. refl) (λ path lost at n. refl) tasks read.readings read.folder.done read.folder.are);
+  reads = reads_since old new read.folder.done read.folder.goes_on
+      (All-weaker (WellCall IsReadingCall) IsReadingDone (λ done well. well.0) read.folder.done
+      (well_column IsReadingCall (λ path lost. refl) (λ path lost at n. refl) tasks read.readings read.folder.done read.folder.are));
   tree = read.folder.tree;
 }
 

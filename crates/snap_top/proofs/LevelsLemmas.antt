@@ -17,17 +17,18 @@ use Rattle.snap_config.specs.declared.options.Command.{Command}
 use Rattle.snap_config.specs.declared.why.Why.{Why}
 use Rattle.snap_config.specs.declared.why.Why.TheVariants.{TooLong, NoParity, NoContent, NoData}
 use Rattle.snap_report.specs.Report.{ReportView}
+use Rattle.snap_report.specs.declared.answer.Answer.{Answer}
 use Rattle.snap_report.specs.declared.events.Event.{Event}
 use Rattle.snap_top.specs.Complete.{RefusalsTouchNothing}
 use Rattle.snap_top.specs.End.{status_of}
 use Rattle.snap_top.specs.Levels.{IsOpenedBy, IsShapedBy, by_levels, by_parts, by_setup, is_split, opener_by, said_by, setup_in}
 use Rattle.snap_top.specs.Opening.{ConfiguresNot, IsConfigured, Refuses, Says, SaysNot}
-use Rattle.snap_top.specs.Run.{Entry, Exit, IsRefused, IsRun, Ran, RanWith, Works, entry_by, entry_seen, exit_by, exit_seen, setup_of as setup_at}
+use Rattle.snap_top.specs.Run.{Entry, Exit, IsExercised, IsRefused, IsRun, Ran, RanWith, Works, entry_by, entry_seen, exit_by, exit_seen, setup_of as setup_at}
 use Rattle.snap_top.specs.Task.{Task}
 use Rattle.snap_top.specs.Views.{world_view}
 use Rattle.snap_top.specs.declared.end.Ending.{Ending}
 use Rattle.snap_top.specs.declared.end.End.{End}
-use Rattle.snap_top.specs.declared.end.End.TheVariants.{Refused, Worked}
+use Rattle.snap_top.specs.declared.end.End.TheVariants.{Exercised, Refused, Worked}
 use Rattle.snap_top.specs.declared.end.Refusal.TheVariants as refusals
 use Rattle.snap_top.specs.declared.end.Refusal.{Refusal as Why_not}
 use Rattle.snap_top.proofs.RefusalLemmas.{refusal_touches_nothing}
@@ -152,6 +153,7 @@ abbrev pub configured_by : (by : Option SetupValue) (texts : List (List ℕ)) (o
 configured_by by texts opener command readers setup is = record {
   asked = is.asked;
   read = is.read;
+  array = is.array;
   command_is = is.command_is;
   readers_are = is.readers_are;
   says = says_by by opener is.asked.log setup is.says;
@@ -169,9 +171,9 @@ configures_not_by by file log old new (refusals.Unopened fault) is = is
 refuses_by : (by : Option SetupValue) (texts : List (List ℕ)) (old new : OpenerView) (why : Why_not) → Refuses texts old new why → Refuses texts (opener_by by old) (opener_by by new) why
 refuses_by by texts old new (refusals.Words fault) is = (is.0, goes_on_by by old new _ is.1)
 refuses_by by texts old new (refusals.Unread fault) is =
-    record { asked = is.asked; read = is.read; why_not = configures_not_by by is.asked.conf is.asked.log old new (refusals.Unread fault) is.why_not }
+    record { asked = is.asked; read = is.read; array = is.array; why_not = configures_not_by by is.asked.conf is.asked.log old new (refusals.Unread fault) is.why_not }
 refuses_by by texts old new (refusals.Config file fault) is =
-    record { asked = is.asked; read = is.read; why_not = configures_not_by by is.asked.conf is.asked.log old new (refusals.Config file fault) is.why_not }
+    record { asked = is.asked; read = is.read; array = is.array; why_not = configures_not_by by is.asked.conf is.asked.log old new (refusals.Config file fault) is.why_not }
 refuses_by by texts old new (refusals.NoDisk name) is = record {
   command = is.command;
   readers = is.readers;
@@ -240,10 +242,26 @@ refused_by by before exit why told is = record {
   untold = is.untold;
 }
 
+pub exercised_by : (by : Option SetupValue) (before : Entry) (exit : Exit) (answer : Answer) (told : List Event) → IsExercised before exit answer told
+    → IsExercised (entry_by by before) (exit_by by exit) answer told
+exercised_by by before exit answer told is = record {
+  number = is.number;
+  asks = is.asks;
+  exercises = is.exercises;
+  uncalled = goes_on_by by before.opener exit.opener [] is.uncalled;
+  unfailed = is.unfailed;
+  kept = holds_by by before.opener exit.opener is.kept;
+  folders = is.folders;
+  no_vault = is.no_vault;
+  vault = same_vault by before.opener.tells before.opener.vault exit.after.vault is.vault;
+  untold = is.untold;
+}
+
 -- where the opener tells what it holds, the levels are those that its configuration says
 ran_seen : (before : Entry) (exit : Exit) (end : End) (told : List Event) → IsTrue before.opener.tells
     → Ran (entry_by (setup_at end) before) (exit_by (setup_at end) exit) end told → Ran (entry_seen before) (exit_seen before exit) end told
 ran_seen before exit (Refused why) told tells ran = refused_by (said_by before.opener.config) before exit why told ran
+ran_seen before exit (Exercised answer) told tells ran = exercised_by (said_by before.opener.config) before exit answer told ran
 ran_seen before exit (Worked setup ending) told tells ran =
     let asked = ran.is_given.configured.asked in
     let says = ran.is_given.configured.says in
@@ -256,6 +274,8 @@ refusal_seen : (before : Entry) (exit : Exit) (end : End) (told : List Event) (s
     → Ran (entry_by (setup_at end) before) (exit_by (setup_at end) exit) end told → RefusalsTouchNothing (entry_seen before) (exit_seen before exit) status
 refusal_seen before exit (Refused why) told status is ran refused =
     refusal_touches_nothing (entry_seen before) (exit_seen before exit) (Refused why) told status is (refused_by (said_by before.opener.config) before exit why told ran) refused
+refusal_seen before exit (Exercised answer) told status is ran refused =
+    refusal_touches_nothing (entry_seen before) (exit_seen before exit) (Exercised answer) told status is (exercised_by (said_by before.opener.config) before exit answer told ran) refused
 refusal_seen before exit (Worked setup ending) told status is ran refused = record {
   out = (refusal_touches_nothing (entry_by (Some (setup_value setup)) before) (exit_by (Some (setup_value setup)) exit) (Worked setup ending) told status is ran refused).out;
   opened = λ has tells.

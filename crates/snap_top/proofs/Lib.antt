@@ -7,6 +7,7 @@ pub mod DoneLemmas
 pub mod EmptyLemmas
 pub mod EndedLemmas
 pub mod EndsSoundLemmas
+pub mod ExercisingLemmas
 pub mod FixStatesLemmas
 pub mod FixedLemmas
 pub mod FolderLemmas
@@ -69,6 +70,7 @@ pub mod FirstsLemmas
 pub mod ScrubFrontLemmas
 pub mod SyncFrontLemmas
 pub mod FixFrontLemmas
+pub mod FixOnceLemmas
 pub mod PrintsAlikeLemmas
 pub mod ChanceLemmas
 pub mod MetLemmas

@@ -28,7 +28,7 @@ use Rattle.snap_top.specs.Run.{Entry, Exit, Ran}
 use Rattle.snap_top.specs.Scrub.{MayStandMarked, ScrubRun}
 use Rattle.snap_top.specs.Task.{Did, fixes, reads_only, scrubs, syncs, may_stand}
 use Rattle.snap_top.specs.declared.end.End.{End}
-use Rattle.snap_top.specs.declared.end.End.TheVariants.{Refused, Worked}
+use Rattle.snap_top.specs.declared.end.End.TheVariants.{Exercised, Refused, Worked}
 use Rattle.snap_config.specs.Setup.{setup_value}
 use Rattle.snap_config.specs.declared.options.Options.{Options}
 use Rattle.snap_top.proofs.CompleteLemmas.{same_ok}
@@ -220,6 +220,7 @@ every_moment laid of_parts sound keeps_sound marks_valid marks_sound keeps one_t
 
     by : (end : End) → status ≡ status_of end → Ran before exit end told → (SyncsToItsEnd before exit status → IsSoundAtEnd before exit status) → IsSoundAlways before exit status
     by (Refused why) is ran synced = sound_reading before exit status fresh synced (stands_same before exit status fresh synced ran.vault)
+    by (Exercised answer) is ran synced = sound_reading before exit status fresh synced (stands_same before exit status fresh synced ran.vault)
     by (Worked setup ending) is ran synced =
         sound_run before exit status fresh synced laid of_parts sound keeps_sound one_table marks_valid marks_sound ran.did
         (ends_sound keeps one_table sound finds before exit fresh.tells fresh.tells_vault in_time status (setup_value setup) ending told ran is) (ran.changes fresh.tells)

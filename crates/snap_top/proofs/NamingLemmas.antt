@@ -58,12 +58,13 @@ use Rattle.snap_top.specs.Moment.{TellsAll}
 use Rattle.snap_top.specs.Naming.{ChecksEnd, EndsAsAsked, EndsAudited, EndsChecked, HasChecked, IsCheckOf, command_in, events_found}
 use Rattle.snap_top.specs.Opening.{asked_by}
 use Rattle.snap_top.specs.Run.{Entry, Exit, IsAnswered, IsRun, Ran}
-use Rattle.snap_top.specs.Task.{Left}
+use Rattle.snap_top.specs.Task.{Left, WorksOnArray}
 use Rattle.snap_top.specs.Views.{view_of, world_of}
 use Rattle.snap_top.specs.declared.end.End.{End}
 use Rattle.snap_top.specs.declared.end.Ending.TheVariants.{Answered}
 use Rattle.snap_top.proofs.CompleteLemmas.{same_ok}
 use Rattle.snap_top.proofs.EndedLemmas.{GoesToItsEnd, IsDoneAnswer, done_status, goes_to_its_end, only_read, output_rose, well_as}
+use Rattle.snap_top.proofs.ExercisingLemmas.{works_or_exercises}
 use Rattle.snap_top.proofs.LostEvents.{lost_is_told, told_is_lost}
 use Rattle.snap_top.proofs.LostLemmas.{AreAscending, FactsAreGenuine, same_facts, stripes_ascending}
 use Rattle.snap_top.proofs.OfFixLemmas.{check_did, levels_held, levels_in}
@@ -332,15 +333,20 @@ module _ (rows : RowsAreKnown) (genuine_facts : FactsAreGenuine) (before : Entry
     by_command (commands.Audit selection) command does = in_mode modes.Audit selection command does
     by_command (commands.Fix selection) command does = tt
     by_command (commands.Scrub way) command does = tt
+    by_command (commands.Exercise n) command does = tt
 
 -- of each run
 pub checks_end : RowsAreKnown → FactsAreGenuine → (before : Entry) (exit : Exit) (end : End) (told : List Event) (status : ℕ) → status ≡ status_of end → Ran before exit end told → ChecksEnd before exit status
 checks_end rows genuine_facts before exit end told status is ran tells went asked words =
-    let to = goes_to_its_end before exit end told status tells.tells is ran went in
-    let configured = to.ran.is_given.configured in
-    let same : configured.asked ≡ asked = same_ok (asked_by before.texts) configured.asked asked configured.read words in
-    let command_is : to.ran.task.command ≡ asked.command = configured.command_is ∙ ap (λ (a : Options). a.command) same in
-    let left : Left = record { answer = to.answer; named = to.named; counted = to.ran.goes.0; told = to.told } in
-    let one : IsAnswered to.ran.task to.ran.given (world_of exit.after) left to.ran.did = to.ran.goes.1 in
-    by_command rows genuine_facts before exit tells status to asked.command command_is
-    (subst (λ (c : Command). DoesCommand c to.ran.task one.table one.start (world_of exit.after) left to.ran.did) command_is one.does)
+    ⊎_elim on_array (λ exercises. subst (λ (c : Command). EndsAsAsked c before exit status) (sym exercises.1) tt) (works_or_exercises asked.command)
+  where
+    on_array : WorksOnArray asked.command → EndsAsAsked asked.command before exit status
+    on_array array =
+        let to = goes_to_its_end before exit end told status tells.tells is ran asked words array went in
+        let configured = to.ran.is_given.configured in
+        let same : configured.asked ≡ asked = same_ok (asked_by before.texts) configured.asked asked configured.read words in
+        let command_is : to.ran.task.command ≡ asked.command = configured.command_is ∙ ap (λ (a : Options). a.command) same in
+        let left : Left = record { answer = to.answer; named = to.named; counted = to.ran.goes.0; told = to.told } in
+        let one : IsAnswered to.ran.task to.ran.given (world_of exit.after) left to.ran.did = to.ran.goes.1 in
+        by_command rows genuine_facts before exit tells status to asked.command command_is
+        (subst (λ (c : Command). DoesCommand c to.ran.task one.table one.start (world_of exit.after) left to.ran.did) command_is one.does)

@@ -129,6 +129,7 @@ command_did (commands.Fix selection) task table before after left did does = ⊎
     (λ read. inl read)
     (λ course. inr (inr (inl course)))
     (fix_did left.answer selection task table before after left did does)
+command_did (commands.Exercise n) task table before after left did does = absurd does
 
 -- ---- the fix of a run
 

@@ -10,10 +10,12 @@ use Rattle.disk_model.specs.declared.fault.OpenFault.TheVariants as opens
 use Rattle.disk_model.proofs.GivenLemmas.{same_state, same_images}
 use Rattle.snap_config.specs.Setup.{IsSetup, SetupValue}
 use Rattle.snap_config.specs.declared.options.Command.{Command}
+use Rattle.snap_config.specs.declared.options.Options.{Options}
 use Rattle.disk_model.specs.declared.draft.Draft.TheVariants.{Absent}
 use Rattle.snap_top.specs.Known.{unknown_in}
 use Rattle.snap_top.specs.Levels.{by_parts, is_split}
-use Rattle.snap_top.specs.Opening.{IsConfigured, IsGivenBy, IsUnopened, StateIsGiven, reads_config, opens_places, is_failure}
+use Rattle.snap_top.specs.Opening.{IsConfigured, IsGivenBy, IsGivenFor, IsUnopened, Says, StateIsGiven, reads_config, opens_places, is_failure}
+use Rattle.snap_top.specs.Task.{WorksOnArray}
 use Rattle.snap_top.proofs.LevelsLemmas.{configured_by, goes_on_by, levels_by, state_by}
 
 -- no call
@@ -154,6 +156,23 @@ opened_given view fs vault x texts command readers setup old mid new configured 
     drafts_by : (b : Bool) → vault.drafts ≡ replicate (length setup.contents) Absent → (by_parts b setup.parts setup.split vault).drafts ≡ replicate (length setup.contents) Absent
     drafts_by true is' = is'
     drafts_by false is' = is'
+
+-- so it is of all words that ask for this
+pub given_for : {T F : Type 0} (view : F → FolderView) (fs : List F) (vault : VaultView) (x : T) (asked : Options) (command : Command) (readers : ℕ) (setup : SetupValue) (old mid new : OpenerView)
+    → WorksOnArray asked.command → command ≡ asked.command → readers ≡ asked.readers → Says old asked.log setup → unknown_in setup command ≡ None
+    → OpenerGoesOn old mid (reads_config asked.conf false ∷ []) → HoldsSame old mid
+    → IsOpenerCall (Open setup.dirs setup.parities setup.contents) (Ok x) mid new → length fs ≡ length setup.dirs → (IsTrue mid.tells → length fs ≡ length mid.folders)
+    → ((column : ℕ) → column < length fs → FolderIsGiven mid.tells (folder_held mid column) (get_or (map view fs) column (quiet_folder 0 false)))
+    → VaultIsGiven mid.tells (length setup.parities) (length setup.contents) mid.vault vault → IsSetup setup
+    → IsGivenFor asked old new command readers setup (map view fs) vault
+given_for view fs vault x asked command readers setup old mid new works command_is readers_are says known first same second columns just each is valid =
+    let many : length (map view fs) ≡ length fs = length-map fs view in
+    record {
+      columns = many ∙ columns;
+      are_open = λ d below. (each d (omega (arith, below, many))).is_open;
+      given = λ texts read. opened_given view fs vault x texts command readers setup old mid new
+          (record { asked = asked; read = read; array = works; command_is = command_is; readers_are = readers_are; says = says }) known first same second columns just each is valid;
+    }
 
 pub unopened : {T : Type 0} (texts : List (List ℕ)) (command : Command) (readers : ℕ) (setup : SetupValue) (old mid new : OpenerView) (fault : OpenFault)
     → (configured : IsConfigured texts old command readers setup) → unknown_in setup command ≡ None → OpenerGoesOn old mid (reads_config configured.asked.conf false ∷ [])

@@ -1,6 +1,5 @@
 -- A stop within a run that only reads its folders leaves their files.
-use Rattle.std.proofs.Common.{◌≡◌, inl, inr, List, [], ◌∷◌, length, drop, Bool, None, Some, IsTrue, ap, ◌∙◌, subst}
-use Rattle.std.proofs.Math.Seq.{drop-append_seam}
+use Rattle.std.proofs.Common.{◌≡◌, inl, inr, List, [], ◌∷◌, Bool, None, Some, IsTrue, ◌∙◌}
 use Rattle.std.proofs.lemmas.List.Elements.{All-head, All-tail}
 use Rattle.disk_model.specs.Folder.{FolderView, FolderCall, FolderDone, ListFiles, Look, ReadAt, Make, WriteAt, SetSize, SetStamp, Rename}
 use Rattle.disk_model.specs.Opener.{folder_held}
@@ -9,9 +8,9 @@ use Rattle.disk_model.specs.Tree.{Tree}
 use Rattle.disk_model.specs.Writing.{MayDo}
 use Rattle.snap_top.specs.Run.{Entry, Exit}
 use Rattle.snap_top.specs.Step.{LeavesEachTree}
-use Rattle.snap_top.specs.Stopping.{MayStandLeft, calls_since}
+use Rattle.snap_top.specs.Stopping.{MayStandLeft}
 use Rattle.snap_top.specs.Task.{Did, fixes, folders_after, reads_only, scrubs, syncs}
-use Rattle.snap_top.specs.Views.{ReadsOnly, folder_at}
+use Rattle.snap_top.specs.Views.{ReadsOnly, calls_since, folder_at}
 use Rattle.snap_top.proofs.ViewsLemmas.{IsReadingCall, IsReadingDone}
 
 -- a call that does not write leaves them
@@ -34,9 +33,7 @@ calls_stay keeps (done ∷ calls) old left each at =
 -- of a folder that tells its files
 stop_stays : (old new : FolderView) (left : Tree) → IsTrue old.tells → ReadsOnly old new → MayStandLeft old new left → left ≡ old.tree
 stop_stays old new left tells read (inl same) = same ∙ read.tree tells
-stop_stays old new left tells read (inr at) =
-    let calls : calls_since old new ≡ read.calls.done = ap (drop (length old.calls)) (read.calls.goes_on.calls.more at.0) ∙ drop-append_seam old.calls read.calls.done in
-    calls_stay old.keeps_stamps read.calls.done old.tree left read.reads (subst (λ (done : List FolderDone). MayBeLeft old.keeps_stamps done old.tree left) calls at.1)
+stop_stays old new left tells read (inr at) = calls_stay old.keeps_stamps (calls_since old new) old.tree left (read.reads at.0) at.1
 
 -- by what a run did
 pub each_tree_stays : (did : Did) (before : Entry) (exit : Exit) → folders_after did before.opener.folders exit.after.folders → LeavesEachTree did before exit

@@ -1,5 +1,6 @@
 -- A run that is refused touches nothing, from its end.
 use Rattle.std.proofs.Common.{◌≡◌, ◌≢◌, ◌⊎◌, inl, inr, ℕ, List, Bool, true, false, sym, ap, ◌∙◌, subst, arith, cond, ◌==◌}
+use Rattle.disk_model.specs.Sink.{SinkView}
 use Rattle.disk_model.specs.Vault.{ChangesBy}
 use Rattle.file_table.specs.Table.{TableValue}
 use Rattle.snap_config.specs.declared.options.Command.{Command}
@@ -15,6 +16,7 @@ use Rattle.snap_report.specs.declared.events.Event.{Event}
 use Rattle.snap_top.specs.Checking.{ChecksBy}
 use Rattle.snap_top.specs.Complete.{RefusalsTouchNothing}
 use Rattle.snap_top.specs.Does.{DoesCommand}
+use Rattle.snap_top.specs.Exercising.{Exercises}
 use Rattle.snap_top.specs.Fixing.{FixesBy}
 use Rattle.snap_config.specs.declared.options.ScrubWay.{ScrubWay}
 use Rattle.snap_config.specs.declared.options.SyncWay.{SyncWay}
@@ -25,7 +27,7 @@ use Rattle.snap_top.specs.End.{status_of, ending_status}
 use Rattle.snap_top.specs.Run.{Entry, Exit, Goes, OnlyLoads, Ran}
 use Rattle.snap_top.specs.Views.{World, world_of}
 use Rattle.snap_top.specs.declared.end.End.{End}
-use Rattle.snap_top.specs.declared.end.End.TheVariants.{Refused, Worked}
+use Rattle.snap_top.specs.declared.end.End.TheVariants.{Exercised, Refused, Worked}
 use Rattle.snap_top.specs.declared.end.Ending.{Ending}
 use Rattle.snap_top.specs.declared.end.Ending.TheVariants.{NotLoaded, NoTable, OtherArray, Answered}
 
@@ -115,6 +117,7 @@ command_untouched (commands.Scrub way) task table start after left did does refu
 command_untouched (commands.Check selection) task table start after left did does refused = absurd (check_not_refused left.answer modes.Check selection task table start after left did does refused)
 command_untouched (commands.Audit selection) task table start after left did does refused = absurd (check_not_refused left.answer modes.Audit selection task table start after left did does refused)
 command_untouched (commands.Fix selection) task table start after left did does refused = absurd (fix_not_refused left.answer selection task table start after left did does refused)
+command_untouched (commands.Exercise n) task table start after left did does refused = absurd does
 
 pub ending_untouched : (ending : Ending) (task : Task) (given after : World) (told : List Event) (did : Did) → Goes task given after ending told did
     → (ending_status ending ≡ 2) ⊎ (ending_status ending ≡ 5) → Untouched given after did
@@ -125,6 +128,13 @@ ending_untouched (Answered answer named) task given after told did goes refused 
     let one = goes.1 in
     let same = command_untouched task.command task one.table one.start after _ did one.does refused in
     record { out = same.out ∙ only_loads_out given one.start one.reads; did_is = same.did_is }
+
+-- no exercise is refused
+exercise_not_refused : (n : ℕ) (out out_new : SinkView) (answer : Answer) → Exercises n out out_new answer → (answer_status answer ≡ 2) ⊎ (answer_status answer ≡ 5) → ⊥
+exercise_not_refused n out out_new answer (inl printed) refused =
+    done_is_no_refusal _ printed.prints.failed (subst (λ (a : Answer). (answer_status a ≡ 2) ⊎ (answer_status a ≡ 5)) printed.prints.answer_is refused)
+exercise_not_refused n out out_new answer (inr ran_out) refused =
+    no_refusal 4 (omega arith) (omega arith) (subst (λ (a : Answer). (answer_status a ≡ 2) ⊎ (answer_status a ≡ 5)) ran_out.answer_is refused)
 
 pub refusal_touches_nothing : (before : Entry) (exit : Exit) (end : End) (told : List Event) (status : ℕ) → status ≡ status_of end → Ran before exit end told → RefusalsTouchNothing before exit status
 refusal_touches_nothing before exit (Refused why) told status is ran refused = record {
@@ -139,3 +149,5 @@ refusal_touches_nothing before exit (Worked setup ending) told status is ran ref
       opened = λ has tells. subst (λ did. ChangesBy (may_stand did) before.opener.vault exit.after.vault) same.did_is (ran.changes tells);
       unopened = λ none. absurd (let clash : true ≡ false = sym ran.has_vault ∙ none in cc);
     }
+refusal_touches_nothing before exit (Exercised answer) told status is ran refused =
+    absurd (exercise_not_refused ran.number before.out exit.after.out answer ran.exercises (subst (λ n. (n ≡ 2) ⊎ (n ≡ 5)) is refused))

@@ -57,7 +57,7 @@ use Rattle.snap_top.specs.Moment.{IsFixOf, TellsAll}
 use Rattle.snap_top.specs.Opening.{asked_by}
 use Rattle.snap_top.specs.Restoring.{EndsFixed, FixesEnd, Restores, events_in}
 use Rattle.snap_top.specs.Run.{Entry, Exit, IsAnswered, IsRun, Ran}
-use Rattle.snap_top.specs.Task.{Task, Did, Left, stands_after}
+use Rattle.snap_top.specs.Task.{Task, Did, Left, WorksOnArray, stands_after}
 use Rattle.snap_top.specs.Views.{World, world_of}
 use Rattle.snap_top.specs.declared.end.End.{End}
 use Rattle.snap_top.specs.declared.end.Ending.TheVariants.{Answered}
@@ -321,7 +321,7 @@ module _ (restored : CellsAreRestored) (lost : CellsAreLost) (unknown_lost : Unk
 -- of each run
 pub fixes_end : CellsAreRestored → CellsAreLost → UnknownAreLost → LostAreUnknown → BlocksAreKnown → FactsAreGenuine → (before : Entry) (exit : Exit) (end : End) (told : List Event) (status : ℕ) → status ≡ status_of end → Ran before exit end told → FixesEnd before exit status
 fixes_end restored lost unknown_lost lost_unknown known genuine_facts before exit end told status is ran tells went asked selection words command =
-    let to = goes_to_its_end before exit end told status tells.tells is ran went in
+    let to = goes_to_its_end before exit end told status tells.tells is ran asked words (subst WorksOnArray (sym command) tt) went in
     let configured = to.ran.is_given.configured in
     let left : Left = record { answer = to.answer; named = to.named; counted = to.ran.goes.0; told = to.told } in
     let one : IsAnswered to.ran.task to.ran.given (world_of exit.after) left to.ran.did = to.ran.goes.1 in

@@ -32,16 +32,19 @@ use Rattle.snap_scrub.specs.Reading.{ScrubReading}
 use Rattle.snap_top.specs.Scrub.{marked_table}
 use Rattle.snap_top.specs.Levels.{by_levels, is_split, opener_by}
 use Rattle.snap_top.specs.Opening.{IsGivenBy, Refuses}
-use Rattle.snap_top.specs.Run.{Works, OnlyLoads, ReadsCopies, LoadsFrom, LoadsInOrder, LoadsNot, BeginsWith, BeginsNot, RanWith, at_entry, at_exit}
+use Rattle.snap_top.specs.Exercising.{AsksForExercise, Exercises}
+use Rattle.snap_top.specs.Run.{Entry, Works, OnlyLoads, ReadsCopies, LoadsFrom, LoadsInOrder, LoadsNot, BeginsWith, BeginsNot, RanWith, at_entry, at_exit, exit_of}
 use Rattle.snap_top.specs.Views.{WorldView, world_view, world_of, view_of, outside_of}
-use Rattle.snap_top.specs.declared.end.End.TheVariants.{Refused, Worked}
+use Rattle.snap_top.specs.declared.end.End.{End}
+use Rattle.snap_top.specs.declared.end.End.TheVariants.{Exercised, Refused, Worked}
 use Rattle.snap_top.specs.declared.end.Ending.{Ending}
 use Rattle.snap_top.specs.declared.end.Ending.TheVariants.{NotLoaded, NoTable, OtherArray, Answered}
 use Rattle.snap_top.specs.declared.end.Refusal.{Refusal}
 use Rattle.std.proofs.lemmas.List.{length-map}
 use Rattle.snap_top.proofs.DoneLemmas.{nothing_more}
-use Rattle.snap_top.proofs.LevelsLemmas.{images_by, refused_by, settled_by}
+use Rattle.snap_top.proofs.LevelsLemmas.{exercised_by, images_by, refused_by, settled_by}
 use Rattle.snap_top.proofs.MatchingLemmas.{length-columns, length-disks}
+use Rattle.snap_top.proofs.OpeningLemmas.{holds_start, no_calls_yet}
 use Rattle.snap_top.proofs.ViewsLemmas.{all_read_nothing, sink_stays}
 
 -- what a run did, it need not have done
@@ -250,3 +253,35 @@ refused_runs standing stands view texts seed moment old new items out reports wh
   });
   reports = all_given_nothing standing stands reports;
 }
+
+-- A run that exercised.
+pub exercised_runs : {F R : Type 0} (standing : R → ReportView) (stands : R → List Event → Type 0) (view : F → FolderView) (texts : List (List ℕ)) (seed : List ℕ) (moment : ℕ)
+    (opener : OpenerView) (items : List F) (out out_new : SinkView) (reports : List R) (n : ℕ) (answer : Answer)
+    → items ≡ [] → AsksForExercise texts n → Exercises n out out_new answer
+    → RanWith standing stands (at_entry texts opener out moment seed) (at_exit opener false (world_view (map view items) opener.vault out_new)) reports reports (Exercised answer)
+exercised_runs standing stands view texts seed moment opener items out out_new reports n answer none asks exercises = record {
+  told = [];
+  ran = exercised_by None (at_entry texts opener out moment seed) (at_exit opener false (world_view (map view items) opener.vault out_new)) answer [] (record {
+    number = n;
+    asks = asks;
+    exercises = exercises;
+    uncalled = no_calls_yet opener;
+    unfailed = refl;
+    kept = holds_start opener;
+    folders = ap (map view) none;
+    no_vault = refl;
+    vault = (holds_start opener).vault;
+    untold = refl;
+  });
+  reports = all_given_nothing standing stands reports;
+}
+
+-- A run that opened nothing, by what it hands out.
+pub unopened_runs : {F V R : Type 0} (standing : R → ReportView) (stands : R → List Event → Type 0) (folder_view : F → FolderView) (vault_view : V → VaultView) (before : Entry) (opener : OpenerView)
+    (out : SinkView) (olds news : List R) (end made : End) (folders : List F) (vault : Option V) → made ≡ end → folders ≡ [] → vault ≡ None
+    → RanWith standing stands before (at_exit opener false (world_view [] opener.vault out)) olds news end
+    → RanWith standing stands before (exit_of folder_view vault_view opener folders vault out) olds news made
+unopened_runs {F} {V} standing stands folder_view vault_view before opener out olds news end made folders vault made_is none unheld ran =
+    subst (λ (e : End). RanWith standing stands before (exit_of folder_view vault_view opener folders vault out) olds news e) (sym made_is)
+    (subst (λ (fs : List F). RanWith standing stands before (exit_of folder_view vault_view opener fs vault out) olds news end) (sym none)
+    (subst (λ (v : Option V). RanWith standing stands before (exit_of folder_view vault_view opener [] v out) olds news end) (sym unheld) ran))

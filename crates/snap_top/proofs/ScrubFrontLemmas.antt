@@ -10,6 +10,8 @@ use Rattle.snap_config.specs.declared.options.ScrubWay.{ScrubWay}
 use Rattle.snap_report.specs.EndLines.{scrub_text}
 use Rattle.snap_report.specs.EventLines.{lines_of}
 use Rattle.snap_report.specs.Telling.{Tells, between}
+use Rattle.snap_report.specs.declared.answer.RunFault.{RunFault}
+use Rattle.snap_report.specs.declared.answer.RunFault.TheVariants as runs
 use Rattle.snap_report.specs.declared.events.Event.{Event}
 use Rattle.snap_scrub.specs.Findings.{events_of as scrub_events_of}
 use Rattle.snap_scrub.specs.Marks.{at_most}
@@ -17,7 +19,7 @@ use Rattle.snap_scrub.specs.Plan.{plan_of}
 use Rattle.snap_scrub.specs.Reading.{AreLevelsOf, HasLevels, ScrubReading, cells_of, unread_levels}
 use Rattle.snap_sync.specs.Part.{AllTell, readings_by, trees_of}
 use Rattle.snap_top.specs.Alike.{HoldAlike, NothingRose}
-use Rattle.snap_top.specs.BrokeOff.{BrokeOff, PrintsFront, RoseOnce}
+use Rattle.snap_top.specs.BrokeOff.{BrokeOff, PrintsFront, RoseOnce, RoseOnceBy}
 use Rattle.snap_top.specs.LeftAlike.{AskSame}
 use Rattle.snap_top.specs.Run.{Entry, Exit, IsAnswered}
 use Rattle.snap_top.specs.Scrubbed.{EndsScrubbed}
@@ -32,7 +34,7 @@ use Rattle.snap_top.proofs.BrokeOffLemmas.{LeftUntold, begun, configured, does_a
 
 -- ---- a scrub
 
-none_unread : (n a b c : ℕ) → a ≤ b → RoseBy (n + 1) b c → ¬ (RoseBy 2 a c) → n ≡ 0
+pub none_unread : (n a b c : ℕ) → a ≤ b → RoseBy (n + 1) b c → ¬ (RoseBy 2 a c) → n ≡ 0
 none_unread zero a b c later rose once = refl
 none_unread (suc n) a b c later rose once = absurd (once (twice later rose))
   where
@@ -40,7 +42,7 @@ none_unread (suc n) a b c later rose once = absurd (once (twice later rose))
     twice begins two = omega (arith, begins, two)
 
 module _ (one_table : OneTable) (before before_then : Entry) (exit exit_then : Exit) (status_then : ℕ) (broke : BrokeOff before exit)
-    (other : EndsScrubbed before_then exit_then status_then) (hold : HoldAlike before before_then) (ask : AskSame before before_then) (moments : before.moment ≡ before_then.moment) (once : RoseOnce before exit)
+    (other : EndsScrubbed before_then exit_then status_then) (hold : HoldAlike before before_then) (ask : AskSame before before_then) (moments : before.moment ≡ before_then.moment) (once : RoseOnceBy broke.fault before exit)
     (well_then : NothingRose before_then exit_then) where
   abbrev its : IsAnswered broke.ran.task broke.ran.given (world_of exit.after) (left before exit hold.tells.tells hold.tells.tells_vault broke) broke.ran.did
   its = one before exit hold.tells.tells hold.tells.tells_vault broke
@@ -78,7 +80,13 @@ module _ (one_table : OneTable) (before before_then : Entry) (exit exit_then : E
     printed_then = record { failed = other.output_failed; status_is = other.status_is.failed; told = other.printed };
   }
 
-  module _ (breaks : ScrubBreaks way broke.ran.task its.table its.start (world_of exit.after) (left before exit hold.tells.tells hold.tells.tells_vault broke) broke.ran.did) where
+  module _ (by_vault : (broke.fault ≡ runs.Vault) × ScrubBreaks way broke.ran.task its.table its.start (world_of exit.after) (left before exit hold.tells.tells hold.tells.tells_vault broke) broke.ran.did) where
+    abbrev breaks : ScrubBreaks way broke.ran.task its.table its.start (world_of exit.after) (left before exit hold.tells.tells hold.tells.tells_vault broke) broke.ran.did
+    breaks = by_vault.1
+
+    vault_once : RoseOnce before exit
+    vault_once = subst (λ (fault : RunFault). RoseOnceBy fault before exit) by_vault.0 once
+
     abbrev readings : List ScrubReading
     readings = breaks.course.readings
 
@@ -86,7 +94,7 @@ module _ (one_table : OneTable) (before before_then : Entry) (exit exit_then : E
     begun_before = subst (λ (n : ℕ). n ≤ its.start.vault.faults) (given_faults before exit hold.tells.tells hold.tells.tells_vault broke) (begun before exit hold.tells.tells hold.tells.tells_vault broke)
 
     unread : sum_by unread_levels readings ≡ 0
-    unread = none_unread (sum_by unread_levels readings) before.opener.vault.faults its.start.vault.faults exit.after.vault.faults begun_before breaks.rose once.vault
+    unread = none_unread (sum_by unread_levels readings) before.opener.vault.faults its.start.vault.faults exit.after.vault.faults begun_before breaks.rose vault_once.vault
 
     rose : Rose its.start.vault.faults exit.after.vault.faults
     rose = by (sum_by unread_levels readings) its.start.vault.faults exit.after.vault.faults breaks.rose
@@ -96,7 +104,7 @@ module _ (one_table : OneTable) (before before_then : Entry) (exit exit_then : E
 
     loaded_is : its.table ≡ other.run.loaded
     loaded_is = same_loaded one_table before before_then hold broke.ran.task.setup other.run.setup its.table other.run.loaded setup_is
-        (table_is before exit hold.tells.tells hold.tells.tells_vault broke rose once)
+        (table_is before exit hold.tells.tells hold.tells.tells_vault broke rose vault_once)
         (other.is_scrub.loading.from (unfailed before_then exit_then other.is_scrub.loading well_then))
 
     now_is : broke.ran.task.moment ≡ other.run.now
@@ -111,7 +119,7 @@ module _ (one_table : OneTable) (before before_then : Entry) (exit exit_then : E
     cells_are : cells_of readings ≡ cells_of other.run.readings
     cells_are =
         stripes_given its.table (cells_of readings) its.start.folders exit.after.folders breaks.course.cells its.columns all_tell
-        (none_rose its.start.folders before.opener.folders exit.after.folders (folders_are before exit hold.tells.tells hold.tells.tells_vault broke) once.folders)
+        (none_rose its.start.folders before.opener.folders exit.after.folders (folders_are before exit hold.tells.tells hold.tells.tells_vault broke) vault_once.folders)
         ∙ ap (readings_by its.table (trees_of its.start.folders)) breaks.course.stripes
         ∙ ap (λ (t : TableValue). readings_by t (trees_of its.start.folders) (plan_of t way broke.ran.task.moment)) loaded_is
         ∙ ap (λ (ts : List Tree). readings_by other.run.loaded ts (plan_of other.run.loaded way broke.ran.task.moment)) trees_are

@@ -32,7 +32,7 @@ use Rattle.snap_top.specs.Run.{Entry, Exit, IsAnswered, IsRun, Ran}
 use Rattle.snap_top.specs.Scrub.{MayStandMarked, ScrubRun, marked_table}
 use Rattle.snap_top.specs.Scrubbed.{EndsScrubbed, ScrubsEnd, events_scrubbed}
 use Rattle.snap_top.specs.Scrubbing.{ScrubEnds, ScrubsBy, scrub_of}
-use Rattle.snap_top.specs.Task.{Did, Left, Task, may_stand, stands_after}
+use Rattle.snap_top.specs.Task.{Did, Left, Task, WorksOnArray, may_stand, stands_after}
 use Rattle.snap_top.specs.Views.{World, world_of}
 use Rattle.snap_top.specs.declared.end.End.{End}
 use Rattle.snap_top.specs.declared.end.Ending.TheVariants.{Answered}
@@ -159,7 +159,7 @@ module _ (before : Entry) (exit : Exit) (tells : TellsAll before) (in_time : bef
 -- of each run
 pub scrubs_end : (before : Entry) (exit : Exit) (end : End) (told : List Event) (status : ℕ) → before.moment < 2 ^ 64 → status ≡ status_of end → Ran before exit end told → ScrubsEnd before exit status
 scrubs_end before exit end told status in_time is ran tells went asked way words command =
-    let to = goes_to_its_end before exit end told status tells.tells is ran went in
+    let to = goes_to_its_end before exit end told status tells.tells is ran asked words (subst WorksOnArray (sym command) tt) went in
     let configured = to.ran.is_given.configured in
     let left : Left = record { answer = to.answer; named = to.named; counted = to.ran.goes.0; told = to.told } in
     let one : IsAnswered to.ran.task to.ran.given (world_of exit.after) left to.ran.did = to.ran.goes.1 in

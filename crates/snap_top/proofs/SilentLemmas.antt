@@ -19,7 +19,7 @@ use Rattle.snap_top.specs.Complete.{IsSilent}
 use Rattle.snap_top.specs.End.{status_of, line_of, ending_status, ending_line, refusal_status, words_status, config_status, open_status, load_status, disk_named, path_named}
 use Rattle.snap_top.specs.Run.{IsSaid}
 use Rattle.snap_top.specs.declared.end.End.{End}
-use Rattle.snap_top.specs.declared.end.End.TheVariants.{Refused, Worked}
+use Rattle.snap_top.specs.declared.end.End.TheVariants.{Exercised, Refused, Worked}
 use Rattle.snap_top.specs.declared.end.Ending.{Ending}
 use Rattle.snap_top.specs.declared.end.Ending.TheVariants.{NotLoaded, NoTable, OtherArray, Answered}
 use Rattle.snap_top.specs.declared.end.Refusal.{Refusal}
@@ -75,6 +75,7 @@ silent_ending setup (Answered answer named) done = silent_answer (disk_named set
 silent_end : (end : End) → status_of end ≤ 1 → line_of end ≡ []
 silent_end (Refused why) done = absurd (high _ (refusal_high why) done)
 silent_end (Worked setup ending) done = silent_ending (setup_value setup) ending done
+silent_end (Exercised answer) done = silent_answer [] [] answer done
 
 nothing_said : (err err_new : SinkView) → IsSaid [] err err_new → IsTrue err.tells → err_new.written ≡ err.written
 nothing_said err err_new said tells = let part = said.told.part tells in part.appended ∙ ap (λ bytes. err.written ++ bytes) (no_front part.front part.rest part.whole) ∙ append-nil err.written

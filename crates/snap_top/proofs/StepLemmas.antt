@@ -36,12 +36,13 @@ use Rattle.snap_top.specs.Syncing.{SyncsBy}
 use Rattle.snap_top.specs.Task.{Did, Left, Task, fixes, folders_after, reads_only, scrubs, syncs}
 use Rattle.snap_top.specs.Views.{World, world_of}
 use Rattle.snap_top.specs.declared.end.End.{End}
-use Rattle.snap_top.specs.declared.end.End.TheVariants.{Refused, Worked}
+use Rattle.snap_top.specs.declared.end.End.TheVariants.{Exercised, Refused, Worked}
 use Rattle.snap_top.specs.declared.end.Ending.{Ending}
 use Rattle.snap_top.specs.declared.end.Ending.TheVariants.{NotLoaded, NoTable, OtherArray, Answered}
 use Rattle.snap_top.proofs.CompleteLemmas.{same_ok}
 use Rattle.snap_top.proofs.EndsSoundLemmas.{ends_sound}
 use Rattle.snap_top.proofs.EndedLemmas.{IsDoneAnswer, IsDoneEnd, done_end, only_read}
+use Rattle.snap_top.proofs.ExercisingLemmas.{changes_on_array, not_exercised}
 use Rattle.snap_top.proofs.LostLemmas.{FactsAreGenuine}
 use Rattle.snap_top.proofs.MomentLemmas.{CopiesAreOfPartSyncs, FixKeepsSound, LayoutIsOfTrees, reading_did, run_did_is, sound_reading, sound_run, stands_same}
 use Rattle.snap_top.proofs.NamingLemmas.{RowsAreKnown, checks_end}
@@ -173,6 +174,7 @@ module _ (says : BelowSays) (before : Entry) (exit : Exit) (tells : TellsAll bef
     ends_of (commands.Fix selection) command does ended =
         let fixed = fixed_of selection command (fix_is_done answer selection ran.task one.table one.start (world_of exit.after) left ran.did does ended) in
         subst (λ (did : Did). EndsBy did before exit status) (sym fixed.1) (fixed.0, refl)
+    ends_of (commands.Exercise n) command does ended = absurd does
 
     done_of : (command : Command) → ran.task.command ≡ command → ChangesFiles command → IsDoneAnswer answer → has_ended ran.did ≡ true
     done_of commands.List command changes done = absurd changes
@@ -182,6 +184,7 @@ module _ (says : BelowSays) (before : Entry) (exit : Exit) (tells : TellsAll bef
     done_of (commands.Check selection) command changes done = absurd changes
     done_of (commands.Audit selection) command changes done = absurd changes
     done_of (commands.Fix selection) command changes done = ap has_ended (fixed_of selection command done).1
+    done_of (commands.Exercise n) command changes done = absurd changes
 
   -- ---- a run that opened its array
 
@@ -218,6 +221,18 @@ module _ (says : BelowSays) (before : Entry) (exit : Exit) (tells : TellsAll bef
         stops = λ has. absurd (let clash : false ≡ true = sym ran.no_vault ∙ has in cc);
         refused = λ refused. read;
         done = λ asked words changes well. absurd (done_end before exit (Refused why) told status tells.tells is ran well);
+        at_end = λ ended. absurd (only_read _ read ended);
+        checked = checked;
+      }
+  step_by (Exercised answer) told is ran synced checked =
+      let still : (files : Files) → StandsIn before exit files → files ≡ before.opener.vault.files = stands_same before exit status fresh synced ran.vault in
+      let read = reading_did before exit status fresh synced still in
+      record {
+        always = sound_reading before exit status fresh synced still;
+        folders = λ has. absurd (let clash : false ≡ true = sym ran.no_vault ∙ has in cc);
+        stops = λ has. absurd (let clash : false ≡ true = sym ran.no_vault ∙ has in cc);
+        refused = λ refused. read;
+        done = λ asked words changes well. absurd (not_exercised before.texts asked ran.number words (changes_on_array asked.command changes) ran.asks);
         at_end = λ ended. absurd (only_read _ read ended);
         checked = checked;
       }

@@ -21,9 +21,9 @@ use Rattle.snap_fix.specs.Stopped.{FixStop, IsCellSpared, IsNoneOf, IsStop, Stan
 use Rattle.snap_top.specs.Fix.{FixRun, IsRunCall}
 use Rattle.snap_top.specs.Moment.{IsFixOf}
 use Rattle.snap_top.specs.Run.{Entry, Exit}
-use Rattle.snap_top.specs.Stopping.{FindsNoLess, FolderStandsIn, MayStandLeft, SparesFiles, calls_since, stop_of}
+use Rattle.snap_top.specs.Stopping.{FindsNoLess, FolderStandsIn, MayStandLeft, SparesFiles, stop_of}
 use Rattle.snap_top.specs.Undamaged.{HasEnough, undamaged_levels, was_read}
-use Rattle.snap_top.specs.Views.{folder_at}
+use Rattle.snap_top.specs.Views.{calls_since, folder_at}
 
 -- ---- what snap_fix says of a stop
 

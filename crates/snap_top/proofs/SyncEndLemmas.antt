@@ -32,7 +32,7 @@ use Rattle.snap_top.specs.Moment.{IsSoundAtEnd, IsSyncOf, StandsAfter, SyncsToIt
 use Rattle.snap_top.specs.Opening.{asked_by}
 use Rattle.snap_top.specs.Run.{Entry, Exit, IsAnswered, IsRun, Ran}
 use Rattle.snap_top.specs.Syncing.{SyncEnds, SyncsBy, run_of}
-use Rattle.snap_top.specs.Task.{Task, Did, LeavesSynced, Left, end_table, stands_after}
+use Rattle.snap_top.specs.Task.{Task, Did, LeavesSynced, Left, WorksOnArray, end_table, stands_after}
 use Rattle.snap_top.specs.Views.{World, world_of}
 use Rattle.snap_top.specs.declared.end.End.{End}
 use Rattle.snap_top.specs.declared.end.Ending.TheVariants.{Answered}
@@ -103,7 +103,7 @@ ends_by_answer (answers.Broken runs.Memory) task way table before after left did
 -- of each run that was asked for one
 pub sync_ended : (before : Entry) (exit : Exit) (end : End) (told : List Event) (status : ℕ) → IsTrue before.opener.tells → status ≡ status_of end → Ran before exit end told → SyncsToItsEnd before exit status → HasEndedSync before exit status
 sync_ended before exit end told status tells is ran sync =
-    let to = goes_to_its_end before exit end told status tells is ran sync.went in
+    let to = goes_to_its_end before exit end told status tells is ran sync.asked sync.words (subst WorksOnArray (sym sync.command_is) tt) sync.went in
     let configured = to.ran.is_given.configured in
     let left : Left = record { answer = to.answer; named = to.named; counted = to.ran.goes.0; told = to.told } in
     let one : IsAnswered to.ran.task to.ran.given (world_of exit.after) left to.ran.did = to.ran.goes.1 in

@@ -12,13 +12,15 @@ use Rattle.snap_config.specs.declared.options.SyncWay.{SyncWay}
 use Rattle.snap_report.specs.EventLines.{event_line, lines_of}
 use Rattle.snap_report.specs.Telling.{Tells, between}
 use Rattle.snap_report.specs.Text.{sync_text}
+use Rattle.snap_report.specs.declared.answer.RunFault.{RunFault}
+use Rattle.snap_report.specs.declared.answer.RunFault.TheVariants as runs
 use Rattle.snap_report.specs.declared.events.Event.{Event}
 use Rattle.snap_sync.specs.Closing.{verified_in}
 use Rattle.snap_sync.specs.Part.{AllTell, IsToldRun, NoneRose, SyncRun, layout_by, reading_by, readings_by, run_trees, trees_of}
 use Rattle.stripe_findings.specs.Findings.{events_of, stripe_events}
 use Rattle.stripe_findings.specs.Reading.{StripeReading, stripes_of}
 use Rattle.snap_top.specs.Alike.{HoldAlike, NothingRose}
-use Rattle.snap_top.specs.BrokeOff.{BrokeOff, PrintsFront, RoseOnce}
+use Rattle.snap_top.specs.BrokeOff.{BrokeOff, PrintsFront, RoseOnce, RoseOnceBy}
 use Rattle.snap_top.specs.LeftAlike.{AskSame}
 use Rattle.snap_top.specs.Moment.{EndsInPart}
 use Rattle.snap_top.specs.Run.{Entry, Exit, IsAnswered}
@@ -50,7 +52,7 @@ front_lines table readings more end =
     ∙ append_assoc (lines_of table.columns (events_of table readings)) (lines_of table.columns (events_of table more)) end
 
 module _ (laid_of : LayoutIsOfTrees) (given_of : ReadIsGiven) (one_table : OneTable) (before before_then : Entry) (exit exit_then : Exit) (status_then : ℕ) (broke : BrokeOff before exit)
-    (other : EndsInPart before_then exit_then status_then) (hold : HoldAlike before before_then) (ask : AskSame before before_then) (once : RoseOnce before exit) (well_then : NothingRose before_then exit_then) where
+    (other : EndsInPart before_then exit_then status_then) (hold : HoldAlike before before_then) (ask : AskSame before before_then) (once : RoseOnceBy broke.fault before exit) (well_then : NothingRose before_then exit_then) where
   abbrev again : SyncRun
   again = other.run
 
@@ -88,7 +90,13 @@ module _ (laid_of : LayoutIsOfTrees) (given_of : ReadIsGiven) (one_table : OneTa
     printed_then = record { failed = other.output_failed; status_is = other.status_is.failed; told = other.printed };
   }
 
-  module _ (breaks : SyncBreaks broke.ran.task way its.table its.start (world_of exit.after) (left before exit hold.tells.tells hold.tells.tells_vault broke) broke.ran.did) where
+  module _ (by_vault : (broke.fault ≡ runs.Vault) × SyncBreaks broke.ran.task way its.table its.start (world_of exit.after) (left before exit hold.tells.tells hold.tells.tells_vault broke) broke.ran.did) where
+    abbrev breaks : SyncBreaks broke.ran.task way its.table its.start (world_of exit.after) (left before exit hold.tells.tells hold.tells.tells_vault broke) broke.ran.did
+    breaks = by_vault.1
+
+    vault_once : RoseOnce before exit
+    vault_once = subst (λ (fault : RunFault). RoseOnceBy fault before exit) by_vault.0 once
+
     abbrev course_start : TableValue
     course_start = breaks.course.start
 
@@ -119,7 +127,7 @@ module _ (laid_of : LayoutIsOfTrees) (given_of : ReadIsGiven) (one_table : OneTa
 
     loaded_is : its.table ≡ again.loaded
     loaded_is = same_loaded one_table before before_then hold broke.ran.task.setup again.setup its.table again.loaded setup_is
-        (table_is before exit hold.tells.tells hold.tells.tells_vault broke (breaks.course.vault.broke refl).rose once)
+        (table_is before exit hold.tells.tells hold.tells.tells_vault broke (breaks.course.vault.broke refl).rose vault_once)
         (other.is_sync.loading.from (unfailed before_then exit_then other.is_sync.loading well_then))
 
     start_is : course_start ≡ again.plan.start
@@ -127,7 +135,7 @@ module _ (laid_of : LayoutIsOfTrees) (given_of : ReadIsGiven) (one_table : OneTa
         ∙ ap (λ (t : TableValue). layout_by again.setup t (run_trees run)) loaded_is ∙ ap (layout_by again.setup again.loaded) trees_are ∙ sym other.laid
 
     none_run : NoneRose run.folders run.ended
-    none_run = none_rose run.folders before.opener.folders exit.after.folders (folders_are before exit hold.tells.tells hold.tells.tells_vault broke) once.folders
+    none_run = none_rose run.folders before.opener.folders exit.after.folders (folders_are before exit hold.tells.tells hold.tells.tells_vault broke) vault_once.folders
 
     abbrev pending : List ℕ
     pending = pending_stripes course_start.infos

@@ -1,13 +1,14 @@
 -- Objects that were not touched, and one thing done after another.
-use Rattle.std.proofs.Common.{◌≡◌, List, [], ◌++◌, None, arith, refl, sym, ap, ◌∙◌, append_assoc}
+use Rattle.std.proofs.Common.{◌≡◌, List, [], ◌++◌, length, drop, All, IsTrue, None, arith, refl, sym, ap, ◌∙◌, subst, append_assoc}
+use Rattle.std.proofs.Math.Seq.{drop-append_seam}
 use Rattle.std.proofs.lemmas.List.{append-nil}
 use Rattle.std.proofs.lemmas.List.Elements.{All-append, All-nil}
-use Rattle.disk_model.specs.Folder.{FolderView, FolderCall, FolderDone}
+use Rattle.disk_model.specs.Folder.{FolderView, FolderCall, FolderDone, FolderGoesOn}
 use Rattle.disk_model.specs.Sink.{SinkView, SinkGoesOn}
 use Rattle.disk_model.specs.Stopped.{written_path}
 use Rattle.disk_model.specs.Vault.{VaultView, SomeCalls, state_of}
 use Rattle.disk_model.proofs.VaultLemmas.{no_calls, calls_then}
-use Rattle.snap_top.specs.Views.{World, view_of, folder_at, ReadsOnly, AllReadOnly, KeepsBy}
+use Rattle.snap_top.specs.Views.{World, view_of, calls_since, folder_at, ReadsOnly, AllReadOnly, KeepsBy}
 
 pub sink_stays : (out : SinkView) → SinkGoesOn out out
 sink_stays out = record { later = omega arith; tells = refl }
@@ -22,35 +23,42 @@ IsReadingCall call = written_path call ≡ None
 abbrev pub IsReadingDone : FolderDone → Type 0
 IsReadingDone done = IsReadingCall done.call
 
+-- what is known of the calls that were made is known of those since then
+since_is : (old new : FolderView) (done : List FolderDone) → FolderGoesOn old new done → IsTrue new.tells_calls → calls_since old new ≡ done
+since_is old new done goes told = ap (drop (length old.calls)) (goes.calls.more told) ∙ drop-append_seam old.calls done
+
+pub reads_since : (old new : FolderView) (done : List FolderDone) → FolderGoesOn old new done → All IsReadingDone done → IsTrue new.tells_calls → All IsReadingDone (calls_since old new)
+reads_since old new done goes reads told = subst (All IsReadingDone) (sym (since_is old new done goes told)) reads
+
 pub read_nothing : (v : FolderView) → ReadsOnly v v
-read_nothing v = record {
-  calls = record {
-    done = [];
-    goes_on = record { later = omega arith; keeps_stamps = refl; closed = refl; tells = refl; calls = record { told = λ t. t; more = λ t. sym (append-nil v.calls) } };
-  };
-  reads = All-nil IsReadingDone;
-  tree = λ t. refl;
-}
+read_nothing v =
+    let goes : FolderGoesOn v v []
+    = record { later = omega arith; keeps_stamps = refl; closed = refl; tells = refl; calls = record { told = λ t. t; more = λ t. sym (append-nil v.calls) } } in
+    record { calls = record { done = []; goes_on = goes }; reads = reads_since v v [] goes (All-nil IsReadingDone); tree = λ t. refl }
 
 pub read_then : (old mid new : FolderView) → ReadsOnly old mid → ReadsOnly mid new → ReadsOnly old new
 read_then old mid new one two =
     let a = one.calls.goes_on in
     let b = two.calls.goes_on in
-    record {
+    let goes : FolderGoesOn old new (one.calls.done ++ two.calls.done) = record {
+      later = omega (arith, a.later, b.later);
+      keeps_stamps = b.keeps_stamps ∙ a.keeps_stamps;
+      closed = b.closed ∙ a.closed;
+      tells = b.tells ∙ a.tells;
       calls = record {
-        done = one.calls.done ++ two.calls.done;
-        goes_on = record {
-          later = omega (arith, a.later, b.later);
-          keeps_stamps = b.keeps_stamps ∙ a.keeps_stamps;
-          closed = b.closed ∙ a.closed;
-          tells = b.tells ∙ a.tells;
-          calls = record {
-            told = λ t. a.calls.told (b.calls.told t);
-            more = λ t. b.calls.more t ∙ ap (λ xs. xs ++ two.calls.done) (a.calls.more (b.calls.told t)) ∙ append_assoc old.calls one.calls.done two.calls.done;
-          };
-        };
+        told = λ t. a.calls.told (b.calls.told t);
+        more = λ t. b.calls.more t ∙ ap (λ xs. xs ++ two.calls.done) (a.calls.more (b.calls.told t)) ∙ append_assoc old.calls one.calls.done two.calls.done;
       };
-      reads = All-append IsReadingDone one.calls.done two.calls.done one.reads two.reads;
+    } in
+    record {
+      calls = record { done = one.calls.done ++ two.calls.done; goes_on = goes };
+      reads = λ t.
+          let mid_told : IsTrue mid.tells_calls = b.calls.told t in
+          reads_since old new (one.calls.done ++ two.calls.done) goes
+          (All-append IsReadingDone one.calls.done two.calls.done
+          (subst (All IsReadingDone) (since_is old mid one.calls.done a mid_told) (one.reads mid_told))
+          (subst (All IsReadingDone) (since_is mid new two.calls.done b t) (two.reads t)))
+          t;
       tree = λ t. two.tree (a.tells ∙ t) ∙ one.tree t;
     }
 

@@ -1,7 +1,7 @@
 -- A run that broke off told and printed a front of what one does that did not, and a run that ended early printed nothing.
-use Rattle.std.specs.Prelude.{◌≡◌, ℕ, ◌<◌, List, ◌++◌, length, Bool, true, false, Option}
+use Rattle.std.specs.Prelude.{◌≡◌, ◌≢◌, ℕ, ◌<◌, List, ◌++◌, length, Bool, true, false, Option}
 use Rattle.content_file.specs.Load.{HasFailed}
-use Rattle.disk_model.specs.Cause.{RoseBy}
+use Rattle.disk_model.specs.Cause.{Rose, RoseBy}
 use Rattle.file_table.specs.Table.{TableValue}
 use Rattle.snap_config.specs.Setup.{SetupValue}
 use Rattle.snap_config.specs.declared.options.Command.TheVariants as commands
@@ -10,9 +10,11 @@ use Rattle.snap_fix.specs.Fixing.{facts_of}
 use Rattle.snap_report.specs.Telling.{Tells, between}
 use Rattle.snap_report.specs.declared.answer.Answer.TheVariants as answers
 use Rattle.snap_report.specs.declared.answer.RunFault.{RunFault}
+use Rattle.snap_report.specs.declared.answer.RunFault.TheVariants as runs
 use Rattle.snap_report.specs.declared.events.Event.{Event}
 use Rattle.snap_sync.specs.Part.{NoneRose}
 use Rattle.stripe_examiner.specs.Looking.{unread_cells, unread_in}
+use Rattle.stripe_reader.specs.Columns.{folder_at}
 use Rattle.snap_top.specs.Fixing.{FixBroke}
 use Rattle.snap_top.specs.LeftAlike.{HasPrinted}
 use Rattle.snap_top.specs.Run.{Entry, Exit, IsAnswered, IsRefused, IsRun}
@@ -55,6 +57,20 @@ pub record FixBrokeOff (before : Entry) (exit : Exit) : Type 0 where
 pub record RoseOnce (before : Entry) (exit : Exit) : Type 0 where
   pub folders : NoneRose before.opener.folders exit.after.folders
   pub vault : ¬ (RoseBy 2 before.opener.vault.faults exit.after.vault.faults)
+
+-- of the folders only this one's count of faults rose, by one at most, and that of the vault did not
+pub record FolderRoseOnce (disk : ℕ) (before : Entry) (exit : Exit) : Type 0 where
+  pub others : (d : ℕ) → d < length before.opener.folders → d ≢ disk
+      → ¬ (Rose (folder_at before.opener.folders d).faults (folder_at exit.after.folders d).faults)
+  pub once : ¬ (RoseBy 2 (folder_at before.opener.folders disk).faults (folder_at exit.after.folders disk).faults)
+  pub vault : ¬ (Rose before.opener.vault.faults exit.after.vault.faults)
+
+-- No count of faults of a folder or of the vault rose but that of what failed, and that by one at most: so that call failed alone, and
+-- no reading did. Where memory ran out, nothing is asked of the counts: nothing was told then.
+abbrev pub RoseOnceBy : RunFault → Entry → Exit → Type 0
+RoseOnceBy (runs.Folder disk) before exit = FolderRoseOnce disk before exit
+RoseOnceBy runs.Vault before exit = RoseOnce before exit
+RoseOnceBy runs.Memory before exit = Unit {0}
 
 -- One run told a front of the events that another told, and its text is a front of the text of the other. Of each of the two texts a
 -- front was written, if its output failed; of the other one this is shown by status 3.

@@ -21,6 +21,7 @@ use Rattle.snap_report.specs.Answer.{Gained, broke_folder, broke_vault}
 use Rattle.snap_sync.specs.Beginning.{RefusesLayout}
 use Rattle.snap_sync.specs.Work.{broke_sync}
 use Rattle.snap_top.specs.Array.{Matches}
+use Rattle.snap_top.specs.Exercising.{AsksForExercise}
 use Rattle.snap_top.specs.Known.{unknown_in}
 use Rattle.snap_top.specs.Opening.{asked_by}
 use Rattle.snap_top.specs.Run.{BeginsWith, Entry, Exit, LoadsFrom}
@@ -112,6 +113,12 @@ pub record IsSmooth (before : Entry) (exit : Exit) : Type 0 where
   pub layout : IsUnrefused before exit asked.command setup
   pub agrees : (table : TableValue) → LoadsTable (held_vault before) (left_vault exit) table → Matches setup table
 
+-- The words ask for an exercise, and the output did not fail. Nothing is supposed of the opener, which is asked for nothing.
+pub record IsSmoothExercise (before : Entry) (exit : Exit) : Type 0 where
+  pub number : ℕ
+  pub asks : AsksForExercise before.texts number
+  pub out : ¬ (Rose before.out.faults exit.after.out.faults)
+
 -- then it is done, or memory ran out
 abbrev pub SmoothRunsAreDone : Entry → Exit → ℕ → Type 0
-SmoothRunsAreDone before exit status = IsSmooth before exit → (status ≤ 1) ⊎ (status ≡ 4)
+SmoothRunsAreDone before exit status = IsSmooth before exit ⊎ IsSmoothExercise before exit → (status ≤ 1) ⊎ (status ≡ 4)

@@ -35,6 +35,7 @@ DoesCommand (commands.Check selection) task table before after left did = Checks
 DoesCommand (commands.Audit selection) task table before after left did = ChecksBy left.answer modes.Audit selection task table before after left did
 DoesCommand (commands.Fix selection) task table before after left did = FixesBy left.answer selection task table before after left did
 DoesCommand (commands.Scrub way) task table before after left did = ScrubsBy left.answer way task table before after left did
+DoesCommand (commands.Exercise n) task table before after left did = ⊥
 
 abbrev pub Does : Task → TableValue → World → World → Left → Did → Type 0
 Does task table before after left did = DoesCommand task.command task table before after left did

@@ -1,5 +1,5 @@
 -- The status of each end of a run, and its line on the standard error, or lines where content is damaged.
-use Rattle.std.specs.Prelude.{ℕ, ◌+◌, List, [], ◌∷◌, codes, slice_get, unwrap_or, Option}
+use Rattle.std.specs.Prelude.{ℕ, ◌+◌, ◌==◌, if◌then◌else◌, List, [], ◌∷◌, codes, slice_get, unwrap_or, Option}
 use Rattle.std.specs.Fmt.{decimal}
 use Rattle.std.specs.List.{flat_map}
 use Rattle.std.specs.Option.{option_map_or}
@@ -26,7 +26,7 @@ use Rattle.snap_top.specs.Array.{column_names, disk_names}
 use Rattle.snap_top.specs.declared.end.Difference.{Difference}
 use Rattle.snap_top.specs.declared.end.Difference.TheVariants.{BlockSize, Levels, DiskName}
 use Rattle.snap_top.specs.declared.end.End.{End}
-use Rattle.snap_top.specs.declared.end.End.TheVariants.{Refused, Worked}
+use Rattle.snap_top.specs.declared.end.End.TheVariants.{Refused, Worked, Exercised}
 use Rattle.snap_top.specs.declared.end.Ending.{Ending}
 use Rattle.snap_top.specs.declared.end.Ending.TheVariants.{NotLoaded, NoTable, OtherArray, Answered}
 use Rattle.snap_top.specs.declared.end.Refusal.{Refusal}
@@ -67,6 +67,7 @@ ending_status (Answered answer named) = answers.status_of answer
 abbrev pub status_of : End → ℕ
 status_of (Refused refusal) = refusal_status refusal
 status_of (Worked setup ending) = ending_status ending
+status_of (Exercised answer) = answers.status_of answer
 
 -- ---- the line
 
@@ -77,17 +78,24 @@ memory_line = codes "snapraid: out of memory\n"
 abbrev pub option_word : ℕ → List ℕ
 option_word row = option_map_or name_of (option_in row) []
 
-abbrev pub unfit_line : List ℕ → List ℕ → List ℕ
-unfit_line option command = joined (codes "snapraid: option '--" ∷ option ∷ codes "' does not go with '" ∷ command ∷ codes "'\n" ∷ [])
+-- what stands in a refused line for the option of a row: the number has no name
+abbrev pub given_in : ℕ → List ℕ
+given_in row = if row == 14 then codes "a number" else joined (codes "option '--" ∷ option_word row ∷ codes "'" ∷ [])
 
-abbrev pub value_line : List ℕ → List ℕ
-value_line option = joined (codes "snapraid: bad value for '--" ∷ option ∷ codes "'\n" ∷ [])
+abbrev pub value_in : ℕ → List ℕ
+value_in row = if row == 14 then codes "bad number for 'exercise'" else joined (codes "bad value for '--" ∷ option_word row ∷ codes "'" ∷ [])
+
+abbrev pub unfit_line : ℕ → List ℕ → List ℕ
+unfit_line row command = joined (codes "snapraid: " ∷ given_in row ∷ codes " does not go with '" ∷ command ∷ codes "'\n" ∷ [])
+
+abbrev pub value_line : ℕ → List ℕ
+value_line row = joined (codes "snapraid: " ∷ value_in row ∷ codes "\n" ∷ [])
 
 abbrev pub words_line : WordsFault → List ℕ
 words_line words.Usage = codes "snapraid: cannot read the arguments\n"
 words_line (words.Command word) = joined (codes "snapraid: unknown command '" ∷ printed word ∷ codes "'\n" ∷ [])
-words_line (words.Unfit option command) = unfit_line (option_word option) (command_word command)
-words_line (words.Value option) = value_line (option_word option)
+words_line (words.Unfit option command) = unfit_line option (command_word command)
+words_line (words.Value option) = value_line option
 words_line words.Memory = memory_line
 
 abbrev pub config_line : List ℕ → ConfigFault → List ℕ
@@ -162,3 +170,4 @@ ending_line setup (Answered answer named) = answers.answer_line (disk_named setu
 abbrev pub line_of : End → List ℕ
 line_of (Refused refusal) = refusal_line refusal
 line_of (Worked setup ending) = ending_line (setup_value setup) ending
+line_of (Exercised answer) = answers.answer_line [] [] answer

@@ -13,7 +13,7 @@ use Rattle.snap_fix.specs.Ending.{Finishes}
 use Rattle.stripe_examiner.specs.Facts.{StripeFacts, gift_of}
 use Rattle.snap_fix.specs.FixBreaking.{BreaksOff}
 use Rattle.snap_fix.specs.FixCourse.{FixFinds, FixesFiles, FixesVault, MakeFixCalls, fix_events}
-use Rattle.snap_fix.specs.FixRun.{HasBroken, LooksAhead}
+use Rattle.snap_fix.specs.FixRun.{HasBroken, LooksAhead, RoseBeyond}
 use Rattle.snap_fix.specs.Fixing.{MendsVault, facts_of}
 use Rattle.stripe_examiner.specs.Looking.{numbers_of, unread_cells, unread_in}
 use Rattle.snap_fix.specs.Reads.{AreAllRead, FolderReads}
@@ -107,6 +107,8 @@ pub record FixBroke (fault : RunFault) (selection : Selection) (task : Task) (ta
       → FolderReads (AreAllRead course.plan (starts_of table course.lists) d (facts_of course.stripes ++ ahead.stripes))
       (folder_at course.listed d) (folder_at after.folders d)
   pub broke : HasBroken course.plan fault left.told course.listed after.folders (view_of before.vault) (view_of after.vault)
+  pub rose : RoseBeyond fault (facts_of course.stripes ++ ahead.stripes) (course.readings ++ ahead.readings) course.listed after.folders
+      (view_of before.vault) (view_of after.vault)
   pub answer_is : left.answer ≡ answers.Broken fault
   pub named_is : left.named ≡ None
   pub counted_is : left.counted ≡ 0

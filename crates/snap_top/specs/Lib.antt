@@ -7,6 +7,7 @@ pub mod Complete
 pub mod Does
 pub mod End
 pub mod Ended
+pub mod Exercising
 pub mod Fix
 pub mod FixedAlike
 pub mod Fixing

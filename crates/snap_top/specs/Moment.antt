@@ -103,6 +103,7 @@ ChangesNothing commands.List = Unit {0}
 ChangesNothing commands.Status = Unit {0}
 ChangesNothing (commands.Check selection) = Unit {0}
 ChangesNothing (commands.Audit selection) = Unit {0}
+ChangesNothing (commands.Exercise n) = Unit {0}
 ChangesNothing _ = ⊥
 
 -- ---- each moment

@@ -17,7 +17,8 @@ use Rattle.snap_config.specs.declared.options.WordsFault.TheVariants as words
 use Rattle.snap_config.specs.declared.why.ConfigFault.{ConfigFault}
 use Rattle.snap_top.specs.Known.{unknown_in}
 use Rattle.snap_top.specs.Levels.{by_levels, opener_by}
-use Rattle.snap_top.specs.Views.{folder_at}
+use Rattle.snap_top.specs.Task.{WorksOnArray}
+use Rattle.snap_top.specs.Views.{AreAllOpen, folder_at}
 use Rattle.snap_top.specs.declared.commands.TheConstants.{COMMANDS}
 use Rattle.snap_top.specs.declared.end.Refusal.{Refusal}
 use Rattle.snap_top.specs.declared.end.Refusal.TheVariants.{Words, Unread, Config as BadConfig, NoDisk, Unopened}
@@ -53,10 +54,11 @@ pub record SaysNot (opener : OpenerView) (log : Option (List ℕ)) (fault : Conf
   pub held : IsTrue opener.tells → bytes ≡ take 1048577 opener.config
   pub refused : IsRefusal fault (read_setup bytes log)
 
--- the words ask for this command, with so many readers, and the file that they name says this configuration
+-- the words ask for this command, which works on an array, with so many readers, and the file that they name says this configuration
 pub record IsConfigured (texts : List (List ℕ)) (opener : OpenerView) (command : Command) (readers : ℕ) (setup : SetupValue) : Type 0 where
   pub asked : Options
   pub read : asked_by texts ≡ Ok asked
+  pub array : WorksOnArray asked.command
   pub command_is : command ≡ asked.command
   pub readers_are : readers ≡ asked.readers
   pub says : Says opener asked.log setup
@@ -75,10 +77,11 @@ ConfiguresNot file log old new (BadConfig named fault) = (named ≡ file) × Say
 ConfiguresNot file log old new (NoDisk name) = ⊥
 ConfiguresNot file log old new (Unopened fault) = ⊥
 
--- the words were read, and the configuration file gave no setup
+-- the words ask for a command that works on an array, and the configuration file gave no setup
 pub record IsUnconfigured (texts : List (List ℕ)) (old new : OpenerView) (why : Refusal) : Type 0 where
   pub asked : Options
   pub read : asked_by texts ≡ Ok asked
+  pub array : WorksOnArray asked.command
   pub why_not : ConfiguresNot asked.conf asked.log old new why
 
 -- this is the first name that the command selects and neither a disk nor a level of the configuration has
@@ -108,6 +111,10 @@ Refuses texts old new (BadConfig file fault) = IsUnconfigured texts old new (Bad
 Refuses texts old new (NoDisk name) = IsUnknown texts old new name
 Refuses texts old new (Unopened fault) = IsUnopened texts old new fault
 
+-- so it is of all words that ask for this
+abbrev pub RefusesFor : Options → OpenerView → OpenerView → Refusal → Type 0
+RefusesFor asked old new why = (texts : List (List ℕ)) → asked_by texts ≡ Ok asked → Refuses texts old new why
+
 -- ---- what was opened
 
 -- a vault is given as it was held, of so many levels and copies, without drafts
@@ -132,3 +139,9 @@ pub record IsGiven (texts : List (List ℕ)) (old new : OpenerView) (command : C
 abbrev pub IsGivenBy : List (List ℕ) → OpenerView → OpenerView → Command → ℕ → SetupValue → List FolderView → VaultView → Type 0
 IsGivenBy texts old new command readers setup folders vault =
     IsGiven texts (opener_by (Some setup) old) (opener_by (Some setup) new) command readers setup folders (state_of (by_levels setup vault))
+
+-- Open folders, one for each directory; and so it is of all words that ask for this.
+pub record IsGivenFor (asked : Options) (old new : OpenerView) (command : Command) (readers : ℕ) (setup : SetupValue) (folders : List FolderView) (vault : VaultView) : Type 0 where
+  pub columns : length folders ≡ length setup.dirs
+  pub are_open : AreAllOpen folders
+  pub given : (texts : List (List ℕ)) → asked_by texts ≡ Ok asked → IsGivenBy texts old new command readers setup folders vault

@@ -6,7 +6,7 @@ use Rattle.content_file.specs.declared.loading.LoadFault.{LoadFault}
 use Rattle.content_file.specs.declared.loading.LoadFault.TheVariants as loads
 use Rattle.disk_model.specs.Calls.{MakesOnly}
 use Rattle.disk_model.specs.Folder.{FolderView}
-use Rattle.disk_model.specs.Opener.{OpenerView, HoldsSame, SameVault}
+use Rattle.disk_model.specs.Opener.{OpenerView, OpenerGoesOn, HoldsSame, SameVault}
 use Rattle.disk_model.specs.Sink.{SinkView}
 use Rattle.disk_model.specs.Vault.{VaultView, VaultState, SomeCalls, DraftsStay, ChangesBy, Holds, IsSettled, copies_of}
 use Rattle.file_table.specs.Table.{Column, TableValue}
@@ -15,6 +15,7 @@ use Rattle.snap_config.specs.Setup.{SetupValue, setup_value}
 use Rattle.snap_report.specs.Answer.{IsCaused}
 use Rattle.snap_report.specs.EventLines.{lines_of}
 use Rattle.snap_report.specs.Report.{ReportView, AllGiven}
+use Rattle.snap_report.specs.declared.answer.Answer.{Answer}
 use Rattle.snap_report.specs.Telling.{Tells, between}
 use Rattle.snap_report.specs.declared.events.Event.{Event}
 use Rattle.snap_top.specs.Array.{empty_table, Matches, DiffersIn}
@@ -22,11 +23,12 @@ use Rattle.snap_top.specs.Does.{Does}
 use Rattle.snap_top.specs.Levels.{by_setup, opener_by, said_by}
 use Rattle.snap_top.specs.Task.{Task, Did, reads_only, may_stand, stands_after, told_columns, Keeps, Left}
 use Rattle.snap_top.specs.End.{status_of, line_of}
+use Rattle.snap_top.specs.Exercising.{AsksForExercise, Exercises}
 use Rattle.snap_top.specs.Opening.{Refuses, IsGiven}
 use Rattle.snap_top.specs.Views.{World, WorldView, world_view, world_of, view_of, outside_of}
 use Rattle.snap_top.specs.declared.end.Difference.{Difference}
 use Rattle.snap_top.specs.declared.end.End.{End}
-use Rattle.snap_top.specs.declared.end.End.TheVariants.{Refused, Worked}
+use Rattle.snap_top.specs.declared.end.End.TheVariants.{Refused, Worked, Exercised}
 use Rattle.snap_top.specs.declared.end.Ending.{Ending}
 use Rattle.snap_top.specs.declared.end.Ending.TheVariants.{NotLoaded, NoTable, OtherArray, Answered}
 use Rattle.snap_top.specs.declared.end.Refusal.{Refusal}
@@ -205,19 +207,35 @@ pub record IsRun (before : Entry) (exit : Exit) (setup : SetupValue) (ending : E
   pub changes : IsTrue before.opener.tells → ChangesBy (may_stand did) before.opener.vault exit.after.vault
   pub ends : IsTrue before.opener.tells → IsTrue before.opener.vault.tells → Holds (stands_after did before.opener.vault.files) exit.after.vault
 
+-- The words ask for an exercise, and it was made. The opener was asked for nothing and holds what it held, and no event was told.
+pub record IsExercised (before : Entry) (exit : Exit) (answer : Answer) (told : List Event) : Type 0 where
+  pub number : ℕ
+  pub asks : AsksForExercise before.texts number
+  pub exercises : Exercises number before.out exit.after.out answer
+  pub uncalled : OpenerGoesOn before.opener exit.opener []
+  pub unfailed : exit.opener.faults ≡ before.opener.faults
+  pub kept : HoldsSame before.opener exit.opener
+  pub folders : exit.after.folders ≡ []
+  pub no_vault : exit.has_vault ≡ false
+  pub vault : SameVault before.opener.tells before.opener.vault exit.after.vault
+  pub untold : told ≡ []
+
 abbrev pub Ran : Entry → Exit → End → List Event → Type 0
 Ran before exit (Refused why) told = IsRefused before exit why told
 Ran before exit (Worked setup ending) told = IsRun before exit (setup_value setup) ending told
+Ran before exit (Exercised answer) told = IsExercised before exit answer told
 
 -- the setup of a run that opened its array
 abbrev pub setup_of : End → Option SetupValue
 setup_of (Refused why) = None
 setup_of (Worked setup ending) = Some (setup_value setup)
+setup_of (Exercised answer) = None
 
 -- the columns that give the names in the lines of its events
 abbrev pub columns_of : (before : Entry) (exit : Exit) (end : End) (told : List Event) → Ran before exit end told → List Column
 columns_of before exit (Refused why) told ran = []
 columns_of before exit (Worked setup ending) told ran = columns_in ran.task ran.given (world_of exit.after) ending told ran.did ran.goes
+columns_of before exit (Exercised answer) told ran = []
 
 -- a run by the levels of its setup, with the events that it told the reports, and their lines
 pub record RanWith {R : Type 0} (standing : R → ReportView) (stands : R → List Event → Type 0) (before : Entry) (exit : Exit)

@@ -1,6 +1,6 @@
 -- What a stop within the fix of a run leaves of the files of its folders, and what the next fix finds.
-use Rattle.std.specs.Prelude.{◌≡◌, ◌⊎◌, ℕ, ◌<◌, List, length, drop, Bool, true, false, IsTrue, Some}
-use Rattle.disk_model.specs.Folder.{FolderView, FolderDone}
+use Rattle.std.specs.Prelude.{◌≡◌, ◌⊎◌, ℕ, ◌<◌, List, length, Bool, true, false, IsTrue, Some}
+use Rattle.disk_model.specs.Folder.{FolderView}
 use Rattle.disk_model.specs.Opener.{folder_held}
 use Rattle.disk_model.specs.Stopped.{MayBeLeft}
 use Rattle.disk_model.specs.Tree.{File, IsTree, Tree, file_of, path_of}
@@ -12,13 +12,9 @@ use Rattle.snap_fix.specs.Stopped.{FixStop, IsNoneOf, StandsSpared, file_placed,
 use Rattle.snap_top.specs.Fix.{FixRun}
 use Rattle.snap_top.specs.Run.{Entry, Exit}
 use Rattle.snap_top.specs.Undamaged.{was_read}
-use Rattle.snap_top.specs.Views.{folder_at}
+use Rattle.snap_top.specs.Views.{calls_since, folder_at}
 
 -- ---- the files at a moment of a run
-
--- the calls of a folder that were made since then, where it tells its calls
-abbrev pub calls_since : FolderView → FolderView → List FolderDone
-calls_since old new = drop (length old.calls) new.calls
 
 -- The files of a folder as they read at the end of a run, or as a stop may leave them within the calls of it that the run made. What a stop
 -- after the first of these calls may leave is among that (`disk_model::laws::a_folder_stands_among_what_a_stop_may_leave`, clause `later`).

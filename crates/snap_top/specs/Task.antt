@@ -32,15 +32,16 @@ pub record Task : Type 0 where
 abbrev pub task_of : Job → Task
 task_of job = record { command = job.command; readers = job.readers; setup = setup_value job.setup; moment = job.moment; seed = job.seed }
 
--- the commands that are built
-abbrev pub IsBuilt : Command → Type 0
-IsBuilt commands.List = Unit {0}
-IsBuilt commands.Status = Unit {0}
-IsBuilt (commands.Sync way) = Unit {0}
-IsBuilt (commands.Check selection) = Unit {0}
-IsBuilt (commands.Audit selection) = Unit {0}
-IsBuilt (commands.Fix selection) = Unit {0}
-IsBuilt (commands.Scrub way) = Unit {0}
+-- the commands that work on the array of a configuration
+abbrev pub WorksOnArray : Command → Type 0
+WorksOnArray commands.List = Unit {0}
+WorksOnArray commands.Status = Unit {0}
+WorksOnArray (commands.Sync way) = Unit {0}
+WorksOnArray (commands.Check selection) = Unit {0}
+WorksOnArray (commands.Audit selection) = Unit {0}
+WorksOnArray (commands.Fix selection) = Unit {0}
+WorksOnArray (commands.Scrub way) = Unit {0}
+WorksOnArray (commands.Exercise n) = ⊥
 
 -- what a run did to the files of the vault and of the folders: it only read them, or it synced, fixed or scrubbed them, and broke off in
 -- that (`failed`) or did not

@@ -1,6 +1,6 @@
 -- All that a command may touch, before and after it.
-use Rattle.std.specs.Prelude.{◌≡◌, ℕ, ◌<◌, List, length, slice_index_or, false, None}
-use Rattle.disk_model.specs.Folder.{FolderView, FolderCall, SomeFolderCalls, TreeStays, quiet_folder}
+use Rattle.std.specs.Prelude.{◌≡◌, ℕ, ◌<◌, List, length, drop, slice_index_or, false, IsTrue, None}
+use Rattle.disk_model.specs.Folder.{FolderView, FolderCall, FolderDone, SomeFolderCalls, TreeStays, quiet_folder}
 use Rattle.disk_model.specs.Sink.{SinkView, SinkGoesOn}
 use Rattle.disk_model.specs.Stopped.{EachCall, written_path}
 use Rattle.disk_model.specs.Vault.{VaultView, VaultState, SomeCalls, state_of, no_images}
@@ -49,10 +49,14 @@ folder_at folders d = slice_index_or folders d (quiet_folder 0 false)
 abbrev pub AreAllOpen : List FolderView → Type 0
 AreAllOpen folders = (d : ℕ) → d < length folders → (folder_at folders d).closed ≡ false
 
--- a folder was only read: none of its calls writes, as far as it tells its calls
+-- the calls of a folder that were made since then, where it tells its calls
+abbrev pub calls_since : FolderView → FolderView → List FolderDone
+calls_since old new = drop (length old.calls) new.calls
+
+-- a folder was only read: where it tells its calls, none of them writes
 pub record ReadsOnly (old new : FolderView) : Type 0 where
   pub calls : SomeFolderCalls old new
-  pub reads : EachCall (λ (call : FolderCall). written_path call ≡ None) calls.done
+  pub reads : IsTrue new.tells_calls → EachCall (λ (call : FolderCall). written_path call ≡ None) (calls_since old new)
   pub tree : TreeStays old new
 
 -- the folders were only read

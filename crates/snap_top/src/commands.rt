@@ -6,7 +6,7 @@ ghost use Rattle.snap_report.specs.ListText.{list_text};
 ghost use Rattle.snap_report.specs.StatusText.{bad_in, status_text};
 ghost use Rattle.snap_report.specs.Telling.{Tells, between};
 ghost use Rattle.snap_top.specs.Does.{IsDone};
-ghost use Rattle.snap_top.specs.Task.{Prints, IsBuilt, task_of};
+ghost use Rattle.snap_top.specs.Task.{Prints, WorksOnArray, task_of};
 ghost use Rattle.snap_top.specs.Syncing.{IsOpened};
 ghost use Rattle.snap_top.specs.Views.{world_view};
 
@@ -24,7 +24,7 @@ use std::alloc::Global;
 use std::thread::Threads;
 
 /// The commands that are built.
-pub const COMMANDS: [CommandName; 6] = BUILT_COMMANDS;
+pub const COMMANDS: [CommandName; 7] = BUILT_COMMANDS;
 
 // Prints the files of a table, and answers whether a write failed.
 fn print_list<W: Sink>(table: &Table, out: &mut W) -> bool
@@ -83,7 +83,7 @@ pub(crate) fn carry_out<R: Threads + Sync, F: Folder, V: Vault, W: Sink>(
     reports: &mut Vec<Box<dyn Report>>,
     out: &mut W,
 ) -> Done
-    requires built { IsBuilt job.now.command }
+    requires works { WorksOnArray job.now.command }
     requires way { IsWay job.now.command }
     requires array { IsOpened (setup_value job.now.setup) table (map F.view folders.old) (V.view vault.old) }
     ensures { IsDone standing stands (task_of job.now) table
@@ -133,5 +133,6 @@ pub(crate) fn carry_out<R: Threads + Sync, F: Folder, V: Vault, W: Sink>(
         Command::Fix(selection) => fix_array(
             rt, alloc, job, selection, &table, folders, vault, reports, out,
         ),
+        Command::Exercise(_) => unreachable!(),
     }
 }

@@ -58,6 +58,8 @@ pub enum End {
     Refused(Refusal),
     /// On the array of this configuration.
     Worked { setup: Setup, ending: Ending },
+    /// On an array in memory, of which nothing is left.
+    Exercised(Answer),
 }
 
 impl Refusal {
@@ -100,6 +102,7 @@ impl End {
         match self {
             End::Refused(refusal) => refusal.status(),
             End::Worked { ending, .. } => ending.status(),
+            End::Exercised(answer) => answer.status(),
         }
     }
 }

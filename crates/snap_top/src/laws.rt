@@ -24,7 +24,7 @@ ghost use Rattle.snap_sync.specs.Soundness.{AreSound};
 ghost use Rattle.snap_config.specs.declared.options.Command.{Command};
 ghost use Rattle.stripe_findings.specs.Findings.{events_of};
 ghost use Rattle.snap_top.specs.Alike.{AskAlike, CheckAlike, FindAlike, FixAlike, FixFindsAlike, HoldAlike, NothingRose, ReadAlike, seen_by};
-ghost use Rattle.snap_top.specs.BrokeOff.{BrokeOff, EndedEarly, FixBrokeOff, PrintsFront, RoseOnce};
+ghost use Rattle.snap_top.specs.BrokeOff.{BrokeOff, EndedEarly, FixBrokeOff, PrintsFront, RoseOnceBy};
 ghost use Rattle.snap_top.specs.Check.{CheckRun};
 ghost use Rattle.snap_top.specs.Fix.{FixRun};
 ghost use Rattle.snap_top.specs.FixedAlike.{FixesAlike, KeepStampsAlike};
@@ -317,18 +317,18 @@ pub fn what_is_read_alike_is_left_alike<O: Opener, F: Folder, V: Vault, W: Sink>
 }
 
 /// What a run told and printed that broke off is a front of what a run tells and prints over the same array in which nothing
-/// failed but its output. Both were asked for the same, and their openers tell all and hold the same. Of a sync or a scrub that broke
-/// off, no folder's count of faults rose, and the vault's by one at most: so that call broke it off, and no reading failed. Scrubs
-/// begin at one moment. A fix broke off once the folders were listed; by its account no reading failed of what it looked at, and the
-/// folders of both keep stamps alike. A run that ended early printed nothing: it was refused, or it only read and did not come to its
-/// end.
+/// failed but its output. Both were asked for the same, and their openers tell all and hold the same. Of the run that broke off, no
+/// count of faults of a folder or of the vault rose but that of what broke it off, and that by one at most: so that call failed alone,
+/// and no reading did. Scrubs begin at one moment, and the folders of both fixes keep stamps alike. It is enough that by the account of
+/// a fix no reading failed of what it looked at. A run that ended early printed nothing: it was refused, or it only read and did not
+/// come to its end.
 pub fn a_broken_run_prints_a_front<O: Opener, F: Folder, V: Vault, W: Sink>()
     ensures syncs { (run again : RunOf O F V W)
         (other : EndsInPart (entry_of O.view W.view again) (end_of O.view F.view V.view W.view again) again.status)
         (broke : BrokeOff (entry_of O.view W.view run) (end_of O.view F.view V.view W.view run)) →
         HoldAlike (entry_of O.view W.view run) (entry_of O.view W.view again) →
         AskSame (entry_of O.view W.view run) (entry_of O.view W.view again) →
-        RoseOnce (entry_of O.view W.view run) (end_of O.view F.view V.view W.view run) →
+        RoseOnceBy broke.fault (entry_of O.view W.view run) (end_of O.view F.view V.view W.view run) →
         NothingRose (entry_of O.view W.view again) (end_of O.view F.view V.view W.view again) →
         PrintsFront broke.told (events_of other.run.plan.start other.run.readings) (entry_of O.view W.view run)
         (entry_of O.view W.view again) (end_of O.view F.view V.view W.view run) (end_of O.view F.view V.view W.view again) again.status }
@@ -337,11 +337,21 @@ pub fn a_broken_run_prints_a_front<O: Opener, F: Folder, V: Vault, W: Sink>()
         (broke : BrokeOff (entry_of O.view W.view run) (end_of O.view F.view V.view W.view run)) →
         HoldAlike (entry_of O.view W.view run) (entry_of O.view W.view again) →
         AskSame (entry_of O.view W.view run) (entry_of O.view W.view again) → run.moment ≡ again.moment →
-        RoseOnce (entry_of O.view W.view run) (end_of O.view F.view V.view W.view run) →
+        RoseOnceBy broke.fault (entry_of O.view W.view run) (end_of O.view F.view V.view W.view run) →
         NothingRose (entry_of O.view W.view again) (end_of O.view F.view V.view W.view again) →
         PrintsFront broke.told (events_scrubbed other.run) (entry_of O.view W.view run) (entry_of O.view W.view again)
         (end_of O.view F.view V.view W.view run) (end_of O.view F.view V.view W.view again) again.status }
     ensures fixes { (run again : RunOf O F V W)
+        (other : EndsFixed (entry_of O.view W.view again) (end_of O.view F.view V.view W.view again) again.status)
+        (broke : BrokeOff (entry_of O.view W.view run) (end_of O.view F.view V.view W.view run)) →
+        HoldAlike (entry_of O.view W.view run) (entry_of O.view W.view again) →
+        AskSame (entry_of O.view W.view run) (entry_of O.view W.view again) →
+        KeepStampsAlike (entry_of O.view W.view run) (entry_of O.view W.view again) →
+        RoseOnceBy broke.fault (entry_of O.view W.view run) (end_of O.view F.view V.view W.view run) →
+        NothingRose (entry_of O.view W.view again) (end_of O.view F.view V.view W.view again) →
+        PrintsFront broke.told (events_in other.run other.finishes) (entry_of O.view W.view run) (entry_of O.view W.view again)
+        (end_of O.view F.view V.view W.view run) (end_of O.view F.view V.view W.view again) again.status }
+    ensures read_fixes { (run again : RunOf O F V W)
         (other : EndsFixed (entry_of O.view W.view again) (end_of O.view F.view V.view W.view again) again.status)
         (off : FixBrokeOff (entry_of O.view W.view run) (end_of O.view F.view V.view W.view run)) →
         HoldAlike (entry_of O.view W.view run) (entry_of O.view W.view again) →

@@ -20,6 +20,7 @@
 //! `has_ended`.
 //! Where a level has several files, the work is done on a `SplitVault`, and all that is said of the vault is said of its
 //! levels (`specs/Levels.antt`).
+//! An exercise opens nothing: it is the crate `snap_exercise`, and what it leaves of a run is `specs/Exercising.antt`.
 //! Not here: real files. They are `disk_host`'s.
 #![tactic(auto)]
 
@@ -27,6 +28,7 @@ mod checking;
 mod commands;
 mod empty;
 mod end;
+mod exercising;
 mod fixing;
 mod job;
 mod known;
@@ -41,3 +43,4 @@ mod syncing;
 pub use commands::COMMANDS;
 pub use end::{Difference, End, Ending, Refusal};
 pub use running::{Outcome, run};
+pub use snap_exercise::exercise;

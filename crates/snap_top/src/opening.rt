@@ -1,17 +1,16 @@
 // All that a run opens.
-ghost use Rattle.std.specs.Prelude.{◌≡◌, ◌∷◌, [], map, false, IfOk, IfErr, OnErr, OnOk, IsTrue, string_bytes};
+ghost use Rattle.std.specs.Prelude.{◌≡◌, ◌∷◌, [], map, false, IfOk, IfErr, OnErr, OnOk, IsTrue};
 ghost use Rattle.disk_model.specs.Opener.{OpenerGoesOn, HoldsSame, SameImages};
 ghost use Rattle.snap_config.specs.Setup.{IsSetup, setup_value};
-ghost use Rattle.snap_config.specs.Words.{IsAmong, IsOptions, IsWay, name_of_command};
-ghost use Rattle.snap_top.specs.Task.{IsBuilt};
+ghost use Rattle.snap_config.specs.Words.{IsOptions, IsWay};
+ghost use Rattle.snap_top.specs.Task.{WorksOnArray};
 ghost use Rattle.snap_top.specs.Levels.{IsOpenedBy};
-ghost use Rattle.snap_top.specs.Opening.{Says, ConfiguresNot, Refuses, IsGivenBy, reads_config};
+ghost use Rattle.snap_top.specs.Opening.{Says, ConfiguresNot, IsGivenFor, RefusesFor, reads_config};
 
 use crate::Refusal;
-use crate::commands::COMMANDS;
 use crate::known::known_command;
 use disk_model::{Opener, Text};
-use snap_config::{Command, ConfigFault, Options, Setup, read_config, read_words_among};
+use snap_config::{Command, ConfigFault, Options, Setup, read_config};
 use std::alloc::Global;
 
 /// An array that was opened, and what is to be done with it.
@@ -57,26 +56,24 @@ fn configure<O: Opener>(
     }
 }
 
-/// Reads the words and the configuration that they name, and opens what that names.
+/// Reads the configuration that the words name, and opens what that names. This is what they ask for.
 pub(crate) fn open_all<O: Opener>(
     alloc: Global,
-    words: &[String],
+    asked: Options,
     opener: &mut O,
 ) -> Result<Session<O::Folder, O::Vault>, Refusal>
-    ensures given { IfOk result (λ session. IsGivenBy (map string_bytes words.now) (O.view opener.old) (O.view opener.new) session.command session.readers
+    requires options { IsOptions asked }
+    requires works { WorksOnArray asked.command }
+    ensures given { IfOk result (λ session. IsGivenFor asked (O.view opener.old) (O.view opener.new) session.command session.readers
         (setup_value session.setup) (map O.Folder.view session.folders.items) (O.Vault.view session.vault)) }
     ensures images { IfOk result (λ session. IsTrue (O.view opener.old).tells → SameImages (O.view opener.old).vault.images (O.Vault.view session.vault).images) }
     ensures opened { IfOk result (λ session. IsOpenedBy session.parts.items (setup_value session.setup) (O.Vault.view session.vault)) }
-    ensures built { IfOk result (λ session. IsBuilt session.command) }
+    ensures works { IfOk result (λ session. WorksOnArray session.command) }
     ensures way { IfOk result (λ session. IsWay session.command) }
     ensures valid { IfOk result (λ session. IsSetup (setup_value session.setup)) }
-    ensures refused { IfErr result (Refuses (map string_bytes words.now) (O.view opener.old) (O.view opener.new)) }
+    ensures refused { IfErr result (RefusesFor asked (O.view opener.old) (O.view opener.new)) }
     ensures kept { OnErr result (HoldsSame (O.view opener.old) (O.view opener.new)) }
 {
-    let asked = match read_words_among(alloc, &COMMANDS, words) {
-        Ok(asked) => asked,
-        Err(fault) => return Err(Refusal::Words(fault)),
-    };
     let Options {
         conf,
         log,

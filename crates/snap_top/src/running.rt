@@ -1,33 +1,36 @@
 // A run.
-ghost use Rattle.std.specs.Prelude.{◌≡◌, length, map, string_bytes, IfOk, IfErr, Option};
+ghost use Rattle.std.specs.Prelude.{◌≡◌, [], List, length, map, string_bytes, IfOk, IfErr, None, Ok, Option, ℕ};
 ghost use Rattle.file_table.specs.Valid.{IsValid};
 ghost use Rattle.parity_split.specs.Split.{split_view};
 ghost use Rattle.snap_config.specs.Setup.{IsSetup, setup_value};
-ghost use Rattle.snap_config.specs.Words.{IsWay};
+ghost use Rattle.snap_config.specs.Words.{IsOptions, IsWay};
 ghost use Rattle.snap_top.specs.Complete.{IsSilent, RefusalsTouchNothing, SmoothRunsAreDone};
 ghost use Rattle.snap_top.specs.Levels.{IsOpenedBy, IsShapedBy, by_levels, is_split};
 ghost use Rattle.snap_top.specs.Moment.{EveryMomentIsSound, SyncsEndInPart};
 ghost use Rattle.snap_top.specs.Naming.{ChecksEnd};
+ghost use Rattle.snap_top.specs.Opening.{asked_by};
 ghost use Rattle.snap_top.specs.Restoring.{FixesEnd};
 ghost use Rattle.snap_top.specs.Scrubbed.{ScrubsEnd};
-ghost use Rattle.snap_top.specs.Task.{IsBuilt, task_of};
+ghost use Rattle.snap_top.specs.Task.{WorksOnArray, task_of};
 ghost use Rattle.snap_top.specs.Run.{BeginsWith, BeginsNot, ByLevels, IsAccounted, Works, Ran, RanWith, EndsWith, at_entry, exit_of};
 ghost use Rattle.snap_top.specs.Step.{EveryRunSteps};
 ghost use Rattle.snap_top.specs.Views.{AreAllOpen, world_view};
 
-use crate::commands::carry_out;
+use crate::commands::{COMMANDS, carry_out};
 use crate::empty::empty;
+use crate::exercising::exercise_alone;
 use crate::job::{Done, Job};
 use crate::matching::difference;
 use crate::opening::{Session, open_all};
 use crate::saying::say;
-use crate::{End, Ending};
+use crate::{End, Ending, Refusal};
 use array_scan::laws::a_layout_keeps_its_stripes;
 use content_file::laws::one_table_has_a_spelling;
 use content_file::load;
 use disk_model::{Folder, Opener, Sink, Vault};
 use file_table::Table;
 use parity_split::{Shape, SplitVault};
+use snap_config::{Command, Options, read_words_among};
 use snap_fix::laws::{a_fix_keeps_what_is_sound, a_fix_restores, a_known_row_is_the_snapshots};
 use snap_report::Report;
 use snap_scrub::laws::a_scrub_keeps_what_is_synced;
@@ -82,7 +85,7 @@ fn work_on<R: Threads + Sync, F: Folder, V: Vault, W: Sink>(
     reports: &mut Vec<Box<dyn Report>>,
     out: &mut W,
 ) -> Ending
-    requires built { IsBuilt job.now.command }
+    requires works { WorksOnArray job.now.command }
     requires way { IsWay job.now.command }
     requires valid { IsSetup (setup_value job.now.setup) }
     requires folders { length folders.old ≡ length job.now.setup.disks }
@@ -123,7 +126,7 @@ fn work_split<R: Threads + Sync, F: Folder, V: Vault, W: Sink, P: Shape>(
     reports: &mut Vec<Box<dyn Report>>,
     out: &mut W,
 ) -> (Ending, V)
-    requires built { IsBuilt job.now.command }
+    requires works { WorksOnArray job.now.command }
     requires way { IsWay job.now.command }
     requires valid { IsSetup (setup_value job.now.setup) }
     requires folders { length folders.old ≡ length job.now.setup.disks }
@@ -150,7 +153,7 @@ fn work_by_levels<R: Threads + Sync, F: Folder, V: Vault, W: Sink>(
     reports: &mut Vec<Box<dyn Report>>,
     out: &mut W,
 ) -> (Ending, V)
-    requires built { IsBuilt job.now.command }
+    requires works { WorksOnArray job.now.command }
     requires way { IsWay job.now.command }
     requires valid { IsSetup (setup_value job.now.setup) }
     requires folders { length folders.old ≡ length job.now.setup.disks }
@@ -169,22 +172,38 @@ fn work_by_levels<R: Threads + Sync, F: Folder, V: Vault, W: Sink>(
     (ending, vault)
 }
 
-// All but what is said on the standard error.
-fn work<R: Threads + Sync, O: Opener, W: Sink>(
+// Nothing was opened, and it ended so.
+fn unopened<F, V>(alloc: Global, end: End) -> Ended<F, V>
+    ensures end { result.end ≡ end }
+    ensures folders { result.folders.items ≡ [] }
+    ensures vault { result.vault ≡ None }
+{
+    Ended {
+        end,
+        folders: Vec::new(alloc),
+        vault: None,
+    }
+}
+
+// All that is done where the words ask for a command over the array of a configuration: of all words that ask for this.
+fn work_on_array<R: Threads + Sync, O: Opener, W: Sink>(
     rt: &R,
     alloc: Global,
-    words: &[String],
+    asked: Options,
     opener: &mut O,
     reports: &mut Vec<Box<dyn Report>>,
     out: &mut W,
     now: u64,
     seed: [u8; 16],
 ) -> Ended<O::Folder, O::Vault>
-    ensures { RanWith standing stands (at_entry (map string_bytes words.now) (O.view opener.old) (W.view out.old) now seed)
+    requires options { IsOptions asked }
+    requires works { WorksOnArray asked.command }
+    ensures { (texts : List (List ℕ)) → asked_by texts ≡ Ok asked → RanWith standing stands
+        (at_entry texts (O.view opener.old) (W.view out.old) now seed)
         (exit_of O.Folder.view O.Vault.view (O.view opener.new) result.folders.items result.vault (W.view out.new))
         reports.old.items reports.new.items result.end }
 {
-    match open_all(alloc, words, opener) {
+    match open_all(alloc, asked, opener) {
         Ok(session) => {
             let Session {
                 command,
@@ -220,12 +239,33 @@ fn work<R: Threads + Sync, O: Opener, W: Sink>(
                 vault: Some(vault),
             }
         }
-        Err(refusal) => Ended {
-            end: End::Refused(refusal),
-            folders: Vec::new(alloc),
-            vault: None,
-        },
+        Err(refusal) => unopened(alloc, End::Refused(refusal)),
     }
+}
+
+// All but what is said on the standard error.
+fn work<R: Threads + Sync, O: Opener, W: Sink>(
+    rt: &R,
+    alloc: Global,
+    words: &[String],
+    opener: &mut O,
+    reports: &mut Vec<Box<dyn Report>>,
+    out: &mut W,
+    now: u64,
+    seed: [u8; 16],
+) -> Ended<O::Folder, O::Vault>
+    ensures { RanWith standing stands (at_entry (map string_bytes words.now) (O.view opener.old) (W.view out.old) now seed)
+        (exit_of O.Folder.view O.Vault.view (O.view opener.new) result.folders.items result.vault (W.view out.new))
+        reports.old.items reports.new.items result.end }
+{
+    let asked = match read_words_among(alloc, &COMMANDS, words) {
+        Ok(asked) => asked,
+        Err(fault) => return unopened(alloc, End::Refused(Refusal::Words(fault))),
+    };
+    if let Command::Exercise(n) = asked.command {
+        return unopened(alloc, End::Exercised(exercise_alone(rt, alloc, n, out)));
+    }
+    work_on_array(rt, alloc, asked, opener, reports, out, now, seed)
 }
 
 /// Runs the words. The first of them is the program's name. `now` is in seconds since 1970, and `seed` is that of a new

@@ -5,7 +5,7 @@ ghost use Rattle.snap_config.specs.Setup.{setup_value};
 ghost use Rattle.snap_report.specs.State.{Puts, state_of};
 ghost use Rattle.snap_report.specs.Telling.{Tells, Settled, between};
 ghost use Rattle.snap_top.specs.Array.{column_names, disk_names};
-ghost use Rattle.snap_top.specs.End.{words_line, unfit_line, value_line, config_line, no_disk_line, open_line, refusal_line, load_line, damage_line, size_line, levels_line, names_line, name_or_sign, difference_line, ending_line, line_of, option_word, disk_named, path_named, memory_line};
+ghost use Rattle.snap_top.specs.End.{words_line, given_in, unfit_line, value_in, value_line, config_line, no_disk_line, open_line, refusal_line, load_line, damage_line, size_line, levels_line, names_line, name_or_sign, difference_line, ending_line, line_of, option_word, disk_named, path_named, memory_line};
 ghost use Rattle.snap_top.specs.Run.{IsSaid};
 
 use crate::{Difference, End, Ending, Refusal};
@@ -35,26 +35,57 @@ fn put_command<W: Sink>(lines: &mut Lines<'_, W>, word: &str)
     ]);
 }
 
-fn put_unfit<'a, W: Sink>(lines: &mut Lines<'_, W>, option: &'a str, command: &'a str)
-    ensures { Puts W.view (unfit_line option.now command.now) lines.old lines.new }
+// The row of the number of an exercise in the table of options.
+const NUMBER: u32 = 14;
+
+// What was given that does not go with the command.
+fn put_given<W: Sink>(lines: &mut Lines<'_, W>, row: u32)
+    ensures { Puts W.view (given_in row) lines.old lines.new }
 {
+    if row == NUMBER {
+        lines.put(b"a number");
+    } else {
+        lines.put_all(&[
+            Piece::Text("option '--"),
+            Piece::Text(option_word(row)),
+            Piece::Text("'"),
+        ]);
+    }
+}
+
+fn put_unfit<W: Sink>(lines: &mut Lines<'_, W>, row: u32, command: &str)
+    ensures { Puts W.view (unfit_line row command.now) lines.old lines.new }
+{
+    lines.put(b"snapraid: ");
+    put_given(lines, row);
     lines.put_all(&[
-        Piece::Text("snapraid: option '--"),
-        Piece::Text(option),
-        Piece::Text("' does not go with '"),
+        Piece::Text(" does not go with '"),
         Piece::Text(command),
         Piece::Text("'\n"),
     ]);
 }
 
-fn put_value<W: Sink>(lines: &mut Lines<'_, W>, option: &str)
-    ensures { Puts W.view (value_line option.now) lines.old lines.new }
+// What is bad of the value that was given, or not given.
+fn put_bad<W: Sink>(lines: &mut Lines<'_, W>, row: u32)
+    ensures { Puts W.view (value_in row) lines.old lines.new }
 {
-    lines.put_all(&[
-        Piece::Text("snapraid: bad value for '--"),
-        Piece::Text(option),
-        Piece::Text("'\n"),
-    ]);
+    if row == NUMBER {
+        lines.put(b"bad number for 'exercise'");
+    } else {
+        lines.put_all(&[
+            Piece::Text("bad value for '--"),
+            Piece::Text(option_word(row)),
+            Piece::Text("'"),
+        ]);
+    }
+}
+
+fn put_value<W: Sink>(lines: &mut Lines<'_, W>, row: u32)
+    ensures { Puts W.view (value_line row) lines.old lines.new }
+{
+    lines.put(b"snapraid: ");
+    put_bad(lines, row);
+    lines.put(b"\n");
 }
 
 fn put_words<W: Sink>(lines: &mut Lines<'_, W>, fault: &WordsFault)
@@ -64,9 +95,9 @@ fn put_words<W: Sink>(lines: &mut Lines<'_, W>, fault: &WordsFault)
         WordsFault::Usage => lines.put(b"snapraid: cannot read the arguments\n"),
         WordsFault::Command(word) => put_command(lines, word.as_str()),
         WordsFault::Unfit { option, command } => {
-            put_unfit(lines, option_word(*option), command.as_str());
+            put_unfit(lines, *option, command.as_str());
         }
-        WordsFault::Value { option } => put_value(lines, option_word(*option)),
+        WordsFault::Value { option } => put_value(lines, *option),
         WordsFault::Memory => put_memory(lines),
     }
 }
@@ -315,6 +346,7 @@ fn put_end<W: Sink>(lines: &mut Lines<'_, W>, end: &End)
     match end {
         End::Refused(refusal) => put_refusal(lines, refusal),
         End::Worked { setup, ending } => put_ending(lines, setup, ending),
+        End::Exercised(answer) => lines.tell_answer(*answer, "", ""),
     }
 }
 

@@ -4,5 +4,5 @@ pub mod LivedLemmas
 pub mod OnceLemmas
 pub mod RepeatedLemmas
 pub mod ResumedLemmas
-mod SeenLemmas
+pub mod SeenLemmas
 pub mod TakenTrees

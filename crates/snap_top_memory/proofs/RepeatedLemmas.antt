@@ -41,7 +41,7 @@ use Rattle.snap_top_memory.proofs.LivedLemmas.{goes_with}
 use Rattle.snap_top_memory.proofs.OnceLemmas.{LeftOfOne, MeetsNone, goes_left, history, stages}
 use Rattle.snap_top_memory.proofs.ResumedLemmas.{HoldsAlways, none_rose, not_risen}
 
-few_is : (status is few : ℕ) → status ≡ is → is ≤ few → status ≤ few
+pub few_is : (status is few : ℕ) → status ≡ is → is ≤ few → status ≤ few
 few_is status is few same less = subst (λ (n : ℕ). n ≤ few) (sym same) less
 
 both_are : (a b : Bool) → (a && b) ≡ true → (a ≡ true) × (b ≡ true)
@@ -115,12 +115,12 @@ module _ {O F V W : Type 0} (opener_view : O → OpenerView) (folder_view : F �
   ended run = after_of opener_view folder_view vault_view sink_view run
 
   -- a run of which no call failed
-  calm_at : (folders : List F) → are_calm folder_view folders ≡ true → (d : ℕ) → (folder_at (map folder_view folders) d).faults ≡ 0
+  pub calm_at : (folders : List F) → are_calm folder_view folders ≡ true → (d : ℕ) → (folder_at (map folder_view folders) d).faults ≡ 0
   calm_at [] calm d = refl
   calm_at (folder ∷ folders) calm zero = (Decides-eqb (folder_view folder).faults 0).0 (both_are ((folder_view folder).faults == 0) (are_calm folder_view folders) calm).0
   calm_at (folder ∷ folders) calm (suc d) = calm_at folders (both_are ((folder_view folder).faults == 0) (are_calm folder_view folders) calm).1 d
 
-  nothing_rose : (config : List ℕ) (texts : List (List ℕ)) (seed : List ℕ) (folders : List FolderView) (vault : VaultView) (status : ℕ) (left_folders : List F) (left : V)
+  pub nothing_rose : (config : List ℕ) (texts : List (List ℕ)) (seed : List ℕ) (folders : List FolderView) (vault : VaultView) (status : ℕ) (left_folders : List F) (left : V)
       → (runs : RunsOver opener_view folder_view vault_view sink_view config texts seed folders vault status left_folders left)
       → (vault_view left).faults ≡ 0 → are_calm folder_view left_folders ≡ true → NothingRose (begun runs.run) (ended runs.run)
   nothing_rose config texts seed folders vault status left_folders left runs faults calm = record {
@@ -148,7 +148,7 @@ module _ {O F V W : Type 0} (opener_view : O → OpenerView) (folder_view : F �
       (words_of config texts seed folders vault status left_folders left runs asks.asked asks.words))
 
   -- both begin over the same
-  hold_alike : (standing next : Standing) (one other : Entry) → BeginsOver standing one → BeginsOver next other → next ≡ standing → one.seed ≡ other.seed → HoldAlike one other
+  pub hold_alike : (standing next : Standing) (one other : Entry) → BeginsOver standing one → BeginsOver next other → next ≡ standing → one.seed ≡ other.seed → HoldAlike one other
   hold_alike standing next one other begins begins_then same seed =
       let again : BeginsOver standing other = subst (λ (its : Standing). BeginsOver its other) same begins_then in
       record {
@@ -254,11 +254,11 @@ module _ {O F V W : Type 0} (opener_view : O → OpenerView) (folder_view : F �
       }
 
   -- what a run did that was asked for a fix and went to its end
-  fix_of : (run : RunOf O F V W) → IsTrue (begun run).opener.tells → (asks : AskForFix run.texts) → (step : RunStep (begun run) (ended run) run.status) → run.status ≤ 1
+  pub fix_of : (run : RunOf O F V W) → IsTrue (begun run).opener.tells → (asks : AskForFix run.texts) → (step : RunStep (begun run) (ended run) run.status) → run.status ≤ 1
       → (fix : FixRun) × (step.always.did ≡ fixes false fix)
   fix_of run tells asks step few = fix_did (begun run) (ended run) tells asks step.always.did step.always.is_did (step.done asks.asked asks.words (subst ChangesFiles (sym asks.command_is) tt) (inl few))
 
-  asks_of : (texts others : List (List ℕ)) → others ≡ texts → (asks : AskForFix texts) → asked_by others ≡ Ok asks.asked
+  pub asks_of : (texts others : List (List ℕ)) → others ≡ texts → (asks : AskForFix texts) → asked_by others ≡ Ok asks.asked
   asks_of texts others same asks = subst (λ (ts : List (List ℕ)). asked_by ts ≡ Ok asks.asked) (sym same) asks.words
 
   fixed_over : (texts : List (List ℕ)) (first standing next : Standing) (stages : List (Stage O F V W)) (run again : RunOf O F V W) (status : ℕ)

@@ -29,7 +29,7 @@ use Rattle.snap_top_memory.proofs.LivedLemmas.{goes_with, no_chance, quiet_run, 
 pub not_risen : (before now : ℕ) → now ≡ 0 → Rose before now → ⊥
 not_risen before now none rose = omega (arith, none, rose)
 
-no_fix : (texts : List (List ℕ)) (config : List ℕ) → AskForSync texts config → AskForNoFix texts
+pub no_fix : (texts : List (List ℕ)) (config : List ℕ) → AskForSync texts config → AskForNoFix texts
 no_fix texts config asks = record { asked = asks.asked; words = asks.words; is_none = subst IsNoFix (sym asks.command_is) tt }
 
 quiet_no_fix : (command : Command) → ChangesNothing command → IsNoFix command
@@ -40,6 +40,7 @@ quiet_no_fix (commands.Audit _) quiet = tt
 quiet_no_fix (commands.Sync _) quiet = absurd quiet
 quiet_no_fix (commands.Fix _) quiet = absurd quiet
 quiet_no_fix (commands.Scrub _) quiet = absurd quiet
+quiet_no_fix (commands.Exercise _) quiet = tt
 
 no_fix_of : (texts : List (List ℕ)) → AskForNoChange texts → AskForNoFix texts
 no_fix_of texts asks = record { asked = asks.asked; words = asks.words; is_none = quiet_no_fix asks.asked.command asks.changes_nothing }
@@ -65,7 +66,7 @@ module _ {O F V W : Type 0} (opener_view : O → OpenerView) (folder_view : F �
       faults_seen (said_by (opener_view runs.run.opener).config) (vault_in vault_view (opener_view runs.run.opener_new).vault runs.run.vault)
       ∙ ap (λ (v : Option V). (vault_in vault_view (opener_view runs.run.opener_new).vault v).faults) runs.vault_is ∙ calm
 
-  none_failed : (config : List ℕ) (texts : List (List ℕ)) (seed : List ℕ) (folders : List FolderView) (vault : VaultView) (status : ℕ) (left_folders : List F) (left : V)
+  pub none_failed : (config : List ℕ) (texts : List (List ℕ)) (seed : List ℕ) (folders : List FolderView) (vault : VaultView) (status : ℕ) (left_folders : List F) (left : V)
       → (runs : RunsOver opener_view folder_view vault_view sink_view config texts seed folders vault status left_folders left) → (vault_view left).faults ≡ 0
       → (copy : ℕ) → ¬ (HasFailed (begun runs.run).opener.vault (ended runs.run).after.vault copy)
   none_failed config texts seed folders vault status left_folders left runs calm copy failed =
@@ -87,7 +88,7 @@ module _ {O F V W : Type 0} (opener_view : O → OpenerView) (folder_view : F �
         seed_is = λ none. runs.seed_is;
       }
 
-  is_sync : (config : List ℕ) (texts : List (List ℕ)) (seed : List ℕ) (folders : List FolderView) (vault : VaultView) (last : LastSynced) (trees : List Tree) (status : ℕ) (left_folders : List F) (left : V) (next : Standing)
+  pub is_sync : (config : List ℕ) (texts : List (List ℕ)) (seed : List ℕ) (folders : List FolderView) (vault : VaultView) (last : LastSynced) (trees : List Tree) (status : ℕ) (left_folders : List F) (left : V) (next : Standing)
       → (runs : RunsOver opener_view folder_view vault_view sink_view config texts seed folders vault status left_folders left) → (vault_view left).faults ≡ 0
       → (asks : AskForSync texts config) → trees_of folders ≡ trees → Goes runs.run (standing_of config folders vault last) next
       → IsSyncOver opener_view folder_view vault_view sink_view asks.setup.setup trees seed (standing_of config folders vault last) runs.run next
@@ -99,7 +100,7 @@ module _ {O F V W : Type 0} (opener_view : O → OpenerView) (folder_view : F �
       }
 
   -- a sync that ended with status 0
-  syncs_clean : (config : List ℕ) (texts : List (List ℕ)) (seed : List ℕ) (folders : List FolderView) (vault : VaultView) (last : LastSynced) (trees : List Tree) (status : ℕ) (left_folders : List F) (left : V)
+  pub syncs_clean : (config : List ℕ) (texts : List (List ℕ)) (seed : List ℕ) (folders : List FolderView) (vault : VaultView) (last : LastSynced) (trees : List Tree) (status : ℕ) (left_folders : List F) (left : V)
       → Headline opener_view folder_view vault_view sink_view (standing_of config folders vault last)
       → (runs : RunsOver opener_view folder_view vault_view sink_view config texts seed folders vault status left_folders left) → (vault_view left).faults ≡ 0
       → (asks : AskForSync texts config) → trees_of folders ≡ trees → status ≡ 0
@@ -123,7 +124,7 @@ module _ {O F V W : Type 0} (opener_view : O → OpenerView) (folder_view : F �
       subst (λ (v : VaultValue). IsOrigin (standing_of config folders (view_of v) nothing_synced)) (sym fresh) (origin config folders levels copies)
 
   -- what stands before two syncs of one array
-  same_first : (config : List ℕ) (folders others : List FolderView) (levels copies : ℕ) (value other : VaultValue) → value ≡ fresh_vault levels copies → other ≡ fresh_vault levels copies
+  pub same_first : (config : List ℕ) (folders others : List FolderView) (levels copies : ℕ) (value other : VaultValue) → value ≡ fresh_vault levels copies → other ≡ fresh_vault levels copies
       → trees_of others ≡ trees_of folders → standing_of config others (view_of other) nothing_synced ≡ standing_of config folders (view_of value) nothing_synced
   same_first config folders others levels copies value other fresh fresh_too same =
       ap (λ (v : VaultValue). standing_of config others (view_of v) nothing_synced) (fresh_too ∙ sym fresh)

@@ -228,8 +228,8 @@ pub fn folders(alloc: Global, array: Array) -> Result<Vec<MemFolder>, Fail> {
     Ok(folders)
 }
 
-// Words of a command line.
-pub(crate) fn owned(alloc: Global, words: &[&str]) -> Result<Vec<String>, Fail> {
+/// Words of a command line.
+pub fn owned(alloc: Global, words: &[&str]) -> Result<Vec<String>, Fail> {
     let mut line = Vec::new(alloc);
     for word in words {
         line.push(String::from_str(alloc, word)?)?;

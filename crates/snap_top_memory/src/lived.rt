@@ -115,8 +115,8 @@ pub(crate) fn ask_for_no_fix(alloc: Global, words: &[String]) -> bool
     }
 }
 
-// The vault that these bytes pick among those that a stop may leave, which has so many copies.
-pub(crate) fn left_of(vault: &MemVault, choice: &[u8], copies: u32) -> Result<MemVault, Fail>
+/// The vault that these bytes pick among those that a stop may leave, which has so many copies.
+pub fn left_of(vault: &MemVault, choice: &[u8], copies: u32) -> Result<MemVault, Fail>
     ensures left { IfOk result (λ made. IsLeftOf (vault_view vault.now) (vault_view made)) }
     ensures copies { IfOk result (λ made. copies_of (vault_view made) ≡ copies) }
 {
@@ -129,14 +129,14 @@ pub(crate) fn left_of(vault: &MemVault, choice: &[u8], copies: u32) -> Result<Me
 
 /// How a run ended, and all that was opened.
 #[derive(Drop)]
-pub(crate) struct Made {
+pub struct Made {
     pub status: u8,
     pub folders: Vec<MemFolder>,
     pub vault: MemVault,
 }
 
-// Runs words over an array of which the vault was just opened.
-pub(crate) fn run_anew<R: Threads + Sync>(
+/// Runs words over an array of which the vault was just opened.
+pub fn run_anew<R: Threads + Sync>(
     rt: &R,
     alloc: Global,
     words: &[String],

@@ -143,8 +143,8 @@ fn run_calm<R: Threads + Sync>(
     Ok(made)
 }
 
-// Whether no call of these folders failed.
-fn have_not_failed(folders: &[MemFolder]) -> bool
+/// Whether no call of these folders failed.
+pub fn have_not_failed(folders: &[MemFolder]) -> bool
     ensures { result ≡ are_calm folder_view folders.now }
 {
     folders.iter().all(|folder| folder.faults() == 0)

@@ -54,8 +54,8 @@ pub fn stop_and_sync_again<R: Threads + Sync>(
     Ok(last.status)
 }
 
-// A run that ended with status 0, and of which no call of the vault failed.
-fn sync_clean<R: Threads + Sync>(
+/// A run that ended with status 0, and of which no call of the vault failed.
+pub fn sync_clean<R: Threads + Sync>(
     rt: &R,
     alloc: Global,
     words: &[String],
@@ -77,8 +77,8 @@ fn sync_clean<R: Threads + Sync>(
     Ok(made)
 }
 
-// A run of which no call of the vault failed.
-fn sync_anew<R: Threads + Sync>(
+/// A run of which no call of the vault failed.
+pub fn sync_anew<R: Threads + Sync>(
     rt: &R,
     alloc: Global,
     words: &[String],
@@ -114,8 +114,8 @@ fn ask_for_no_change(alloc: Global, words: &[String]) -> bool
 
 const LONGEST: usize = 1_048_577;
 
-// Whether the words ask for a sync, and the configuration is read.
-fn ask_for_sync(alloc: Global, words: &[String], config: &str) -> bool
+/// Whether the words ask for a sync, and the configuration is read.
+pub fn ask_for_sync(alloc: Global, words: &[String], config: &str) -> bool
     ensures { IsTrue result → AskForSync (map string_bytes words.now) config.now }
 {
     match read_words_among(alloc, &COMMANDS, words) {
@@ -202,8 +202,8 @@ pub fn fix_at_last<R: Threads + Sync>(
     Ok(made.status)
 }
 
-// Whether the words ask for a fix.
-pub(crate) fn ask_for_fix(alloc: Global, words: &[String]) -> bool
+/// Whether the words ask for a fix.
+pub fn ask_for_fix(alloc: Global, words: &[String]) -> bool
     ensures { IsTrue result → AskForFix (map string_bytes words.now) }
 {
     match read_words_among(alloc, &COMMANDS, words) {

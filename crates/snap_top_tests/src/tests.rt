@@ -2,6 +2,7 @@
 mod configuration;
 mod contents;
 mod damage;
+mod exercise;
 mod faults;
 mod lived;
 mod matching;

@@ -5,7 +5,7 @@ use snap_top::COMMANDS;
 use std::alloc::Global;
 
 const ANY: &str =
-    "snapraid: usage: snapraid sync|scrub|check|fix|list|status [OPTION].., see 'man snapraid'\n";
+    "snapraid: usage: snapraid sync|scrub|check|fix|list|status|exercise [OPTION].., see 'man snapraid'\n";
 
 /// Prints how the command among the words is called, or which commands there are, where the words are refused.
 pub fn print_synopsis<W: Sink>(alloc: Global, words: &[String], err: &mut W) {
@@ -46,6 +46,8 @@ fn synopsis(command: Option<CommandName>) -> &'static str {
             "snapraid: usage: snapraid fix [-em] [-c FILE] [-d NAME].. [-f PATTERN].. [-l FILE] [--readers NUMBER]\n"
         }
         Some(CommandName::List) => "snapraid: usage: snapraid list [-c FILE] [-l FILE]\n",
+        Some(CommandName::Exercise) =>
+            "snapraid: usage: snapraid exercise NUMBER [-c FILE] [-l FILE]\n",
         Some(CommandName::Status) => "snapraid: usage: snapraid status [-c FILE] [-l FILE]\n",
         None => ANY,
     }

@@ -6,7 +6,7 @@ use std::alloc::{AllocError, Global};
 use std::test::Fail;
 
 // All commands: words, the command or the refusal that they come to, and the readers or the row of the option.
-static LINES: [(&str, &str, u32); 92] = [
+static LINES: [(&str, &str, u32); 104] = [
     // the options of each command, by their names and their letters
     ("sync", "sync", 4),
     ("sync|-c|a.conf|-l|run.log|--readers|16", "sync", 16),
@@ -28,6 +28,11 @@ static LINES: [(&str, &str, u32); 92] = [
     ("fix|-d|", "fix", 4),
     ("status|-c|a", "status", 4),
     ("list|-l|x", "list", 4),
+    // an exercise, with the number behind the command and options in any place
+    ("exercise|0", "exercise", 4),
+    ("-c|a|exercise|999999999", "exercise", 4),
+    ("exercise|-l|x|7", "exercise", 4),
+    ("exercise|--|7", "exercise", 4),
     // values that are empty, or begin with a dash
     ("list|--conf=", "list", 4),
     ("list|-c|", "list", 4),
@@ -39,8 +44,8 @@ static LINES: [(&str, &str, u32); 92] = [
     // behind two dashes there are no options
     ("--|list", "list", 4),
     ("list|--", "list", 4),
-    ("list|--|-l", "usage", 0),
-    ("--|-l|list", "usage", 0),
+    ("list|--|-l", "unfit", 14),
+    ("--|-l|list", "command", 0),
     ("-l|x|--|list", "list", 4),
     ("--|-x", "command", 0),
     // an option twice, unknown, shortened, without its value or with one too many
@@ -62,15 +67,12 @@ static LINES: [(&str, &str, u32); 92] = [
     // no command, an empty one, two, and none that there is
     ("-Z", "usage", 0),
     ("", "command", 0),
-    ("|list", "usage", 0),
-    ("list|list", "usage", 0),
-    ("sync|5", "usage", 0),
+    ("|list", "command", 0),
+    ("list|list|list", "usage", 0),
     ("frob", "command", 0),
     ("help", "command", 0),
     ("List", "command", 0),
     ("diff", "command", 0),
-    ("exercise", "command", 0),
-    ("exercise|7", "usage", 0),
     // the command comes before its options, and all options that do not go with it before all values
     ("frob|-p|101", "command", 0),
     ("frob|--frob", "usage", 0),
@@ -92,6 +94,11 @@ static LINES: [(&str, &str, u32); 92] = [
     ("scrub|--save-every|5", "unfit", 12),
     ("status|--readers|4", "unfit", 13),
     ("list|--readers|4", "unfit", 13),
+    ("exercise|7|--readers|4", "unfit", 13),
+    ("exercise|-Z", "unfit", 10),
+    ("list|list", "unfit", 14),
+    ("sync|5", "unfit", 14),
+    ("sync|5|--readers|0", "unfit", 14),
     // values out of their form
     ("check|-f|a/b", "value", 3),
     ("fix|-f|*|-f|", "value", 3),
@@ -107,6 +114,12 @@ static LINES: [(&str, &str, u32); 92] = [
     ("sync|--save-every|67108865", "value", 12),
     ("check|--readers|0", "value", 13),
     ("fix|--readers|17", "value", 13),
+    ("exercise", "value", 14),
+    ("exercise|", "value", 14),
+    ("exercise|x", "value", 14),
+    ("exercise|+7", "value", 14),
+    ("exercise|1000000000", "value", 14),
+    ("exercise|7|7", "usage", 0),
 ];
 
 fn words_of(alloc: Global, line: &str) -> Result<Vec<String>, AllocError> {
@@ -127,6 +140,7 @@ fn name_of(command: &Command) -> &'static str {
         Command::Fix(_) => "fix",
         Command::Status => "status",
         Command::List => "list",
+        Command::Exercise(_) => "exercise",
     }
 }
 

@@ -25,7 +25,7 @@ const OUTPUT: Case = Case {
 
 #[test]
 fn one_call_fails(rt: HostRuntime) -> Result<(), Fail> {
-    static CASES: [Case; 8] = [
+    static CASES: [Case; 9] = [
         Case {
             failing: Failing { opener: 1, ..NONE },
             ..OPENING
@@ -60,6 +60,12 @@ fn one_call_fails(rt: HostRuntime) -> Result<(), Fail> {
             },
             err: "",
             ..VAULT
+        },
+        // the refusal is not told, and its status stays
+        Case {
+            words: &["snapraid", "frob"],
+            failing: Failing { err: 1, ..NONE },
+            ..REFUSED
         },
     ];
     plays(&rt, rt.alloc(), &CASES)

@@ -10,7 +10,7 @@ const USAGE: Case = Case {
 
 #[test]
 fn refused_words(rt: HostRuntime) -> Result<(), Fail> {
-    static CASES: [Case; 9] = [
+    static CASES: [Case; 12] = [
         Case {
             words: &["snapraid"],
             ..USAGE
@@ -50,6 +50,21 @@ fn refused_words(rt: HostRuntime) -> Result<(), Fail> {
         Case {
             words: &["snapraid", "status", "--older-than", "x"],
             err: "snapraid: option '--older-than' does not go with 'status'\n",
+            ..REFUSED
+        },
+        Case {
+            words: &["snapraid", "exercise"],
+            err: "snapraid: bad number for 'exercise'\n",
+            ..REFUSED
+        },
+        Case {
+            words: &["snapraid", "exercise", "x"],
+            err: "snapraid: bad number for 'exercise'\n",
+            ..REFUSED
+        },
+        Case {
+            words: &["snapraid", "list", "5"],
+            err: "snapraid: a number does not go with 'list'\n",
             ..REFUSED
         },
     ];

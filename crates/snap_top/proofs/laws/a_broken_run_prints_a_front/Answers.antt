@@ -1,4 +1,5 @@
 use Rattle.snap_top.proofs.FixFrontLemmas.{fix_front}
+use Rattle.snap_top.proofs.FixOnceLemmas.{fix_front_once}
 use Rattle.snap_top.proofs.BrokeOffLemmas.{early_front}
 use Rattle.snap_top.proofs.ScrubFrontLemmas.{scrub_front}
 use Rattle.snap_top.proofs.SyncFrontLemmas.{sync_front}
@@ -14,7 +15,11 @@ returns-clause-scrubs g c run again other broke hold ask moments once well =
     scrub_front c.one_table_has_a_spelling.ensures _ _ _ _ again.status broke other hold ask moments once well
 
 pub returns-clause-fixes : goal.returns-clause-fixes
-returns-clause-fixes g c run again other off hold ask stamps well =
+returns-clause-fixes g c run again other broke hold ask stamps once well =
+    fix_front_once c.what_is_read_determines_what_is_found.ensures.stripe c.one_table_has_a_spelling.ensures _ _ _ _ again.status broke other hold ask stamps once well
+
+pub returns-clause-read_fixes : goal.returns-clause-read_fixes
+returns-clause-read_fixes g c run again other off hold ask stamps well =
     fix_front c.what_is_read_determines_what_is_found.ensures.stripe c.one_table_has_a_spelling.ensures _ _ _ _ again.status off other hold ask stamps well
 
 pub returns-clause-early : goal.returns-clause-early

@@ -1,5 +1,5 @@
 use Rattle.std.proofs.Common.{arith}
-use Rattle.snap_top.proofs.CompleteLemmas.{smooth_is_done}
+use Rattle.snap_top.proofs.ExercisingLemmas.{smooth_runs_are_done}
 use Rattle.snap_top.proofs.LevelsLemmas.{by_said, refused_seen}
 use Rattle.snap_top.proofs.MomentLemmas.{every_moment}
 use Rattle.snap_top.proofs.NamingLemmas.{checks_end}
@@ -22,9 +22,7 @@ pub returns-clause-silent : goal.returns-clause-silent
 returns-clause-silent g c = done_is_silent c.work-end.result.end _ _ _ c.status.ensures c.say.ensures
 
 pub returns-clause-complete : goal.returns-clause-complete
-returns-clause-complete g c smooth =
-    let ran = c.work-end.ensures in
-    smooth_is_done _ _ c.work-end.result.end ran.told _ c.status.ensures (by_said _ _ _ _ _ _ _ ran smooth.tells) smooth
+returns-clause-complete g c = smooth_runs_are_done _ _ _ _ _ _ c.work-end.result.end c.work-end.ensures _ c.status.ensures
 
 pub returns-clause-sound : goal.returns-clause-sound
 returns-clause-sound g c fresh =

@@ -1,16 +1,16 @@
-use Rattle.std.proofs.Common.{length, ap, arith, refl}
-use Rattle.snap_top.proofs.RunLemmas.{opened_runs, refused_runs, written_back}
+use Rattle.std.proofs.Common.{[], refl}
+use Rattle.snap_top.proofs.OpeningLemmas.{holds_start, no_calls_yet}
+use Rattle.snap_top.proofs.RunLemmas.{exercised_runs, refused_runs, unopened_runs}
 use Rattle.snap_top.proofs.running.work.Goals as goal
 
-pub returns-in-Ok : goal.returns-in-Ok
-returns-in-Ok g c =
-    let lent = c.as_mut_slice.ensures.value in
-    let same = ap length lent in
-    let made = c.work_by_levels-ending in
-    opened_runs _ _ g.O.Folder.Folder.view _ c.in-Ok.session.setup _ _ _ _ _ c.in-Ok.session.folders.items _ made.new.folders _ (g.O.Vault.Vault.view c.in-Ok.session.vault) (g.O.Vault.Vault.view made.result.1)
-    _ _ _ _ _ refl refl refl lent
-    (written_back _ made.new.folders _ (omega (arith, c.in-Ok.session.folders.ok.0, same, made.auto.folders)))
-    c.in-Ok.ensures.given c.in-Ok.ensures.images c.in-Ok.ensures.opened.settled made.ensures
-
 pub returns-in-Err : goal.returns-in-Err
-returns-in-Err g c = refused_runs _ _ g.O.Folder.Folder.view _ _ _ _ _ _ _ _ _ c.new.ensures.items c.in-Err.ensures.refused c.in-Err.ensures.kept
+returns-in-Err g c =
+    unopened_runs _ _ g.O.Folder.Folder.view g.O.Vault.Vault.view _ _ _ _ _ _ _ _ _ c.unopened.ensures.end c.unopened.ensures.folders c.unopened.ensures.vault
+    (refused_runs _ _ g.O.Folder.Folder.view _ _ _ _ _ [] _ _ _ refl (c.in-Err.ensures.answers, no_calls_yet _) (holds_start _))
+
+pub returns-in-Exercise : goal.returns-in-Exercise
+returns-in-Exercise g c =
+    let made = c.unopened-in-Exercise in
+    unopened_runs _ _ g.O.Folder.Folder.view g.O.Vault.Vault.view _ _ _ _ _ _ _ _ _ made.ensures.end made.ensures.folders made.ensures.vault
+    (exercised_runs _ _ g.O.Folder.Folder.view _ _ _ _ [] _ _ _ c.in-Exercise.n _ refl
+    (record { asked = c.in-Ok.asked; read = c.in-Ok.ensures.answers; command_is = c.in-Exercise.is }) c.exercise_alone.ensures)
