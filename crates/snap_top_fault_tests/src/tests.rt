@@ -2,7 +2,9 @@
 mod again;
 mod calls;
 mod faults;
+mod fixes;
 mod parts;
 mod readers;
 mod stopping;
 mod stops;
+mod three_parts;

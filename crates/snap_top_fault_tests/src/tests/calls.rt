@@ -1,62 +1,60 @@
-// Each call of each object fails in turn: in a sync, a check and a fix of four disks.
-use snap_top_memory::arrays::{Array, Disk, Failing, NONE};
+// Each call of each object fails in turn: in a sync and a check of four disks.
+use snap_top_memory::arrays::{Failing, NONE};
 use snap_top_memory::cases::{Case, SYNCED, plays};
-use snap_top_memory::four::{
-    FIRST, FOUR, FOUR_PENDING, FOUR_SUMS, FOUR_SYNCED, FOURTH, SECOND, THIRD,
-};
+use snap_top_memory::four::{FOUR, FOUR_PENDING, FOUR_SUMS, FOUR_SYNCED};
 use snap_top_memory::next::{TORN, WRITTEN};
 use snap_top_memory::turns::{Calls, Ended, Turns, each_call_fails};
 use std::test::Fail;
 
-// A sync of the four disks.
-const WHOLE: Case = Case {
+/// A sync of the four disks.
+pub const WHOLE: Case = Case {
     array: FOUR,
     contents: &[FOUR_SYNCED, FOUR_SYNCED, FOUR_SYNCED],
     levels: FOUR_SUMS,
     ..SYNCED
 };
 
-// The first call of each object, of a disk by its number.
-const OPENER: Failing = Failing { opener: 1, ..NONE };
+/// The first call of each object, of a disk by its number.
+pub const OPENER: Failing = Failing { opener: 1, ..NONE };
 
-const VAULT: Failing = Failing { vault: 1, ..NONE };
+pub const VAULT: Failing = Failing { vault: 1, ..NONE };
 
-const OUTPUT: Failing = Failing { out: 1, ..NONE };
+pub const OUTPUT: Failing = Failing { out: 1, ..NONE };
 
-const ERRORS: Failing = Failing { err: 1, ..NONE };
+pub const ERRORS: Failing = Failing { err: 1, ..NONE };
 
-const FIRST_DISK: Failing = Failing { folder: 1, ..NONE };
+pub const FIRST_DISK: Failing = Failing { folder: 1, ..NONE };
 
-const SECOND_DISK: Failing = Failing {
+pub const SECOND_DISK: Failing = Failing {
     disk: 1,
     ..FIRST_DISK
 };
 
-const THIRD_DISK: Failing = Failing {
+pub const THIRD_DISK: Failing = Failing {
     disk: 2,
     ..FIRST_DISK
 };
 
-const FOURTH_DISK: Failing = Failing {
+pub const FOURTH_DISK: Failing = Failing {
     disk: 3,
     ..FIRST_DISK
 };
 
-const UNOPENED: Ended = (3, "", "snapraid: configuration or opening failed\n");
+pub const UNOPENED: Ended = (3, "", "snapraid: configuration or opening failed\n");
 
 const NO_VAULT: Ended = (3, "", "snapraid: parity or content failed\n");
 
-const FIRST_FAILED: &str = "snapraid: disk 'd1' failed\n";
+pub const FIRST_FAILED: &str = "snapraid: disk 'd1' failed\n";
 
-const SECOND_FAILED: &str = "snapraid: disk 'd2' failed\n";
+pub const SECOND_FAILED: &str = "snapraid: disk 'd2' failed\n";
 
-const NO_FIRST: Ended = (3, "", FIRST_FAILED);
+pub const NO_FIRST: Ended = (3, "", FIRST_FAILED);
 
-const NO_SECOND: Ended = (3, "", SECOND_FAILED);
+pub const NO_SECOND: Ended = (3, "", SECOND_FAILED);
 
-const NO_THIRD: Ended = (3, "", "snapraid: disk 'd3' failed\n");
+pub const NO_THIRD: Ended = (3, "", "snapraid: disk 'd3' failed\n");
 
-const NO_FOURTH: Ended = (3, "", "snapraid: disk 'd4' failed\n");
+pub const NO_FOURTH: Ended = (3, "", "snapraid: disk 'd4' failed\n");
 
 const UNTOLD: Ended = (3, "", "snapraid: output failed\n");
 
@@ -234,158 +232,4 @@ fn each_call_of_a_check_fails_and_the_next_one_finds_nothing(rt: HostRuntime) ->
     let alloc = rt.alloc();
     each_call_fails(&rt, alloc, &TURNS, &OBJECTS, WRITTEN)?;
     each_call_fails(&rt, alloc, &TURNS, &TOLD, WRITTEN)
-}
-
-const DISKS: &[Disk] = &[FIRST, SECOND, THIRD, FOURTH];
-
-const ALL_RESTORED: &str = "changed d1:a recorded 1 1.000000005 found nothing\n\
-                            changed d2:a recorded 1 1.000000005 found nothing\n\
-                            fixed 0 d1:a 0\n\
-                            fixed 0 d2:a 0\n\
-                            restored d1:a\n\
-                            restored d2:a\n\
-                            fix: 2 blocks and 0 parities fixed, 0 findings left\n";
-
-// A fix of the four disks, of which the first two are lost.
-const FIXED: Case = Case {
-    words: &["snapraid", "fix", "-c", "FILE"],
-    array: Array {
-        disks: &[&[], &[], THIRD, FOURTH],
-        ..FOUR
-    },
-    out: ALL_RESTORED,
-    left: Some(DISKS),
-    ..WHOLE
-};
-
-const BOTH_FIXED: Ended = (0, ALL_RESTORED, "");
-
-// The same where one more block is not read.
-const FOURTH_UNREAD: Ended = (
-    1,
-    "changed d1:a recorded 1 1.000000005 found nothing\n\
-     changed d2:a recorded 1 1.000000005 found nothing\n\
-     io 0 d4:a 0\n\
-     unrecoverable 0 d1:a 0\n\
-     unrecoverable 0 d2:a 0\n\
-     unrecoverable 0 d4:a 0\n\
-     renamed d4:a\n\
-     fix: 0 blocks and 0 parities fixed, 3 findings left\n",
-    "",
-);
-
-const THIRD_UNREAD: Ended = (
-    1,
-    "changed d1:a recorded 1 1.000000005 found nothing\n\
-     changed d2:a recorded 1 1.000000005 found nothing\n\
-     io 0 d3:a 0\n\
-     unrecoverable 0 d1:a 0\n\
-     unrecoverable 0 d2:a 0\n\
-     unrecoverable 0 d3:a 0\n\
-     renamed d3:a\n\
-     fix: 0 blocks and 0 parities fixed, 3 findings left\n",
-    "",
-);
-
-// Where a level is not read, one is too few.
-const FIRST_LEVEL_UNREAD: Ended = (
-    1,
-    "changed d1:a recorded 1 1.000000005 found nothing\n\
-     changed d2:a recorded 1 1.000000005 found nothing\n\
-     io-parity 0 parity\n\
-     unrecoverable 0 d1:a 0\n\
-     unrecoverable 0 d2:a 0\n\
-     fix: 0 blocks and 0 parities fixed, 2 findings left\n",
-    "",
-);
-
-const SECOND_LEVEL_UNREAD: Ended = (
-    1,
-    "changed d1:a recorded 1 1.000000005 found nothing\n\
-     changed d2:a recorded 1 1.000000005 found nothing\n\
-     io-parity 0 2-parity\n\
-     unrecoverable 0 d1:a 0\n\
-     unrecoverable 0 d2:a 0\n\
-     fix: 0 blocks and 0 parities fixed, 2 findings left\n",
-    "",
-);
-
-// A file is not made, or not written, or not finished.
-const FIRST_UNMADE: Ended = (
-    3,
-    "changed d1:a recorded 1 1.000000005 found nothing\n\
-     changed d2:a recorded 1 1.000000005 found nothing\n",
-    FIRST_FAILED,
-);
-
-const FIRST_UNFINISHED: Ended = (
-    3,
-    "changed d1:a recorded 1 1.000000005 found nothing\n\
-     changed d2:a recorded 1 1.000000005 found nothing\n\
-     fixed 0 d1:a 0\n\
-     fixed 0 d2:a 0\n",
-    FIRST_FAILED,
-);
-
-const SECOND_UNMADE: Ended = (
-    3,
-    "changed d1:a recorded 1 1.000000005 found nothing\n\
-     changed d2:a recorded 1 1.000000005 found nothing\n\
-     fixed 0 d1:a 0\n",
-    SECOND_FAILED,
-);
-
-const SECOND_UNFINISHED: Ended = (
-    3,
-    "changed d1:a recorded 1 1.000000005 found nothing\n\
-     changed d2:a recorded 1 1.000000005 found nothing\n\
-     fixed 0 d1:a 0\n\
-     fixed 0 d2:a 0\n\
-     restored d1:a\n",
-    SECOND_FAILED,
-);
-
-// A lost disk is listed, and its file made, written and given its stamp. One that is there is listed, and its file looked
-// at and read.
-#[test]
-fn each_call_of_a_fix_of_four_disks_fails_and_the_next_fix_restores_all(
-    rt: HostRuntime,
-) -> Result<(), Fail> {
-    static TURNS: Turns = Turns {
-        before: Some(WHOLE),
-        whole: FIXED,
-        next: FIXED,
-    };
-    static OBJECTS: [Calls; 6] = [
-        Calls {
-            first: OPENER,
-            ends: &[UNOPENED, UNOPENED],
-        },
-        Calls {
-            first: VAULT,
-            ends: &[
-                BOTH_FIXED,
-                BOTH_FIXED,
-                FIRST_LEVEL_UNREAD,
-                SECOND_LEVEL_UNREAD,
-            ],
-        },
-        Calls {
-            first: FIRST_DISK,
-            ends: &[NO_FIRST, FIRST_UNMADE, FIRST_UNMADE, FIRST_UNFINISHED],
-        },
-        Calls {
-            first: SECOND_DISK,
-            ends: &[NO_SECOND, SECOND_UNMADE, SECOND_UNMADE, SECOND_UNFINISHED],
-        },
-        Calls {
-            first: THIRD_DISK,
-            ends: &[NO_THIRD, THIRD_UNREAD, THIRD_UNREAD],
-        },
-        Calls {
-            first: FOURTH_DISK,
-            ends: &[NO_FOURTH, FOURTH_UNREAD, FOURTH_UNREAD],
-        },
-    ];
-    each_call_fails(&rt, rt.alloc(), &TURNS, &OBJECTS, WRITTEN)
 }

@@ -31,10 +31,8 @@ impl Shape for Two {
     ghost capacity = { 2048 };
 }
 
-type InParts = SplitVault<MemVault, Two>;
-
 // The vault whose one level has these two files.
-fn joined(alloc: Global, files: MemVault) -> Result<InParts, Fail>
+fn joined(alloc: Global, files: MemVault) -> Result<SplitVault<MemVault, Two>, Fail>
     requires settled { IsSettled (vault_view files) }
     requires drafts { HasNoDraft (vault_view files) }
     ensures settled { IfOk result (λ vault. IsSettled (⟦<SplitVault<MemVault, Two> as Vault>⟧.view vault)) }
@@ -47,8 +45,8 @@ fn joined(alloc: Global, files: MemVault) -> Result<InParts, Fail>
     Ok(SplitVault::new(files, parts, 2048))
 }
 
-// What was left, with the two files as they are.
-fn in_files(ran: Ran<MemFolder, InParts>) -> Left {
+// What was left, with the files of the parts as they are.
+fn in_files<P: Shape>(ran: Ran<MemFolder, SplitVault<MemVault, P>>) -> Left {
     let Ran { outcome, out, err } = ran;
     let Outcome {
         status,
@@ -70,6 +68,20 @@ fn in_files(ran: Ran<MemFolder, InParts>) -> Left {
     }
 }
 
+/// What a run leaves over a level in parts.
+pub fn run_joined<R: Threads + Sync, P: Shape>(
+    rt: &R,
+    alloc: Global,
+    case: &Case,
+    vault: SplitVault<MemVault, P>,
+) -> Result<Left, Fail>
+    requires settled { IsSettled (⟦<SplitVault<MemVault, P> as Vault>⟧.view vault) }
+    requires drafts { HasNoDraft (⟦<SplitVault<MemVault, P> as Vault>⟧.view vault) }
+{
+    let folders = folders(alloc, case.array)?;
+    Ok(in_files(run_asked(rt, alloc, case.asked(), folders, vault)?))
+}
+
 // What a run leaves over a level of these two files.
 fn run_in_parts<R: Threads + Sync>(
     rt: &R,
@@ -80,9 +92,7 @@ fn run_in_parts<R: Threads + Sync>(
     requires settled { IsSettled (vault_view files) }
     requires drafts { HasNoDraft (vault_view files) }
 {
-    let vault = joined(alloc, files)?;
-    let folders = folders(alloc, case.array)?;
-    Ok(in_files(run_asked(rt, alloc, case.asked(), folders, vault)?))
+    run_joined(rt, alloc, case, joined(alloc, files)?)
 }
 
 // Makes each run over the files that the one before left, with their damage, and compares what it left.

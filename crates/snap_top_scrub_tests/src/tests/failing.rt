@@ -5,6 +5,7 @@ use snap_top_memory::arrays::{Failing, Left, NONE};
 use snap_top_memory::cases::{Case, each_follows, follow};
 use snap_top_memory::damage::Damage;
 use snap_top_memory::next::{TORN, WRITTEN, has_failed, run_next};
+use snap_top_memory::turns::{Calls, Ended, Turns, each_call_fails};
 use std::alloc::Global;
 use std::test::Fail;
 use std::thread::Threads;
@@ -13,51 +14,175 @@ static SYNCED_FOUR: Case = BEFORE;
 
 static NEXT: Case = SCRUBBED;
 
-// Makes a scrub, and compares what it left. Whether a call of it failed.
-fn fails<R: Threads + Sync>(rt: &R, alloc: Global, case: &Case) -> Result<bool, Fail> {
-    let before = follow(rt, alloc, 0, None, &SYNCED_FOUR)?;
-    let left = follow(rt, alloc, 0, Some(before), case)?;
-    Ok(has_failed(&left))
-}
+const RIGHT: Ended = (0, "scrub: 1 stripes checked, 0 findings\n", "");
 
-// Whether each of the two calls of a disk fails in turn, as the lines say, and there is no third one.
-fn disk_fails<R: Threads + Sync>(
-    rt: &R,
-    alloc: Global,
-    disk: usize,
-    lines: &str,
-) -> Result<bool, Fail> {
-    let mut look = FOUND;
-    look.out = lines;
-    look.failing.disk = disk;
-    look.failing.folder = 1;
-    let mut reading = look;
-    reading.failing.folder = 2;
-    let mut none = SCRUBBED;
-    none.failing.disk = disk;
-    none.failing.folder = 3;
-    Ok(fails(rt, alloc, &look)? && fails(rt, alloc, &reading)? && !fails(rt, alloc, &none)?)
-}
+const NO_VAULT: Ended = (3, "", "snapraid: parity or content failed\n");
 
-// The file of a disk is looked at, and its block read. Nothing is listed.
+const NO_OPENER: Ended = (3, "", "snapraid: configuration or opening failed\n");
+
+// The first copy is asked for its size and read, or else the second is. Then each level is read, and four calls save each of
+// the three copies. The file of a disk is looked at, and its block read. Nothing is listed. The last line is written at once.
 #[test]
-fn a_block_that_is_not_read_makes_its_stripe_bad(rt: HostRuntime) -> Result<(), Fail> {
-    static LINES: [&str; 4] = [
-        "io 0 d1:a 0\nscrub: 1 stripes checked, 1 findings\n",
-        "io 0 d2:a 0\nscrub: 1 stripes checked, 1 findings\n",
-        "io 0 d3:a 0\nscrub: 1 stripes checked, 1 findings\n",
-        "io 0 d4:a 0\nscrub: 1 stripes checked, 1 findings\n",
+fn each_call_of_a_scrub_fails_and_the_next_scrub_is_done(rt: HostRuntime) -> Result<(), Fail> {
+    static TURNS: Turns = Turns {
+        before: Some(BEFORE),
+        whole: SCRUBBED,
+        next: SCRUBBED,
+    };
+    static OBJECTS: [Calls; 8] = [
+        Calls {
+            first: Failing { opener: 1, ..NONE },
+            ends: &[NO_OPENER; 2],
+        },
+        Calls {
+            first: Failing { vault: 1, ..NONE },
+            ends: &[
+                RIGHT,
+                RIGHT,
+                (
+                    1,
+                    "io-parity 0 parity\nscrub: 1 stripes checked, 1 findings\n",
+                    "",
+                ),
+                (
+                    1,
+                    "io-parity 0 2-parity\nscrub: 1 stripes checked, 1 findings\n",
+                    "",
+                ),
+                NO_VAULT,
+                NO_VAULT,
+                NO_VAULT,
+                NO_VAULT,
+                NO_VAULT,
+                NO_VAULT,
+                NO_VAULT,
+                NO_VAULT,
+                NO_VAULT,
+                NO_VAULT,
+                NO_VAULT,
+                NO_VAULT,
+            ],
+        },
+        Calls {
+            first: Failing { folder: 1, ..NONE },
+            ends: &[(1, "io 0 d1:a 0\nscrub: 1 stripes checked, 1 findings\n", ""); 2],
+        },
+        Calls {
+            first: Failing {
+                disk: 1,
+                folder: 1,
+                ..NONE
+            },
+            ends: &[(1, "io 0 d2:a 0\nscrub: 1 stripes checked, 1 findings\n", ""); 2],
+        },
+        Calls {
+            first: Failing {
+                disk: 2,
+                folder: 1,
+                ..NONE
+            },
+            ends: &[(1, "io 0 d3:a 0\nscrub: 1 stripes checked, 1 findings\n", ""); 2],
+        },
+        Calls {
+            first: Failing {
+                disk: 3,
+                folder: 1,
+                ..NONE
+            },
+            ends: &[(1, "io 0 d4:a 0\nscrub: 1 stripes checked, 1 findings\n", ""); 2],
+        },
+        Calls {
+            first: Failing { out: 1, ..NONE },
+            ends: &[(3, "", "snapraid: output failed\n")],
+        },
+        Calls {
+            first: Failing { err: 1, ..NONE },
+            ends: &[],
+        },
     ];
-    for (disk, lines) in LINES.iter().enumerate() {
-        assert!(rt; disk_fails(&rt, rt.alloc(), disk, lines)?, "{disk}");
-    }
-    Ok(())
+    each_call_fails(&rt, rt.alloc(), &TURNS, &OBJECTS, TORN)
 }
 
-// The first copy is asked for its size and read, or else the second is. Then each level is read.
+// A block is not read.
+const FIRST_UNREAD: Case = Case {
+    out: "io 0 d1:a 0\nscrub: 1 stripes checked, 1 findings\n",
+    ..FOUND
+};
+
+const SECOND_UNREAD: Case = Case {
+    out: "io 0 d2:a 0\nscrub: 1 stripes checked, 1 findings\n",
+    ..FOUND
+};
+
+const THIRD_UNREAD: Case = Case {
+    out: "io 0 d3:a 0\nscrub: 1 stripes checked, 1 findings\n",
+    ..FOUND
+};
+
+const FOURTH_UNREAD: Case = Case {
+    out: "io 0 d4:a 0\nscrub: 1 stripes checked, 1 findings\n",
+    ..FOUND
+};
+
 #[test]
-fn a_level_that_is_not_read_makes_its_stripe_bad(rt: HostRuntime) -> Result<(), Fail> {
-    static CASES: [Case; 4] = [
+fn what_is_not_read_makes_its_stripe_bad(rt: HostRuntime) -> Result<(), Fail> {
+    static CASES: [Case; 12] = [
+        Case {
+            failing: Failing { folder: 1, ..NONE },
+            ..FIRST_UNREAD
+        },
+        Case {
+            failing: Failing { folder: 2, ..NONE },
+            ..FIRST_UNREAD
+        },
+        Case {
+            failing: Failing {
+                disk: 1,
+                folder: 1,
+                ..NONE
+            },
+            ..SECOND_UNREAD
+        },
+        Case {
+            failing: Failing {
+                disk: 1,
+                folder: 2,
+                ..NONE
+            },
+            ..SECOND_UNREAD
+        },
+        Case {
+            failing: Failing {
+                disk: 2,
+                folder: 1,
+                ..NONE
+            },
+            ..THIRD_UNREAD
+        },
+        Case {
+            failing: Failing {
+                disk: 2,
+                folder: 2,
+                ..NONE
+            },
+            ..THIRD_UNREAD
+        },
+        Case {
+            failing: Failing {
+                disk: 3,
+                folder: 1,
+                ..NONE
+            },
+            ..FOURTH_UNREAD
+        },
+        Case {
+            failing: Failing {
+                disk: 3,
+                folder: 2,
+                ..NONE
+            },
+            ..FOURTH_UNREAD
+        },
         Case {
             failing: Failing { vault: 1, ..NONE },
             ..SCRUBBED
@@ -77,10 +202,7 @@ fn a_level_that_is_not_read_makes_its_stripe_bad(rt: HostRuntime) -> Result<(), 
             ..FOUND
         },
     ];
-    for case in &CASES {
-        assert!(rt; fails(&rt, rt.alloc(), case)?);
-    }
-    Ok(())
+    each_follows(&rt, rt.alloc(), &SYNCED_FOUR, &CASES)
 }
 
 // A call of the vault that saves fails.
@@ -129,23 +251,14 @@ fn save_fails<R: Threads + Sync>(
     Ok(true)
 }
 
-// Four calls save each of the three copies. There is no other.
+// Four calls save each of the three copies.
 #[test]
-fn each_call_that_saves_fails_and_the_next_scrub_is_done(rt: HostRuntime) -> Result<(), Fail> {
-    static NO_CALL: Case = Case {
-        failing: Failing {
-            vault: 17,
-            stops: true,
-            ..NONE
-        },
-        ..SCRUBBED
-    };
+fn each_call_that_saves_leaves_old_copies_or_new_ones(rt: HostRuntime) -> Result<(), Fail> {
     let alloc = rt.alloc();
     for call in 5..17 {
         assert!(rt; save_fails(&rt, alloc, call, WRITTEN)?, "{call}");
         assert!(rt; save_fails(&rt, alloc, call, TORN)?, "{call}, torn");
     }
-    assert!(rt; !fails(&rt, alloc, &NO_CALL)?);
     Ok(())
 }
 
