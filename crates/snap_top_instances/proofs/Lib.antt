@@ -1,0 +1,2 @@
+mod FullLemmas
+mod SaidLemmas
