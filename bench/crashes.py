@@ -303,23 +303,23 @@ def scramble(array, path, ranges):
     put(path, bytes(data), stamp)
 
 
-def cases(array):
+def cases(array, case_of):
     """The commands over one array, each with what it begins with."""
     rnd = array.rnd
     readers = ["--readers", str(rnd.randint(1, 4))]
     sync = [*readers, "--force-empty", "--force-zero"] + (["--save-every", str(rnd.randint(1, 5))] if rnd.random() < 0.6 else [])
-    yield Case(array, "sync", sync)
+    yield case_of(array, "sync", sync)
     array.edit()
-    yield Case(array, "sync", sync)
+    yield case_of(array, "sync", sync)
     scrub = [*readers, "-p", "full"]
-    yield Case(array, "scrub", scrub)
-    yield Case(array, "list", [])
-    yield Case(array, "status", [])
+    yield case_of(array, "scrub", scrub)
+    yield case_of(array, "list", [])
+    yield case_of(array, "status", [])
     sums = array.held()
     array.damage()
-    yield Case(array, "scrub", scrub)
+    yield case_of(array, "scrub", scrub)
     for command in ("check", "fix"):
-        case = Case(array, command, readers)
+        case = case_of(array, command, readers)
         case.sums = sums
         yield case
 
@@ -335,7 +335,7 @@ def tries_of(case, some, rnd):
 
 def play(array, seed, some, end, tell):
     """All tries over one array, as far as the time lasts. Each that was made is told, with what is wrong, if anything is."""
-    for case in cases(array):
+    for case in cases(array, Case):
         wrong = case.goes_well()
         if wrong is not None:
             tell("", f"seed {seed}: {case.command}, with nothing in its way: {wrong}")
@@ -366,19 +366,13 @@ def work(given, first, end, said):
         said.put(None)
 
 
-def main():
-    words = argparse.ArgumentParser(description=__doc__.splitlines()[0])
-    words.add_argument("program", nargs="?", default=os.path.join(TOP, "crates", "snapraid", "out", "snapraid"))
-    words.add_argument("--minutes", type=float, default=10)
-    words.add_argument("--jobs", type=int, default=os.cpu_count())
-    words.add_argument("--first", type=int, default=0)
-    words.add_argument("--arrays", type=int, default=10**6)
-    words.add_argument("--some", type=int, default=0)
-    given = words.parse_args()
+def gather(given, task, counts):
+    """Has as many processes as are asked for work until the time is over, prints each finding, and answers how many there were. What they
+    tell is counted by its name."""
     end, said = time.time() + 60 * given.minutes, multiprocessing.Queue()
     for job in range(given.jobs):
-        multiprocessing.Process(target=work, args=(given, given.first + job, end, said)).start()
-    counts, findings, left = {"kill": 0, "power cut": 0, "fail": 0, "array": 0, "": 0}, 0, given.jobs
+        multiprocessing.Process(target=task, args=(given, given.first + job, end, said)).start()
+    findings, left = 0, given.jobs
     while left > 0:
         it = said.get()
         if it is None:
@@ -388,6 +382,20 @@ def main():
         if it[1]:
             findings += 1
             print(it[1], flush=True)
+    return findings
+
+
+def main():
+    words = argparse.ArgumentParser(description=__doc__.splitlines()[0])
+    words.add_argument("program", nargs="?", default=os.path.join(TOP, "crates", "snapraid", "out", "snapraid"))
+    words.add_argument("--minutes", type=float, default=10)
+    words.add_argument("--jobs", type=int, default=os.cpu_count())
+    words.add_argument("--first", type=int, default=0)
+    words.add_argument("--arrays", type=int, default=10**6)
+    words.add_argument("--some", type=int, default=0)
+    given = words.parse_args()
+    counts = {"kill": 0, "power cut": 0, "fail": 0, "array": 0, "": 0}
+    findings = gather(given, work, counts)
     print(f"{counts['kill']} kills, {counts['power cut']} power cuts and {counts['fail']} failures, {counts['array']} arrays to their end: "
           f"{findings} findings")
     sys.exit(1 if findings else 0)

@@ -1,7 +1,7 @@
 #!/usr/bin/env python3
 """Proves a program and all crates that it stands on, on all processors, and says how far it is.
 
-usage: bench/prove.py PROGRAM WIDE [WORD ..]     for ./demo: bench/prove.py snapraid snap_sync sync -c array.conf
+usage: bench/prove.py PROGRAM WIDE [WORD ..]     for ./demo: bench/prove.py snapraid snap_sync exercise 3
 The crate WIDE stands on many others: they and it are proved first, side by side. Then each of the others is proved alone, on all
 processors, the lowest first. Crates whose proofs are kept take a second each. Where there is
 more to prove, the program is run unproved with these words meanwhile, so that it is seen at work within two minutes. How long the rest
