@@ -123,6 +123,13 @@ impl MemFolder {
         self.files.rewrite(name, stamp, Bytes::of(bytes))
     }
 
+    /// Whether it tells its calls: memory refused no entry of the record.
+    pub fn tells_calls(&self) -> bool
+        ensures { result ≡ (folder_view self.now).tells_calls }
+    {
+        !self.past.lost
+    }
+
     // A call that is not made of the tree: it is counted and written down, and it fails.
     pub(crate) fn refuse(&mut self, entry: Option<FolderEntry>) -> Failed
         ensures called { (call : FolderCall) → IfSome entry (λ e. folder_call e ≡ call) →

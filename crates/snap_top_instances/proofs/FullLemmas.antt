@@ -24,10 +24,10 @@ use Rattle.snap_top.specs.Sync.{BeginsFrom}
 use Rattle.snap_top.specs.Task.{end_table}
 use Rattle.snap_top.proofs.AskedLemmas.{setup_read, well_in}
 use Rattle.snap_top.proofs.CompleteLemmas.{same_ok}
-use Rattle.snap_top_memory.specs.Lived.{AskForSync, IsLeftOf, RunsOver, files_seen, standing_of}
-use Rattle.snap_top_memory.proofs.LivedLemmas.{goes_with, trees_kept}
-use Rattle.snap_top_memory.proofs.ResumedLemmas.{HoldsAlways, begins_nothing, is_sync, no_fix, none_failed, same_first, syncs_clean}
-use Rattle.snap_top_memory.proofs.SeenLemmas.{files_whole, splits}
+use Rattle.snap_top_histories.specs.Lived.{AskForSync, IsLeftOf, RunsOver, files_seen, standing_of}
+use Rattle.snap_top_histories.proofs.LivedLemmas.{goes_with, trees_kept}
+use Rattle.snap_top_histories.proofs.ResumedLemmas.{HoldsAlways, begins_nothing, is_sync, no_fix, none_failed, same_first, syncs_clean}
+use Rattle.snap_top_histories.proofs.SeenLemmas.{files_whole, splits}
 use Rattle.snap_top_instances.specs.Asked.{HasWholeLevels}
 use Rattle.snap_top_instances.specs.Resumed.{IsResumedWhole}
 

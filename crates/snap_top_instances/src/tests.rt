@@ -1,4 +1,6 @@
 // Each instance is met.
+mod histories;
+
 use crate::resumed::stop_and_sync_in_full;
 use snap_top_memory::arrays::{FIVE, SYNC};
 use std::test::Fail;

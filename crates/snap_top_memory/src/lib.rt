@@ -5,27 +5,18 @@
 //! what a run left. `next.rt` runs again where a run broke, and `turns.rt` lets each call of an object fail in turn.
 //! `logged.rt` compares what a run wrote to logs.
 //! `contents.rt` and `four.rt` have content files that such runs leave, spelled by hand.
-//! What the laws of `snap_top` suppose is met: `lived.rt` has histories, `changed.rt` what happens between two runs,
-//! `resumed.rt` a sync that is resumed, a sync and a fix, and `taken.rt` a fix of which no premise is left;
-//! `repeated.rt` has two checks of one array, and a fix after one that was stopped.
 //! A test is proved too, and costs more with each value that owns memory and is alive at a `?` or an `assert!`. So what
 //! a run leaves stays within the functions here, and a test hands over a `static` table.
-//! Proved: it never panics, and what it hands to a run is settled and without drafts. The runs of these files
-//! are such as `snap_top::laws::headline` speaks of. What a run does is `snap_top`'s.
+//! Proved: it never panics, and what it hands to a run is settled and without drafts. What a run does is `snap_top`'s.
 #![tactic(auto)]
 
 pub mod arrays;
 pub mod cases;
-pub mod changed;
 pub mod contents;
 pub mod damage;
 pub mod failing;
 pub mod four;
 pub mod left;
-pub mod lived;
 pub mod logged;
 pub mod next;
-pub mod repeated;
-pub mod resumed;
-pub mod taken;
 pub mod turns;

@@ -4,7 +4,6 @@ mod contents;
 mod damage;
 mod exercise;
 mod faults;
-mod lived;
 mod matching;
 mod printing;
 mod usual;
