@@ -49,7 +49,8 @@ is_misread reads option matches = option_map_or (λ text. not (is_some (reads te
 abbrev pub read_or : {X : Type 0} → X → (Text → Option X) → OptionName → List Row → X
 read_or default reads option matches = unwrap_or (option_and_then reads (value_of option matches)) default
 
--- what the options' values come to: 8 percent of the stripes that no check saw in the last 10 days, 4 readers and the number 0, unless the words say otherwise
+-- what the options' values come to: unless the words say otherwise, 8 percent of the stripes that no check saw in the last 10 days,
+-- 4 readers and the number 0
 abbrev pub values_in : List Row → OptionValues
 values_in matches = record {
   patterns = values_of options.Filter matches;

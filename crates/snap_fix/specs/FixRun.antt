@@ -153,8 +153,8 @@ HasBroken plan (Folder disk) told olds news old new =
 HasBroken plan Vault told olds news old new = VaultFailedBy told old new
 HasBroken plan Memory told olds news old new = ⊥
 
--- The count of faults of the object that failed rose by one more than by its failed readings: of the cells of these stripes, or of
--- these levels.
+-- The count of faults of the object that failed rose by its failed readings, of the cells of these stripes or of these levels, and by
+-- at least one more.
 abbrev pub RoseBeyond : RunFault → List StripeFacts → List (List LevelReading) → List FolderView → List FolderView → VaultView → VaultView
     → Type 0
 RoseBeyond (Folder disk) stripes readings olds news old new =

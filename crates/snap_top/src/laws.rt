@@ -320,7 +320,7 @@ pub fn what_is_read_alike_is_left_alike<O: Opener, F: Folder, V: Vault, W: Sink>
 /// failed but its output. Both were asked for the same, and their openers tell all and hold the same. Of the run that broke off, no
 /// count of faults of a folder or of the vault rose but that of what broke it off, and that by one at most: so that call failed alone,
 /// and no reading did. Scrubs begin at one moment, and the folders of both fixes keep stamps alike. It is enough that by the account of
-/// a fix no reading failed of what it looked at. A run that ended early printed nothing: it was refused, or it only read and did not
+/// a fix no reading of a copy failed, nor one of what it looked at. A run that ended early printed nothing: it was refused, or it only read and did not
 /// come to its end.
 pub fn a_broken_run_prints_a_front<O: Opener, F: Folder, V: Vault, W: Sink>()
     ensures syncs { (run again : RunOf O F V W)
