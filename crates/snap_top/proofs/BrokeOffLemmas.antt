@@ -21,7 +21,7 @@ use Rattle.snap_report.specs.declared.events.Event.{Event}
 use Rattle.snap_report.proofs.TellingLemmas.{tells_nothing}
 use Rattle.stripe_examiner.specs.declared.scope.Mode.{Mode}
 use Rattle.stripe_examiner.specs.declared.scope.Mode.TheVariants as modes
-use Rattle.snap_top.specs.BrokeOff.{BrokeOff, EndedEarly, RoseOnce, WasRefused, WasUndone, is_undone}
+use Rattle.snap_top.specs.BrokeOff.{BrokeOff, EndedEarly, RoseOnce, WasRefused, WasUndone, answered, is_undone}
 use Rattle.snap_top.specs.Checking.{CheckRefuses, ChecksBy}
 use Rattle.snap_top.specs.Does.{DoesCommand}
 use Rattle.snap_top.specs.Fixing.{FixBroke, FixesBy}
@@ -34,7 +34,7 @@ use Rattle.snap_top.specs.Task.{Did, Left, Task, reads_only}
 use Rattle.snap_top.specs.Views.{World, view_of, world_of}
 use Rattle.snap_top.specs.declared.end.Ending.{Ending}
 use Rattle.snap_top.specs.declared.end.Ending.TheVariants.{NotLoaded, NoTable, OtherArray, Answered}
-use Rattle.snap_top.proofs.OfSyncLemmas.{begins_from, configured_for, given_copies, given_files, given_is, given_tells, start_files, start_folders, start_out, start_tells}
+use Rattle.snap_top.proofs.OfSyncLemmas.{begins_from, configured_for, given_copies, given_files, given_is, given_tells, start_files, start_folders, start_tells}
 use Rattle.snap_top.proofs.RefusalLemmas.{ending_untouched}
 
 -- ---- what breaks off by its command
@@ -92,6 +92,10 @@ not_done why counted false same = by (counted == 0) same
 
 -- ---- a run that broke off
 
+-- its command began with the output as it was
+pub out_of : (before : Entry) (exit : Exit) (broke : BrokeOff before exit) → (answered broke).start.out ≡ before.out
+out_of before exit broke = ap (λ (w : World). w.out) (answered broke).reads.others ∙ broke.ran.given_out
+
 module _ (before : Entry) (exit : Exit) (tells : IsTrue before.opener.tells) (tells_vault : IsTrue before.opener.vault.tells) (broke : BrokeOff before exit) where
   abbrev pub task : Task
   task = broke.ran.task
@@ -109,7 +113,7 @@ module _ (before : Entry) (exit : Exit) (tells : IsTrue before.opener.tells) (te
   configured = configured_for before exit tells tells_vault broke.setup (Answered left.answer broke.named) broke.told broke.ran task.command refl
 
   pub out_is : one.start.out ≡ before.out
-  out_is = start_out before exit tells tells_vault broke.setup (Answered left.answer broke.named) broke.told broke.ran left one
+  out_is = out_of before exit broke
 
   pub folders_are : one.start.folders ≡ before.opener.folders
   folders_are = start_folders before exit tells tells_vault broke.setup (Answered left.answer broke.named) broke.told broke.ran left one

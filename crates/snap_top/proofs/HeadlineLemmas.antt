@@ -3,7 +3,7 @@ use Rattle.std.proofs.Common.{◌≡◌, inl, inr, ⊎_elim, ℕ, ◌<◌, suc, 
 use Rattle.std.proofs.lemmas.List.{length-map}
 use Rattle.disk_model.specs.Files.{Files}
 use Rattle.disk_model.specs.Folder.{FolderView}
-use Rattle.disk_model.specs.Opener.{OpenerView, folder_held}
+use Rattle.disk_model.specs.Opener.{HoldsSame, OpenerView, folder_held}
 use Rattle.disk_model.specs.Sink.{SinkView}
 use Rattle.disk_model.specs.Tree.{Tree}
 use Rattle.disk_model.specs.Vault.{VaultView, copies_of}
@@ -13,7 +13,7 @@ use Rattle.snap_sync.specs.Images.{AtWork, Opening, StandsBy, rows_after}
 use Rattle.snap_sync.specs.Part.{AllTell, tree_at, trees_of, SyncRun, IsToldRun}
 use Rattle.stripe_reader.specs.Columns.{folder_at}
 use Rattle.snap_top.specs.Ended.{has_ended}
-use Rattle.snap_top.specs.Headline.{ArrivesAtItsEnd, ChecksName, FixesAreResumed, FixesSpare, GoesOn, LeavesCopies, Headline, IsQuiet, IsSoundStanding, SyncsLast, TreesStay}
+use Rattle.snap_top.specs.Headline.{ArrivesAtItsEnd, ChecksName, FixesAreResumed, FixesSpare, GoesOn, LeavesCopies, Headline, IsQuiet, IsSoundStanding, SyncsLast, TreesStay, UnopenedStays}
 use Rattle.snap_top.specs.History.{AreSoundBy, synced_by, LastSynced}
 use Rattle.snap_top.specs.Fix.{FixRun, MayStandFixed}
 use Rattle.snap_top.specs.NextFix.{IsNextFix}
@@ -277,6 +277,19 @@ module _ {O F V W : Type 0} (opener_view : O → OpenerView) (folder_view : F �
       by (fixes failed fix) unfixed stays = absurd (let clash : true ≡ false = unfixed in cc)
       by (scrubs failed scrub) unfixed stays = stays d left at ∙ held
 
+  -- ---- a run that opened nothing
+
+  unopened_over : (standing : Standing) → UnopenedStays opener_view folder_view vault_view sink_view standing
+  unopened_over standing run over step none =
+      let same : HoldsSame (begun run).opener (ended run).opener = step.unopened none in
+      let told = over.tells.tells in
+      record {
+        config = same.config told ∙ over.config;
+        trees = ap trees_of (same.folders told) ∙ over.trees;
+        copies = ap length (same.vault.drafts told) ∙ over.copies;
+        files = same.vault.files told ∙ over.files;
+      }
+
   -- ---- what stands at the end of a run
 
   trees_same : (olds news : List FolderView) → length news ≡ length olds → ((d : ℕ) → d < length olds → (folder_at news d).tree ≡ (folder_at olds d).tree) → trees_of news ≡ trees_of olds
@@ -331,6 +344,7 @@ module _ {O F V W : Type 0} (opener_view : O → OpenerView) (folder_view : F �
         copies = copies_over standing;
         quiet = quiet_over standing;
         trees = trees_over standing;
+        unopened = unopened_over standing;
         goes_on = goes_on_over standing;
         arrives = arrives_over standing;
       }

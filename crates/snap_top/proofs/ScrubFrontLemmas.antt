@@ -1,4 +1,4 @@
--- A scrub that broke off told and printed a front of what one does over the same array in which nothing failed.
+-- A scrub that broke off told and printed a front of what one does that read the same: so of one over the same array in which nothing failed.
 use Rattle.std.proofs.Common.{◌≡◌, ◌⊎◌, ⊎_elim, ℕ, zero, suc, ◌+◌, ◌≤◌, List, [], ◌++◌, length, append-nil, false, refl, sym, ap, ap₂, ◌∙◌, subst, arith}
 use Rattle.std.specs.Prelude.{All, sum_by}
 use Rattle.disk_model.specs.Cause.{Rose, RoseBy}
@@ -19,7 +19,7 @@ use Rattle.snap_scrub.specs.Plan.{plan_of}
 use Rattle.snap_scrub.specs.Reading.{AreLevelsOf, HasLevels, ScrubReading, cells_of, unread_levels}
 use Rattle.snap_sync.specs.Part.{AllTell, readings_by, trees_of}
 use Rattle.snap_top.specs.Alike.{HoldAlike, NothingRose}
-use Rattle.snap_top.specs.BrokeOff.{BrokeOff, PrintsFront, RoseOnce, RoseOnceBy}
+use Rattle.snap_top.specs.BrokeOff.{BrokeOff, PrintsFront, RoseOnce, RoseOnceBy, ScrubBrokeOff, answered}
 use Rattle.snap_top.specs.LeftAlike.{AskSame}
 use Rattle.snap_top.specs.Run.{Entry, Exit, IsAnswered}
 use Rattle.snap_top.specs.Scrubbed.{EndsScrubbed}
@@ -30,7 +30,7 @@ use Rattle.snap_top.proofs.HeldLemmas.{none_risen}
 use Rattle.snap_top.proofs.LeftAlikeLemmas.{none_rose, same_readings}
 use Rattle.snap_top.proofs.ScrubGiven.{stripes_given}
 use Rattle.snap_top.proofs.SyncedLemmas.{OneTable}
-use Rattle.snap_top.proofs.BrokeOffLemmas.{LeftUntold, begun, configured, does_as, files_are, folders_are, given_faults, left, one, out_is, printed_nothing, scrub_broke, table_is, vault_tells}
+use Rattle.snap_top.proofs.BrokeOffLemmas.{LeftUntold, begun, configured, does_as, files_are, folders_are, given_faults, left, one, out_of, printed_nothing, scrub_broke, table_is, vault_tells}
 
 -- ---- a scrub
 
@@ -40,6 +40,35 @@ none_unread (suc n) a b c later rose once = absurd (once (twice later rose))
   where
     twice : a ≤ b → RoseBy (suc n + 1) b c → RoseBy 2 a c
     twice begins two = omega (arith, begins, two)
+
+abbrev scrub_lines : TableValue → List ScrubReading → List ℕ
+scrub_lines table readings = lines_of table.columns (scrub_events_of table readings)
+
+abbrev end_text : TableValue → List ScrubReading → List ℕ
+end_text table readings = scrub_text (length readings) (at_most (length (scrub_events_of table readings)))
+
+-- it read what another one read of the same table
+pub scrub_read_front : (before before_then : Entry) (exit exit_then : Exit) (status_then : ℕ) (off : ScrubBrokeOff before exit) (other : EndsScrubbed before_then exit_then status_then)
+    → (answered off.broke).table ≡ other.run.loaded → off.scrub.course.readings ≡ other.run.readings
+    → PrintsFront off.broke.told (scrub_events_of other.run.loaded other.run.readings) before before_then exit exit_then status_then
+scrub_read_front before before_then exit exit_then status_then off other loaded_is read_same =
+    let table : TableValue = (answered off.broke).table in
+    let readings : List ScrubReading = off.scrub.course.readings in
+    let lines : scrub_lines other.run.loaded other.run.readings ≡ scrub_lines table readings = ap₂ scrub_lines (sym loaded_is) (sym read_same) in
+    record {
+      more = [];
+      events = ap₂ scrub_events_of (sym loaded_is) (sym read_same) ∙ sym off.scrub.course.told_is ∙ sym (append-nil off.broke.told);
+      text = scrub_lines table readings;
+      rest = end_text other.run.loaded other.run.readings;
+      failed = off.scrub.output_failed;
+      printed = subst (λ (out : SinkView). Tells (scrub_lines table readings) (between false out) (between off.scrub.output_failed exit.after.out))
+          (out_of before exit off.broke) off.scrub.printed;
+      printed_then = record {
+        failed = other.output_failed;
+        status_is = other.status_is.failed;
+        told = subst (λ (text : List ℕ). Tells (text ++ end_text other.run.loaded other.run.readings) (between false before_then.out) (between other.output_failed exit_then.after.out)) lines other.printed;
+      };
+    }
 
 module _ (one_table : OneTable) (before before_then : Entry) (exit exit_then : Exit) (status_then : ℕ) (broke : BrokeOff before exit)
     (other : EndsScrubbed before_then exit_then status_then) (hold : HoldAlike before before_then) (ask : AskSame before before_then) (moments : before.moment ≡ before_then.moment) (once : RoseOnceBy broke.fault before exit)
@@ -59,12 +88,6 @@ module _ (one_table : OneTable) (before before_then : Entry) (exit exit_then : E
   setup_is : broke.ran.task.setup ≡ other.run.setup
   setup_is = one_setup before before_then hold ask.asked ask.asked_then ask.words ask.words_then ask.log _ _ broke.ran.task.readers other.is_scrub.readers broke.ran.task.setup other.run.setup
       (configured before exit hold.tells.tells hold.tells.tells_vault broke) other.is_scrub.configured
-
-  abbrev scrub_lines : TableValue → List ScrubReading → List ℕ
-  scrub_lines table readings = lines_of table.columns (scrub_events_of table readings)
-
-  abbrev end_text : TableValue → List ScrubReading → List ℕ
-  end_text table readings = scrub_text (length readings) (at_most (length (scrub_events_of table readings)))
 
   abbrev all_told : List Event
   all_told = scrub_events_of other.run.loaded other.run.readings
@@ -134,23 +157,11 @@ module _ (one_table : OneTable) (before before_then : Entry) (exit exit_then : E
         unread
         (none_risen (sum_by unread_levels other.run.readings) before_then.opener.vault.faults exit_then.after.vault.faults well_then.vault other.unread_levels_of) cells_are
 
+    abbrev off : ScrubBrokeOff before exit
+    off = record { broke = broke; way = way; command_is = command_is; scrub = breaks }
+
     all_lines : PrintsFront broke.told all_told before before_then exit exit_then status_then
-    all_lines =
-        let lines : scrub_lines other.run.loaded other.run.readings ≡ scrub_lines its.table readings = ap₂ scrub_lines (sym loaded_is) (sym read_same) in
-        record {
-          more = [];
-          events = ap₂ scrub_events_of (sym loaded_is) (sym read_same) ∙ sym breaks.course.told_is ∙ sym (append-nil broke.told);
-          text = scrub_lines its.table readings;
-          rest = end_text other.run.loaded other.run.readings;
-          failed = breaks.output_failed;
-          printed = subst (λ (out : SinkView). Tells (scrub_lines its.table readings) (between false out) (between breaks.output_failed exit.after.out))
-              (out_is before exit hold.tells.tells hold.tells.tells_vault broke) breaks.printed;
-          printed_then = record {
-            failed = other.output_failed;
-            status_is = other.status_is.failed;
-            told = subst (λ (text : List ℕ). Tells (text ++ end_text other.run.loaded other.run.readings) (between false before_then.out) (between other.output_failed exit_then.after.out)) lines other.printed;
-          };
-        }
+    all_lines = scrub_read_front before before_then exit exit_then status_then off other loaded_is read_same
 
   pub scrub_front : PrintsFront broke.told all_told before before_then exit exit_then status_then
   scrub_front = ⊎_elim no_lines all_lines

@@ -219,6 +219,7 @@ module _ (says : BelowSays) (before : Entry) (exit : Exit) (tells : TellsAll bef
         always = sound_reading before exit status fresh synced still;
         folders = λ has. absurd (let clash : false ≡ true = sym ran.no_vault ∙ has in cc);
         stops = λ has. absurd (let clash : false ≡ true = sym ran.no_vault ∙ has in cc);
+        unopened = λ none. ran.kept;
         refused = λ refused. read;
         done = λ asked words changes well. absurd (done_end before exit (Refused why) told status tells.tells is ran well);
         at_end = λ ended. absurd (only_read _ read ended);
@@ -231,6 +232,7 @@ module _ (says : BelowSays) (before : Entry) (exit : Exit) (tells : TellsAll bef
         always = sound_reading before exit status fresh synced still;
         folders = λ has. absurd (let clash : false ≡ true = sym ran.no_vault ∙ has in cc);
         stops = λ has. absurd (let clash : false ≡ true = sym ran.no_vault ∙ has in cc);
+        unopened = λ none. ran.kept;
         refused = λ refused. read;
         done = λ asked words changes well. absurd (not_exercised before.texts asked ran.number words (changes_on_array asked.command changes) ran.asks);
         at_end = λ ended. absurd (only_read _ read ended);
@@ -252,6 +254,7 @@ module _ (says : BelowSays) (before : Entry) (exit : Exit) (tells : TellsAll bef
         always = always;
         folders = λ has. kept;
         stops = λ has. each_tree_stays always.did before exit kept;
+        unopened = λ none. absurd (let clash : true ≡ false = sym ran.has_vault ∙ none in cc);
         refused = λ refused. same ∙ (ending_untouched ending ran.task ran.given (world_of exit.after) told ran.did ran.goes (subst (λ (n : ℕ). (n ≡ 2) ⊎ (n ≡ 5)) is refused)).did_is;
         done = λ asked words changes well. ap has_ended same
             ∙ done_in (setup_value setup) ending told ran is asked words changes (done_ending ending (done_end before exit (Worked setup ending) told status tells.tells is ran well));

@@ -1,4 +1,4 @@
--- A sync that broke off told and printed a front of what one does over the same array in which nothing failed.
+-- A sync that broke off told and printed a front of what one does that read the same and more: so of one over the same array in which nothing failed.
 use Rattle.std.proofs.Common.{◌≡◌, ◌⊎◌, ⊎_elim, ℕ, ◌+◌, ◌-◌, List, [], ◌++◌, length, drop, take-append-drop, append_assoc, false, refl, sym, ap, ap₂, ◌∙◌, subst}
 use Rattle.std.proofs.lemmas.Grind.{flat_map-append}
 use Rattle.std.proofs.lemmas.List.{map-append}
@@ -20,7 +20,7 @@ use Rattle.snap_sync.specs.Part.{AllTell, IsToldRun, NoneRose, SyncRun, layout_b
 use Rattle.stripe_findings.specs.Findings.{events_of, stripe_events}
 use Rattle.stripe_findings.specs.Reading.{StripeReading, stripes_of}
 use Rattle.snap_top.specs.Alike.{HoldAlike, NothingRose}
-use Rattle.snap_top.specs.BrokeOff.{BrokeOff, PrintsFront, RoseOnce, RoseOnceBy}
+use Rattle.snap_top.specs.BrokeOff.{BrokeOff, PrintsFront, RoseOnce, RoseOnceBy, SyncBrokeOff}
 use Rattle.snap_top.specs.LeftAlike.{AskSame}
 use Rattle.snap_top.specs.Moment.{EndsInPart}
 use Rattle.snap_top.specs.Run.{Entry, Exit, IsAnswered}
@@ -31,7 +31,7 @@ use Rattle.snap_top.proofs.LeftAlikeLemmas.{none_rose}
 use Rattle.snap_top.proofs.MomentLemmas.{LayoutIsOfTrees}
 use Rattle.snap_top.proofs.PartLemmas.{ReadIsGiven}
 use Rattle.snap_top.proofs.SyncedLemmas.{OneTable}
-use Rattle.snap_top.proofs.BrokeOffLemmas.{LeftUntold, configured, does_as, folders_are, left, one, out_is, printed_nothing, sync_broke, table_is}
+use Rattle.snap_top.proofs.BrokeOffLemmas.{LeftUntold, configured, does_as, folders_are, left, one, out_of, printed_nothing, sync_broke, table_is}
 
 -- ---- a sync
 
@@ -50,6 +50,38 @@ front_lines table readings more end =
     ap (λ (lines : List ℕ). lines ++ end) (ap (lines_of table.columns) (flat_map-append (stripe_events table) readings more)
     ∙ flat_map-append (event_line table.columns) (events_of table readings) (events_of table more))
     ∙ append_assoc (lines_of table.columns (events_of table readings)) (lines_of table.columns (events_of table more)) end
+
+-- the text of a sync
+abbrev text_of : TableValue → List StripeReading → List ℕ
+text_of table readings = lines_of table.columns (events_of table readings) ++ sync_text (verified_in table readings) (length readings - verified_in table readings)
+
+-- it read the first stripes that another one read of the same layout
+pub sync_read_front : (before before_then : Entry) (exit exit_then : Exit) (status_then : ℕ) (off : SyncBrokeOff before exit) (other : EndsInPart before_then exit_then status_then) (more : List StripeReading)
+    → off.sync.course.start ≡ other.run.plan.start → other.run.readings ≡ off.sync.course.readings ++ more
+    → PrintsFront off.broke.told (events_of other.run.plan.start other.run.readings) before before_then exit exit_then status_then
+sync_read_front before before_then exit exit_then status_then off other more start_is all_read =
+    let start : TableValue = off.sync.course.start in
+    let readings : List StripeReading = off.sync.course.readings in
+    let events : events_of other.run.plan.start other.run.readings ≡ events_of start readings ++ events_of start more
+    = ap₂ events_of (sym start_is) all_read ∙ flat_map-append (stripe_events start) readings more in
+    let end_text : List ℕ = sync_text (verified_in start (readings ++ more)) (length (readings ++ more) - verified_in start (readings ++ more)) in
+    let lines : text_of other.run.plan.start other.run.readings
+    ≡ lines_of start.columns (events_of start readings) ++ (lines_of start.columns (events_of start more) ++ end_text)
+    = ap₂ text_of (sym start_is) all_read ∙ front_lines start readings more end_text in
+    record {
+      more = events_of start more;
+      events = events ∙ ap (λ (told : List Event). told ++ events_of start more) (sym off.sync.course.told_is);
+      text = lines_of start.columns (events_of start readings);
+      rest = lines_of start.columns (events_of start more) ++ end_text;
+      failed = off.sync.output_failed;
+      printed = subst (λ (out : SinkView). Tells (lines_of start.columns (events_of start readings)) (between false out) (between off.sync.output_failed exit.after.out))
+          (out_of before exit off.broke) off.sync.printed;
+      printed_then = record {
+        failed = other.output_failed;
+        status_is = other.status_is.failed;
+        told = subst (λ (text : List ℕ). Tells text (between false before_then.out) (between other.output_failed exit_then.after.out)) lines other.printed;
+      };
+    }
 
 module _ (laid_of : LayoutIsOfTrees) (given_of : ReadIsGiven) (one_table : OneTable) (before before_then : Entry) (exit exit_then : Exit) (status_then : ℕ) (broke : BrokeOff before exit)
     (other : EndsInPart before_then exit_then status_then) (hold : HoldAlike before before_then) (ask : AskSame before before_then) (once : RoseOnceBy broke.fault before exit) (well_then : NothingRose before_then exit_then) where
@@ -71,9 +103,6 @@ module _ (laid_of : LayoutIsOfTrees) (given_of : ReadIsGiven) (one_table : OneTa
   setup_is : broke.ran.task.setup ≡ again.setup
   setup_is = one_setup before before_then hold ask.asked ask.asked_then ask.words ask.words_then ask.log _ _ broke.ran.task.readers other.is_sync.readers broke.ran.task.setup again.setup
       (configured before exit hold.tells.tells hold.tells.tells_vault broke) other.is_sync.configured
-
-  abbrev text_of : TableValue → List StripeReading → List ℕ
-  text_of table readings = lines_of table.columns (events_of table readings) ++ sync_text (verified_in table readings) (length readings - verified_in table readings)
 
   abbrev all_told : List Event
   all_told = events_of again.plan.start again.readings
@@ -159,29 +188,11 @@ module _ (laid_of : LayoutIsOfTrees) (given_of : ReadIsGiven) (one_table : OneTa
         ∙ ap (λ (ts : List Tree). readings_by course_start ts pending) (sym trees_are)
         ∙ front_read course_start (run_trees run) (stripes_of readings) behind pending readings (given_of run told_run none_run) parts
 
-    abbrev end_text : List ℕ
-    end_text = sync_text (verified_in course_start (readings ++ more)) (length (readings ++ more) - verified_in course_start (readings ++ more))
+    abbrev off : SyncBrokeOff before exit
+    off = record { broke = broke; way = way; command_is = command_is; sync = breaks }
 
     broken_front : PrintsFront broke.told all_told before before_then exit exit_then status_then
-    broken_front =
-        let lines : text_of again.plan.start again.readings
-        ≡ lines_of course_start.columns (events_of course_start readings) ++ (lines_of course_start.columns (events_of course_start more) ++ end_text)
-        = ap₂ text_of (sym start_is) all_read ∙ front_lines course_start readings more end_text in
-        record {
-          more = events_of course_start more;
-          events = ap₂ events_of (sym start_is) all_read ∙ flat_map-append (stripe_events course_start) readings more
-              ∙ ap (λ (told : List Event). told ++ events_of course_start more) (sym breaks.course.told_is);
-          text = lines_of course_start.columns (events_of course_start readings);
-          rest = lines_of course_start.columns (events_of course_start more) ++ end_text;
-          failed = breaks.output_failed;
-          printed = subst (λ (out : SinkView). Tells (lines_of course_start.columns (events_of course_start readings)) (between false out) (between breaks.output_failed exit.after.out))
-              (out_is before exit hold.tells.tells hold.tells.tells_vault broke) breaks.printed;
-          printed_then = record {
-            failed = other.output_failed;
-            status_is = other.status_is.failed;
-            told = subst (λ (text : List ℕ). Tells text (between false before_then.out) (between other.output_failed exit_then.after.out)) lines other.printed;
-          };
-        }
+    broken_front = sync_read_front before before_then exit exit_then status_then off other more start_is all_read
 
   pub sync_front : PrintsFront broke.told all_told before before_then exit exit_then status_then
   sync_front = ⊎_elim none_front broken_front

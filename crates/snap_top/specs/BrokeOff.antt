@@ -5,7 +5,9 @@ use Rattle.disk_model.specs.Cause.{Rose, RoseBy}
 use Rattle.file_table.specs.Table.{TableValue}
 use Rattle.snap_config.specs.Setup.{SetupValue}
 use Rattle.snap_config.specs.declared.options.Command.TheVariants as commands
+use Rattle.snap_config.specs.declared.options.ScrubWay.{ScrubWay}
 use Rattle.snap_config.specs.declared.options.Selection.{Selection}
+use Rattle.snap_config.specs.declared.options.SyncWay.{SyncWay}
 use Rattle.snap_fix.specs.Fixing.{facts_of}
 use Rattle.snap_report.specs.Telling.{Tells, between}
 use Rattle.snap_report.specs.declared.answer.Answer.TheVariants as answers
@@ -18,6 +20,8 @@ use Rattle.stripe_reader.specs.Columns.{folder_at}
 use Rattle.snap_top.specs.Fixing.{FixBroke}
 use Rattle.snap_top.specs.LeftAlike.{HasPrinted}
 use Rattle.snap_top.specs.Run.{Entry, Exit, IsAnswered, IsRefused, IsRun}
+use Rattle.snap_top.specs.Scrubbing.{ScrubBreaks}
+use Rattle.snap_top.specs.Syncing.{SyncBreaks}
 use Rattle.snap_top.specs.Task.{Left, reads_only}
 use Rattle.snap_top.specs.Views.{view_of, world_of}
 use Rattle.snap_top.specs.declared.end.Ending.{Ending}
@@ -52,6 +56,20 @@ pub record FixBrokeOff (before : Entry) (exit : Exit) : Type 0 where
   pub copies : (copy : ℕ) → ¬ (HasFailed (view_of broke.ran.given.vault) (view_of (answered broke).start.vault) copy)
   pub cells : (d : ℕ) → d < length fix.course.plan.table.columns → unread_cells d (facts_of fix.course.stripes) ≡ 0
   pub levels : unread_in fix.course.readings ≡ 0
+
+-- A sync broke off once the vault was touched.
+pub record SyncBrokeOff (before : Entry) (exit : Exit) : Type 0 where
+  pub broke : BrokeOff before exit
+  pub way : SyncWay
+  pub command_is : broke.ran.task.command ≡ commands.Sync way
+  pub sync : SyncBreaks broke.ran.task way (answered broke).table (answered broke).start (world_of exit.after) (left_of broke) broke.ran.did
+
+-- a scrub likewise
+pub record ScrubBrokeOff (before : Entry) (exit : Exit) : Type 0 where
+  pub broke : BrokeOff before exit
+  pub way : ScrubWay
+  pub command_is : broke.ran.task.command ≡ commands.Scrub way
+  pub scrub : ScrubBreaks way broke.ran.task (answered broke).table (answered broke).start (world_of exit.after) (left_of broke) broke.ran.did
 
 -- the count of faults of no folder rose, and that of the vault by one at most
 pub record RoseOnce (before : Entry) (exit : Exit) : Type 0 where

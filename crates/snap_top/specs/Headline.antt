@@ -7,7 +7,7 @@ use Rattle.disk_model.specs.Folder.{FolderView}
 use Rattle.disk_model.specs.Opener.{OpenerView}
 use Rattle.disk_model.specs.Sink.{SinkView}
 use Rattle.disk_model.specs.Tree.{Tree}
-use Rattle.disk_model.specs.Vault.{VaultView}
+use Rattle.disk_model.specs.Vault.{VaultView, copies_of}
 use Rattle.file_table.specs.Table.{TableValue}
 use Rattle.file_table.specs.Valid.{IsValid}
 use Rattle.snap_config.specs.Config.{read_setup}
@@ -52,6 +52,15 @@ pub record IsSoundStanding (standing : Standing) : Type 0 where
   pub sound : AreSoundBy standing.copies standing.files standing.last
   pub bytes : IsOfBytes standing.last.snapshot
   pub one_size : HaveOneSize standing.copies standing.files
+
+-- ---- a run that opened nothing
+
+-- An opener holds what stands: the configuration, the trees, and the vault with its files.
+pub record HoldsWhatStands (standing : Standing) (opener : OpenerView) : Type 0 where
+  pub config : opener.config ≡ standing.config
+  pub trees : trees_of opener.folders ≡ standing.trees
+  pub copies : copies_of opener.vault ≡ standing.copies
+  pub files : opener.vault.files ≡ standing.files
 
 -- ---- a stopped sync is resumed
 
@@ -199,6 +208,13 @@ module _ {O F V W : Type 0} (opener_view : O → OpenerView) (folder_view : F �
       → FolderStandsIn (before_of opener_view folder_view vault_view sink_view run) (after_of opener_view folder_view vault_view sink_view run) d left
       → left ≡ tree_at standing.trees d
 
+  -- Where a run opened nothing, its opener holds what stands.
+  abbrev pub UnopenedStays : Standing → Type 0
+  UnopenedStays standing = (run : RunOf O F V W) → BeginsOver standing (before_of opener_view folder_view vault_view sink_view run)
+      → RunStep (before_of opener_view folder_view vault_view sink_view run) (after_of opener_view folder_view vault_view sink_view run) run.status
+      → (after_of opener_view folder_view vault_view sink_view run).has_vault ≡ false
+      → HoldsWhatStands standing (after_of opener_view folder_view vault_view sink_view run).opener
+
   -- Whatever moment a run over what stands is stopped at, something stands next.
   abbrev pub GoesOn : Standing → Type 0
   GoesOn standing = (run : RunOf O F V W) (files : Files) (trees : List Tree) → BeginsOver standing (before_of opener_view folder_view vault_view sink_view run)
@@ -229,5 +245,6 @@ module _ {O F V W : Type 0} (opener_view : O → OpenerView) (folder_view : F �
     pub copies : LeavesCopies standing
     pub quiet : IsQuiet opener_view folder_view vault_view sink_view standing
     pub trees : TreesStay standing
+    pub unopened : UnopenedStays standing
     pub goes_on : GoesOn standing
     pub arrives : ArrivesAtItsEnd standing

@@ -1,6 +1,6 @@
 -- A run as one step: what it did, what stands at each moment of it, and what it leaves at its end.
-use Rattle.std.specs.Prelude.{◌≡◌, ◌⊎◌, ℕ, ◌≤◌, true, Ok}
-use Rattle.disk_model.specs.Opener.{folder_held}
+use Rattle.std.specs.Prelude.{◌≡◌, ◌⊎◌, ℕ, ◌≤◌, true, false, Ok}
+use Rattle.disk_model.specs.Opener.{HoldsSame, folder_held}
 use Rattle.disk_model.specs.Tree.{Tree}
 use Rattle.disk_model.specs.Vault.{IsSettled}
 use Rattle.snap_config.specs.declared.options.Command.{Command}
@@ -37,14 +37,15 @@ abbrev pub LeavesEachTree : Did → Entry → Exit → Type 0
 LeavesEachTree (fixes failed run) before exit = Unit {0}
 LeavesEachTree _ before exit = (d : ℕ) (left : Tree) → FolderStandsIn before exit d left → left ≡ (folder_held before.opener d).tree
 
--- What a run did, and what stands at each moment of it. What was opened is only read, or changed as that says. With status 2 or 5 it
--- only read. A sync, a fix or a scrub with status 0 or 1 did not break off, nor does one with status 3 where nothing failed but the
+-- What a run did, and what stands at each moment of it. What was opened is only read, or changed as that says. Where nothing was
+-- opened, the opener holds what it held. With status 2 or 5 it only read. A sync, a fix or a scrub with status 0 or 1 did not break off, nor does one with status 3 where nothing failed but the
 -- output and readings; and so it ends by that. A check that went to its end names what is lost, an audit finds what is changed, and a
 -- list and a status print their texts.
 pub record RunStep (before : Entry) (exit : Exit) (status : ℕ) : Type 0 where
   pub always : IsSoundAlways before exit status
   pub folders : exit.has_vault ≡ true → folders_after always.did before.opener.folders exit.after.folders
   pub stops : exit.has_vault ≡ true → LeavesEachTree always.did before exit
+  pub unopened : exit.has_vault ≡ false → HoldsSame before.opener exit.opener
   pub refused : (status ≡ 2) ⊎ (status ≡ 5) → always.did ≡ reads_only
   pub done : (asked : Options) → asked_by before.texts ≡ Ok asked → ChangesFiles asked.command
       → (status ≤ 1) ⊎ ((status ≡ 3) × NothingBroke before exit) → has_ended always.did ≡ true

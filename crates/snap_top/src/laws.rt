@@ -1,5 +1,5 @@
 //! What follows for one run after another. The calls do nothing: their contracts are laws.
-ghost use Rattle.std.specs.Prelude.{◌≡◌, ℕ, List, Bool, IsTrue, true, length, Contains};
+ghost use Rattle.std.specs.Prelude.{◌≡◌, ◌++◌, ℕ, List, Bool, IsTrue, true, length, Contains};
 ghost use Rattle.cauchy.specs.Matrix.{byte_of};
 ghost use Rattle.content_file.specs.Load.{HasFailed};
 ghost use Rattle.disk_model.specs.Cause.{RoseBy};
@@ -23,8 +23,9 @@ ghost use Rattle.snap_sync.specs.Resumed.{EndsAs};
 ghost use Rattle.snap_sync.specs.Soundness.{AreSound};
 ghost use Rattle.snap_config.specs.declared.options.Command.{Command};
 ghost use Rattle.stripe_findings.specs.Findings.{events_of};
+ghost use Rattle.stripe_findings.specs.Reading.{StripeReading};
 ghost use Rattle.snap_top.specs.Alike.{AskAlike, CheckAlike, FindAlike, FixAlike, FixFindsAlike, HoldAlike, NothingRose, ReadAlike, seen_by};
-ghost use Rattle.snap_top.specs.BrokeOff.{BrokeOff, EndedEarly, FixBrokeOff, PrintsFront, RoseOnceBy};
+ghost use Rattle.snap_top.specs.BrokeOff.{BrokeOff, EndedEarly, FixBrokeOff, PrintsFront, RoseOnceBy, ScrubBrokeOff, SyncBrokeOff, answered};
 ghost use Rattle.snap_top.specs.Check.{CheckRun};
 ghost use Rattle.snap_top.specs.Fix.{FixRun};
 ghost use Rattle.snap_top.specs.FixedAlike.{FixesAlike, KeepStampsAlike};
@@ -320,8 +321,9 @@ pub fn what_is_read_alike_is_left_alike<O: Opener, F: Folder, V: Vault, W: Sink>
 /// failed but its output. Both were asked for the same, and their openers tell all and hold the same. Of the run that broke off, no
 /// count of faults of a folder or of the vault rose but that of what broke it off, and that by one at most: so that call failed alone,
 /// and no reading did. Scrubs begin at one moment, and the folders of both fixes keep stamps alike. It is enough that by the account of
-/// a fix no reading of a copy failed, nor one of what it looked at. A run that ended early printed nothing: it was refused, or it only read and did not
-/// come to its end.
+/// a fix no reading of a copy failed, nor one of what it looked at. Whatever readings failed, it is enough of a sync that the other one
+/// read the same of its stripes first, in the same layout, and of a scrub that it began with the same table and read the same. A run that
+/// ended early printed nothing: it was refused, or it only read and did not come to its end.
 pub fn a_broken_run_prints_a_front<O: Opener, F: Folder, V: Vault, W: Sink>()
     ensures syncs { (run again : RunOf O F V W)
         (other : EndsInPart (entry_of O.view W.view again) (end_of O.view F.view V.view W.view again) again.status)
@@ -350,6 +352,18 @@ pub fn a_broken_run_prints_a_front<O: Opener, F: Folder, V: Vault, W: Sink>()
         RoseOnceBy broke.fault (entry_of O.view W.view run) (end_of O.view F.view V.view W.view run) →
         NothingRose (entry_of O.view W.view again) (end_of O.view F.view V.view W.view again) →
         PrintsFront broke.told (events_in other.run other.finishes) (entry_of O.view W.view run) (entry_of O.view W.view again)
+        (end_of O.view F.view V.view W.view run) (end_of O.view F.view V.view W.view again) again.status }
+    ensures read_syncs { (run again : RunOf O F V W) (more : List StripeReading)
+        (other : EndsInPart (entry_of O.view W.view again) (end_of O.view F.view V.view W.view again) again.status)
+        (off : SyncBrokeOff (entry_of O.view W.view run) (end_of O.view F.view V.view W.view run)) →
+        off.sync.course.start ≡ other.run.plan.start → other.run.readings ≡ off.sync.course.readings ++ more →
+        PrintsFront off.broke.told (events_of other.run.plan.start other.run.readings) (entry_of O.view W.view run)
+        (entry_of O.view W.view again) (end_of O.view F.view V.view W.view run) (end_of O.view F.view V.view W.view again) again.status }
+    ensures read_scrubs { (run again : RunOf O F V W)
+        (other : EndsScrubbed (entry_of O.view W.view again) (end_of O.view F.view V.view W.view again) again.status)
+        (off : ScrubBrokeOff (entry_of O.view W.view run) (end_of O.view F.view V.view W.view run)) →
+        (answered off.broke).table ≡ other.run.loaded → off.scrub.course.readings ≡ other.run.readings →
+        PrintsFront off.broke.told (events_scrubbed other.run) (entry_of O.view W.view run) (entry_of O.view W.view again)
         (end_of O.view F.view V.view W.view run) (end_of O.view F.view V.view W.view again) again.status }
     ensures read_fixes { (run again : RunOf O F V W)
         (other : EndsFixed (entry_of O.view W.view again) (end_of O.view F.view V.view W.view again) again.status)

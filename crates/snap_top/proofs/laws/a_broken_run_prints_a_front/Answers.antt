@@ -1,8 +1,8 @@
 use Rattle.snap_top.proofs.FixFrontLemmas.{fix_front}
 use Rattle.snap_top.proofs.FixOnceLemmas.{fix_front_once}
 use Rattle.snap_top.proofs.BrokeOffLemmas.{early_front}
-use Rattle.snap_top.proofs.ScrubFrontLemmas.{scrub_front}
-use Rattle.snap_top.proofs.SyncFrontLemmas.{sync_front}
+use Rattle.snap_top.proofs.ScrubFrontLemmas.{scrub_front, scrub_read_front}
+use Rattle.snap_top.proofs.SyncFrontLemmas.{sync_front, sync_read_front}
 use Rattle.snap_top.proofs.laws.a_broken_run_prints_a_front.Goals as goal
 
 pub returns-clause-syncs : goal.returns-clause-syncs
@@ -17,6 +17,12 @@ returns-clause-scrubs g c run again other broke hold ask moments once well =
 pub returns-clause-fixes : goal.returns-clause-fixes
 returns-clause-fixes g c run again other broke hold ask stamps once well =
     fix_front_once c.what_is_read_determines_what_is_found.ensures.stripe c.one_table_has_a_spelling.ensures _ _ _ _ again.status broke other hold ask stamps once well
+
+pub returns-clause-read_syncs : goal.returns-clause-read_syncs
+returns-clause-read_syncs g c run again more other off start read = sync_read_front _ _ _ _ again.status off other more start read
+
+pub returns-clause-read_scrubs : goal.returns-clause-read_scrubs
+returns-clause-read_scrubs g c run again other off loaded read = scrub_read_front _ _ _ _ again.status off other loaded read
 
 pub returns-clause-read_fixes : goal.returns-clause-read_fixes
 returns-clause-read_fixes g c run again other off hold ask stamps well =
