@@ -2,10 +2,10 @@
 """Proves a program and all crates that it stands on, on all processors, and says how far it is.
 
 usage: bench/prove.py PROGRAM WIDE [WORD ..]     for ./demo: bench/prove.py snapraid snap_sync exercise 3
-The crate WIDE stands on many others: they and it are proved first, side by side. Then each of the others is proved alone, on all
-processors, the lowest first. Crates whose proofs are kept take a second each. Where there is
-more to prove, the program is run unproved with these words meanwhile, so that it is seen at work within two minutes. How long the rest
-takes is guessed from the table of costs in CONTRIBUTING.md.
+The crate WIDE stands on many others: they and it are proved first, side by side. Then two of the others are proved at a time, each as
+soon as what it stands on is. Crates whose proofs are kept take a second each. Where there is more to prove, the program is run unproved
+with these words meanwhile, so that it is seen at work within two minutes. How long the rest takes is guessed from the table of costs in
+CONTRIBUTING.md.
 """
 import os
 import re
@@ -13,11 +13,14 @@ import subprocess
 import sys
 import threading
 import time
+from concurrent.futures import FIRST_COMPLETED, ThreadPoolExecutor, wait
 
 TOP = os.path.dirname(os.path.dirname(os.path.abspath(__file__)))
 # Where the program was built before, what is kept is through by then.
 PATIENCE = 15
 MINUTE = 60
+# More at a time would take more memory than a small machine has.
+AT_A_TIME = 2
 
 
 def crates_below(top):
@@ -54,31 +57,48 @@ class Proving(threading.Thread):
 
     def run(self):
         first = crates_below(self.wide)
-        alone = sorted(set(self.below) - set(first), key=lambda name: len(crates_below(name)))
         # Some of those that run side by side wait for others.
         jobs = len(os.sched_getaffinity(0)) + 2
         self.now = list(first)
         self.failed = self.ends_badly(self.wide, ["all", "check", "--jobs", str(jobs)])
-        for name in alone:
-            if not self.failed:
-                self.now = [name]
-                self.failed = self.ends_badly(name, ["check"])
-                self.done += [name] if not self.failed else []
-                self.latest = time.time()
+        with ThreadPoolExecutor(AT_A_TIME) as pool:
+            self.prove_others(pool, sorted(set(self.below) - set(first), key=lambda name: len(crates_below(name))))
+
+    def prove_others(self, pool, left):
+        """Proves these, each when what it stands on is proved, until one fails."""
+        running = {}
+        while running or (left and not self.failed):
+            ready = [] if self.failed else [it for it in left if not {*left, *running.values()} & set(self.below[it])]
+            for name in ready[:AT_A_TIME - len(running)]:
+                left.remove(name)
+                self.now.append(name)
+                running[pool.submit(self.ends_badly, name, ["check"])] = name
+            for ended in wait(running, return_when=FIRST_COMPLETED).done:
+                name = running.pop(ended)
+                self.failed = ended.result() or self.failed
+                self.ends(name)
+
+    def ends(self, name):
+        """Notes that a crate is done, if that was not noted before."""
+        if name in self.now:
+            self.now.remove(name)
+            self.done.append(name)
+            self.latest = time.time()
 
     def ends_badly(self, name, words):
         # What a user waits for, the run of the unproved program, goes before.
         ran = subprocess.Popen(["nice", "rt", *words], cwd=f"{TOP}/crates/{name}", stdout=subprocess.PIPE,
                                stderr=subprocess.STDOUT, text=True)
-        self.said = []
+        said = []
         for line in ran.stdout:
-            self.said.append(line)
+            said.append(line)
             crate = re.fullmatch(r"== (\w+)\n", line)
-            if crate and crate[1] in self.now:
-                self.now.remove(crate[1])
-                self.done.append(crate[1])
-                self.latest = time.time()
-        return ran.wait() != 0
+            if crate:
+                self.ends(crate[1])
+        failed = ran.wait() != 0
+        if failed:
+            self.said += said
+        return failed
 
     def how_far(self):
         """How many crates are proved, the last of them, and how many minutes are left, by what is done so far."""
