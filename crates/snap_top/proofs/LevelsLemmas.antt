@@ -169,7 +169,7 @@ configures_not_by by file log old new (refusals.NoDisk name) is = is
 configures_not_by by file log old new (refusals.Unopened fault) is = is
 
 refuses_by : (by : Option SetupValue) (texts : List (List ℕ)) (old new : OpenerView) (why : Why_not) → Refuses texts old new why → Refuses texts (opener_by by old) (opener_by by new) why
-refuses_by by texts old new (refusals.Words fault) is = (is.0, goes_on_by by old new _ is.1)
+refuses_by by texts old new (refusals.Words fault) is = (is.0, goes_on_by by old new _ is.1, is.2)
 refuses_by by texts old new (refusals.Unread fault) is =
     record { asked = is.asked; read = is.read; array = is.array; why_not = configures_not_by by is.asked.conf is.asked.log old new (refusals.Unread fault) is.why_not }
 refuses_by by texts old new (refusals.Config file fault) is =

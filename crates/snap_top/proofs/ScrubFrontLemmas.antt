@@ -11,7 +11,6 @@ use Rattle.snap_report.specs.EndLines.{scrub_text}
 use Rattle.snap_report.specs.EventLines.{lines_of}
 use Rattle.snap_report.specs.Telling.{Tells, between}
 use Rattle.snap_report.specs.declared.answer.RunFault.{RunFault}
-use Rattle.snap_report.specs.declared.answer.RunFault.TheVariants as runs
 use Rattle.snap_report.specs.declared.events.Event.{Event}
 use Rattle.snap_scrub.specs.Findings.{events_of as scrub_events_of}
 use Rattle.snap_scrub.specs.Marks.{at_most}
@@ -70,8 +69,11 @@ scrub_read_front before before_then exit exit_then status_then off other loaded_
       };
     }
 
+same_way : (one other : ScrubWay) → commands.Scrub one ≡ commands.Scrub other → one ≡ other
+same_way one other is = cc
+
 module _ (one_table : OneTable) (before before_then : Entry) (exit exit_then : Exit) (status_then : ℕ) (broke : BrokeOff before exit)
-    (other : EndsScrubbed before_then exit_then status_then) (hold : HoldAlike before before_then) (ask : AskSame before before_then) (moments : before.moment ≡ before_then.moment) (once : RoseOnceBy broke.fault before exit)
+    (other : EndsScrubbed before_then exit_then status_then) (hold : HoldAlike before before_then) (ask : AskSame before before_then) (moments : before.moment ≡ before_then.moment)
     (well_then : NothingRose before_then exit_then) where
   abbrev its : IsAnswered broke.ran.task broke.ran.given (world_of exit.after) (left before exit hold.tells.tells hold.tells.tells_vault broke) broke.ran.did
   its = one before exit hold.tells.tells hold.tells.tells_vault broke
@@ -103,13 +105,9 @@ module _ (one_table : OneTable) (before before_then : Entry) (exit exit_then : E
     printed_then = record { failed = other.output_failed; status_is = other.status_is.failed; told = other.printed };
   }
 
-  module _ (by_vault : (broke.fault ≡ runs.Vault) × ScrubBreaks way broke.ran.task its.table its.start (world_of exit.after) (left before exit hold.tells.tells hold.tells.tells_vault broke) broke.ran.did) where
-    abbrev breaks : ScrubBreaks way broke.ran.task its.table its.start (world_of exit.after) (left before exit hold.tells.tells hold.tells.tells_vault broke) broke.ran.did
-    breaks = by_vault.1
-
-    vault_once : RoseOnce before exit
-    vault_once = subst (λ (fault : RunFault). RoseOnceBy fault before exit) by_vault.0 once
-
+  -- what it read, by the way that it went
+  module _ (its_way : ScrubWay) (way_is : its_way ≡ way) (breaks : ScrubBreaks its_way broke.ran.task its.table its.start (world_of exit.after) (left before exit hold.tells.tells hold.tells.tells_vault broke) broke.ran.did)
+      (vault_once : RoseOnce before exit) where
     abbrev readings : List ScrubReading
     readings = breaks.course.readings
 
@@ -144,9 +142,10 @@ module _ (one_table : OneTable) (before before_then : Entry) (exit exit_then : E
         stripes_given its.table (cells_of readings) its.start.folders exit.after.folders breaks.course.cells its.columns all_tell
         (none_rose its.start.folders before.opener.folders exit.after.folders (folders_are before exit hold.tells.tells hold.tells.tells_vault broke) vault_once.folders)
         ∙ ap (readings_by its.table (trees_of its.start.folders)) breaks.course.stripes
-        ∙ ap (λ (t : TableValue). readings_by t (trees_of its.start.folders) (plan_of t way broke.ran.task.moment)) loaded_is
-        ∙ ap (λ (ts : List Tree). readings_by other.run.loaded ts (plan_of other.run.loaded way broke.ran.task.moment)) trees_are
-        ∙ ap (λ (n : ℕ). readings_by other.run.loaded (trees_of other.run.folders) (plan_of other.run.loaded way n)) now_is
+        ∙ ap (λ (t : TableValue). readings_by t (trees_of its.start.folders) (plan_of t its_way broke.ran.task.moment)) loaded_is
+        ∙ ap (λ (ts : List Tree). readings_by other.run.loaded ts (plan_of other.run.loaded its_way broke.ran.task.moment)) trees_are
+        ∙ ap (λ (n : ℕ). readings_by other.run.loaded (trees_of other.run.folders) (plan_of other.run.loaded its_way n)) now_is
+        ∙ ap (λ (w : ScrubWay). readings_by other.run.loaded (trees_of other.run.folders) (plan_of other.run.loaded w other.run.now)) way_is
         ∙ sym (other.given (none_rose other.run.folders before_then.opener.folders exit_then.after.folders other.is_scrub.folders_are well_then.folders))
 
     read_same : readings ≡ other.run.readings
@@ -157,13 +156,30 @@ module _ (one_table : OneTable) (before before_then : Entry) (exit exit_then : E
         unread
         (none_risen (sum_by unread_levels other.run.readings) before_then.opener.vault.faults exit_then.after.vault.faults well_then.vault other.unread_levels_of) cells_are
 
-    abbrev off : ScrubBrokeOff before exit
-    off = record { broke = broke; way = way; command_is = command_is; scrub = breaks }
+    -- the other one read the same, of the same table
+    pub reads : (its.table ≡ other.run.loaded) × (readings ≡ other.run.readings)
+    reads = (loaded_is, read_same)
 
-    all_lines : PrintsFront broke.told all_told before before_then exit exit_then status_then
-    all_lines = scrub_read_front before before_then exit exit_then status_then off other loaded_is read_same
+  -- of one that went another way, by what it was asked for
+  pub reads_by : (its_way : ScrubWay) → broke.ran.task.command ≡ commands.Scrub its_way
+      → (breaks : ScrubBreaks its_way broke.ran.task its.table its.start (world_of exit.after) (left before exit hold.tells.tells hold.tells.tells_vault broke) broke.ran.did)
+      → RoseOnce before exit → (its.table ≡ other.run.loaded) × (breaks.course.readings ≡ other.run.readings)
+  reads_by its_way asked breaks vault_once = reads its_way (same_way its_way way (sym asked ∙ command_is)) breaks vault_once
 
-  pub scrub_front : PrintsFront broke.told all_told before before_then exit exit_then status_then
-  scrub_front = ⊎_elim no_lines all_lines
+  all_lines : ScrubBreaks way broke.ran.task its.table its.start (world_of exit.after) (left before exit hold.tells.tells hold.tells.tells_vault broke) broke.ran.did → RoseOnce before exit
+      → PrintsFront broke.told all_told before before_then exit exit_then status_then
+  all_lines breaks vault_once =
+      let its_reads = reads way refl breaks vault_once in
+      scrub_read_front before before_then exit exit_then status_then (record { broke = broke; way = way; command_is = command_is; scrub = breaks }) other its_reads.0 its_reads.1
+
+  pub scrub_front : RoseOnceBy broke.fault before exit → PrintsFront broke.told all_told before before_then exit exit_then status_then
+  scrub_front once = ⊎_elim no_lines (λ by_vault. all_lines by_vault.1 (subst (λ (fault : RunFault). RoseOnceBy fault before exit) by_vault.0 once))
       (scrub_broke broke.fault way broke.ran.task its.table its.start (world_of exit.after) (left before exit hold.tells.tells hold.tells.tells_vault broke) broke.ran.did
       (does_as before exit hold.tells.tells hold.tells.tells_vault broke (commands.Scrub way) command_is))
+
+-- what a scrub read that broke off is what another one of the same array reads
+pub scrub_reads : OneTable → (before before_then : Entry) (exit exit_then : Exit) (status_then : ℕ) (off : ScrubBrokeOff before exit) (other : EndsScrubbed before_then exit_then status_then)
+    → HoldAlike before before_then → AskSame before before_then → before.moment ≡ before_then.moment → RoseOnce before exit → NothingRose before_then exit_then
+    → ((answered off.broke).table ≡ other.run.loaded) × (off.scrub.course.readings ≡ other.run.readings)
+scrub_reads one_table before before_then exit exit_then status_then off other hold ask moments once well_then =
+    reads_by one_table before before_then exit exit_then status_then off.broke other hold ask moments well_then off.way off.command_is off.scrub once

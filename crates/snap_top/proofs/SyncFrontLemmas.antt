@@ -13,7 +13,6 @@ use Rattle.snap_report.specs.EventLines.{event_line, lines_of}
 use Rattle.snap_report.specs.Telling.{Tells, between}
 use Rattle.snap_report.specs.Text.{sync_text}
 use Rattle.snap_report.specs.declared.answer.RunFault.{RunFault}
-use Rattle.snap_report.specs.declared.answer.RunFault.TheVariants as runs
 use Rattle.snap_report.specs.declared.events.Event.{Event}
 use Rattle.snap_sync.specs.Closing.{verified_in}
 use Rattle.snap_sync.specs.Part.{AllTell, IsToldRun, NoneRose, SyncRun, layout_by, reading_by, readings_by, run_trees, trees_of}
@@ -84,7 +83,7 @@ sync_read_front before before_then exit exit_then status_then off other more sta
     }
 
 module _ (laid_of : LayoutIsOfTrees) (given_of : ReadIsGiven) (one_table : OneTable) (before before_then : Entry) (exit exit_then : Exit) (status_then : ℕ) (broke : BrokeOff before exit)
-    (other : EndsInPart before_then exit_then status_then) (hold : HoldAlike before before_then) (ask : AskSame before before_then) (once : RoseOnceBy broke.fault before exit) (well_then : NothingRose before_then exit_then) where
+    (other : EndsInPart before_then exit_then status_then) (hold : HoldAlike before before_then) (ask : AskSame before before_then) (well_then : NothingRose before_then exit_then) where
   abbrev again : SyncRun
   again = other.run
 
@@ -119,13 +118,8 @@ module _ (laid_of : LayoutIsOfTrees) (given_of : ReadIsGiven) (one_table : OneTa
     printed_then = record { failed = other.output_failed; status_is = other.status_is.failed; told = other.printed };
   }
 
-  module _ (by_vault : (broke.fault ≡ runs.Vault) × SyncBreaks broke.ran.task way its.table its.start (world_of exit.after) (left before exit hold.tells.tells hold.tells.tells_vault broke) broke.ran.did) where
-    abbrev breaks : SyncBreaks broke.ran.task way its.table its.start (world_of exit.after) (left before exit hold.tells.tells hold.tells.tells_vault broke) broke.ran.did
-    breaks = by_vault.1
-
-    vault_once : RoseOnce before exit
-    vault_once = subst (λ (fault : RunFault). RoseOnceBy fault before exit) by_vault.0 once
-
+  -- what it read, by the way that it went
+  module _ (its_way : SyncWay) (breaks : SyncBreaks broke.ran.task its_way its.table its.start (world_of exit.after) (left before exit hold.tells.tells hold.tells.tells_vault broke) broke.ran.did) (vault_once : RoseOnce before exit) where
     abbrev course_start : TableValue
     course_start = breaks.course.start
 
@@ -136,7 +130,7 @@ module _ (laid_of : LayoutIsOfTrees) (given_of : ReadIsGiven) (one_table : OneTa
     ahead = breaks.course.ahead
 
     abbrev run : SyncRun
-    run = run_of broke.ran.task way its.table its.start (world_of exit.after) course_start breaks.course.listed readings ahead
+    run = run_of broke.ran.task its_way its.table its.start (world_of exit.after) course_start breaks.course.listed readings ahead
 
     told_run : IsToldRun run
     told_run = record {
@@ -188,13 +182,24 @@ module _ (laid_of : LayoutIsOfTrees) (given_of : ReadIsGiven) (one_table : OneTa
         ∙ ap (λ (ts : List Tree). readings_by course_start ts pending) (sym trees_are)
         ∙ front_read course_start (run_trees run) (stripes_of readings) behind pending readings (given_of run told_run none_run) parts
 
-    abbrev off : SyncBrokeOff before exit
-    off = record { broke = broke; way = way; command_is = command_is; sync = breaks }
+    -- the other one read the same first, in the same layout
+    pub reads : (course_start ≡ again.plan.start) × ((rest : List StripeReading) × (again.readings ≡ readings ++ rest))
+    reads = (start_is, (more, all_read))
 
-    broken_front : PrintsFront broke.told all_told before before_then exit exit_then status_then
-    broken_front = sync_read_front before before_then exit exit_then status_then off other more start_is all_read
+  broken_front : SyncBreaks broke.ran.task way its.table its.start (world_of exit.after) (left before exit hold.tells.tells hold.tells.tells_vault broke) broke.ran.did → RoseOnce before exit
+      → PrintsFront broke.told all_told before before_then exit exit_then status_then
+  broken_front breaks vault_once =
+      let its_reads = reads way breaks vault_once in
+      sync_read_front before before_then exit exit_then status_then (record { broke = broke; way = way; command_is = command_is; sync = breaks }) other its_reads.1.0 its_reads.0 its_reads.1.1
 
-  pub sync_front : PrintsFront broke.told all_told before before_then exit exit_then status_then
-  sync_front = ⊎_elim none_front broken_front
+  pub sync_front : RoseOnceBy broke.fault before exit → PrintsFront broke.told all_told before before_then exit exit_then status_then
+  sync_front once = ⊎_elim none_front (λ by_vault. broken_front by_vault.1 (subst (λ (fault : RunFault). RoseOnceBy fault before exit) by_vault.0 once))
       (sync_broke broke.fault broke.ran.task way its.table its.start (world_of exit.after) (left before exit hold.tells.tells hold.tells.tells_vault broke) broke.ran.did
       (does_as before exit hold.tells.tells hold.tells.tells_vault broke (commands.Sync way) command_is))
+
+-- what a sync read that broke off is what another one of the same array reads first
+pub sync_reads : LayoutIsOfTrees → ReadIsGiven → OneTable → (before before_then : Entry) (exit exit_then : Exit) (status_then : ℕ) (off : SyncBrokeOff before exit) (other : EndsInPart before_then exit_then status_then)
+    → HoldAlike before before_then → AskSame before before_then → RoseOnce before exit → NothingRose before_then exit_then
+    → (off.sync.course.start ≡ other.run.plan.start) × ((more : List StripeReading) × (other.run.readings ≡ off.sync.course.readings ++ more))
+sync_reads laid_of given_of one_table before before_then exit exit_then status_then off other hold ask once well_then =
+    reads laid_of given_of one_table before before_then exit exit_then status_then off.broke other hold ask well_then off.way off.sync once

@@ -105,7 +105,7 @@ pub record IsUnopened (texts : List (List ℕ)) (old new : OpenerView) (fault : 
 
 -- by the refusal: its cause, and all calls of the opener
 abbrev pub Refuses : List (List ℕ) → OpenerView → OpenerView → Refusal → Type 0
-Refuses texts old new (Words fault) = IsWordsFault texts fault × OpenerGoesOn old new []
+Refuses texts old new (Words fault) = IsWordsFault texts fault × OpenerGoesOn old new [] × (new.faults ≡ old.faults)
 Refuses texts old new (Unread fault) = IsUnconfigured texts old new (Unread fault)
 Refuses texts old new (BadConfig file fault) = IsUnconfigured texts old new (BadConfig file fault)
 Refuses texts old new (NoDisk name) = IsUnknown texts old new name

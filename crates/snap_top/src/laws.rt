@@ -409,7 +409,10 @@ pub fn what_a_run_loaded_is_known<O: Opener, F: Folder, V: Vault, W: Sink>()
 /// and, where the folder keeps stamps, its recorded stamp; or, with a lost block, under PATH`.unrecoverable`, or nowhere if
 /// it was nowhere and nothing of it was restored. A fix that is stopped spares the cells, files and levels
 /// that it leaves alone. The next one from the same table has enough undamaged levels for each stripe that both look at, if
-/// the first one had. Of each fix this supposes that it met no block that has a recorded hash by chance.
+/// the first one had. A check that goes to its end names what is lost. Copies are as they were, or spell a table of the run.
+/// Refused runs, and commands that change nothing, leave what stands; so runs that fixed nothing leave the trees, and one that
+/// opened nothing leaves all to its opener. Whatever runs next goes over what stands, and at its end what it left stands. Of
+/// each fix this supposes that it met no block that has a recorded hash by chance.
 pub fn headline<O: Opener, F: Folder, V: Vault, W: Sink>()
     ensures { (first standing : Standing) (stages : List (Stage O F V W)) → IsOrigin first →
         IsHistory O.view F.view V.view W.view first stages standing → Headline O.view F.view V.view W.view standing }

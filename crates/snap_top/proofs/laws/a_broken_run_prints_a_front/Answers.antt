@@ -8,11 +8,11 @@ use Rattle.snap_top.proofs.laws.a_broken_run_prints_a_front.Goals as goal
 pub returns-clause-syncs : goal.returns-clause-syncs
 returns-clause-syncs g c run again other broke hold ask once well =
     let says = c.a_sync_is_a_part_sync.ensures in
-    sync_front says.laid says.given c.one_table_has_a_spelling.ensures _ _ _ _ again.status broke other hold ask once well
+    sync_front says.laid says.given c.one_table_has_a_spelling.ensures _ _ _ _ again.status broke other hold ask well once
 
 pub returns-clause-scrubs : goal.returns-clause-scrubs
 returns-clause-scrubs g c run again other broke hold ask moments once well =
-    scrub_front c.one_table_has_a_spelling.ensures _ _ _ _ again.status broke other hold ask moments once well
+    scrub_front c.one_table_has_a_spelling.ensures _ _ _ _ again.status broke other hold ask moments well once
 
 pub returns-clause-fixes : goal.returns-clause-fixes
 returns-clause-fixes g c run again other broke hold ask stamps once well =

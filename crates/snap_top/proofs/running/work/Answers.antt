@@ -6,7 +6,7 @@ use Rattle.snap_top.proofs.running.work.Goals as goal
 pub returns-in-Err : goal.returns-in-Err
 returns-in-Err g c =
     unopened_runs _ _ g.O.Folder.Folder.view g.O.Vault.Vault.view _ _ _ _ _ _ _ _ _ c.unopened.ensures.end c.unopened.ensures.folders c.unopened.ensures.vault
-    (refused_runs _ _ g.O.Folder.Folder.view _ _ _ _ _ [] _ _ _ refl (c.in-Err.ensures.answers, no_calls_yet _) (holds_start _))
+    (refused_runs _ _ g.O.Folder.Folder.view _ _ _ _ _ [] _ _ _ refl (c.in-Err.ensures.answers, no_calls_yet _, refl) (holds_start _))
 
 pub returns-in-Exercise : goal.returns-in-Exercise
 returns-in-Exercise g c =
