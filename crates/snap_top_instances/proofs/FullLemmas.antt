@@ -1,5 +1,5 @@
 -- A sync of an array without content, a stopped one, and one more: the last one is the full sync of what there was before.
-use Rattle.std.proofs.Common.{◌≡◌, inl, inr, ℕ, ◌<◌, List, [], ◌∷◌, length, map, take, false, Option, Some, Ok, refl, sym, ap, ◌∙◌, subst, arith}
+use Rattle.std.proofs.Common.{◌≡◌, inl, ℕ, ◌<◌, List, [], ◌∷◌, length, map, take, Option, Ok, refl, sym, ap, ◌∙◌, subst, arith}
 use Rattle.content_file.specs.Load.{HasFailed}
 use Rattle.disk_model.specs.Files.{Files, parity_of}
 use Rattle.disk_model.specs.Folder.{FolderView}
@@ -19,7 +19,7 @@ use Rattle.snap_top.specs.Moment.{EndsInPart}
 use Rattle.snap_top.specs.Opening.{asked_by}
 use Rattle.snap_top.specs.Resumed.{RunOf}
 use Rattle.snap_top.specs.Run.{Entry, Exit, vault_in}
-use Rattle.snap_top.specs.Standing.{BeginsOver, GoesOver, IsHistory, IsOrigin, Runs, Stage, Standing, after_of, before_of, nothing_synced}
+use Rattle.snap_top.specs.Standing.{BeginsOver, IsOrigin, Runs, Stage, Standing, after_of, before_of, nothing_synced}
 use Rattle.snap_top.specs.Sync.{BeginsFrom}
 use Rattle.snap_top.specs.Task.{end_table}
 use Rattle.snap_top.proofs.AskedLemmas.{setup_read, well_in}
@@ -79,7 +79,7 @@ module _ {O F V W : Type 0} (opener_view : O → OpenerView) (folder_view : F �
   ended run = after_of opener_view folder_view vault_view sink_view run
 
   -- what a run left in the vault, where each level has one file
-  files_left : (config : List ℕ) (texts : List (List ℕ)) (seed : List ℕ) (folders : List FolderView) (vault : VaultView) (status : ℕ) (left_folders : List F) (left : V)
+  pub files_left : (config : List ℕ) (texts : List (List ℕ)) (seed : List ℕ) (folders : List FolderView) (vault : VaultView) (status : ℕ) (left_folders : List F) (left : V)
       → (runs : RunsOver opener_view folder_view vault_view sink_view config texts seed folders vault status left_folders left) → HasWholeLevels config
       → (ended runs.run).after.vault.files ≡ (vault_view left).files
   files_left config texts seed folders vault status left_folders left runs whole =
@@ -109,7 +109,8 @@ module _ {O F V W : Type 0} (opener_view : O → OpenerView) (folder_view : F �
       → SyncsClean opener_view folder_view vault_view sink_view setup trees seed later last again → HasFull setup trees seed first full → 0 < length (parity_of full 0)
       → IsResumedWhole opener_view folder_view vault_view sink_view
   whole_by setup trees seed first later again stopped last full is_first headline sync resumed has wrote =
-      let stages : List (Stage O F V W) = record { change = Runs stopped; next = later } ∷ [] in
+      let stop : Stage O F V W = record { change = Runs stopped; next = later } in
+      let stages : List (Stage O F V W) = stop ∷ [] in
       record {
         first = first;
         still = later;
@@ -124,7 +125,9 @@ module _ {O F V W : Type 0} (opener_view : O → OpenerView) (folder_view : F �
         now = has.now;
         full = full;
         wrote = wrote;
-        some = omega arith;
+        stop = stop;
+        stages_are = refl;
+        is_sync = sync;
         origin = is_first;
         copies_are = has.copies_are;
         history = (sync.goes, refl);

@@ -1,2 +1,5 @@
-mod FullLemmas
-mod SaidLemmas
+pub mod EndsLemmas
+pub mod FullLemmas
+pub mod SaidLemmas
+pub mod SmoothLemmas
+pub mod ToldLemmas

@@ -1,2 +1,4 @@
 pub mod Asked
 pub mod Resumed
+pub mod Smooth
+pub mod Told

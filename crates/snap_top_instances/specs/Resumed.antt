@@ -1,5 +1,5 @@
 -- A sync that was stopped and resumed: an instance of what the headline supposes of the full sync of what there was before.
-use Rattle.std.specs.Prelude.{◌≡◌, ℕ, ◌<◌, List, length}
+use Rattle.std.specs.Prelude.{◌≡◌, ℕ, ◌<◌, List, [], ◌∷◌, length}
 use Rattle.disk_model.specs.Files.{Files, parity_of}
 use Rattle.disk_model.specs.Folder.{FolderView}
 use Rattle.disk_model.specs.Opener.{OpenerView}
@@ -9,13 +9,13 @@ use Rattle.disk_model.specs.Vault.{VaultView}
 use Rattle.file_table.specs.Table.{TableValue}
 use Rattle.snap_config.specs.Setup.{SetupValue}
 use Rattle.snap_sync.specs.Part.{IsFullSync}
-use Rattle.snap_top.specs.Headline.{AreStoppedSyncs, EndsInFull, SyncsClean}
+use Rattle.snap_top.specs.Headline.{AreStoppedSyncs, EndsInFull, Syncs, SyncsClean}
 use Rattle.snap_top.specs.Resumed.{RunOf}
 use Rattle.snap_top.specs.Standing.{IsHistory, IsOrigin, Stage, Standing}
 use Rattle.snap_top.specs.Sync.{BeginsFrom}
 
 module _ {O F V W : Type 0} (opener_view : O → OpenerView) (folder_view : F → FolderView) (vault_view : V → VaultView) (sink_view : W → SinkView) where
-  -- Stopped syncs of an array without content, and one with status 0 of what they left. The full sync of what there was before them writes
+  -- A stopped sync of an array without content, and one with status 0 of what it left. The full sync of what there was before it writes
   -- parity. So the last one ends as that.
   pub record IsResumedWhole : Type 0 where
     pub first : Standing
@@ -31,7 +31,9 @@ module _ {O F V W : Type 0} (opener_view : O → OpenerView) (folder_view : F �
     pub now : ℕ
     pub full : Files
     pub wrote : 0 < length (parity_of full 0)
-    pub some : 0 < length stages
+    pub stop : Stage O F V W
+    pub stages_are : stages ≡ stop ∷ []
+    pub is_sync : Syncs opener_view folder_view vault_view sink_view setup trees seed first stop.change stop.next
     pub origin : IsOrigin first
     pub copies_are : first.copies ≡ length setup.contents
     pub history : IsHistory opener_view folder_view vault_view sink_view first stages still

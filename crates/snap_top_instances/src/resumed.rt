@@ -57,8 +57,8 @@ pub fn stop_and_sync_in_full<R: Threads + Sync>(
     Ok(last.status)
 }
 
-// Whether the first level of a vault has a byte.
-fn has_parity(vault: MemVault) -> bool
+/// Whether the first level of a vault has a byte.
+pub fn has_parity(vault: MemVault) -> bool
     ensures { IsTrue result → 0 < length (parity_of (vault_view vault).files 0) }
 {
     let mut vault = vault;

@@ -1,0 +1,12 @@
+//! Instances of what the laws of `snap_top` suppose of runs that break off.
+//!
+//! Each call makes runs over an array, in one of which a call fails. It answers nothing unless all went as it says. Its
+//! contract gives the runs, with what a law supposes of them and what then follows, and shows that something was printed, or that
+//! a call failed.
+//! Start at `broken.rt`: a fix that breaks off. `broken_scrub.rt` and `broken_sync.rt` have a scrub and a sync.
+//! Proved: none of these laws is empty.
+#![tactic(auto)]
+
+pub mod broken;
+pub mod broken_scrub;
+pub mod broken_sync;

@@ -1,0 +1,83 @@
+-- What a run was asked for, and how one ended that went to its end.
+use Rattle.std.proofs.Common.{◌≡◌, ℕ, ◌≤◌, inl, Bool, true, false, IsTrue, Ok, sym, ◌∙◌, subst}
+use Rattle.snap_config.specs.declared.options.Command.{Command}
+use Rattle.snap_config.specs.declared.options.Command.TheVariants as commands
+use Rattle.snap_config.specs.declared.options.Options.{Options}
+use Rattle.snap_config.specs.declared.options.ScrubWay.{ScrubWay}
+use Rattle.snap_config.specs.declared.options.Selection.{Selection}
+use Rattle.snap_config.specs.declared.options.SyncWay.{SyncWay}
+use Rattle.snap_top.specs.Ended.{has_ended}
+use Rattle.snap_top.specs.LeftAlike.{AskSame}
+use Rattle.snap_top.specs.Moment.{EndsInPart, IsDidOf}
+use Rattle.snap_top.specs.Opening.{asked_by}
+use Rattle.snap_top.specs.Restoring.{EndsFixed}
+use Rattle.snap_top.specs.Run.{Entry, Exit}
+use Rattle.snap_top.specs.Scrubbed.{EndsScrubbed}
+use Rattle.snap_top.specs.Step.{ChangesFiles, EndsBy, RunStep}
+use Rattle.snap_top.specs.Task.{Did, fixes, reads_only, scrubs, syncs}
+use Rattle.snap_top.proofs.AskedLemmas.{command_asked}
+use Rattle.snap_top_instances.specs.Asked.{AsksFor}
+
+-- ---- what was asked for
+
+pub ask_same : (command : Command) (one other : Entry) → AsksFor command one.texts → AsksFor command other.texts → AskSame one other
+ask_same command one other asks asks_then = record {
+  asked = asks.asked;
+  asked_then = asks_then.asked;
+  words = asks.words;
+  words_then = asks_then.words;
+  command = asks.command_is ∙ sym asks_then.command_is;
+  log = asks.no_log ∙ sym asks_then.no_log;
+}
+
+-- ---- how a run ended, by what it did
+
+module _ (before : Entry) (exit : Exit) (status : ℕ) (tells : IsTrue before.opener.tells) (asked : Options) (words : asked_by before.texts ≡ Ok asked) where
+  sync_did : (way : SyncWay) → asked.command ≡ commands.Sync way → (did : Did) → IsDidOf before exit did → has_ended did ≡ true → EndsBy did before exit status → EndsInPart before exit status
+  sync_did way command reads_only is done ends = absurd (let clash : false ≡ true = done in cc)
+  sync_did way command (syncs failed sync) is done ends = ends.0
+  sync_did way command (fixes failed fix) is done ends =
+      let clash : commands.Fix fix.selection ≡ commands.Sync way = command_asked before tells asked words (commands.Fix fix.selection) is.readers fix.setup is.configured ∙ command in
+      absurd cc
+  sync_did way command (scrubs failed scrub) is done ends =
+      let clash : commands.Scrub scrub.way ≡ commands.Sync way = command_asked before tells asked words (commands.Scrub scrub.way) is.readers scrub.setup is.configured ∙ command in
+      absurd cc
+
+  scrub_did : (way : ScrubWay) → asked.command ≡ commands.Scrub way → (did : Did) → IsDidOf before exit did → has_ended did ≡ true → EndsBy did before exit status → EndsScrubbed before exit status
+  scrub_did way command reads_only is done ends = absurd (let clash : false ≡ true = done in cc)
+  scrub_did way command (syncs failed sync) is done ends =
+      let clash : commands.Sync is.way ≡ commands.Scrub way = command_asked before tells asked words (commands.Sync is.way) is.readers sync.setup is.configured ∙ command in
+      absurd cc
+  scrub_did way command (fixes failed fix) is done ends =
+      let clash : commands.Fix fix.selection ≡ commands.Scrub way = command_asked before tells asked words (commands.Fix fix.selection) is.readers fix.setup is.configured ∙ command in
+      absurd cc
+  scrub_did way command (scrubs failed scrub) is done ends = ends.0
+
+  fix_did : (selection : Selection) → asked.command ≡ commands.Fix selection → (did : Did) → IsDidOf before exit did → has_ended did ≡ true → EndsBy did before exit status → EndsFixed before exit status
+  fix_did selection command reads_only is done ends = absurd (let clash : false ≡ true = done in cc)
+  fix_did selection command (syncs failed sync) is done ends =
+      let clash : commands.Sync is.way ≡ commands.Fix selection = command_asked before tells asked words (commands.Sync is.way) is.readers sync.setup is.configured ∙ command in
+      absurd cc
+  fix_did selection command (fixes failed fix) is done ends = ends.0
+  fix_did selection command (scrubs failed scrub) is done ends =
+      let clash : commands.Scrub scrub.way ≡ commands.Fix selection = command_asked before tells asked words (commands.Scrub scrub.way) is.readers scrub.setup is.configured ∙ command in
+      absurd cc
+
+  module _ (step : RunStep before exit status) (few : status ≤ 1) where
+    done_by : ChangesFiles asked.command → has_ended step.always.did ≡ true
+    done_by changes = step.done asked words changes (inl few)
+
+    pub ends_synced : (way : SyncWay) → asked.command ≡ commands.Sync way → EndsInPart before exit status
+    ends_synced way command =
+        let done = done_by (subst ChangesFiles (sym command) tt) in
+        sync_did way command step.always.did step.always.is_did done (step.at_end done)
+
+    pub ends_scrubbed : (way : ScrubWay) → asked.command ≡ commands.Scrub way → EndsScrubbed before exit status
+    ends_scrubbed way command =
+        let done = done_by (subst ChangesFiles (sym command) tt) in
+        scrub_did way command step.always.did step.always.is_did done (step.at_end done)
+
+    pub ends_fixed : (selection : Selection) → asked.command ≡ commands.Fix selection → EndsFixed before exit status
+    ends_fixed selection command =
+        let done = done_by (subst ChangesFiles (sym command) tt) in
+        fix_did selection command step.always.did step.always.is_did done (step.at_end done)

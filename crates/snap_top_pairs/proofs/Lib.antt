@@ -1,0 +1,6 @@
+mod AuditedLemmas
+mod FoundLemmas
+mod ListedLemmas
+mod LostLemmas
+mod ReadLemmas
+mod TwiceLemmas

@@ -1,0 +1,3 @@
+mod ExercisedLemmas
+mod RefusedLemmas
+mod UnheardLemmas

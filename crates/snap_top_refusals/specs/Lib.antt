@@ -1,0 +1,4 @@
+pub mod Exercised
+pub mod Refused
+pub mod Silent
+pub mod Unheard

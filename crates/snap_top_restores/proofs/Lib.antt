@@ -1,0 +1,2 @@
+mod FixedLineLemmas
+mod ReachedLemmas

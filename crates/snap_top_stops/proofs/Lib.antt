@@ -1,0 +1,5 @@
+mod KeptLemmas
+mod SparedLemmas
+mod StaysSoundLemmas
+mod StoppedLemmas
+mod StoppedRunsLemmas

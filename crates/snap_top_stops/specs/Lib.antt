@@ -1,0 +1,4 @@
+pub mod Kept
+pub mod StaysSound
+pub mod Stopped
+pub mod StoppedRuns
