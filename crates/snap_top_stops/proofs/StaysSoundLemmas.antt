@@ -1,7 +1,7 @@
 -- A sync that was stopped, a level that was lost, and one more sync are a history of runs over which the copies stay sound.
 use Rattle.std.proofs.Common.{◌≡◌, ◌≢◌, inl, ℕ, ◌<◌, ◌≤◌, ◌==◌, List, [], ◌∷◌, length, map, get_or, set, slice_index, Bool, true, false, Option, None, Ok, is_some, if◌then◌else◌, refl, sym, ap, ◌∙◌, subst, arith}
 use Rattle.std.proofs.lemmas.Bool.Decides.{Decides-eqb}
-use Rattle.disk_model.specs.Files.{Files, parity_of}
+use Rattle.disk_model.specs.Files.{Files, content_of, parity_of}
 use Rattle.disk_model.specs.Folder.{FolderView}
 use Rattle.disk_model.specs.Opener.{OpenerView}
 use Rattle.disk_model.specs.Sink.{SinkView}
@@ -24,7 +24,7 @@ use Rattle.snap_top_histories.proofs.SeenLemmas.{contents_seen, files_whole, spl
 use Rattle.snap_top_instances.specs.Asked.{HasWholeLevels}
 use Rattle.snap_top_stops.specs.StaysSound.{IsSoundHistory, first_level, steps_of}
 use Rattle.snap_top_instances.proofs.FullLemmas.{files_left}
-use Rattle.snap_top_stops.proofs.StoppedRunsLemmas.{nothing_sound}
+use Rattle.snap_top_stops.proofs.StoppedRunsLemmas.{no_parity, nothing_sound}
 
 -- ---- a level that was lost
 
@@ -95,15 +95,15 @@ module _ {O F V W : Type 0} (opener_view : O → OpenerView) (folder_view : F �
         stands = stands;
       }
 
-  pub sound_history : (config : List ℕ) (texts : List (List ℕ)) (seed : List ℕ) (levels copies : ℕ) (value made seen : VaultValue) (hurt : VaultView) (folders : List FolderView)
+  pub sound_history : (config : List ℕ) (texts : List (List ℕ)) (seed : List ℕ) (levels copies : ℕ) (value made seen shown : VaultValue) (hurt : VaultView) (folders : List FolderView)
       (status status_last : ℕ) (left_folders last_folders : List F) (left left_last : V)
       → CopiesStaySound → value ≡ fresh_vault levels copies → AskForSync texts config → HasWholeLevels config
       → Ran config texts seed folders (view_of value) status left_folders left → IsLeftOf (vault_view left) (view_of made) → copies_of (view_of made) ≡ copies_of (view_of value)
-      → seen ≡ made → 0 < length (parity_of (view_of seen).files 0) → IsChangedLevel 0 (view_of made) hurt → length (parity_of hurt.files 0) ≡ 0
+      → seen ≡ made → 0 < length (parity_of (view_of seen).files 0) → shown ≡ made → content_of (view_of shown).files 0 ≢ None → IsChangedLevel 0 (view_of made) hurt → length (parity_of hurt.files 0) ≡ 0
       → Ran config texts seed (map folder_view left_folders) hurt status_last last_folders left_last → status_last ≤ 1 → 0 < length (parity_of (vault_view left_last).files 0)
       → IsSoundHistory opener_view folder_view vault_view sink_view
-  sound_history config texts seed levels copies value made seen hurt folders status status_last left_folders last_folders left left_last
-      law fresh asks whole runs left_of as_many same wrote changed lost again few wrote_again =
+  sound_history config texts seed levels copies value made seen shown hurt folders status status_last left_folders last_folders left left_last
+      law fresh asks whole runs left_of as_many same wrote same_shown there changed lost again few wrote_again =
       let one_each : splits (said_by config) ≡ false = ap splits whole.says ∙ whole.whole in
       let first : Standing = standing_of config folders (view_of value) nothing_synced in
       let is_first : IsOrigin first = begins_nothing opener_view folder_view vault_view sink_view config folders levels copies value fresh in
@@ -136,6 +136,13 @@ module _ {O F V W : Type 0} (opener_view : O → OpenerView) (folder_view : F �
         last = other;
         history = history;
         sound = sound;
+        asked = asks.asked;
+        way = asks.way;
+        words = subst (λ (ts : List (List ℕ)). asked_by ts ≡ Ok asks.asked) (sym runs.texts_are) asks.words;
+        command_is = asks.command_is;
+        none = no_parity config levels copies value fresh one_each;
+        there = λ gone. there (ap (λ (v : VaultValue). content_of (view_of v).files 0) same_shown
+            ∙ ap (λ (fs : Files). content_of fs 0) (sym (files_whole (said_by config) (view_of made) one_each)) ∙ gone);
         wrote = subst (λ (fs : Files). 0 < length (parity_of fs 0)) (sym (files_whole (said_by config) (view_of made) one_each)) (subst (λ (v : VaultValue). 0 < length (parity_of (view_of v).files 0)) same wrote);
         lost = ap (λ (fs : Files). length (parity_of fs 0)) (files_whole (said_by config) hurt one_each) ∙ lost;
         change = λ did count. level_lost config (view_of made) hurt many changed whole did count;

@@ -1,6 +1,7 @@
 -- A sync that was stopped, a run that changes nothing, and one more sync are as the laws on stopped syncs suppose.
-use Rattle.std.proofs.Common.{◌≡◌, ◌≢◌, inl, inr, ℕ, ◌<◌, List, [], ◌∷◌, length, map, get_or, take, Bool, true, false, Option, None, Ok, IsTrue, is_some, refl, sym, ap, ◌∙◌, subst, arith}
+use Rattle.std.proofs.Common.{◌≡◌, ◌≢◌, inl, inr, ℕ, zero, suc, ◌<◌, List, [], ◌∷◌, length, map, get_or, replicate, take, Bool, true, false, Option, None, Ok, IsTrue, is_some, refl, sym, ap, ◌∙◌, subst, arith}
 use Rattle.std.specs.Option.{option_map}
+use Rattle.std.proofs.lemmas.List.{get_or-replicate, length-replicate}
 use Rattle.content_file.specs.Load.{HasFailed}
 use Rattle.content_file.specs.Spelling.{spelling}
 use Rattle.disk_model.specs.Files.{Files, content_of, parity_of}
@@ -9,6 +10,7 @@ use Rattle.disk_model.specs.Opener.{OpenerView}
 use Rattle.disk_model.specs.Sink.{SinkView}
 use Rattle.disk_model.specs.Tree.{Tree}
 use Rattle.disk_model.specs.Vault.{VaultView, copies_of}
+use Rattle.disk_model.specs.declared.draft.Draft.TheVariants.{Absent}
 use Rattle.disk_memory.specs.Vault.{VaultValue, fresh_vault, view_of}
 use Rattle.snap_config.specs.Config.{read_setup}
 use Rattle.snap_config.specs.Setup.{SetupValue}
@@ -26,14 +28,14 @@ use Rattle.snap_top.specs.Resumed.{AreStoppedRuns, AsksForSync, EndAlike, EndsCl
 use Rattle.snap_top.specs.Run.{Entry, Exit}
 use Rattle.snap_top.specs.Standing.{IsOrigin, Runs, Standing, after_of, before_of, nothing_synced}
 use Rattle.snap_top.specs.Step.{ChangesFiles, EndsBy}
-use Rattle.snap_top.specs.Sync.{AreStopped, Stop, StopsFrom}
+use Rattle.snap_top.specs.Sync.{AreStopped, HasNoCopy, Stop, StopsFrom}
 use Rattle.snap_top.specs.Task.{Did, end_table, fixes, may_stand, reads_only, scrubs, syncs}
 use Rattle.snap_top.proofs.AskedLemmas.{command_asked, well_in}
 use Rattle.snap_top.proofs.ResumedRuns.{SyncsAreResumed, from_files, full_of, of_array, same_copies}
 use Rattle.snap_top_histories.specs.Lived.{AskForNoFix, AskForSync, IsLeftOf, IsNoFix, RunsOver, files_seen, standing_of}
 use Rattle.snap_top_histories.proofs.LivedLemmas.{goes_with, stands_left, trees_kept}
 use Rattle.snap_top_histories.proofs.ResumedLemmas.{HoldsAlways, begins_nothing, no_fix, none_failed}
-use Rattle.snap_top_histories.proofs.SeenLemmas.{contents_seen}
+use Rattle.snap_top_histories.proofs.SeenLemmas.{contents_seen, files_whole, splits}
 use Rattle.snap_top_instances.specs.Asked.{AsksFor, HasWholeLevels}
 use Rattle.snap_top_stops.specs.StoppedRuns.{AreResumedRuns, AreResumedSyncs, IsLoadedWell, IsResumedAll}
 use Rattle.snap_top_instances.proofs.FullLemmas.{files_left}
@@ -49,6 +51,28 @@ is_there size found same some none =
 pub nothing_sound : (standing : Standing) → IsOrigin standing → (copies : ℕ) → standing.copies ≡ copies → (last : LastSynced) → AreSoundBy copies standing.files last
 nothing_sound standing origin copies many last copy table below valid spells =
     absurd (origin.none copy (omega (arith, below, many)) (spelling table) spells (record { table = table; valid = valid; spelled = refl }))
+
+-- a new vault has no copy
+nothing_there : (levels copies copy : ℕ) → copy < length (replicate copies Absent) → content_of (view_of (fresh_vault levels copies)).files copy ≡ None
+nothing_there levels copies copy below = get_or-replicate copies copy None None (omega (arith, below, length-replicate copies Absent))
+
+no_copy : (config : List ℕ) (levels copies : ℕ) (value : VaultValue) (many : ℕ) → value ≡ fresh_vault levels copies → copies_of (view_of value) ≡ many → HasNoCopy many (files_seen config (view_of value))
+no_copy config levels copies value many fresh same copy below =
+    let within : copy < copies_of (view_of value) = subst (λ (n : ℕ). copy < n) (sym same) below in
+    ap (λ (cs : List (Option (List ℕ))). get_or cs copy None) (contents_seen (said_by config) (view_of value))
+    ∙ ap (λ (v : VaultValue). content_of (view_of v).files copy) fresh
+    ∙ nothing_there levels copies copy (subst (λ (v : VaultValue). copy < copies_of (view_of v)) fresh within)
+
+-- and no parity
+level_empty : (levels copies : ℕ) → length (parity_of (view_of (fresh_vault levels copies)).files 0) ≡ 0
+level_empty zero copies = refl
+level_empty (suc levels) copies = refl
+
+pub no_parity : (config : List ℕ) (levels copies : ℕ) (value : VaultValue) → value ≡ fresh_vault levels copies → splits (said_by config) ≡ false → length (parity_of (files_seen config (view_of value)) 0) ≡ 0
+no_parity config levels copies value fresh one_each =
+    ap (λ (fs : Files). length (parity_of fs 0)) (files_whole (said_by config) (view_of value) one_each)
+    ∙ ap (λ (v : VaultValue). length (parity_of (view_of v).files 0)) fresh
+    ∙ level_empty levels copies
 
 -- words that ask for the status ask for no fix
 pub status_no_fix : (texts : List (List ℕ)) → AsksFor commands.Status texts → AskForNoFix texts
@@ -129,11 +153,11 @@ module _ {O F V W : Type 0} (opener_view : O → OpenerView) (folder_view : F �
   synced : (config : List ℕ) (texts : List (List ℕ)) (seed : List ℕ) (folders : List FolderView) (vault : VaultView) (trees : List Tree) (status : ℕ) (left_folders : List F) (left : V)
       → (runs : Ran config texts seed folders vault status left_folders left) → (vault_view left).faults ≡ 0 → status ≡ 0 → (asks : AskForSync texts config) → trees_of folders ≡ trees
       → Synced asks.setup.setup trees seed (files_seen config vault) runs.run
-  synced config texts seed folders vault trees status left_folders left runs calm zero asks same =
+  synced config texts seed folders vault trees status left_folders left runs calm well asks same =
       let step = runs.step in
       let for_sync = asks_sync config texts seed folders vault trees status left_folders left runs asks same in
       let words : asked_by (begun runs.run).texts ≡ Ok asks.asked = subst (λ (ts : List (List ℕ)). asked_by ts ≡ Ok asks.asked) (sym runs.texts_are) asks.words in
-      let done : has_ended step.always.did ≡ true = step.done asks.asked words (subst ChangesFiles (sym asks.command_is) tt) (inl (omega (arith, runs.status_is, zero))) in
+      let done : has_ended step.always.did ≡ true = step.done asks.asked words (subst ChangesFiles (sym asks.command_is) tt) (inl (omega (arith, runs.status_is, well))) in
       let its : EndsSynced (begun runs.run) (ended runs.run) runs.run.status step.always.did
       = synced_did (begun runs.run) (ended runs.run) runs.run.status for_sync.tells.tells asks.asked words asks.way asks.command_is step.always.did step.always.is_did done (step.at_end done) in
       record {
@@ -142,7 +166,7 @@ module _ {O F V W : Type 0} (opener_view : O → OpenerView) (folder_view : F �
         ends = its.ends;
         did_is = its.did_is;
         none = none_failed opener_view folder_view vault_view sink_view config texts seed folders vault status left_folders left runs calm;
-        clean = runs.status_is ∙ zero;
+        clean = runs.status_is ∙ well;
       }
 
   module _ (setup : SetupValue) (trees : List Tree) (seed : List ℕ) where
@@ -212,7 +236,7 @@ module _ {O F V W : Type 0} (opener_view : O → OpenerView) (folder_view : F �
 
     module _ (files made kept : Files) (whole stopped between last : RunOf O F V W) (first : Synced setup trees seed files whole) (second : Synced setup trees seed files stopped)
         (stands : StandsIn (begun stopped) (ended stopped) made) (third : Between made (stop_at between kept)) (fourth : Synced setup trees seed kept last)
-        (sound : AreSoundBy (length setup.contents) files nothing_synced) (there : content_of kept 0 ≢ None) (wrote : 0 < length (parity_of (ended whole).after.vault.files 0)) where
+        (sound : AreSoundBy (length setup.contents) files nothing_synced) (bare : HasNoCopy (length setup.contents) files) (there : content_of kept 0 ≢ None) (wrote : 0 < length (parity_of (ended whole).after.vault.files 0)) where
       resumed_runs : RunsAreResumed → IsKnownByNone → AreResumedRuns opener_view folder_view vault_view sink_view
       resumed_runs law known =
           let stop = is_stopped known files made stopped second stands in
@@ -229,6 +253,7 @@ module _ {O F V W : Type 0} (opener_view : O → OpenerView) (folder_view : F �
             whole = whole;
             last = last;
             synced = nothing_synced;
+            none = bare;
             there = there;
             wrote = wrote;
             unchanged = λ stripe level. refl;
@@ -275,6 +300,7 @@ module _ {O F V W : Type 0} (opener_view : O → OpenerView) (folder_view : F �
             one = one;
             other = other;
             some = omega arith;
+            none = bare;
             there = there;
             wrote = wrote;
             unchanged = λ stripe level. refl;
@@ -316,7 +342,7 @@ module _ {O F V W : Type 0} (opener_view : O → OpenerView) (folder_view : F �
       → Ran config texts seed (map folder_view between_folders) (view_of kept) status_last last_folders left_last → (vault_view left_last).faults ≡ 0 → status_last ≡ 0
       → IsResumedAll opener_view folder_view vault_view sink_view
   all_resumed config texts others seed levels copies value other kept seen folders made status status_then status_between status_last whole_folders then_folders between_folders last_folders
-      left left_then left_between left_last runs_law syncs_law known holds fresh fresh_too asks whole_levels looks whole calm zero wrote stopped calm_then zero_then left_of as_many
+      left left_then left_between left_last runs_law syncs_law known holds fresh fresh_too asks whole_levels looks whole calm well wrote stopped calm_then zero_then left_of as_many
       looked kept_of same_kept there last calm_last zero_last =
       let setup : SetupValue = asks.setup.setup in
       let trees : List Tree = trees_of folders in
@@ -337,7 +363,7 @@ module _ {O F V W : Type 0} (opener_view : O → OpenerView) (folder_view : F �
       let same_last : trees_of (map folder_view between_folders) ≡ trees
       = trees_kept opener_view folder_view vault_view sink_view config others seed (map folder_view then_folders) made going.0 status_between between_folders left_between headline_later looked (status_no_fix others looks) ∙ same_too in
       let files : Files = files_seen config (view_of value) in
-      let one : Synced setup trees seed files whole.run = synced config texts seed folders (view_of value) trees status whole_folders left whole calm zero asks refl in
+      let one : Synced setup trees seed files whole.run = synced config texts seed folders (view_of value) trees status whole_folders left whole calm well asks refl in
       let two : Synced setup trees seed files stopped.run = subst (λ (v : VaultValue). Synced setup trees seed (files_seen config (view_of v)) stopped.run) (fresh_too ∙ sym fresh)
       (synced config texts seed (map folder_view whole_folders) (view_of other) trees status_then then_folders left_then stopped calm_then zero_then asks same) in
       let stands = stands_left opener_view folder_view vault_view sink_view config texts seed (map folder_view whole_folders) (view_of other) made status_then then_folders left_then stopped left_of in
@@ -350,4 +376,4 @@ module _ {O F V W : Type 0} (opener_view : O → OpenerView) (folder_view : F �
       let wrote_it : 0 < length (parity_of (ended whole.run).after.vault.files 0)
       = subst (λ (fs : Files). 0 < length (parity_of fs 0)) (sym (files_left opener_view folder_view vault_view sink_view config texts seed folders (view_of value) status whole_folders left whole whole_levels)) wrote in
       resumed_all setup trees seed files (files_seen config made) (files_seen config (view_of kept)) whole.run stopped.run looked.run last.run one two stands three four
-      (nothing_sound first is_first (length setup.contents) many nothing_synced) has wrote_it runs_law syncs_law known
+      (nothing_sound first is_first (length setup.contents) many nothing_synced) (no_copy config levels copies value (length setup.contents) fresh many) has wrote_it runs_law syncs_law known

@@ -1,12 +1,17 @@
--- A run, a level that was changed from outside, and a sync: an instance of what is supposed of a history of runs.
-use Rattle.std.specs.Prelude.{◌≡◌, ℕ, ◌<◌, ◌==◌, List, [], ◌∷◌, length, Bool}
-use Rattle.disk_model.specs.Files.{Files, parity_of}
+-- A sync that was stopped at some moment or ended, a level that was changed from outside, and one more sync: an instance of what is supposed of
+-- a history of runs.
+use Rattle.std.specs.Prelude.{◌≡◌, ◌≢◌, ℕ, ◌<◌, ◌==◌, List, [], ◌∷◌, length, Bool, None, Ok}
+use Rattle.disk_model.specs.Files.{Files, content_of, parity_of}
 use Rattle.disk_model.specs.Folder.{FolderView}
 use Rattle.disk_model.specs.Opener.{OpenerView}
 use Rattle.disk_model.specs.Sink.{SinkView}
 use Rattle.disk_model.specs.Vault.{VaultView}
+use Rattle.snap_config.specs.declared.options.Command.TheVariants as commands
+use Rattle.snap_config.specs.declared.options.Options.{Options}
+use Rattle.snap_config.specs.declared.options.SyncWay.{SyncWay}
 use Rattle.snap_top.specs.History.{AreSoundBy, Changes, IsChange, IsHistory, LastSynced, Runs, StaysSound, Step, synced_by}
 use Rattle.snap_top.specs.Moment.{StandsAfter, SyncsToItsEnd}
+use Rattle.snap_top.specs.Opening.{asked_by}
 use Rattle.snap_top.specs.Resumed.{StoppedRun}
 use Rattle.snap_top.specs.Standing.{after_of, before_of}
 use Rattle.snap_top.specs.Task.{Did}
@@ -20,8 +25,8 @@ abbrev pub steps_of : {O F V W : Type 0} → ℕ → StoppedRun O F V W → File
 steps_of copies sync hurt last = Runs sync ∷ Changes copies hurt first_level ∷ Runs last ∷ []
 
 module _ {O F V W : Type 0} (opener_view : O → OpenerView) (folder_view : F → FolderView) (vault_view : V → VaultView) (sink_view : W → SinkView) where
-  -- The copies were sound before a run, which was stopped at some moment or ended, and there was parity by then. The first level was lost; and a sync
-  -- went to its end and wrote parity. So the copies stay sound.
+  -- The copies were sound, and there was no parity. A sync was stopped at some moment or ended; it left a content copy, and parity. The first level
+  -- was lost; and one more sync went to its end and wrote parity. So the copies stay sound.
   pub record IsSoundHistory : Type 0 where
     pub copies : ℕ
     pub files : Files
@@ -31,6 +36,12 @@ module _ {O F V W : Type 0} (opener_view : O → OpenerView) (folder_view : F �
     pub last : StoppedRun O F V W
     pub history : IsHistory opener_view folder_view vault_view sink_view copies (steps_of copies sync hurt last) files
     pub sound : AreSoundBy copies files synced
+    pub asked : Options
+    pub way : SyncWay
+    pub words : asked_by sync.run.texts ≡ Ok asked
+    pub command_is : asked.command ≡ commands.Sync way
+    pub none : length (parity_of files 0) ≡ 0
+    pub there : content_of sync.left 0 ≢ None
     pub wrote : 0 < length (parity_of sync.left 0)
     pub lost : length (parity_of hurt 0) ≡ 0
     pub change : (did : Did) (count : ℕ) → IsChange copies copies (synced_by did count synced).is_changed first_level sync.left hurt

@@ -1,4 +1,5 @@
--- A sync that was stopped, a run that changes nothing, and one more sync: an instance of what the laws on stopped syncs suppose.
+-- A sync that was stopped at some moment or ended, a run that changes nothing, and one more sync: an instance of what the laws on stopped syncs
+-- suppose.
 use Rattle.std.specs.Prelude.{◌≡◌, ◌≢◌, ℕ, ◌<◌, List, [], ◌∷◌, length, false, None}
 use Rattle.content_file.specs.Load.{HasFailed}
 use Rattle.disk_model.specs.Files.{Files, content_of, parity_of}
@@ -15,14 +16,14 @@ use Rattle.snap_top.specs.History.{AreSoundBy, LastSynced}
 use Rattle.snap_top.specs.Moment.{IsSoundAlways, LoadsWell}
 use Rattle.snap_top.specs.Resumed.{AreStoppedRuns, EndAlike, EndsClean, IsBetween, IsStopped, RunOf, StoppedRun}
 use Rattle.snap_top.specs.Standing.{after_of, before_of}
-use Rattle.snap_top.specs.Sync.{AreStopped, IsOfArray, Stop, SyncsFrom}
+use Rattle.snap_top.specs.Sync.{AreStopped, HasNoCopy, IsOfArray, Stop, SyncsFrom}
 use Rattle.snap_top.specs.Task.{syncs}
 
 -- Nothing counts as changed from outside.
 abbrev pub IsUnchanged : LastSynced → Type 0
 IsUnchanged last = (stripe level : ℕ) → last.is_changed stripe level ≡ false
 
--- A sync was stopped at some moment, or ended, and there was a content copy by then. One more of what that left ended as the full sync of what
+-- There was no content copy. A sync was stopped at some moment or ended, and left one. One more of what that left ended as the full sync of what
 -- there was before, which writes parity.
 pub record AreResumedSyncs : Type 0 where
   pub setup : SetupValue
@@ -42,6 +43,7 @@ pub record AreResumedSyncs : Type 0 where
   pub one : Files
   pub other : Files
   pub some : 0 < length stops
+  pub none : HasNoCopy copies files
   pub there : content_of left 0 ≢ None
   pub wrote : 0 < length (parity_of one 0)
   pub unchanged : IsUnchanged synced
@@ -56,8 +58,8 @@ pub record AreResumedSyncs : Type 0 where
   pub alike : EndsAs whole.plan.start synced.is_changed table other_table one other
 
 module _ {O F V W : Type 0} (opener_view : O → OpenerView) (folder_view : F → FolderView) (vault_view : V → VaultView) (sink_view : W → SinkView) where
-  -- The same of runs: one that was stopped at some moment or ended, one that changes nothing, and one that ended with status 0. They left what one
-  -- does that ended so.
+  -- The same of runs: one that was stopped or ended, one that changes nothing, and one that ended with status 0. They left what one does that
+  -- ended so.
   pub record AreResumedRuns : Type 0 where
     pub setup : SetupValue
     pub trees : List Tree
@@ -70,6 +72,7 @@ module _ {O F V W : Type 0} (opener_view : O → OpenerView) (folder_view : F �
     pub whole : RunOf O F V W
     pub last : RunOf O F V W
     pub synced : LastSynced
+    pub none : HasNoCopy (length setup.contents) files
     pub there : content_of between.left 0 ≢ None
     pub wrote : 0 < length (parity_of one 0)
     pub unchanged : IsUnchanged synced

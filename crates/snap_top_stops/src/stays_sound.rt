@@ -8,6 +8,7 @@ ghost use Rattle.snap_top_histories.specs.Changed.{IsChangedLevel};
 ghost use Rattle.snap_top_histories.specs.Lived.{IsNew};
 ghost use Rattle.snap_top_stops.specs.StaysSound.{IsSoundHistory};
 
+use crate::stopped_runs::has_content;
 use disk_memory::{MemFolder, MemOpener, MemSink, MemVault};
 use disk_model::{Opener, Vault};
 use snap_top::laws::copies_stay_sound;
@@ -22,8 +23,8 @@ use std::test::Fail;
 use std::thread::Threads;
 
 /// Makes a sync of an array without content, which is stopped where these bytes pick; then the first level is lost; and one
-/// more sync is made. It answers the last status, and nothing unless the stop left parity, and the last sync went to its end
-/// and left some too.
+/// more sync is made. It answers the last status, and nothing unless the stop left a content copy and parity, and the last
+/// sync went to its end and left parity too.
 pub fn sync_over_a_lost_level<R: Threads + Sync>(
     rt: &R,
     alloc: Global,
@@ -47,7 +48,11 @@ pub fn sync_over_a_lost_level<R: Threads + Sync>(
     let copies = fresh.copies();
     let made = run_anew(rt, alloc, words, array.config, disks, fresh)?;
     let seen = picked(&made.vault, choice, copies)?;
+    let shown = picked(&made.vault, choice, copies)?;
     let left = picked(&made.vault, choice, copies)?;
+    if !has_content(shown) {
+        return Err("no content copy was left".into());
+    }
     if !has_parity(seen) {
         return Err("no parity was left".into());
     }

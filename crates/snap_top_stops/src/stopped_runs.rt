@@ -98,8 +98,8 @@ pub fn asks_status(alloc: Global, words: &[String]) -> bool
     }
 }
 
-// Whether the first content copy of a vault is there.
-fn has_content(vault: MemVault) -> bool
+/// Whether the first content copy of a vault is there.
+pub(crate) fn has_content(vault: MemVault) -> bool
     ensures { IsTrue result → content_of (vault_view vault).files 0 ≢ None }
 {
     let mut vault = vault;
