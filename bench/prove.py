@@ -75,8 +75,10 @@ class Proving(threading.Thread):
                 running[pool.submit(self.ends_badly, name, ["check"])] = name
             for ended in wait(running, return_when=FIRST_COMPLETED).done:
                 name = running.pop(ended)
-                self.failed = ended.result() or self.failed
-                self.ends(name)
+                if ended.result():
+                    self.failed = True
+                else:
+                    self.ends(name)
 
     def ends(self, name):
         """Notes that a crate is done, if that was not noted before."""
