@@ -1,2 +1,5 @@
+mod AsFixedLemmas
 mod FixedLineLemmas
+mod LostCellLemmas
+mod NamedLemmas
 mod ReachedLemmas

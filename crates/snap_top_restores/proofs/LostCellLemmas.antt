@@ -1,0 +1,160 @@
+-- What a check tells of an array with synced stripes alone, of which no record is blocked: what a fix would leave is a cell that is lost.
+use Rattle.std.proofs.Common.{◌≡◌, ⊎_elim, ℕ, zero, suc, ◌<◌, ◌&&◌, List, [], ◌∷◌, length, get_or, not, Bool, true, false, cond, Option, None, Some, is_some, refl, sym, ap, ap₂, ◌∙◌, subst, arith}
+use Rattle.std.specs.Prelude.{count_by, slice_index_or, sum_by}
+use Rattle.std.specs.List.{All, Contains, range_with_len}
+use Rattle.std.proofs.lemmas.Bool.{cases_lt}
+use Rattle.std.proofs.lemmas.List.{get_or-map, get_or_past}
+use Rattle.std.proofs.lemmas.List.FromFn.{get_or-range_with_len, length-range_with_len}
+use Rattle.std.proofs.lemmas.List.Sums.{sum_by-cons}
+use Rattle.array_scan.specs.Kept.{ListedFile}
+use Rattle.file_table.specs.Cells.{cell_in}
+use Rattle.file_table.specs.Table.{Column, TableValue, no_column, no_record, records_in}
+use Rattle.file_table.specs.declared.block.Cell.{Cell}
+use Rattle.snap_config.specs.declared.options.Selection.{Selection}
+use Rattle.snap_fix.specs.Course.{IsPlan, check_events}
+use Rattle.snap_fix.specs.Restored.{IsDamagedCell}
+use Rattle.snap_report.specs.Kind.{is_finding, is_left}
+use Rattle.snap_report.specs.declared.events.Event.{Event}
+use Rattle.snap_report.specs.declared.events.Event.TheVariants as event
+use Rattle.stripe_examiner.specs.Facts.{StripeFacts, damaged_at, gift_of, is_missing}
+use Rattle.stripe_examiner.specs.Known.{AreFacts}
+use Rattle.stripe_examiner.specs.Place.{is_blocked}
+use Rattle.stripe_examiner.specs.Plan.{FixPlan, cell_at, column_entries, entries_of, entry_at, entry_in, entry_of, has_selected, is_audit, is_in_scope, is_searched, no_entry, selects_cell}
+use Rattle.stripe_examiner.specs.declared.entry.Entry.{Entry}
+use Rattle.stripe_examiner.specs.declared.scope.Mode.{Mode}
+use Rattle.snap_top.specs.Lost.{IsToldLost}
+use Rattle.snap_top.proofs.LostEvents.{IsLostIn, lost_is_told, told_is_blocked, told_is_lost, told_is_unsynced}
+use Rattle.snap_top_restores.specs.Named.{AllSynced}
+
+-- ---- what a count has counted
+
+some_summed : {X : Type 0} (f : X → ℕ) (xs : List X) → 0 < sum_by f xs → (x : X) × Contains xs x × (0 < f x)
+some_summed f [] some = absurd (let none : sum_by f [] ≡ 0 = refl in omega (arith, some, none))
+some_summed {X} f (y ∷ ys) some = by (f y) refl (λ more. some_summed f ys more)
+  where
+    by : (n : ℕ) → f y ≡ n → (0 < sum_by f ys → (x : X) × Contains ys x × (0 < f x)) → (x : X) × Contains (y ∷ ys) x × (0 < f x)
+    by zero is rest =
+        let more = rest (omega (arith, some, is, sum_by-cons f y ys)) in
+        (more.0, (suc more.1.0, omega (arith, more.1.1), more.1.2), more.2)
+    by (suc n) is rest = (y, (0, omega arith, refl), omega (arith, is))
+
+positive : (b : Bool) → 0 < cond b 1 0 → b ≡ true
+positive true more = refl
+positive false more = absurd (omega (arith, more))
+
+pub some_counted : {X : Type 0} (p : X → Bool) (xs : List X) → 0 < count_by p xs → (x : X) × Contains xs x × (p x ≡ true)
+some_counted {X} p xs some =
+    let one = some_summed (λ (x : X). cond (p x) 1 0) xs some in
+    (one.0, one.1, positive (p one.0) one.2)
+
+-- ---- tests that hold
+
+all_three : (a b c : Bool) → (a && b && c) ≡ true → (a ≡ true) × (b ≡ true) × (c ≡ true)
+all_three true true true is = (refl, refl, refl)
+all_three true true false is = absurd (let clash : false ≡ true = is in cc)
+all_three true false c is = absurd (let clash : false ≡ true = is in cc)
+all_three false b c is = absurd (let clash : false ≡ true = is in cc)
+
+first_of : (a b : Bool) → (a && b) ≡ true → a ≡ true
+first_of true b is = refl
+first_of false b is = absurd (let clash : false ≡ true = is in cc)
+
+second_of : (a b : Bool) → (a && b) ≡ true → b ≡ true
+second_of true b is = is
+second_of false b is = absurd (let clash : false ≡ true = is in cc)
+
+cell_selected : (plan : FixPlan) (d : ℕ) (found : Option Cell) → has_selected plan d found ≡ true → (cell : Cell) × (found ≡ Some cell)
+cell_selected plan d None is = absurd (let clash : false ≡ true = is in cc)
+cell_selected plan d (Some cell) is = (cell, refl)
+
+-- a cell stands in a column of its table
+column_of : (plan : FixPlan) (stripe d : ℕ) (cell : Cell) → cell_at plan stripe d ≡ Some cell → d < length plan.table.columns
+column_of plan stripe d cell is = ⊎_elim
+    (λ below. below)
+    (λ past. absurd (let clash : None ≡ Some cell = sym (ap (λ (column : Column). cell_in column stripe) (get_or_past plan.table.columns d no_column past)) ∙ is in cc))
+    (cases_lt d (length plan.table.columns))
+
+-- a recovery is tried of a stripe that is synced, where this is no audit
+pub searched_of : (plan : FixPlan) (stripe : ℕ) → AllSynced plan.table → stripe < length plan.table.infos → is_audit plan.scope.mode ≡ false → is_searched plan stripe ≡ true
+searched_of plan stripe all within audit = ap₂ (λ (synced audits : Bool). synced && not audits) (all stripe within) audit
+
+-- ---- no record is blocked where nothing is listed
+
+pub none_blocked : (mode : Mode) (selection : Selection) (names : List (List ℕ)) (table : TableValue) (lists : List (List ListedFile)) (plan : FixPlan) → IsPlan mode selection names table lists plan
+    → ((d : ℕ) → get_or lists d [] ≡ []) → (d i : ℕ) → d < length plan.table.columns → i < length (records_in plan.table d) → (entry_at plan d i).blocked ≡ false
+none_blocked mode selection names table lists plan is none d i column within =
+    let column_then : d < length table.columns = subst (λ (t : TableValue). d < length t.columns) is.table_is column in
+    let within_then : i < length (records_in table d) = subst (λ (t : TableValue). i < length (records_in t d)) is.table_is within in
+    let of_column : get_or (entries_of selection names table lists) d [] ≡ column_entries selection names table lists d
+    = get_or-map (column_entries selection names table lists) (range_with_len 0 (length table.columns)) d 0 [] (omega (arith, column_then, length-range_with_len 0 (length table.columns)))
+    ∙ ap (column_entries selection names table lists) (get_or-range_with_len 0 (length table.columns) d 0 column_then ∙ omega arith) in
+    let name : List ℕ = get_or names d [] in
+    let of_record : slice_index_or (column_entries selection names table lists d) i no_entry ≡ entry_of selection name (get_or lists d []) (slice_index_or (records_in table d) i no_record)
+    = get_or-map (entry_of selection name (get_or lists d [])) (records_in table d) i no_record no_entry within_then in
+    ap (λ (entries : List (List Entry)). (entry_in entries d i).blocked) is.entries
+    ∙ ap (λ (entries : List Entry). (slice_index_or entries i no_entry).blocked) of_column
+    ∙ ap (λ (entry : Entry). entry.blocked) of_record
+    ∙ ap (λ (files : List ListedFile). is_blocked files (slice_index_or (records_in table d) i no_record).path) (none d)
+
+-- ---- a cell that is told to be lost
+
+pub record LostCell (plan : FixPlan) (stripes : List StripeFacts) : Type 0 where
+  pub facts : StripeFacts
+  pub d : ℕ
+  pub cell : Cell
+  pub is : IsDamagedCell plan stripes facts d cell
+  pub told : IsToldLost (check_events plan stripes) facts d cell
+
+-- what a fix leaves is a finding
+pub left_found : (it : Event) → is_left it ≡ true → is_finding it ≡ true
+left_found (event.Changed disk rec found) is = absurd (let clash : false ≡ true = is in cc)
+left_found (event.ChangedBlock stripe disk rec index found got) is = absurd (let clash : false ≡ true = is in cc)
+left_found (event.Silent stripe disk rec index recorded found) is = absurd (let clash : false ≡ true = is in cc)
+left_found (event.Io stripe disk rec index) is = absurd (let clash : false ≡ true = is in cc)
+left_found (event.ParityIo stripe level) is = absurd (let clash : false ≡ true = is in cc)
+left_found (event.Parity stripe level) is = absurd (let clash : false ≡ true = is in cc)
+left_found (event.Unsynced stripe) is = refl
+left_found (event.Lost stripe disk rec index) is = refl
+left_found (event.Blocked disk rec) is = refl
+left_found (event.Fixed stripe disk rec index) is = absurd (let clash : false ≡ true = is in cc)
+left_found (event.FixedParity stripe level) is = absurd (let clash : false ≡ true = is in cc)
+left_found (event.Restored disk rec) is = absurd (let clash : false ≡ true = is in cc)
+left_found (event.Renamed disk rec) is = absurd (let clash : false ≡ true = is in cc)
+left_found (event.NoStamp disk rec) is = absurd (let clash : false ≡ true = is in cc)
+
+module _ (plan : FixPlan) (stripes : List StripeFacts) (parity : is_audit plan.scope.mode ≡ false) where
+  lost_cell : (stripe d : ℕ) → IsLostIn plan stripes stripe d → LostCell plan stripes
+  lost_cell stripe d it =
+      let facts : StripeFacts = it.facts in
+      let tests = all_three (selects_cell plan facts.stripe d) (is_missing plan facts d) (not (is_some facts.row)) it.lost in
+      let found = cell_selected plan d (cell_at plan facts.stripe d) (second_of (is_in_scope plan facts.stripe) (has_selected plan d (cell_at plan facts.stripe d)) tests.0) in
+      let is : IsDamagedCell plan stripes facts d found.0 = record {
+        one = it.one;
+        column = column_of plan facts.stripe d found.0 found.1;
+        cell_is = found.1;
+        selected = tests.0;
+        damaged = first_of (damaged_at plan facts d) (not (is_some (gift_of facts d))) tests.1;
+      } in
+      record { facts = facts; d = d; cell = found.0; is = is; told = lost_is_told plan stripes facts d found.0 is parity it.lost }
+
+  -- what a fix would leave is that, where all stripes are synced and no record is blocked
+  pub left_lost : All (AreFacts plan) stripes → AllSynced plan.table → ((d i : ℕ) → d < length plan.table.columns → i < length (records_in plan.table d) → (entry_at plan d i).blocked ≡ false)
+      → (it : Event) → is_left it ≡ true → Contains (check_events plan stripes) it → LostCell plan stripes
+  left_lost are synced free (event.Changed disk rec found) is told = absurd (let clash : false ≡ true = is in cc)
+  left_lost are synced free (event.ChangedBlock stripe disk rec index found got) is told = absurd (let clash : false ≡ true = is in cc)
+  left_lost are synced free (event.Silent stripe disk rec index recorded found) is told = absurd (let clash : false ≡ true = is in cc)
+  left_lost are synced free (event.Io stripe disk rec index) is told = absurd (let clash : false ≡ true = is in cc)
+  left_lost are synced free (event.ParityIo stripe level) is told = absurd (let clash : false ≡ true = is in cc)
+  left_lost are synced free (event.Parity stripe level) is told = absurd (let clash : false ≡ true = is in cc)
+  left_lost are synced free (event.Unsynced stripe) is told =
+      let it = told_is_unsynced plan stripes are stripe told in
+      absurd (let clash : true ≡ false = sym (synced stripe it.within) ∙ it.pending in cc)
+  left_lost are synced free (event.Lost stripe disk rec index) is told = lost_cell stripe disk (told_is_lost plan stripes stripe disk rec index told)
+  left_lost are synced free (event.Blocked disk rec) is told =
+      let it = told_is_blocked plan stripes disk rec told in
+      absurd (let clash : false ≡ true = sym (free disk rec it.column it.within) ∙ it.blocked in cc)
+  left_lost are synced free (event.Fixed stripe disk rec index) is told = absurd (let clash : false ≡ true = is in cc)
+  left_lost are synced free (event.FixedParity stripe level) is told = absurd (let clash : false ≡ true = is in cc)
+  left_lost are synced free (event.Restored disk rec) is told = absurd (let clash : false ≡ true = is in cc)
+  left_lost are synced free (event.Renamed disk rec) is told = absurd (let clash : false ≡ true = is in cc)
+  left_lost are synced free (event.NoStamp disk rec) is told = absurd (let clash : false ≡ true = is in cc)
