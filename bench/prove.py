@@ -2,10 +2,10 @@
 """Proves a program and all crates that it stands on, on all processors, and says how far it is.
 
 usage: bench/prove.py PROGRAM WIDE [WORD ..]     for ./demo: bench/prove.py snapraid snap_sync exercise 3
-The crate WIDE stands on many others: they and it are proved first, side by side. Then two of the others are proved at a time, each as
-soon as what it stands on is. Crates whose proofs are kept take a second each. Where there is more to prove, the program is run unproved
-with these words meanwhile, so that it is seen at work within two minutes. How long the rest takes is guessed from the table of costs in
-CONTRIBUTING.md.
+The crate WIDE stands on many others: they and it are proved first, side by side. The others follow one after another, each on all
+processors: rt works on one crate at a time where they stand on the same ones. Crates whose proofs are kept take a second each. Where
+there is more to prove, the program is run unproved with these words meanwhile, so that it is seen at work within two minutes. How long
+the rest takes is guessed from the table of costs in CONTRIBUTING.md.
 """
 import os
 import re
@@ -13,14 +13,11 @@ import subprocess
 import sys
 import threading
 import time
-from concurrent.futures import FIRST_COMPLETED, ThreadPoolExecutor, wait
 
 TOP = os.path.dirname(os.path.dirname(os.path.abspath(__file__)))
 # Where the program was built before, what is kept is through by then.
 PATIENCE = 15
 MINUTE = 60
-# More at a time would take more memory than a small machine has.
-AT_A_TIME = 2
 
 
 def crates_below(top):
@@ -39,7 +36,7 @@ def crates_below(top):
 def costs(names):
     """The processor seconds that the proofs of each crate took when they were measured last."""
     with open(f"{TOP}/CONTRIBUTING.md", encoding="utf-8") as text:
-        table = dict(re.findall(r"^\| (\w+) \| (\d+) \|", text.read(), re.M))
+        table = dict(re.findall(r"^\| (\w+)(?:, its tests)? \| (\d+) \|", text.read(), re.M))
     return {name: int(table.get(name, 60)) for name in names}
 
 
@@ -57,27 +54,17 @@ class Proving(threading.Thread):
 
     def run(self):
         first = crates_below(self.wide)
-        # Some of those that run side by side wait for others.
-        jobs = len(os.sched_getaffinity(0)) + 2
+        cores = len(os.sched_getaffinity(0))
         self.now = list(first)
-        self.failed = self.ends_badly(self.wide, ["all", "check", "--jobs", str(jobs)])
-        with ThreadPoolExecutor(AT_A_TIME) as pool:
-            self.prove_others(pool, sorted(set(self.below) - set(first), key=lambda name: len(crates_below(name))))
-
-    def prove_others(self, pool, left):
-        """Proves these, each when what it stands on is proved, until one fails."""
-        running = {}
-        while running or (left and not self.failed):
-            ready = [] if self.failed else [it for it in left if not {*left, *running.values()} & set(self.below[it])]
-            for name in ready[:AT_A_TIME - len(running)]:
-                left.remove(name)
+        # Some of those that run side by side wait for others.
+        self.failed = self.ends_badly(self.wide, ["all", "check", "--jobs", str(cores + 2)])
+        for name in sorted(set(self.below) - set(first), key=lambda name: len(crates_below(name))):
+            if not self.failed:
                 self.now.append(name)
-                running[pool.submit(self.ends_badly, name, ["check"])] = name
-            for ended in wait(running, return_when=FIRST_COMPLETED).done:
-                name = running.pop(ended)
-                if ended.result():
-                    self.failed = True
-                else:
+                # A library is proved and built at once; the program is built when it is run.
+                verb = "check" if name == self.program else "lib"
+                self.failed = self.ends_badly(name, [verb, "--jobs", str(cores)])
+                if not self.failed:
                     self.ends(name)
 
     def ends(self, name):
