@@ -16,8 +16,8 @@ use Rattle.snap_fix.specs.Fixing.{facts_of}
 use Rattle.snap_fix.specs.Mended.{Mended}
 use Rattle.stripe_examiner.specs.Facts.{StripeFacts, slot_of}
 use Rattle.stripe_examiner.specs.Looking.{facts_at, no_facts}
+use Rattle.snap_top.specs.Alike.{KeptAlike}
 use Rattle.snap_top.proofs.HeldLemmas.{CameAsHeld, held_slot}
-use Rattle.snap_top.proofs.SeenLemmas.{KeptAlike}
 
 -- ---- fronts of lists
 

@@ -1,15 +1,14 @@
--- A fix that broke off, and read all that it came to, told and printed a front of what one does over the same array in which nothing failed.
-use Rattle.std.proofs.Common.{◌≡◌, ⊎_elim, ℕ, ◌+◌, ◌<◌, List, [], ◌∷◌, ◌++◌, length, take, drop, take-append-drop, append_assoc, append-nil, false, IsTrue, refl, sym, ap, ap₂, ◌∙◌, subst, arith}
+-- A fix that broke off told and printed a front of what one does over the same array of whose stripes the same blocks came first.
+use Rattle.std.proofs.Common.{◌≡◌, ⊎_elim, ℕ, ◌+◌, ◌<◌, List, [], ◌∷◌, ◌++◌, length, take, drop, take-append-drop, append_assoc, append-nil, false, IsTrue, sym, ap, ap₂, ◌∙◌, subst, arith}
 use Rattle.std.specs.Prelude.{All, count_by, sum_by}
 use Rattle.std.specs.List.{flat_map, range_with_len}
 use Rattle.std.proofs.lemmas.Grind.{flat_map-append}
 use Rattle.std.proofs.lemmas.List.{length-map, take_all}
 use Rattle.array_scan.specs.Kept.{ListedFile}
-use Rattle.disk_model.specs.Files.{Files}
 use Rattle.disk_model.specs.Folder.{FolderView}
 use Rattle.disk_model.specs.Sink.{SinkView}
 use Rattle.disk_model.specs.Tree.{Tree}
-use Rattle.disk_model.specs.Vault.{VaultView, copies_of}
+use Rattle.disk_model.specs.Vault.{VaultView}
 use Rattle.file_table.specs.Table.{TableValue}
 use Rattle.file_table.specs.Valid.{IsValid}
 use Rattle.parity_writer.specs.LevelReading.{LevelReading}
@@ -27,7 +26,6 @@ use Rattle.snap_report.specs.EndLines.{fix_text}
 use Rattle.snap_report.specs.EventLines.{event_line, lines_of}
 use Rattle.snap_report.specs.Kind.{is_left}
 use Rattle.snap_report.specs.Telling.{Tells, between}
-use Rattle.snap_report.specs.declared.answer.Answer.TheVariants as answers
 use Rattle.snap_report.specs.declared.answer.RunFault.{RunFault}
 use Rattle.snap_report.specs.declared.answer.RunFault.TheVariants as runs
 use Rattle.snap_report.specs.declared.events.Event.{Event}
@@ -37,34 +35,28 @@ use Rattle.stripe_examiner.specs.Facts.{StripeFacts}
 use Rattle.stripe_examiner.specs.Findings.{opening_events, stripe_events}
 use Rattle.stripe_examiner.specs.Known.{AreFacts}
 use Rattle.stripe_examiner.specs.Looking.{facts_at, numbers_of}
-use Rattle.stripe_examiner.specs.Plan.{FixPlan, names_of, starts_of, stripes_of}
+use Rattle.stripe_examiner.specs.Plan.{FixPlan, names_of, starts_of}
 use Rattle.stripe_examiner.specs.declared.scope.Mode.TheVariants as modes
 use Rattle.stripe_reader.specs.Columns.{folder_at}
 use Rattle.stripe_reader.specs.Starts.{StartsValue}
-use Rattle.snap_top.specs.Alike.{HoldAlike, NothingRose}
-use Rattle.snap_top.specs.BrokeOff.{BrokeOff, FixBrokeOff, PrintsFront, answered, left_of}
+use Rattle.snap_top.specs.Alike.{BlocksAlike, HoldAlike, SeenAlike, seen_by}
+use Rattle.snap_top.specs.BrokeOff.{BrokeOff, FixBrokeOff, PrintsFront, answered, left_of, seen_so_far}
 use Rattle.snap_top.specs.Fix.{FixRun}
 use Rattle.snap_top.specs.FixedAlike.{KeepStampsAlike}
 use Rattle.snap_top.specs.Fixing.{FixBroke}
-use Rattle.snap_top.specs.LeftAlike.{AskSame}
-use Rattle.snap_top.specs.Opening.{IsConfigured}
 use Rattle.snap_top.specs.Restoring.{EndsFixed, events_in}
 use Rattle.snap_top.specs.Run.{Entry, Exit, IsAnswered}
-use Rattle.snap_top.specs.Sync.{BeginsFrom}
 use Rattle.snap_top.specs.Views.{view_of, world_of}
-use Rattle.snap_top.specs.declared.end.Ending.TheVariants.{Answered}
 use Rattle.snap_top.proofs.AlikeLemmas.{one_plan}
-use Rattle.snap_top.proofs.AskedLemmas.{command_asked, one_setup, same_loaded, unfailed}
 use Rattle.snap_top.proofs.FinishedByLemmas.{all_news_same}
-use Rattle.snap_top.proofs.BrokeOffLemmas.{configured, files_are, folders_are, out_is, vault_tells}
-use Rattle.snap_top.proofs.HeldLemmas.{CameAsHeld, lists_same, read_held, tells_then, tree_then}
-use Rattle.snap_top.proofs.OfSyncLemmas.{begins_from, given_copies, given_files, given_tells}
-use Rattle.snap_top.proofs.OneArrayLemmas.{came_as, fix_came, fix_tells, one_selection, plan_as}
+use Rattle.snap_top.proofs.BrokeOffLemmas.{folders_are, out_is}
+use Rattle.snap_top.proofs.HeldLemmas.{tells_then, tree_then}
+use Rattle.snap_top.proofs.OneArrayLemmas.{plan_as}
 use Rattle.snap_top.proofs.MendedAlikeLemmas.{CameToSame}
 use Rattle.snap_top.proofs.SeenLemmas.{IsDetermined, NoGifts}
-use Rattle.snap_top.proofs.SyncedLemmas.{OneTable}
-use Rattle.snap_top.proofs.TwoFixesLemmas.{listed_keeps, listed_tells, listed_tree, lost_alike, many_held, same_held, told_same, wrote_alike}
-use Rattle.snap_top.proofs.FirstsLemmas.{IsFront, all_front, all_take, came_first, facts_take, front_below, front_in, front_more, map_take, take_front}
+use Rattle.snap_top.proofs.CameLemmas.{as_long, came_to_same, first_are, first_at, first_gifts, numbers_are, numbers_first}
+use Rattle.snap_top.proofs.TwoFixesLemmas.{listed_keeps, listed_tells, listed_tree, lost_alike, told_same, wrote_alike}
+use Rattle.snap_top.proofs.FirstsLemmas.{IsFront, all_front, all_take, front_below, front_in, front_more}
 
 -- ---- what a stripe told that broke off
 
@@ -138,10 +130,10 @@ module _ (plan : FixPlan) (starts : StartsValue) (fault : RunFault) (ones others
         subst (λ (events : List Event). IsFront events (fix_events plan others finishes_then)) (sym ending.events) (whole_front (all_mended_events plan ones) (all_front (all_mended_events plan ones)))
     ending_front runs.Memory written writes ending = absurd ending
 
--- ---- over one array
+-- ---- over one array, of whose stripes the same blocks came
 
-module _ (determined : IsDetermined) (one_table : OneTable) (before before_then : Entry) (exit exit_then : Exit) (status_then : ℕ) (off : FixBrokeOff before exit) (other : EndsFixed before_then exit_then status_then)
-    (hold : HoldAlike before before_then) (ask : AskSame before before_then) (stamps : KeepStampsAlike before before_then) (well_then : NothingRose before_then exit_then) where
+module _ (determined : IsDetermined) (before before_then : Entry) (exit exit_then : Exit) (status_then : ℕ) (off : FixBrokeOff before exit) (other : EndsFixed before_then exit_then status_then)
+    (hold : HoldAlike before before_then) (stamps : KeepStampsAlike before before_then) (seen : SeenAlike (seen_so_far off) (seen_by other.run)) where
   abbrev broke : BrokeOff before exit
   broke = off.broke
 
@@ -172,88 +164,35 @@ module _ (determined : IsDetermined) (one_table : OneTable) (before before_then 
   folders_is : its.start.folders ≡ before.opener.folders
   folders_is = folders_are before exit tells tells_vault broke
 
-  is_configured : IsConfigured before.texts before.opener broke.ran.task.command broke.ran.task.readers broke.ran.task.setup
-  is_configured = configured before exit tells tells_vault broke
-
-  selected : off.selection ≡ again.selection
-  selected = one_selection modes.Fix off.selection again.selection
-      (sym off.command_is
-      ∙ command_asked before tells ask.asked ask.words _ _ _ is_configured
-      ∙ ask.command
-      ∙ sym (command_asked before_then hold.tells_then.tells ask.asked_then ask.words_then _ other.is_fix.readers again.setup other.is_fix.configured))
-
-  setup_is : broke.ran.task.setup ≡ again.setup
-  setup_is = one_setup before before_then hold ask.asked ask.asked_then ask.words ask.words_then ask.log _ _ broke.ran.task.readers other.is_fix.readers broke.ran.task.setup again.setup is_configured other.is_fix.configured
-
-  begins : BeginsFrom broke.ran.task.setup before.seed (copies_of before.opener.vault) before.opener.vault.files its.table
-  begins =
-      subst (λ (n : ℕ). BeginsFrom broke.ran.task.setup before.seed n before.opener.vault.files its.table) (given_copies before exit tells tells_vault broke.setup (Answered (answers.Broken broke.fault) broke.named) broke.told broke.ran)
-      (subst (λ (seed : List ℕ). BeginsFrom broke.ran.task.setup seed (copies_of (view_of broke.ran.given.vault)) before.opener.vault.files its.table) broke.ran.seed_is
-      (begins_from before.opener.vault.files broke.ran.given.vault its.start.vault (given_files before exit tells tells_vault broke.setup (Answered (answers.Broken broke.fault) broke.named) broke.told broke.ran)
-      (given_tells before exit tells tells_vault broke.setup (Answered (answers.Broken broke.fault) broke.named) broke.told broke.ran) broke.ran.task.setup broke.ran.task.seed its.loaded its.table its.loads its.begins off.copies))
-
-  loaded_is : its.table ≡ again.loaded
-  loaded_is = same_loaded one_table before before_then hold broke.ran.task.setup again.setup its.table again.loaded setup_is begins (other.is_fix.loading.from (unfailed before_then exit_then other.is_fix.loading well_then))
-
   trees_are : trees_of its.start.folders ≡ trees_of again.folders
   trees_are = ap trees_of folders_is ∙ hold.trees ∙ sym (ap trees_of other.is_fix.folders_are)
 
   all_tell : AllTell its.start.folders
   all_tell = subst AllTell (sym folders_is) hold.tells.tells_folders
 
-  lists_are : fix.course.lists ≡ again.lists
-  lists_are = lists_same its.start.folders fix.course.listed again.folders again.listed fix.course.lists again.lists fix.course.lists_are other.is_fix.over.listed all_tell
-      (fix_tells before_then exit_then status_then hold.tells_then well_then other) trees_are
-
   plans : plan ≡ again.plan
   plans = one_plan modes.Fix off.selection (names_of broke.ran.task.setup) its.table fix.course.lists plan again.plan fix.course.plan_is
-      (plan_as modes.Fix off.selection again.selection (names_of broke.ran.task.setup) (names_of again.setup) its.table again.loaded fix.course.lists again.lists again.plan selected (ap names_of setup_is) loaded_is lists_are
+      (plan_as modes.Fix off.selection again.selection (names_of broke.ran.task.setup) (names_of again.setup) its.table again.loaded fix.course.lists again.lists again.plan seen.selection seen.names seen.loaded seen.lists
       other.is_fix.over.plan_is)
 
   starts_are : starts_of its.table fix.course.lists ≡ starts_of again.loaded again.lists
-  starts_are = ap₂ (λ (t : TableValue) (ls : List (List ListedFile)). starts_of t ls) loaded_is lists_are
+  starts_are = ap₂ (λ (t : TableValue) (ls : List (List ListedFile)). starts_of t ls) seen.loaded seen.lists
 
   valid : IsValid plan.table
   valid = subst IsValid (sym fix.course.plan_is.table_is) its.valid
 
-  numbers_are : numbers_of (facts_of stripes) ++ fix.behind ≡ numbers_of (facts_of again.stripes)
-  numbers_are = sym fix.numbers ∙ ap stripes_of plans ∙ sym other.fixed.numbers
-
-  numbers_first : numbers_of (facts_of stripes) ≡ numbers_of (facts_of first_others)
-  numbers_first =
-      let long : length (numbers_of (facts_of stripes)) ≡ length stripes
-      = length-map (facts_of stripes) (λ (facts : StripeFacts). facts.stripe) ∙ length-map stripes (λ (mended : Mended). mended.facts) in
-      sym (take_front (numbers_of (facts_of stripes)) fix.behind)
-      ∙ ap₂ (λ (n : ℕ) (ns : List ℕ). take n ns) long numbers_are
-      ∙ sym (map_take (λ (facts : StripeFacts). facts.stripe) (length stripes) (facts_of again.stripes))
-      ∙ ap numbers_of (sym (facts_take (length stripes) again.stripes))
-
-  first_all : (P : StripeFacts → Type 0) → All P (facts_of again.stripes) → All P (facts_of first_others)
-  first_all P all = subst (All P) (sym (facts_take (length stripes) again.stripes)) (all_take P (length stripes) (facts_of again.stripes) all)
+  numbers_same : numbers_of (facts_of stripes) ≡ numbers_of (facts_of first_others)
+  numbers_same = numbers_first before before_then exit exit_then status_then off other plans
 
   are_then : All (AreFacts plan) (facts_of first_others)
-  are_then = first_all (AreFacts plan) (subst (λ (p : FixPlan). All (AreFacts p) (facts_of again.stripes)) (sym plans) other.is_fix.over.finds.are)
+  are_then = first_are before before_then exit exit_then status_then off other plans
+
+  none_then : All NoGifts (facts_of first_others)
+  none_then = first_gifts before before_then exit exit_then status_then off other plans
 
   answered_then : All (AnswersFit plan again.listed) first_others
   answered_then = all_take (AnswersFit plan again.listed) (length stripes) again.stripes
       (subst (λ (p : FixPlan). All (AnswersFit p again.listed) again.stripes) (sym plans) other.is_fix.over.finds.answered)
-
-  abbrev held_trees : List Tree
-  held_trees = trees_of its.start.folders
-
-  abbrev held_files : Files
-  held_files = before.opener.vault.files
-
-  came : CameAsHeld plan.table fix.course.lists held_trees held_files (facts_of stripes)
-  came = came_as plan.table its.table fix.course.lists fix.course.lists held_trees held_trees held_files its.start.vault.files (facts_of stripes) fix.course.plan_is.table_is refl refl (sym (files_are before exit tells tells_vault broke))
-      (read_held plan its.table fix.course.plan_is.table_is fix.course.lists (facts_of stripes) its.start.folders fix.course.listed fix.course.lists_are its.columns all_tell fix.course.finds.cells off.cells
-      (view_of its.start.vault) fix.course.readings fix.course.finds.levels (vault_tells before exit tells tells_vault broke) off.levels)
-
-  came_then : CameAsHeld plan.table fix.course.lists held_trees held_files (facts_of first_others)
-  came_then = subst (CameAsHeld plan.table fix.course.lists held_trees held_files) (sym (facts_take (length stripes) again.stripes))
-      (came_first plan.table fix.course.lists held_trees held_files (length stripes) (facts_of again.stripes)
-      (came_as plan.table again.loaded fix.course.lists again.lists held_trees (trees_of again.folders) held_files before_then.opener.vault.files (facts_of again.stripes) (fix.course.plan_is.table_is ∙ loaded_is) lists_are trees_are hold.files
-      (fix_came before_then exit_then status_then hold.tells_then well_then other)))
 
   columns_are : length plan.table.columns ≡ length again.plan.table.columns
   columns_are = ap (λ (p : FixPlan). length p.table.columns) plans
@@ -286,14 +225,14 @@ module _ (determined : IsDetermined) (one_table : OneTable) (before before_then 
       ∙ stamps d
       ∙ sym (listed_keeps before_then exit_then status_then hold.tells_then other d (here d below))
 
-  none_then : All NoGifts (facts_of first_others)
-  none_then = first_all NoGifts other.is_fix.over.no_gifts
-
   many_first : length (facts_of stripes) ≡ length (facts_of first_others)
-  many_first = many_held determined plan valid fix.course.lists held_trees held_files (facts_of stripes) (facts_of first_others) fix.course.finds.are are_then fix.course.no_gifts none_then numbers_first came came_then
+  many_first = as_long plan (facts_of stripes) (facts_of first_others) fix.course.finds.are are_then fix.course.no_gifts none_then numbers_same
+
+  blocks_first : (k : ℕ) → k < length (facts_of stripes) → BlocksAlike (facts_at (facts_of stripes) k) (facts_at (facts_of first_others) k)
+  blocks_first k near = subst (BlocksAlike (facts_at (facts_of stripes) k)) (sym (first_at before before_then exit exit_then status_then off other plans k near)) (seen.came k near)
 
   same_first : (k : ℕ) → k < length (facts_of stripes) → CameToSame (facts_at (facts_of stripes) k) (facts_at (facts_of first_others) k)
-  same_first = same_held determined plan valid fix.course.lists held_trees held_files (facts_of stripes) (facts_of first_others) fix.course.finds.are are_then fix.course.no_gifts none_then numbers_first came came_then
+  same_first = came_to_same plan (facts_of stripes) (facts_of first_others) fix.course.finds.are are_then fix.course.no_gifts none_then numbers_same blocks_first
 
   mended_same : all_mended_events plan stripes ≡ all_mended_events plan first_others
   mended_same = told_same determined plan valid stripes first_others fix.course.finds.are are_then none_then many_first same_first fix.course.listed again.listed
@@ -303,7 +242,7 @@ module _ (determined : IsDetermined) (one_table : OneTable) (before before_then 
   all_looked : fix.behind ≡ [] → length stripes ≡ length again.stripes
   all_looked none =
       sym (length-map stripes (λ (mended : Mended). mended.facts)) ∙ sym (length-map (facts_of stripes) (λ (facts : StripeFacts). facts.stripe))
-      ∙ ap length (sym (append-nil (numbers_of (facts_of stripes))) ∙ ap (λ (ns : List ℕ). numbers_of (facts_of stripes) ++ ns) (sym none) ∙ numbers_are)
+      ∙ ap length (sym (append-nil (numbers_of (facts_of stripes))) ∙ ap (λ (ns : List ℕ). numbers_of (facts_of stripes) ++ ns) (sym none) ∙ numbers_are before before_then exit exit_then status_then off other plans)
       ∙ length-map (facts_of again.stripes) (λ (facts : StripeFacts). facts.stripe) ∙ length-map again.stripes (λ (mended : Mended). mended.facts)
 
   has_then : HasFixed plan (starts_of its.table fix.course.lists) again.stripes other.finishes again.listed again.ended
@@ -335,13 +274,13 @@ module _ (determined : IsDetermined) (one_table : OneTable) (before before_then 
       (view_of (world_of exit.after).vault) mended_same (all_looked ends.0) (finishes_same ends.0) broke.fault ends.1.written ends.1.writes ends.1.ending)
       fix.off
 
-  pub fix_front : PrintsFront broke.told (events_in again other.finishes) before before_then exit exit_then status_then
-  fix_front =
+  pub fix_seen_front : PrintsFront broke.told (events_in again other.finishes) before before_then exit exit_then status_then
+  fix_seen_front =
       let more : List Event = told_front.0 in
       let events : events_in again other.finishes ≡ broke.told ++ more = ap (λ (p : FixPlan). fix_events p again.stripes other.finishes) (sym plans) ∙ told_front.1 in
       let end : List ℕ = fix_text (at_most (sum_by (written_in again.plan) again.stripes)) (at_most (sum_by (wrong_in again.plan) again.stripes)) (at_most (count_by is_left (events_in again other.finishes))) in
       let lines : lines_of again.loaded.columns (events_in again other.finishes) ++ end ≡ lines_of its.table.columns broke.told ++ (lines_of its.table.columns more ++ end) =
-      ap₂ (λ (t : TableValue) (es : List Event). lines_of t.columns es ++ end) (sym loaded_is) events
+      ap₂ (λ (t : TableValue) (es : List Event). lines_of t.columns es ++ end) (sym seen.loaded) events
       ∙ ap (λ (ls : List ℕ). ls ++ end) (flat_map-append (event_line its.table.columns) broke.told more)
       ∙ append_assoc (lines_of its.table.columns broke.told) (lines_of its.table.columns more) end in
       record {

@@ -29,7 +29,8 @@ use Rattle.stripe_reader.specs.SlotValue.{SlotValue}
 use Rattle.stripe_reader.specs.WindowValue.{no_slot}
 use Rattle.snap_top.proofs.RestoredLastLemmas.{tree_of_folder}
 use Rattle.snap_top.proofs.ScrubGiven.{not_true, one_counted}
-use Rattle.snap_top.proofs.SeenLemmas.{KeptAlike, kept_same}
+use Rattle.snap_top.specs.Alike.{KeptAlike}
+use Rattle.snap_top.proofs.SeenLemmas.{kept_same}
 
 -- ---- what is held
 

@@ -1,6 +1,7 @@
 pub mod AlikeLemmas
 pub mod AskedLemmas
 pub mod BytesLemmas
+pub mod CameLemmas
 pub mod CheckedLemmas
 pub mod CompleteLemmas
 pub mod DoneLemmas
@@ -70,6 +71,7 @@ pub mod FirstsLemmas
 pub mod ScrubFrontLemmas
 pub mod SyncFrontLemmas
 pub mod FixFrontLemmas
+pub mod FixSeesLemmas
 pub mod FixOnceLemmas
 pub mod PrintsAlikeLemmas
 pub mod ChanceLemmas

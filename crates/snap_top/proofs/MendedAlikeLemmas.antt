@@ -14,8 +14,9 @@ use Rattle.stripe_examiner.specs.Known.{AreFacts}
 use Rattle.stripe_examiner.specs.Plan.{FixPlan, cell_at, seen_at, selects_cell}
 use Rattle.stripe_examiner.specs.Showing.{known_block}
 use Rattle.stripe_examiner.proofs.CellFactsLemmas.{flat_map_below}
+use Rattle.snap_top.specs.Alike.{KeptAlike}
 use Rattle.snap_top.proofs.PlacesLemmas.{any_same, count_below, flat_map_same, sum_by_same}
-use Rattle.snap_top.proofs.SeenLemmas.{IsDetermined, KeptAlike, NoGifts, damaged_same, is_mid, missing, told_same}
+use Rattle.snap_top.proofs.SeenLemmas.{IsDetermined, NoGifts, damaged_same, is_mid, missing, told_same}
 
 -- ---- one stripe: each cell that is to be written is
 

@@ -31,7 +31,7 @@ use Rattle.stripe_examiner.specs.Plan.{FixPlan, is_searched, names_of, stripes_o
 use Rattle.stripe_examiner.specs.declared.scope.Mode.{Mode}
 use Rattle.stripe_examiner.specs.declared.scope.Mode.TheVariants as modes
 use Rattle.stripe_reader.specs.WindowValue.{no_slot}
-use Rattle.snap_top.specs.Alike.{AskAlike, CheckAlike, FixAlike, HoldAlike, NothingRose}
+use Rattle.snap_top.specs.Alike.{AskAlike, CheckAlike, FixAlike, HoldAlike, KeptAlike, NothingRose}
 use Rattle.snap_top.specs.Check.{CheckRun}
 use Rattle.snap_top.specs.Fix.{FixRun}
 use Rattle.snap_top.specs.Moment.{TellsAll}
@@ -42,7 +42,7 @@ use Rattle.snap_top.specs.Run.{Entry, Exit}
 use Rattle.snap_top.proofs.AlikeLemmas.{FixFindsWhatACheckFinds, one_plan}
 use Rattle.snap_top.proofs.AskedLemmas.{command_asked, one_setup, same_loaded, same_status, unfailed}
 use Rattle.snap_top.proofs.HeldLemmas.{CameAsHeld, check_held, fix_held, held_slot, lists_same, none_risen, tells_then}
-use Rattle.snap_top.proofs.SeenLemmas.{IsDetermined, KeptAlike, NoGifts, all_rows_same, all_told_same, kept_both, kept_same, rows_of, rows_same, told_same}
+use Rattle.snap_top.proofs.SeenLemmas.{IsDetermined, NoGifts, all_rows_same, all_told_same, kept_both, kept_same, rows_of, rows_same, told_same}
 use Rattle.snap_top.proofs.SyncedLemmas.{OneTable}
 
 abbrev pub FactsInMode : Type 0

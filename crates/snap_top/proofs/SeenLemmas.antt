@@ -24,15 +24,9 @@ use Rattle.stripe_examiner.specs.declared.entry.Entry.{Entry}
 use Rattle.stripe_examiner.specs.declared.search.Wanted.{Wanted}
 use Rattle.stripe_reader.specs.SlotValue.{SlotValue}
 use Rattle.stripe_reader.specs.declared.slot.Found.{Found}
+use Rattle.snap_top.specs.Alike.{KeptAlike}
 
 -- ---- one cell
-
--- the same is kept of a cell, but for what was seen of its file
-pub record KeptAlike (one other : SlotValue) : Type 0 where
-  pub found : one.cell.found ≡ other.cell.found
-  pub got : one.cell.got ≡ other.cell.got
-  pub digest : one.digest ≡ other.digest
-  pub block : one.block ≡ other.block
 
 pub kept_same : (one other : SlotValue) → one ≡ other → KeptAlike one other
 kept_same one other same = record {

@@ -26,29 +26,25 @@ use Rattle.stripe_examiner.specs.Counts.{at_most}
 use Rattle.stripe_examiner.specs.Facts.{StripeFacts}
 use Rattle.stripe_examiner.specs.Findings.{opening_events}
 use Rattle.stripe_examiner.specs.Known.{AreFacts}
-use Rattle.stripe_examiner.specs.Looking.{facts_at, no_facts, numbers_of}
-use Rattle.stripe_examiner.specs.Plan.{FixPlan, names_of, starts_of, stripes_of}
-use Rattle.stripe_examiner.specs.declared.scope.Mode.TheVariants as modes
+use Rattle.stripe_examiner.specs.Looking.{facts_at, no_facts}
+use Rattle.stripe_examiner.specs.Plan.{FixPlan, starts_of}
 use Rattle.stripe_reader.specs.Columns.{folder_at}
 use Rattle.stripe_reader.specs.Starts.{StartsValue}
-use Rattle.snap_top.specs.Alike.{AskAlike, HoldAlike, NothingRose}
+use Rattle.snap_top.specs.Alike.{HoldAlike, SeenAlike, seen_by}
 use Rattle.snap_top.specs.Fix.{FixRun}
 use Rattle.snap_top.specs.FixedAlike.{FixesAlike, HaveSameBytes, HaveSameFiles, KeepStampsAlike, bytes_in}
-use Rattle.snap_top.specs.LeftAlike.{AskSame, PrintAlike}
+use Rattle.snap_top.specs.LeftAlike.{PrintAlike}
 use Rattle.snap_top.specs.Moment.{TellsAll}
 use Rattle.snap_top.specs.Restoring.{EndsFixed, events_in}
 use Rattle.snap_top.specs.Run.{Entry, Exit}
-use Rattle.snap_top.proofs.AlikeLemmas.{one_plan}
-use Rattle.snap_top.proofs.AskedLemmas.{command_asked, same_loaded, same_status, unfailed}
+use Rattle.snap_top.proofs.AskedLemmas.{same_status}
 use Rattle.snap_top.proofs.FinishedByLemmas.{all_news_same, bytes_last, last_same, tells_mid}
-use Rattle.snap_top.proofs.HeldLemmas.{CameAsHeld, lists_same, tells_then, tree_then}
+use Rattle.snap_top.proofs.HeldLemmas.{tells_then, tree_then}
 use Rattle.snap_top.proofs.LevelsSameLemmas.{mended_same}
 use Rattle.snap_top.proofs.MendedAlikeLemmas.{AreWritten, CameToSame, all_events_same, all_written_same, all_wrong_same, has_lost_same, level_wrong_same, row_known_same, writes_of_same}
-use Rattle.snap_top.proofs.OneArrayLemmas.{as_many, came_as, fix_came, fix_tells, gifts_same, levels_same, plan_as, selections, setups, slot_alike, stripe_same}
 use Rattle.snap_top.proofs.PlacesLemmas.{named_or_not}
 use Rattle.snap_top.proofs.RestoredLastLemmas.{FilesAreFinished}
 use Rattle.snap_top.proofs.SeenLemmas.{IsDetermined, NoGifts, all_rows_same, rows_of}
-use Rattle.snap_top.proofs.SyncedLemmas.{OneTable}
 use Rattle.snap_top.proofs.WholeFilesLemmas.{LeavesTheRest, whole_same}
 
 -- ---- two fixes by one plan, of whose stripes the same came
@@ -58,21 +54,6 @@ facts_is stripes k within = get_or-map (λ (mended : Mended). mended.facts) stri
 
 as_facts : (stripes : List Mended) (k : ℕ) → k < length stripes → k < length (facts_of stripes)
 as_facts stripes k within = let long = length-map stripes (λ (mended : Mended). mended.facts) in omega (arith, within, long)
-
--- where just what is held came of the stripes of both, the same came
-module _ (determined : IsDetermined) (plan : FixPlan) (valid : IsValid plan.table) (lists : List (List ListedFile)) (trees : List Tree) (files : Files) (ones others : List StripeFacts) (are : All (AreFacts plan) ones)
-    (are_then : All (AreFacts plan) others) (none : All NoGifts ones) (none_then : All NoGifts others) (numbers : numbers_of ones ≡ numbers_of others) (came : CameAsHeld plan.table lists trees files ones)
-    (came_then : CameAsHeld plan.table lists trees files others) where
-  pub many_held : length ones ≡ length others
-  many_held = as_many determined plan valid lists trees files ones others are are_then none none_then numbers came came_then
-
-  pub same_held : (k : ℕ) → k < length ones → CameToSame (facts_at ones k) (facts_at others k)
-  same_held k here = record {
-    stripe = stripe_same determined plan valid lists trees files ones others are are_then none none_then numbers came came_then k here;
-    slots = slot_alike determined plan valid lists trees files ones others are are_then none none_then numbers came came_then k here;
-    gifts = gifts_same determined plan valid lists trees files ones others are are_then none none_then numbers came came_then k here;
-    levels = levels_same determined plan valid lists trees files ones others are are_then none none_then numbers came came_then k here;
-  }
 
 module _ (determined : IsDetermined) (plan : FixPlan) (valid : IsValid plan.table) (ones others : List Mended) (are : All (AreFacts plan) (facts_of ones)) (are_then : All (AreFacts plan) (facts_of others))
     (none_then : All NoGifts (facts_of others)) (many_facts : length (facts_of ones) ≡ length (facts_of others))
@@ -231,28 +212,15 @@ fix_lines table events blocks parities = lines_of table.columns events ++ fix_te
 
 -- ---- two fixes of one array
 
-fixes_asked : (before before_then : Entry) (hold : HoldAlike before before_then) (ask : AskSame before before_then) (exit : Exit) (status : ℕ) → EndsFixed before exit status → AskAlike modes.Fix modes.Fix before before_then
-fixes_asked before before_then hold ask exit status one =
-    let is = one.is_fix in
-    let command = command_asked before hold.tells.tells ask.asked ask.words _ is.readers one.run.setup is.configured in
-    record {
-      asked = ask.asked;
-      asked_then = ask.asked_then;
-      selection = one.run.selection;
-      words = ask.words;
-      words_then = ask.words_then;
-      command_is = sym command;
-      command_then = sym ask.command ∙ sym command;
-      log = ask.log;
-    }
-
 -- by one plan, of whose stripes the same came
 pub fixes_same : IsDetermined → LeavesTheRest → FilesAreFinished → (before before_then : Entry) (exit exit_then : Exit) (status status_then : ℕ) (one : EndsFixed before exit status) (other : EndsFixed before_then exit_then status_then)
-    → HoldAlike before before_then → KeepStampsAlike before before_then → one.run.loaded ≡ other.run.loaded → one.run.lists ≡ other.run.lists → one.run.plan ≡ other.run.plan
+    → HoldAlike before before_then → KeepStampsAlike before before_then → SeenAlike (seen_by one.run) (seen_by other.run) → one.run.plan ≡ other.run.plan
     → length (facts_of one.run.stripes) ≡ length (facts_of other.run.stripes)
     → ((k : ℕ) → k < length (facts_of one.run.stripes) → CameToSame (facts_at (facts_of one.run.stripes) k) (facts_at (facts_of other.run.stripes) k))
     → FixesAlike one.run other.run one.finishes other.finishes exit exit_then × PrintAlike before before_then exit exit_then status status_then
-fixes_same determined rest are_finished before before_then exit exit_then status status_then one other hold stamps loaded lists plans many same =
+fixes_same determined rest are_finished before before_then exit exit_then status status_then one other hold stamps seen plans many same =
+    let loaded = seen.loaded in
+    let lists = seen.lists in
     let is = one.is_fix in
     let is_then = other.is_fix in
     let over = is.over in
@@ -306,6 +274,7 @@ fixes_same determined rest are_finished before before_then exit exit_then status
     ∙ ap₂ (fix_lines again.loaded (events_in again other.finishes)) blocks parities in (
       record {
         loaded = loaded;
+        seen = seen;
         rows = rows_same determined run.plan valid run.stripes again.stripes over.finds.are are_then over_then.no_gifts many same run.listed again.listed over.finds.answered answered_then tell tell_then;
         events = events;
         folders = λ d below.
@@ -342,38 +311,3 @@ fixes_same determined rest are_finished before before_then exit exit_then status
             other.status_is;
       },
     )
-
-pub fixes_of_one_array : IsDetermined → LeavesTheRest → FilesAreFinished → OneTable → (before before_then : Entry) (exit exit_then : Exit) (status status_then : ℕ) (one : EndsFixed before exit status) (other : EndsFixed before_then exit_then status_then)
-    → HoldAlike before before_then → AskSame before before_then → KeepStampsAlike before before_then → NothingRose before exit → NothingRose before_then exit_then
-    → FixesAlike one.run other.run one.finishes other.finishes exit exit_then × PrintAlike before before_then exit exit_then status status_then
-fixes_of_one_array determined rest are_finished one_table before before_then exit exit_then status status_then one other hold same stamps well well_then =
-    let is = one.is_fix in
-    let is_then = other.is_fix in
-    let over = is.over in
-    let over_then = is_then.over in
-    let run = one.run in
-    let again = other.run in
-    let ask : AskAlike modes.Fix modes.Fix before before_then = fixes_asked before before_then hold same exit status one in
-    let selected : run.selection ≡ again.selection
-    = selections modes.Fix modes.Fix before before_then hold ask run.selection again.selection run.setup again.setup is.readers is_then.readers is.configured is_then.configured in
-    let set : run.setup ≡ again.setup
-    = setups modes.Fix modes.Fix before before_then hold ask run.selection again.selection run.setup again.setup is.readers is_then.readers is.configured is_then.configured in
-    let loaded : run.loaded ≡ again.loaded
-    = same_loaded one_table before before_then hold run.setup again.setup run.loaded again.loaded set (is.loading.from (unfailed before exit is.loading well)) (is_then.loading.from (unfailed before_then exit_then is_then.loading well_then)) in
-    let trees : trees_of run.folders ≡ trees_of again.folders = ap trees_of is.folders_are ∙ hold.trees ∙ sym (ap trees_of is_then.folders_are) in
-    let lists : run.lists ≡ again.lists = lists_same run.folders run.listed again.folders again.listed run.lists again.lists over.listed over_then.listed
-    (fix_tells before exit status hold.tells well one) (fix_tells before_then exit_then status_then hold.tells_then well_then other) trees in
-    let plans : run.plan ≡ again.plan = one_plan modes.Fix run.selection (names_of run.setup) run.loaded run.lists run.plan again.plan over.plan_is
-    (plan_as modes.Fix run.selection again.selection (names_of run.setup) (names_of again.setup) run.loaded again.loaded run.lists again.lists again.plan selected (ap names_of set) loaded lists over_then.plan_is) in
-    let valid : IsValid run.plan.table = subst IsValid (sym over.plan_is.table_is) over.valid in
-    let are_then : All (AreFacts run.plan) (facts_of again.stripes) = subst (λ (p : FixPlan). All (AreFacts p) (facts_of again.stripes)) (sym plans) over_then.finds.are in
-    let numbers : numbers_of (facts_of run.stripes) ≡ numbers_of (facts_of again.stripes) = one.fixed.numbers ∙ ap stripes_of plans ∙ sym other.fixed.numbers in
-    let came = came_as run.plan.table run.loaded run.lists run.lists (trees_of run.folders) (trees_of run.folders) before.opener.vault.files before.opener.vault.files (facts_of run.stripes) over.plan_is.table_is refl refl refl
-    (fix_came before exit status hold.tells well one) in
-    let came_then = came_as run.plan.table again.loaded run.lists again.lists (trees_of run.folders) (trees_of again.folders) before.opener.vault.files before_then.opener.vault.files (facts_of again.stripes)
-    (over.plan_is.table_is ∙ loaded) lists trees hold.files (fix_came before_then exit_then status_then hold.tells_then well_then other) in
-    fixes_same determined rest are_finished before before_then exit exit_then status status_then one other hold stamps loaded lists plans
-    (many_held determined run.plan valid run.lists (trees_of run.folders) before.opener.vault.files (facts_of run.stripes) (facts_of again.stripes) over.finds.are are_then over.no_gifts over_then.no_gifts numbers
-    came came_then)
-    (same_held determined run.plan valid run.lists (trees_of run.folders) before.opener.vault.files (facts_of run.stripes) (facts_of again.stripes) over.finds.are are_then over.no_gifts over_then.no_gifts numbers
-    came came_then)

@@ -8,10 +8,11 @@ use Rattle.snap_fix.specs.Ending.{Finishes}
 use Rattle.snap_fix.specs.Fixing.{facts_of}
 use Rattle.snap_report.specs.Kind.{is_finding}
 use Rattle.snap_sync.specs.Part.{NoneRose, trees_of}
-use Rattle.stripe_examiner.specs.Facts.{StripeFacts}
+use Rattle.stripe_examiner.specs.Facts.{StripeFacts, slot_of}
 use Rattle.stripe_examiner.specs.Looking.{facts_at}
 use Rattle.stripe_examiner.specs.Plan.{names_of}
 use Rattle.stripe_examiner.specs.declared.scope.Mode.{Mode}
+use Rattle.stripe_reader.specs.SlotValue.{SlotValue}
 use Rattle.snap_top.specs.Check.{CheckRun}
 use Rattle.snap_top.specs.Fix.{FixRun}
 use Rattle.snap_top.specs.Moment.{TellsAll}
@@ -36,7 +37,19 @@ seen_by run = record {
   ended = run.ended;
 }
 
--- the same came of the cells and of the levels of a stripe
+-- The same was kept of a cell, but for the size and the time that were seen of its file.
+pub record KeptAlike (one other : SlotValue) : Type 0 where
+  pub found : one.cell.found ≡ other.cell.found
+  pub got : one.cell.got ≡ other.cell.got
+  pub digest : one.digest ≡ other.digest
+  pub block : one.block ≡ other.block
+
+-- so of each cell of a stripe, and the same came of its levels
+pub record BlocksAlike (one other : StripeFacts) : Type 0 where
+  pub cells : (d : ℕ) → KeptAlike (slot_of one d) (slot_of other d)
+  pub levels : one.levels ≡ other.levels
+
+-- the same came of the cells, sizes and times included, and of the levels of a stripe
 pub record CameAlike (one other : StripeFacts) : Type 0 where
   pub slots : one.slots ≡ other.slots
   pub levels : one.levels ≡ other.levels
@@ -50,7 +63,16 @@ pub record ReadAlike (one other : CheckRun) : Type 0 where
   pub lists : one.lists ≡ other.lists
   pub came : (k : ℕ) → k < length one.stripes → CameAlike (facts_at one.stripes k) (facts_at other.stripes k)
 
--- so they know the same of them, and find the same
+-- They were asked for the same of disks with the same names, began with the same table and listed the same files. Of the stripes of one
+-- the same blocks came as of the first ones of the other.
+pub record SeenAlike (one other : CheckRun) : Type 0 where
+  pub selection : one.selection ≡ other.selection
+  pub names : names_of one.setup ≡ names_of other.setup
+  pub loaded : one.loaded ≡ other.loaded
+  pub lists : one.lists ≡ other.lists
+  pub came : (k : ℕ) → k < length one.stripes → BlocksAlike (facts_at one.stripes k) (facts_at other.stripes k)
+
+-- where all that was read is the same, they know the same of the stripes, and find the same
 pub record FindAlike (one other : CheckRun) : Type 0 where
   pub facts : one.stripes ≡ other.stripes
   pub events : events_found one ≡ events_found other

@@ -17,7 +17,9 @@ use Rattle.snap_report.specs.declared.events.Event.{Event}
 use Rattle.snap_sync.specs.Part.{NoneRose}
 use Rattle.stripe_examiner.specs.Looking.{unread_cells, unread_in}
 use Rattle.stripe_reader.specs.Columns.{folder_at}
-use Rattle.snap_top.specs.Fixing.{FixBroke}
+use Rattle.snap_top.specs.Alike.{seen_by}
+use Rattle.snap_top.specs.Check.{CheckRun}
+use Rattle.snap_top.specs.Fixing.{FixBroke, fix_of}
 use Rattle.snap_top.specs.LeftAlike.{HasPrinted}
 use Rattle.snap_top.specs.Run.{Entry, Exit, IsAnswered, IsRefused, IsRun}
 use Rattle.snap_top.specs.Scrubbing.{ScrubBreaks}
@@ -45,17 +47,25 @@ abbrev pub answered : {before : Entry} {exit : Exit} → (broke : BrokeOff befor
     → IsAnswered broke.ran.task broke.ran.given (world_of exit.after) (left_of broke) broke.ran.did
 answered broke = broke.ran.goes.1
 
--- A fix broke off once the folders were listed. No reading of a copy failed in it, and none of a cell or a level of the stripes that
--- it looked at.
+-- A fix broke off once the folders were listed.
 pub record FixBrokeOff (before : Entry) (exit : Exit) : Type 0 where
   pub broke : BrokeOff before exit
   pub selection : Selection
   pub command_is : broke.ran.task.command ≡ commands.Fix selection
   pub fix : FixBroke broke.fault selection broke.ran.task (answered broke).table (answered broke).start (world_of exit.after)
       (left_of broke) broke.ran.did
-  pub copies : (copy : ℕ) → ¬ (HasFailed (view_of broke.ran.given.vault) (view_of (answered broke).start.vault) copy)
-  pub cells : (d : ℕ) → d < length fix.course.plan.table.columns → unread_cells d (facts_of fix.course.stripes) ≡ 0
-  pub levels : unread_in fix.course.readings ≡ 0
+
+-- what it has seen so far, said as of a check
+abbrev pub seen_so_far : {before : Entry} {exit : Exit} → FixBrokeOff before exit → CheckRun
+seen_so_far {before} {exit} off =
+    let course = off.fix.course in
+    seen_by (fix_of off.selection off.broke.ran.task (answered off.broke).table (answered off.broke).start (world_of exit.after) course.lists course.listed course.plan course.stripes course.readings)
+
+-- No reading of a copy failed in it, and none of a cell or a level of the stripes that it looked at.
+pub record ReadsRight {before : Entry} {exit : Exit} (off : FixBrokeOff before exit) : Type 0 where
+  pub copies : (copy : ℕ) → ¬ (HasFailed (view_of off.broke.ran.given.vault) (view_of (answered off.broke).start.vault) copy)
+  pub cells : (d : ℕ) → d < length off.fix.course.plan.table.columns → unread_cells d (facts_of off.fix.course.stripes) ≡ 0
+  pub levels : unread_in off.fix.course.readings ≡ 0
 
 -- A sync broke off once the vault was touched.
 pub record SyncBrokeOff (before : Entry) (exit : Exit) : Type 0 where

@@ -96,9 +96,8 @@ pub record NothingBroke (before : Entry) (exit : Exit) : Type 0 where
   pub folders : (d : ℕ) → ¬ (BreaksFolder (folder_held before.opener d) (folder_at exit.after.folders d))
   pub vault : ¬ (BreaksVault (held_vault before) (left_vault exit))
 
--- Words and configuration are accepted, all names that are selected are known, nothing failed so that a run ends, what is first read of the content is of the configuration's array, and
--- no layout is refused.
--- All that is said here of what the opener holds, it tells.
+-- Words and configuration are accepted, all names that are selected are known, nothing failed so that a run ends, what is first read of the
+-- content is of the configuration's array, and no layout is refused. All that is said here of what the opener holds, it tells.
 pub record IsSmooth (before : Entry) (exit : Exit) : Type 0 where
   pub asked : Options
   pub words : asked_by before.texts ≡ Ok asked

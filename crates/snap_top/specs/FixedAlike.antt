@@ -9,6 +9,7 @@ use Rattle.snap_fix.specs.Fixing.{facts_of}
 use Rattle.snap_fix.specs.Mended.{has_lost}
 use Rattle.stripe_examiner.specs.Facts.{StripeFacts}
 use Rattle.stripe_reader.specs.Columns.{folder_at}
+use Rattle.snap_top.specs.Alike.{SeenAlike, seen_by}
 use Rattle.snap_top.specs.Fix.{FixRun}
 use Rattle.snap_top.specs.Restoring.{events_in}
 use Rattle.snap_top.specs.Run.{Entry, Exit}
@@ -36,11 +37,12 @@ abbrev pub IsNoLostName : FixRun → ℕ → List ℕ → Type 0
 IsNoLostName run d name = (i : ℕ) (lost : Bool) → i < length (records_in run.plan.table d) → is_finished run.plan d i ≡ true
     → has_lost run.plan run.stripes d i ≡ true → path_of (record_path (records_in run.plan.table d) i) lost ≢ name
 
--- Two fixes began with the same table and know the same rows. They told the same, and leave the same bytes: under each name of each
+-- Two fixes began with the same table, saw the same blocks and know the same rows. They told the same, and leave the same bytes: under each name of each
 -- folder, and in each copy and level of the vault. In a folder that keeps stamps they leave the same files, with their stamps, but
 -- those with a lost block.
 pub record FixesAlike (one other : FixRun) (finishes finishes_then : Finishes) (exit exit_then : Exit) : Type 0 where
   pub loaded : one.loaded ≡ other.loaded
+  pub seen : SeenAlike (seen_by one) (seen_by other)
   pub rows : map (λ (facts : StripeFacts). facts.row) (facts_of one.stripes)
       ≡ map (λ (facts : StripeFacts). facts.row) (facts_of other.stripes)
   pub events : events_in one finishes ≡ events_in other finishes_then

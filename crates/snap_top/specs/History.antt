@@ -108,11 +108,11 @@ module _ {O F V W : Type 0} (opener_view : O → OpenerView) (folder_view : F �
     pub sound : EveryMomentIsSound (entry_of opener_view sink_view stop.run) (end_of opener_view folder_view vault_view sink_view stop.run) stop.run.status
     pub stands : StandsIn (entry_of opener_view sink_view stop.run) (end_of opener_view folder_view vault_view sink_view stop.run) stop.left
 
-  -- Sound after a run. What it did is to read, to sync, to fix or to scrub. Unless a fix met a hash by chance, or a content file has blocks of another size, the
-  -- copies that it left are sound with the rows that it had closed by then, and so it goes on from there. Where it synced and did not break off, and this
-  -- is what stands then, these are the rows of all that it closed, and each copy spells its table (`at_end`). So it is also of each account of a sync
-  -- that shows that it went to its end (`synced`). Of each account of a fix that went to its end, and met no hash by chance: it restores the blocks of
-  -- the snapshot.
+  -- Sound after a run. What it did is to read, to sync, to fix or to scrub. Unless a fix met a hash by chance, or a content file has blocks of another
+  -- size, the copies that it left are sound with the rows that it had closed by then, and so it goes on from there. Where it synced and did not break
+  -- off, and this is what stands then, these are the rows of all that it closed, and each copy spells its table (`at_end`). So it is also of each
+  -- account of a sync that shows that it went to its end (`synced`). Of each account of a fix that went to its end, and met no hash by chance: it
+  -- restores the blocks of the snapshot.
   pub record IsSoundAfter (copies : ℕ) (files : Files) (last : LastSynced) (stop : StoppedRun O F V W) (GoesOn : LastSynced → Type 0) : Type 0 where
     pub did : Did
     pub is_did : IsDidOf (entry_of opener_view sink_view stop.run) (end_of opener_view folder_view vault_view sink_view stop.run) did

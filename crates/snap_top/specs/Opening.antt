@@ -103,7 +103,7 @@ pub record IsUnopened (texts : List (List ℕ)) (old new : OpenerView) (fault : 
   pub rose : IsTrue (is_failure fault) → Rose old.faults new.faults
   pub calls : OpenerGoesOn old new (reads_config configured.asked.conf false ∷ opens_places setup (is_failure fault) ∷ [])
 
--- by the refusal: its cause, and all calls of the opener
+-- by the refusal: its cause, all calls of the opener and, where words are refused, that its count stays
 abbrev pub Refuses : List (List ℕ) → OpenerView → OpenerView → Refusal → Type 0
 Refuses texts old new (Words fault) = IsWordsFault texts fault × OpenerGoesOn old new [] × (new.faults ≡ old.faults)
 Refuses texts old new (Unread fault) = IsUnconfigured texts old new (Unread fault)

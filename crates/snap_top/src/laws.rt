@@ -1,5 +1,5 @@
 //! What follows for one run after another. The calls do nothing: their contracts are laws.
-ghost use Rattle.std.specs.Prelude.{◌≡◌, ◌++◌, ℕ, List, Bool, IsTrue, true, length, Contains};
+ghost use Rattle.std.specs.Prelude.{◌≡◌, ℕ, List, Bool, IsTrue, true, length, Contains};
 ghost use Rattle.cauchy.specs.Matrix.{byte_of};
 ghost use Rattle.content_file.specs.Load.{HasFailed};
 ghost use Rattle.disk_model.specs.Cause.{RoseBy};
@@ -22,10 +22,7 @@ ghost use Rattle.snap_sync.specs.Part.{IsFullSync, SyncRun};
 ghost use Rattle.snap_sync.specs.Resumed.{EndsAs};
 ghost use Rattle.snap_sync.specs.Soundness.{AreSound};
 ghost use Rattle.snap_config.specs.declared.options.Command.{Command};
-ghost use Rattle.stripe_findings.specs.Findings.{events_of};
-ghost use Rattle.stripe_findings.specs.Reading.{StripeReading};
-ghost use Rattle.snap_top.specs.Alike.{AskAlike, CheckAlike, FindAlike, FixAlike, FixFindsAlike, HoldAlike, NothingRose, ReadAlike, seen_by};
-ghost use Rattle.snap_top.specs.BrokeOff.{BrokeOff, EndedEarly, FixBrokeOff, PrintsFront, RoseOnceBy, ScrubBrokeOff, SyncBrokeOff, answered};
+ghost use Rattle.snap_top.specs.Alike.{AskAlike, CheckAlike, FindAlike, FixAlike, FixFindsAlike, HoldAlike, NothingRose, ReadAlike, SeenAlike, seen_by};
 ghost use Rattle.snap_top.specs.Check.{CheckRun};
 ghost use Rattle.snap_top.specs.Fix.{FixRun};
 ghost use Rattle.snap_top.specs.FixedAlike.{FixesAlike, KeepStampsAlike};
@@ -36,9 +33,9 @@ ghost use Rattle.snap_top.specs.Moment.{EndsInPart, IsDidOf, IsFixOf, IsSoundAlw
 ghost use Rattle.snap_top.specs.Naming.{HasChecked};
 ghost use Rattle.snap_top.specs.NextFix.{IsNextFix};
 ghost use Rattle.snap_top.specs.Printing.{EndsPrinted};
-ghost use Rattle.snap_top.specs.Restoring.{EndsFixed, Restores, events_in};
+ghost use Rattle.snap_top.specs.Restoring.{EndsFixed, Restores};
 ghost use Rattle.snap_top.specs.Resumed.{AreStoppedRuns, EndAlike, EndsClean, RunOf, StoppedRun, end_of, entry_of};
-ghost use Rattle.snap_top.specs.Scrubbed.{EndsScrubbed, events_scrubbed};
+ghost use Rattle.snap_top.specs.Scrubbed.{EndsScrubbed};
 ghost use Rattle.snap_top.specs.Spared.{SparesCells};
 ghost use Rattle.snap_top.specs.Standing.{BeginsOver, GoesOver, IsHistory, IsOrigin, MeetsNoChance, Stage, Standing, after_of, before_of};
 ghost use Rattle.snap_top.specs.Stopping.{FindsNoLess, FolderStandsIn, SparesFiles, stop_of};
@@ -284,7 +281,8 @@ pub fn one_array_is_left_alike<O: Opener, F: Folder, V: Vault, W: Sink>()
 
 /// What is read determines what is left, whatever readings failed. Two syncs, or two scrubs that began at one moment, leave and print
 /// the same over one array, where they began with the same table and read the same. So do two fixes that were asked for the same of
-/// disks with the same names, and listed the same, where their folders keep stamps alike.
+/// disks with the same names, and listed the same, where their folders keep stamps alike. Of fixes it is enough that the same blocks
+/// came, whatever sizes and times were seen of the files.
 pub fn what_is_read_alike_is_left_alike<O: Opener, F: Folder, V: Vault, W: Sink>()
     ensures syncs { (run again : RunOf O F V W)
         (one : EndsInPart (entry_of O.view W.view run) (end_of O.view F.view V.view W.view run) run.status)
@@ -307,7 +305,7 @@ pub fn what_is_read_alike_is_left_alike<O: Opener, F: Folder, V: Vault, W: Sink>
         (other : EndsFixed (entry_of O.view W.view again) (end_of O.view F.view V.view W.view again) again.status) →
         HoldAlike (entry_of O.view W.view run) (entry_of O.view W.view again) →
         KeepStampsAlike (entry_of O.view W.view run) (entry_of O.view W.view again) →
-        ReadAlike (seen_by one.run) (seen_by other.run) → FixesAlike one.run other.run one.finishes other.finishes
+        SeenAlike (seen_by one.run) (seen_by other.run) → FixesAlike one.run other.run one.finishes other.finishes
         (end_of O.view F.view V.view W.view run) (end_of O.view F.view V.view W.view again)
         × PrintAlike (entry_of O.view W.view run) (entry_of O.view W.view again)
         (end_of O.view F.view V.view W.view run) (end_of O.view F.view V.view W.view again) run.status again.status }
@@ -315,72 +313,6 @@ pub fn what_is_read_alike_is_left_alike<O: Opener, F: Folder, V: Vault, W: Sink>
     what_is_read_determines_what_is_found();
     a_fix_leaves_the_rest();
     a_fix_finishes_files();
-}
-
-/// What a run told and printed that broke off is a front of what a run tells and prints over the same array in which nothing
-/// failed but its output. Both were asked for the same, and their openers tell all and hold the same. Of the run that broke off, no
-/// count of faults of a folder or of the vault rose but that of what broke it off, and that by one at most: so that call failed alone,
-/// and no reading did. Scrubs begin at one moment, and the folders of both fixes keep stamps alike. It is enough that by the account of
-/// a fix no reading of a copy failed, nor one of what it looked at. Whatever readings failed, it is enough of a sync that the other one
-/// read the same of its stripes first, in the same layout, and of a scrub that it began with the same table and read the same. A run that
-/// ended early printed nothing: it was refused, or it only read and did not come to its end.
-pub fn a_broken_run_prints_a_front<O: Opener, F: Folder, V: Vault, W: Sink>()
-    ensures syncs { (run again : RunOf O F V W)
-        (other : EndsInPart (entry_of O.view W.view again) (end_of O.view F.view V.view W.view again) again.status)
-        (broke : BrokeOff (entry_of O.view W.view run) (end_of O.view F.view V.view W.view run)) →
-        HoldAlike (entry_of O.view W.view run) (entry_of O.view W.view again) →
-        AskSame (entry_of O.view W.view run) (entry_of O.view W.view again) →
-        RoseOnceBy broke.fault (entry_of O.view W.view run) (end_of O.view F.view V.view W.view run) →
-        NothingRose (entry_of O.view W.view again) (end_of O.view F.view V.view W.view again) →
-        PrintsFront broke.told (events_of other.run.plan.start other.run.readings) (entry_of O.view W.view run)
-        (entry_of O.view W.view again) (end_of O.view F.view V.view W.view run) (end_of O.view F.view V.view W.view again) again.status }
-    ensures scrubs { (run again : RunOf O F V W)
-        (other : EndsScrubbed (entry_of O.view W.view again) (end_of O.view F.view V.view W.view again) again.status)
-        (broke : BrokeOff (entry_of O.view W.view run) (end_of O.view F.view V.view W.view run)) →
-        HoldAlike (entry_of O.view W.view run) (entry_of O.view W.view again) →
-        AskSame (entry_of O.view W.view run) (entry_of O.view W.view again) → run.moment ≡ again.moment →
-        RoseOnceBy broke.fault (entry_of O.view W.view run) (end_of O.view F.view V.view W.view run) →
-        NothingRose (entry_of O.view W.view again) (end_of O.view F.view V.view W.view again) →
-        PrintsFront broke.told (events_scrubbed other.run) (entry_of O.view W.view run) (entry_of O.view W.view again)
-        (end_of O.view F.view V.view W.view run) (end_of O.view F.view V.view W.view again) again.status }
-    ensures fixes { (run again : RunOf O F V W)
-        (other : EndsFixed (entry_of O.view W.view again) (end_of O.view F.view V.view W.view again) again.status)
-        (broke : BrokeOff (entry_of O.view W.view run) (end_of O.view F.view V.view W.view run)) →
-        HoldAlike (entry_of O.view W.view run) (entry_of O.view W.view again) →
-        AskSame (entry_of O.view W.view run) (entry_of O.view W.view again) →
-        KeepStampsAlike (entry_of O.view W.view run) (entry_of O.view W.view again) →
-        RoseOnceBy broke.fault (entry_of O.view W.view run) (end_of O.view F.view V.view W.view run) →
-        NothingRose (entry_of O.view W.view again) (end_of O.view F.view V.view W.view again) →
-        PrintsFront broke.told (events_in other.run other.finishes) (entry_of O.view W.view run) (entry_of O.view W.view again)
-        (end_of O.view F.view V.view W.view run) (end_of O.view F.view V.view W.view again) again.status }
-    ensures read_syncs { (run again : RunOf O F V W) (more : List StripeReading)
-        (other : EndsInPart (entry_of O.view W.view again) (end_of O.view F.view V.view W.view again) again.status)
-        (off : SyncBrokeOff (entry_of O.view W.view run) (end_of O.view F.view V.view W.view run)) →
-        off.sync.course.start ≡ other.run.plan.start → other.run.readings ≡ off.sync.course.readings ++ more →
-        PrintsFront off.broke.told (events_of other.run.plan.start other.run.readings) (entry_of O.view W.view run)
-        (entry_of O.view W.view again) (end_of O.view F.view V.view W.view run) (end_of O.view F.view V.view W.view again) again.status }
-    ensures read_scrubs { (run again : RunOf O F V W)
-        (other : EndsScrubbed (entry_of O.view W.view again) (end_of O.view F.view V.view W.view again) again.status)
-        (off : ScrubBrokeOff (entry_of O.view W.view run) (end_of O.view F.view V.view W.view run)) →
-        (answered off.broke).table ≡ other.run.loaded → off.scrub.course.readings ≡ other.run.readings →
-        PrintsFront off.broke.told (events_scrubbed other.run) (entry_of O.view W.view run) (entry_of O.view W.view again)
-        (end_of O.view F.view V.view W.view run) (end_of O.view F.view V.view W.view again) again.status }
-    ensures read_fixes { (run again : RunOf O F V W)
-        (other : EndsFixed (entry_of O.view W.view again) (end_of O.view F.view V.view W.view again) again.status)
-        (off : FixBrokeOff (entry_of O.view W.view run) (end_of O.view F.view V.view W.view run)) →
-        HoldAlike (entry_of O.view W.view run) (entry_of O.view W.view again) →
-        AskSame (entry_of O.view W.view run) (entry_of O.view W.view again) →
-        KeepStampsAlike (entry_of O.view W.view run) (entry_of O.view W.view again) →
-        NothingRose (entry_of O.view W.view again) (end_of O.view F.view V.view W.view again) →
-        PrintsFront off.broke.told (events_in other.run other.finishes) (entry_of O.view W.view run) (entry_of O.view W.view again)
-        (end_of O.view F.view V.view W.view run) (end_of O.view F.view V.view W.view again) again.status }
-    ensures early { (run : RunOf O F V W) →
-        EndedEarly (entry_of O.view W.view run) (end_of O.view F.view V.view W.view run) →
-        (end_of O.view F.view V.view W.view run).after.out ≡ (entry_of O.view W.view run).out }
-{
-    one_table_has_a_spelling();
-    a_sync_is_a_part_sync();
-    what_is_read_determines_what_is_found();
 }
 
 /// That no reading of a copy failed while a run loaded its table can be known from outside. None did where none failed in

@@ -13,8 +13,7 @@
 //! array (`specs/Standing.antt`) stands `headline` in `laws` (`specs/Headline.antt`): what stands is sound, a stopped sync is
 //! resumed, and a fix restores and names. Other laws: what any runs keep (`specs/History.antt`); what a stop within a fix
 //! leaves (`specs/Stopping.antt`); that two runs over one array find and leave the same (`specs/Alike.antt`, `LeftAlike.antt`,
-//! `FixedAlike.antt`), and what one printed that broke off (`specs/BrokeOff.antt`) and
-//! read (`fronts.rt`).
+//! `FixedAlike.antt`). What one printed and read that broke off is in `fronts.rt` (`specs/BrokeOff.antt`).
 //! A command is a variant of `Command` in snap_config, a line of `DoesCommand`, an arm of `carry_out` and a lemma of
 //! `proofs/DoneLemmas.antt`. One that changes the vault otherwise is a variant of `Did` too, with a line wherever that is
 //! told apart: `may_stand`, `stands_after`, `folders_after`, `stripes_read`, `rows_closed`, `AreOfRun`, `IsDidOf`, `IsSupposed`,

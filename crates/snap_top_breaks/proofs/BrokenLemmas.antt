@@ -1,7 +1,6 @@
 -- A fix that broke off printed a front of what another one printed.
-use Rattle.std.proofs.Common.{◌≡◌, ◌≢◌, ℕ, ◌+◌, ◌<◌, ◌≤◌, List, [], ◌∷◌, length, map, get_or, cond, ◌++◌, ⊎_elim, is_some, Bool, true, false, IsTrue, Option, Ok, refl, sym, ap, ◌∙◌, subst, arith}
-use Rattle.std.specs.Prelude.{count_by, sum_by}
-use Rattle.std.proofs.lemmas.List.Sums.{sum_by-append}
+use Rattle.std.proofs.Common.{◌≡◌, ◌≢◌, ℕ, ◌+◌, ◌<◌, ◌≤◌, List, [], ◌∷◌, length, map, get_or, ⊎_elim, is_some, true, false, IsTrue, Option, Ok, refl, sym, ap, ◌∙◌, subst, arith}
+use Rattle.std.specs.Prelude.{count_by}
 use Rattle.content_file.specs.declared.loading.LoadFault.TheVariants as loads
 use Rattle.disk_model.specs.Cause.{RoseBy}
 use Rattle.disk_model.specs.Folder.{FolderView}
@@ -11,34 +10,29 @@ use Rattle.disk_model.specs.Vault.{VaultView}
 use Rattle.disk_memory.specs.Folder.{fresh_folder}
 use Rattle.disk_memory.specs.Vault.{VaultValue, view_of}
 use Rattle.file_table.specs.Table.{TableValue}
-use Rattle.parity_writer.specs.LevelReading.{has_failed}
 use Rattle.snap_config.specs.Setup.{SetupValue, setup_value}
 use Rattle.snap_config.specs.declared.options.Command.TheVariants as commands
 use Rattle.snap_config.specs.declared.options.Selection.{Selection}
-use Rattle.snap_fix.specs.FixRun.{RoseBeyond}
-use Rattle.snap_fix.specs.Fixing.{facts_of}
 use Rattle.snap_report.specs.Answer.{is_parity_io, status_of as answer_status}
 use Rattle.snap_report.specs.declared.answer.Answer.{Answer}
 use Rattle.snap_report.specs.declared.answer.Answer.TheVariants as answers
 use Rattle.snap_report.specs.declared.answer.RunFault.{RunFault}
 use Rattle.snap_report.specs.declared.answer.RunFault.TheVariants as runs
 use Rattle.snap_report.specs.declared.events.Event.{Event}
-use Rattle.stripe_examiner.specs.Facts.{StripeFacts, slot_of}
-use Rattle.stripe_examiner.specs.Looking.{unread_cells, unread_in}
 use Rattle.stripe_reader.specs.Columns.{folder_at}
-use Rattle.stripe_reader.specs.Slot.{is_unread}
-use Rattle.snap_top.specs.Alike.{HoldAlike, NothingRose}
-use Rattle.snap_top.specs.BrokeOff.{BrokeOff, FixBrokeOff, PrintsFront, RoseOnceBy, answered, left_of}
+use Rattle.snap_top.specs.Alike.{HoldAlike, NothingRose, SeenAlike, seen_by}
+use Rattle.snap_top.specs.BrokeOff.{BrokeOff, FixBrokeOff, PrintsFront, ReadsRight, RoseOnceBy, answered, left_of, seen_so_far}
 use Rattle.snap_top.specs.End.{status_of}
 use Rattle.snap_top.specs.FixedAlike.{KeepStampsAlike}
 use Rattle.snap_top.specs.Fixing.{FixBroke}
 use Rattle.snap_top.specs.LeftAlike.{AskSame}
+use Rattle.snap_top.specs.Moment.{TellsAll}
 use Rattle.snap_top.specs.Opening.{asked_by}
 use Rattle.snap_top.specs.Restoring.{EndsFixed, events_in}
 use Rattle.snap_top.specs.Resumed.{RunOf}
 use Rattle.snap_top.specs.Run.{Entry, Exit, HasAccount, IsAnswered, IsRun, Ran}
 use Rattle.snap_top.specs.Standing.{after_of, before_of, nothing_synced}
-use Rattle.snap_top.specs.Views.{view_of as viewed, world_of}
+use Rattle.snap_top.specs.Views.{world_of}
 use Rattle.snap_top.specs.declared.end.End.{End}
 use Rattle.snap_top.specs.declared.end.End.TheVariants.{Exercised, Refused, Worked}
 use Rattle.snap_top.specs.declared.end.Ending.TheVariants.{NotLoaded, NoTable, OtherArray, Answered}
@@ -76,23 +70,6 @@ not_risen_by n before now none rose = omega (arith, none, rose)
 
 pub not_twice : (before now : ℕ) → now ≡ 1 → RoseBy 2 before now → ⊥
 not_twice before now once rose = omega (arith, once, rose)
-
-none_by : (n before now : ℕ) → now ≡ 0 → RoseBy n before now → n ≡ 0
-none_by n before now none rose = omega (arith, none, rose)
-
-just_one : (n before now : ℕ) → now ≡ 1 → RoseBy (n + 1) before now → n ≡ 0
-just_one n before now once rose = omega (arith, once, rose)
-
--- of none of all, none of the first ones
-none_counted : {X : Type 0} (test : X → Bool) (xs ys : List X) → count_by test (xs ++ ys) ≡ 0 → count_by test xs ≡ 0
-none_counted test xs ys none =
-    let counted : count_by test (xs ++ ys) ≡ count_by test xs + count_by test ys = sum_by-append (λ x. cond (test x) 1 0) xs ys in
-    omega (arith, counted, none)
-
-none_summed : {X : Type 0} (f : X → ℕ) (xs ys : List X) → sum_by f (xs ++ ys) ≡ 0 → sum_by f xs ≡ 0
-none_summed f xs ys none =
-    let summed : sum_by f (xs ++ ys) ≡ sum_by f xs + sum_by f ys = sum_by-append f xs ys in
-    omega (arith, summed, none)
 
 -- with status 3, where neither the vault nor the output failed
 module _ (before : Entry) (exit : Exit) (tells : IsTrue before.opener.tells) (opened : exit.has_vault ≡ true) (vault : exit.after.vault.faults ≡ 0) (out : exit.after.out.faults ≡ 0) where
@@ -144,55 +121,24 @@ module _ (before : Entry) (exit : Exit) (tells : IsTrue before.opener.tells) (op
         vault = λ rose. not_risen before.opener.vault.faults exit.after.vault.faults vault rose;
       })
 
-  -- It was a fix of one folder, of which one call failed: it read all that it came to.
+  -- it was a fix of one folder, of which one call failed
   module _ (by : BrokeByFolder before exit) (is_first : by.broke.fault ≡ runs.Folder 0) (one : length before.opener.folders ≡ 1) (faults : (folder_at exit.after.folders 0).faults ≡ 1)
       (tells_vault : IsTrue before.opener.vault.tells) (selection : Selection) (command_is : by.broke.ran.task.command ≡ commands.Fix selection) where
     abbrev its : IsAnswered by.broke.ran.task by.broke.ran.given (world_of exit.after) (left_of by.broke) by.broke.ran.did
     its = answered by.broke
 
-    abbrev ReadsAll : Type 0
-    ReadsAll = (off : FixBrokeOff before exit) × (off.broke.fault ≡ runs.Folder 0)
+    abbrev IsFix : Type 0
+    IsFix = (off : FixBrokeOff before exit) × (off.broke.fault ≡ runs.Folder 0)
 
     -- it did not break off before
-    told_some : exit.after.out.written ≢ before.out.written → LeftUntold its.start (world_of exit.after) (left_of by.broke) → ReadsAll
+    told_some : exit.after.out.written ≢ before.out.written → LeftUntold its.start (world_of exit.after) (left_of by.broke) → IsFix
     told_some some none = absurd (some (ap (λ (out : SinkView). out.written) (none.out ∙ out_is before exit tells tells_vault by.broke)))
 
-    module _ (fix : FixBroke by.broke.fault selection by.broke.ran.task its.table its.start (world_of exit.after) (left_of by.broke) by.broke.ran.did) where
-      alone : (d : ℕ) → d < length fix.course.plan.table.columns → d ≡ 0
-      alone d below =
-          let wide : length fix.course.plan.table.columns ≡ length its.table.columns = ap (λ (t : TableValue). length t.columns) fix.course.plan_is.table_is in
-          let columns = its.columns in
-          let same : length its.start.folders ≡ 1 = ap (λ (folders : List FolderView). length folders) (folders_are before exit tells tells_vault by.broke) ∙ one in
-          omega (arith, below, wide, columns, same)
+    as_fix : FixBroke by.broke.fault selection by.broke.ran.task its.table its.start (world_of exit.after) (left_of by.broke) by.broke.ran.did → IsFix
+    as_fix fix = (record { broke = by.broke; selection = selection; command_is = command_is; fix = fix }, is_first)
 
-      rose : RoseBeyond (runs.Folder 0) (facts_of fix.course.stripes ++ fix.ahead.stripes) (fix.course.readings ++ fix.ahead.readings) fix.course.listed exit.after.folders
-          (viewed its.start.vault) (viewed (world_of exit.after).vault)
-      rose = subst (λ (fault : RunFault). RoseBeyond fault (facts_of fix.course.stripes ++ fix.ahead.stripes) (fix.course.readings ++ fix.ahead.readings) fix.course.listed exit.after.folders
-          (viewed its.start.vault) (viewed (world_of exit.after).vault)) is_first fix.rose
-
-      no_cells : unread_cells 0 (facts_of fix.course.stripes) ≡ 0
-      no_cells = none_counted (λ (facts : StripeFacts). is_unread (slot_of facts 0).cell.found) (facts_of fix.course.stripes) fix.ahead.stripes
-          (just_one (unread_cells 0 (facts_of fix.course.stripes ++ fix.ahead.stripes)) _ _ faults rose)
-
-      ended_later : its.start.vault.faults ≤ exit.after.vault.faults
-      ended_later = fix.vault.calls.goes_on.later
-
-      reads_all : ReadsAll
-      reads_all =
-          let off : FixBrokeOff before exit = record {
-            broke = by.broke;
-            selection = selection;
-            command_is = command_is;
-            fix = fix;
-            copies = λ copy failed. not_risen by.broke.ran.given.vault.faults its.start.vault.faults (omega (arith, ended_later, vault)) failed.rose;
-            cells = λ d below. subst (λ (k : ℕ). unread_cells k (facts_of fix.course.stripes) ≡ 0) (sym (alone d below)) no_cells;
-            levels = none_summed (count_by has_failed) fix.course.readings fix.ahead.readings
-                (none_by (unread_in (fix.course.readings ++ fix.ahead.readings)) its.start.vault.faults exit.after.vault.faults vault fix.unread);
-          } in
-          (off, is_first)
-
-    pub broke_off : exit.after.out.written ≢ before.out.written → ReadsAll
-    broke_off some = ⊎_elim (told_some some) reads_all
+    pub broke_off : exit.after.out.written ≢ before.out.written → IsFix
+    broke_off some = ⊎_elim (told_some some) as_fix
         (fix_broke by.broke.fault selection by.broke.ran.task its.table its.start (world_of exit.after) (left_of by.broke) by.broke.ran.did
         (does_as before exit tells tells_vault by.broke (commands.Fix selection) command_is))
 
@@ -207,20 +153,27 @@ module _ {O F V W : Type 0} (opener_view : O → OpenerView) (folder_view : F �
   IsTold config texts seed folders vault status left_folders left printed =
       RunsTold opener_view folder_view vault_view sink_view config texts seed folders vault status left_folders left printed
 
-  -- what the law says of a fix that broke off
-  abbrev pub FixesPrintFront : Type 0
-  FixesPrintFront = (run again : RunOf O F V W) (other : EndsFixed (begun again) (ended again) again.status) (broke : BrokeOff (begun run) (ended run)) → HoldAlike (begun run) (begun again)
-      → AskSame (begun run) (begun again) → KeepStampsAlike (begun run) (begun again) → RoseOnceBy broke.fault (begun run) (ended run) → NothingRose (begun again) (ended again)
-      → PrintsFront broke.told (events_in other.run other.finishes) (begun run) (begun again) (ended run) (ended again) again.status
+  -- what the laws say of a fix that broke off: how it read, what it saw, and what it printed
+  abbrev pub FixesReadRight : Type 0
+  FixesReadRight = (run : RunOf O F V W) (off : FixBrokeOff (begun run) (ended run)) → TellsAll (begun run) → RoseOnceBy off.broke.fault (begun run) (ended run) → ReadsRight off
+
+  abbrev pub FixesSeeFirst : Type 0
+  FixesSeeFirst = (run again : RunOf O F V W) (other : EndsFixed (begun again) (ended again) again.status) (off : FixBrokeOff (begun run) (ended run)) → HoldAlike (begun run) (begun again)
+      → AskSame (begun run) (begun again) → RoseOnceBy off.broke.fault (begun run) (ended run) → NothingRose (begun again) (ended again) → SeenAlike (seen_so_far off) (seen_by other.run)
+
+  abbrev pub SeenFixesPrintFront : Type 0
+  SeenFixesPrintFront = (run again : RunOf O F V W) (other : EndsFixed (begun again) (ended again) again.status) (off : FixBrokeOff (begun run) (ended run)) → HoldAlike (begun run) (begun again)
+      → KeepStampsAlike (begun run) (begun again) → SeenAlike (seen_so_far off) (seen_by other.run)
+      → PrintsFront off.broke.told (events_in other.run other.finishes) (begun run) (begun again) (ended run) (ended again) again.status
 
   pub front_printed : (config : List ℕ) (texts others : List (List ℕ)) (seed : List ℕ) (folders folders_then : List FolderView) (one other : VaultValue) (status status_then : ℕ) (left_folders then_folders : List F)
-      (left left_then : V) (printed printed_then : List ℕ) → FixesPrintFront → AsksFor (commands.Fix everything) texts → AsksFor (commands.Fix everything) others → other ≡ one
+      (left left_then : V) (printed printed_then : List ℕ) → FixesReadRight → FixesSeeFirst → SeenFixesPrintFront → AsksFor (commands.Fix everything) texts → AsksFor (commands.Fix everything) others → other ≡ one
       → folders ≡ fresh_folder true ∷ [] → folders_then ≡ fresh_folder true ∷ []
       → IsTold config texts seed folders (view_of one) status left_folders left printed → status ≡ 3 → (vault_view left).faults ≡ 0 → printed ≢ [] → printed ≢ printed_then → FailedOnce (map folder_view left_folders)
       → IsTold config others seed folders_then (view_of other) status_then then_folders left_then printed_then → (vault_view left_then).faults ≡ 0 → are_calm folder_view then_folders ≡ true
       → status_then ≤ 1 → IsFrontPrinted opener_view folder_view vault_view sink_view
   front_printed config texts others seed folders folders_then one other status status_then left_folders then_folders left left_then printed printed_then
-      law asks asks_then same_value are_new are_new_then runs three faults some less failed again faults_then calm_then few_then =
+      reads_right sees_first prints_front asks asks_then same_value are_new are_new_then runs three faults some less failed again faults_then calm_then few_then =
       let run : RunOf O F V W = runs.over.run in
       let run_then : RunOf O F V W = again.over.run in
       let same : standing_of config folders_then (view_of other) nothing_synced ≡ standing_of config folders (view_of one) nothing_synced
@@ -253,6 +206,7 @@ module _ {O F V W : Type 0} (opener_view : O → OpenerView) (folder_view : F �
       let off = broke_off (begun run) (ended run) begins.tells.tells opened vault runs.out_faults by (first_broke (begun run) (ended run) begins.tells.tells opened vault runs.out_faults by single) single failed_once
       begins.tells.tells_vault everything is_fix printed_some in
       let once : RoseOnceBy off.0.broke.fault (begun run) (ended run) = rose_once (begun run) (ended run) begins.tells.tells opened vault runs.out_faults off.0.broke.fault off.1 single failed_once in
+      let seen : SeenAlike (seen_so_far off.0) (seen_by other_ends.run) = sees_first run run_then other_ends off.0 hold ask once well in
       record {
         run = run;
         again = run_then;
@@ -267,5 +221,7 @@ module _ {O F V W : Type 0} (opener_view : O → OpenerView) (folder_view : F �
         few = few_is run_then.status status_then 1 again.over.status_is few_then;
         printed_some = printed_some;
         printed_less = λ same. less (sym runs.printed_is ∙ same ∙ again.printed_is);
-        front = law run run_then other_ends off.0.broke hold ask stamps once well;
+        right = reads_right run off.0 begins.tells once;
+        seen = seen;
+        front = prints_front run run_then other_ends off.0 hold stamps seen;
       }

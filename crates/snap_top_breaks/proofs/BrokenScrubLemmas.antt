@@ -1,8 +1,7 @@
 -- A scrub that broke off printed a front of what another one printed.
-use Rattle.std.proofs.Common.{◌≡◌, ◌≢◌, ◌⊎◌, inl, inr, ℕ, ◌+◌, ◌≤◌, List, [], ◌∷◌, length, map, is_some, true, false, IsTrue, Option, Ok, refl, sym, ap, ◌∙◌, subst, arith}
+use Rattle.std.proofs.Common.{◌≡◌, ◌≢◌, ◌⊎◌, inl, inr, ℕ, ◌≤◌, List, [], ◌∷◌, map, is_some, true, false, IsTrue, Option, Ok, refl, sym, ap, ◌∙◌, subst, arith}
 use Rattle.std.specs.Prelude.{count_by}
 use Rattle.content_file.specs.declared.loading.LoadFault.TheVariants as loads
-use Rattle.disk_model.specs.Cause.{RoseBy}
 use Rattle.disk_model.specs.Folder.{FolderView}
 use Rattle.disk_model.specs.Opener.{OpenerView}
 use Rattle.disk_model.specs.Sink.{SinkView}
@@ -11,7 +10,6 @@ use Rattle.disk_model.specs.Vault.{VaultView, copies_of}
 use Rattle.disk_memory.specs.Vault.{VaultValue, fresh_vault, view_of}
 use Rattle.file_table.specs.Table.{TableValue}
 use Rattle.snap_config.specs.Setup.{SetupValue, setup_value}
-use Rattle.snap_config.specs.declared.options.Command.{Command}
 use Rattle.snap_config.specs.declared.options.Command.TheVariants as commands
 use Rattle.snap_config.specs.declared.options.ScrubWay.{ScrubWay}
 use Rattle.snap_report.specs.Answer.{is_io_of, status_of as answer_status}
@@ -40,7 +38,7 @@ use Rattle.snap_top.specs.declared.end.End.TheVariants.{Exercised, Refused, Work
 use Rattle.snap_top.specs.declared.end.Ending.TheVariants.{NotLoaded, NoTable, OtherArray, Answered}
 use Rattle.snap_top.proofs.AskedLemmas.{command_asked}
 use Rattle.snap_top.proofs.BrokeOffLemmas.{LeftUntold, configured, does_as, out_is, scrub_broke}
-use Rattle.snap_top_histories.specs.Lived.{AskForNoFix, IsLeftOf, IsNoFix, standing_of}
+use Rattle.snap_top_histories.specs.Lived.{IsLeftOf, standing_of}
 use Rattle.snap_top_histories.specs.Repeated.{are_calm}
 use Rattle.snap_top_histories.proofs.LivedLemmas.{goes_with, trees_kept}
 use Rattle.snap_top_histories.proofs.RepeatedLemmas.{calm_at, few_is, hold_alike, nothing_rose}
@@ -50,7 +48,7 @@ use Rattle.snap_top_instances.specs.Asked.{AsksFor, full_scrub, plain_sync}
 use Rattle.snap_top_breaks.specs.BrokenScrub.{IsFrontOfScrub}
 use Rattle.snap_top_instances.specs.Told.{RunsTold}
 use Rattle.snap_top_breaks.proofs.BrokenLemmas.{not_risen_by, not_twice}
-use Rattle.snap_top_instances.proofs.EndsLemmas.{ask_same, ends_scrubbed}
+use Rattle.snap_top_instances.proofs.EndsLemmas.{ask_same, ends_scrubbed, no_fix_of}
 
 -- ---- what broke it off
 
@@ -110,9 +108,6 @@ scrub_off before exit tells tells_vault by some way command_is =
         → (off : ScrubBrokeOff before exit) × (off.broke.fault ≡ runs.Vault)
     take (inl none) = absurd (some (ap (λ (out : SinkView). out.written) (none.out ∙ out_is before exit tells tells_vault by.broke)))
     take (inr breaks) = (record { broke = by.broke; way = way; command_is = command_is; scrub = breaks.1 }, by.fault_is)
-
-no_fix_of : (command : Command) (texts : List (List ℕ)) → IsNoFix command → AsksFor command texts → AskForNoFix texts
-no_fix_of command texts none asks = record { asked = asks.asked; words = asks.words; is_none = subst IsNoFix (sym asks.command_is) none }
 
 module _ {O F V W : Type 0} (opener_view : O → OpenerView) (folder_view : F → FolderView) (vault_view : V → VaultView) (sink_view : W → SinkView) where
   abbrev begun : RunOf O F V W → Entry

@@ -6,8 +6,8 @@ use Rattle.disk_model.specs.Sink.{SinkView}
 use Rattle.disk_model.specs.Vault.{VaultView}
 use Rattle.snap_report.specs.declared.answer.RunFault.TheVariants as runs
 use Rattle.stripe_reader.specs.Columns.{folder_at}
-use Rattle.snap_top.specs.Alike.{HoldAlike, NothingRose}
-use Rattle.snap_top.specs.BrokeOff.{FixBrokeOff, PrintsFront, RoseOnceBy}
+use Rattle.snap_top.specs.Alike.{HoldAlike, NothingRose, SeenAlike, seen_by}
+use Rattle.snap_top.specs.BrokeOff.{FixBrokeOff, PrintsFront, ReadsRight, RoseOnceBy, seen_so_far}
 use Rattle.snap_top.specs.FixedAlike.{KeepStampsAlike}
 use Rattle.snap_top.specs.LeftAlike.{AskSame}
 use Rattle.snap_top.specs.Restoring.{EndsFixed, events_in}
@@ -21,7 +21,8 @@ pub record FailedOnce (folders : List FolderView) : Type 0 where
 
 module _ {O F V W : Type 0} (opener_view : O → OpenerView) (folder_view : F → FolderView) (vault_view : V → VaultView) (sink_view : W → SinkView) where
   -- A fix broke off by a folder, of which just that call failed; it had printed something. Another one of the same array, which was asked for the
-  -- same, went to its end, and nothing failed. So the first one read all that it came to, and printed a front of what the second one did, and not all of it.
+  -- same, went to its end, and nothing failed. So the first one read all that it came to, saw what the second one saw first, and printed a front of what
+  -- that did, and not all of it.
   pub record IsFrontPrinted : Type 0 where
     pub run : RunOf O F V W
     pub again : RunOf O F V W
@@ -33,6 +34,8 @@ module _ {O F V W : Type 0} (opener_view : O → OpenerView) (folder_view : F �
     pub stamps : KeepStampsAlike (before_of opener_view folder_view vault_view sink_view run) (before_of opener_view folder_view vault_view sink_view again)
     pub once : RoseOnceBy off.broke.fault (before_of opener_view folder_view vault_view sink_view run) (after_of opener_view folder_view vault_view sink_view run)
     pub well : NothingRose (before_of opener_view folder_view vault_view sink_view again) (after_of opener_view folder_view vault_view sink_view again)
+    pub right : ReadsRight off
+    pub seen : SeenAlike (seen_so_far off) (seen_by other.run)
     pub few : again.status ≤ 1
     pub printed_some : (after_of opener_view folder_view vault_view sink_view run).after.out.written
         ≢ (before_of opener_view folder_view vault_view sink_view run).out.written

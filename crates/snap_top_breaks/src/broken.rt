@@ -7,7 +7,7 @@ ghost use Rattle.snap_top_breaks.specs.Broken.{FailedOnce, IsFrontPrinted};
 
 use disk_memory::{MemFolder, MemOpener, MemSink, MemVault};
 use disk_model::{Folder, Opener, Vault};
-use snap_top::laws::a_broken_run_prints_a_front;
+use snap_top::fronts::{a_broken_run_prints_a_front, a_broken_run_reads_the_same_first};
 use snap_top_instances::asked::asks_fix_of_all;
 use snap_top_instances::told::{Told, new_disk, picked, run_told, run_well, says_else};
 use snap_top_memory::arrays::{Array, folders, owned};
@@ -32,6 +32,12 @@ pub fn break_a_fix<R: Threads + Sync>(
     ensures { IfOk result (λ _. IsFrontPrinted (⟦<MemOpener<MemFolder, MemVault> as Opener>⟧.view) folder_view vault_view sink_view) }
 {
     a_broken_run_prints_a_front::<MemOpener<MemFolder, MemVault>, MemFolder, MemVault, MemSink>();
+    a_broken_run_reads_the_same_first::<
+        MemOpener<MemFolder, MemVault>,
+        MemFolder,
+        MemVault,
+        MemSink,
+    >();
     let begin = owned(alloc, first)?;
     let first = begin.as_slice();
     let line = owned(alloc, words)?;

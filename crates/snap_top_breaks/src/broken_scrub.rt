@@ -8,8 +8,8 @@ ghost use Rattle.snap_top_breaks.specs.BrokenScrub.{IsFrontOfScrub};
 
 use disk_memory::{MemFolder, MemOpener, MemSink, MemVault};
 use disk_model::{Folder, Opener, Path, Vault};
-use snap_top::fronts::a_broken_run_reads_the_same_first;
-use snap_top::laws::{a_broken_run_prints_a_front, headline};
+use snap_top::fronts::{a_broken_run_prints_a_front, a_broken_run_reads_the_same_first};
+use snap_top::laws::headline;
 use snap_top_histories::repeated::have_not_failed;
 use snap_top_instances::asked::{asks_full_scrub, asks_plain_sync};
 use snap_top_instances::told::{Told, picked, run_told, run_well, says_else};

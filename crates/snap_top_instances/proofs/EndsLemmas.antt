@@ -1,14 +1,17 @@
 -- What a run was asked for, and how one ended that went to its end.
-use Rattle.std.proofs.Common.{◌≡◌, ℕ, ◌≤◌, inl, Bool, true, false, IsTrue, Ok, sym, ◌∙◌, subst}
+use Rattle.std.proofs.Common.{◌≡◌, ℕ, zero, suc, ◌<◌, ◌≤◌, List, inl, Bool, true, false, IsTrue, Ok, refl, sym, ◌∙◌, subst, arith}
 use Rattle.snap_config.specs.declared.options.Command.{Command}
 use Rattle.snap_config.specs.declared.options.Command.TheVariants as commands
 use Rattle.snap_config.specs.declared.options.Options.{Options}
 use Rattle.snap_config.specs.declared.options.ScrubWay.{ScrubWay}
 use Rattle.snap_config.specs.declared.options.Selection.{Selection}
 use Rattle.snap_config.specs.declared.options.SyncWay.{SyncWay}
-use Rattle.snap_top.specs.Ended.{has_ended}
+use Rattle.stripe_examiner.specs.declared.scope.Mode.{Mode}
+use Rattle.snap_top.specs.Alike.{AskAlike}
+use Rattle.snap_top.specs.Ended.{ByStatus, IsEndStatus, has_ended}
 use Rattle.snap_top.specs.LeftAlike.{AskSame}
-use Rattle.snap_top.specs.Moment.{EndsInPart, IsDidOf}
+use Rattle.snap_top.specs.Moment.{EndsInPart, IsDidOf, TellsAll}
+use Rattle.snap_top.specs.Naming.{ChecksEnd, EndsAsAsked, command_in}
 use Rattle.snap_top.specs.Opening.{asked_by}
 use Rattle.snap_top.specs.Restoring.{EndsFixed}
 use Rattle.snap_top.specs.Run.{Entry, Exit}
@@ -16,7 +19,8 @@ use Rattle.snap_top.specs.Scrubbed.{EndsScrubbed}
 use Rattle.snap_top.specs.Step.{ChangesFiles, EndsBy, RunStep}
 use Rattle.snap_top.specs.Task.{Did, fixes, reads_only, scrubs, syncs}
 use Rattle.snap_top.proofs.AskedLemmas.{command_asked}
-use Rattle.snap_top_instances.specs.Asked.{AsksFor}
+use Rattle.snap_top_histories.specs.Lived.{AskForNoFix, IsNoFix}
+use Rattle.snap_top_instances.specs.Asked.{AsksFor, everything}
 
 -- ---- what was asked for
 
@@ -29,6 +33,35 @@ ask_same command one other asks asks_then = record {
   command = asks.command_is ∙ sym asks_then.command_is;
   log = asks.no_log ∙ sym asks_then.no_log;
 }
+
+-- each in its mode, of everything
+pub asks_alike : (mode mode_then : Mode) (one other : Entry) → AsksFor (command_in mode everything) one.texts → AsksFor (command_in mode_then everything) other.texts → AskAlike mode mode_then one other
+asks_alike mode mode_then one other asks asks_then = record {
+  asked = asks.asked;
+  asked_then = asks_then.asked;
+  selection = everything;
+  words = asks.words;
+  words_then = asks_then.words;
+  command_is = asks.command_is;
+  command_then = asks_then.command_is;
+  log = asks.no_log ∙ sym asks_then.no_log;
+}
+
+pub no_fix_of : (command : Command) (texts : List (List ℕ)) → IsNoFix command → AsksFor command texts → AskForNoFix texts
+no_fix_of command texts none asks = record { asked = asks.asked; words = asks.words; is_none = subst IsNoFix (sym asks.command_is) none }
+
+-- ---- how a check ended
+
+-- one that went to its end, by what it was asked for
+pub ended_as : (command : Command) (before : Entry) (exit : Exit) (status : ℕ) → TellsAll before → ChecksEnd before exit status → status ≤ 1 → AsksFor command before.texts → EndsAsAsked command before exit status
+ended_as command before exit status tells checked few asks =
+    subst (λ (its : Command). EndsAsAsked its before exit status) asks.command_is (checked tells (ByStatus few) asks.asked asks.words)
+
+-- with status 1, where something is counted unless all is well
+pub counted_some : (status : ℕ) (failed : Bool) (count : ℕ) → IsEndStatus status failed (count ≡ 0) → status ≡ 1 → 0 < count
+counted_some status failed (suc count) is one = omega arith
+counted_some status true zero is one = absurd (let three = is.failed.1 refl in omega (arith, three, one))
+counted_some status false zero is one = absurd (let none = is.clean.1 (refl, refl) in omega (arith, none, one))
 
 -- ---- how a run ended, by what it did
 

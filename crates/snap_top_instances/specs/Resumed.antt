@@ -1,4 +1,4 @@
--- A sync that was stopped and resumed: an instance of what the headline supposes of the full sync of what there was before.
+-- A sync that was stopped at some moment or ended, and one after it: an instance of what the headline supposes of the full sync of what there was before.
 use Rattle.std.specs.Prelude.{◌≡◌, ℕ, ◌<◌, List, [], ◌∷◌, length}
 use Rattle.disk_model.specs.Files.{Files, parity_of}
 use Rattle.disk_model.specs.Folder.{FolderView}
@@ -15,7 +15,7 @@ use Rattle.snap_top.specs.Standing.{IsHistory, IsOrigin, Stage, Standing}
 use Rattle.snap_top.specs.Sync.{BeginsFrom}
 
 module _ {O F V W : Type 0} (opener_view : O → OpenerView) (folder_view : F → FolderView) (vault_view : V → VaultView) (sink_view : W → SinkView) where
-  -- A stopped sync of an array without content, and one with status 0 of what it left. The full sync of what there was before it writes
+  -- A sync of an array without content that was stopped at some moment or ended, and one with status 0 of what it left. The full sync of what there was before it writes
   -- parity. So the last one ends as that.
   pub record IsResumedWhole : Type 0 where
     pub first : Standing

@@ -22,7 +22,8 @@ pub record HasRecord (vault : VaultView) : Type 0 where
 
 module _ {O F V W : Type 0} (opener_view : O → OpenerView) (folder_view : F → FolderView) (vault_view : V → VaultView) (sink_view : W → SinkView) where
   -- A sync over content that has a record of the first disk, which does not sync disks that lost all their files. All is as a run needs it that
-  -- surely ends well: nothing failed, the content is of the configuration's array, and no layout is refused. It ended with this status.
+  -- surely ends well, if memory does not run out: nothing failed so that a run ends, the content is of the configuration's array, and no layout is
+  -- refused. It ended with this status.
   pub record IsSmoothSync (status : ℕ) : Type 0 where
     pub standing : Standing
     pub run : RunOf O F V W

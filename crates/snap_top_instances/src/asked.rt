@@ -75,6 +75,22 @@ pub fn asks_fix_of_all(alloc: Global, words: &[String]) -> bool
     }
 }
 
+/// Whether the words ask for a check of everything, and name no log.
+pub fn asks_check_of_all(alloc: Global, words: &[String]) -> bool
+    ensures { IsTrue result → AsksFor (commands.Check everything) (map string_bytes words.now) }
+{
+    let Ok(asked) = read_words_among(alloc, &COMMANDS, words) else {
+        return false;
+    };
+    if asked.log.is_some() {
+        return false;
+    }
+    match &asked.command {
+        Command::Check(selection) => selects_all(selection),
+        _ => false,
+    }
+}
+
 /// Whether a selection is of everything.
 pub fn selects_all(selection: &Selection) -> bool
     ensures { IsTrue result → selection.now ≡ everything }

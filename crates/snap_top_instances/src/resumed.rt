@@ -1,4 +1,4 @@
-// A sync that is stopped and resumed is the full sync of what there was before it.
+// A sync with status 0, after one that was stopped at some moment or ended, is the full sync of what there was before both.
 ghost use Rattle.std.specs.Prelude.{◌≡◌, ◌<◌, IfOk, IsTrue, length};
 ghost use Rattle.disk_memory.specs.Folder.{folder_view};
 ghost use Rattle.disk_memory.specs.Sink.{sink_view};

@@ -17,7 +17,7 @@ use Rattle.snap_top_histories.proofs.RepeatedLemmas.{nothing_rose}
 use Rattle.snap_top_instances.specs.Asked.{AsksFor, everything}
 use Rattle.snap_top_pairs.specs.Audited.{IsAudited}
 use Rattle.snap_top_instances.specs.Told.{RunsTold}
-use Rattle.snap_top_pairs.proofs.LostLemmas.{counted_some, ended_as}
+use Rattle.snap_top_instances.proofs.EndsLemmas.{counted_some, ended_as}
 
 not_none : (count : ℕ) → 0 < count → count ≡ 0 → ⊥
 not_none count some none = omega (arith, some, none)

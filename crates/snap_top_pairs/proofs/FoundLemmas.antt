@@ -11,7 +11,7 @@ use Rattle.stripe_examiner.specs.declared.scope.Mode.TheVariants as modes
 use Rattle.snap_top.specs.Alike.{AskAlike, CheckAlike, FindAlike, FixAlike, HoldAlike, NothingRose, ReadAlike}
 use Rattle.snap_top.specs.Check.{CheckRun}
 use Rattle.snap_top.specs.Ended.{ByStatus}
-use Rattle.snap_top.specs.Naming.{EndsChecked, HasChecked, command_in, events_found}
+use Rattle.snap_top.specs.Naming.{EndsChecked, HasChecked, events_found}
 use Rattle.snap_top.specs.Restoring.{EndsFixed}
 use Rattle.snap_top.specs.Resumed.{RunOf}
 use Rattle.snap_top.specs.Run.{Entry, Exit}
@@ -24,21 +24,8 @@ use Rattle.snap_top.proofs.SyncedLemmas.{OneTable}
 use Rattle.snap_top_instances.specs.Asked.{AsksFor, everything}
 use Rattle.snap_top_pairs.specs.Found.{AreFoundAndFixed, AreFoundTwice}
 use Rattle.snap_top_pairs.specs.Lost.{AreRunTwice, HasRows, HoldsRows}
-use Rattle.snap_top_pairs.proofs.LostLemmas.{counted_some, ended_as}
 use Rattle.snap_top_pairs.proofs.ReadLemmas.{read_alike, stripe_found}
-
--- both were asked for the same
-asks_alike : (mode mode_then : Mode) (one other : Entry) → AsksFor (command_in mode everything) one.texts → AsksFor (command_in mode_then everything) other.texts → AskAlike mode mode_then one other
-asks_alike mode mode_then one other asks asks_then = record {
-  asked = asks.asked;
-  asked_then = asks_then.asked;
-  selection = everything;
-  words = asks.words;
-  words_then = asks_then.words;
-  command_is = asks.command_is;
-  command_then = asks_then.command_is;
-  log = asks.no_log ∙ sym asks_then.no_log;
-}
+use Rattle.snap_top_instances.proofs.EndsLemmas.{asks_alike, counted_some, ended_as}
 
 -- a check of everything in a table with rows looks at a stripe
 some_stripe : OneTable → (before : Entry) (exit : Exit) (status : ℕ) (run : CheckRun) → IsTrue before.opener.tells → AsksFor (commands.Check everything) before.texts → NothingRose before exit → HasChecked modes.Check before exit status run

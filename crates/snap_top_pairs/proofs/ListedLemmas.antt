@@ -21,8 +21,7 @@ use Rattle.snap_top.proofs.SyncedLemmas.{OneTable}
 use Rattle.snap_top_instances.specs.Asked.{AsksFor}
 use Rattle.snap_top_pairs.specs.Listed.{AreListedTwice, ArePrintedTwice, AreToldTwice}
 use Rattle.snap_top_pairs.specs.Lost.{AreRunTwice, HoldsRows}
-use Rattle.snap_top_pairs.proofs.LostLemmas.{ended_as}
-use Rattle.snap_top_instances.proofs.EndsLemmas.{ask_same}
+use Rattle.snap_top_instances.proofs.EndsLemmas.{ask_same, ended_as}
 
 -- the table that a text was printed of has a record
 some_printed : OneTable → (command : Command) (text : TableValue → List ℕ) (counted : TableValue → ℕ) (before : Entry) (exit : Exit) (status : ℕ) (ends : EndsPrinted command text counted before exit status) → NothingRose before exit

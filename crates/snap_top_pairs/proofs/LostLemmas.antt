@@ -1,5 +1,5 @@
 -- Two runs over an array whose disk was lost after a sync begin over the same.
-use Rattle.std.proofs.Common.{◌≡◌, ◌≢◌, ℕ, zero, suc, ◌<◌, ◌≤◌, List, [], ◌∷◌, length, Bool, true, false, IsTrue, Option, Some, refl, sym, ap, ◌∙◌, subst, arith}
+use Rattle.std.proofs.Common.{◌≡◌, ◌≢◌, ℕ, zero, suc, ◌<◌, ◌≤◌, List, [], ◌∷◌, length, true, IsTrue, Option, Some, refl, sym, ap, ◌∙◌, subst, arith}
 use Rattle.content_file.specs.Load.{Loads}
 use Rattle.disk_model.specs.Files.{Files}
 use Rattle.disk_model.specs.Folder.{FolderView}
@@ -10,11 +10,7 @@ use Rattle.disk_memory.specs.Folder.{fresh_folder}
 use Rattle.disk_memory.specs.Vault.{VaultValue, view_of}
 use Rattle.file_table.specs.Table.{TableValue, records_in}
 use Rattle.file_table.specs.declared.shape.Shape.{Shape}
-use Rattle.snap_config.specs.declared.options.Command.{Command}
-use Rattle.snap_top.specs.Ended.{ByStatus, IsEndStatus}
 use Rattle.snap_top.specs.Levels.{said_by}
-use Rattle.snap_top.specs.Moment.{TellsAll}
-use Rattle.snap_top.specs.Naming.{ChecksEnd, EndsAsAsked}
 use Rattle.snap_top.specs.Resumed.{RunOf}
 use Rattle.snap_top.specs.Run.{Entry, Exit}
 use Rattle.snap_top.specs.Standing.{BeginsOver, Standing, after_of, before_of, nothing_synced}
@@ -22,23 +18,9 @@ use Rattle.snap_top_histories.specs.Lived.{standing_of}
 use Rattle.snap_top_histories.specs.Repeated.{are_calm}
 use Rattle.snap_top_histories.proofs.RepeatedLemmas.{few_is, hold_alike, nothing_rose}
 use Rattle.snap_top_histories.proofs.SeenLemmas.{contents_seen}
-use Rattle.snap_top_instances.specs.Asked.{AsksFor}
 use Rattle.snap_top_pairs.specs.Lost.{AreRunTwice, HasRows, HoldsRows}
 use Rattle.snap_top_instances.specs.Told.{RunsTold}
 use Rattle.snap_top_instances.proofs.SmoothLemmas.{content_by, first_content}
-
--- ---- how a run ends
-
--- one that went to its end, by what it was asked for
-pub ended_as : (command : Command) (before : Entry) (exit : Exit) (status : ℕ) → TellsAll before → ChecksEnd before exit status → status ≤ 1 → AsksFor command before.texts → EndsAsAsked command before exit status
-ended_as command before exit status tells checked few asks =
-    subst (λ (its : Command). EndsAsAsked its before exit status) asks.command_is (checked tells (ByStatus few) asks.asked asks.words)
-
--- with status 1, where something is counted unless all is well
-pub counted_some : (status : ℕ) (failed : Bool) (count : ℕ) → IsEndStatus status failed (count ≡ 0) → status ≡ 1 → 0 < count
-counted_some status failed (suc count) is one = omega arith
-counted_some status true zero is one = absurd (let three = is.failed.1 refl in omega (arith, three, one))
-counted_some status false zero is one = absurd (let none = is.clean.1 (refl, refl) in omega (arith, none, one))
 
 -- ---- the rows of a table
 

@@ -25,7 +25,7 @@ use Rattle.snap_sync.specs.Part.{tree_at, trees_of}
 use Rattle.stripe_findings.specs.Findings.{events_of}
 use Rattle.stripe_findings.specs.Reading.{StripeReading}
 use Rattle.stripe_reader.specs.Columns.{folder_at}
-use Rattle.snap_top.specs.Alike.{HoldAlike, NothingRose}
+use Rattle.snap_top.specs.Alike.{HoldAlike, NothingRose, SeenAlike, seen_by}
 use Rattle.snap_top.specs.FixedAlike.{FixesAlike, KeepStampsAlike}
 use Rattle.snap_top.specs.History.{LastSynced}
 use Rattle.snap_top.specs.LeftAlike.{AskSame, PrintAlike, ScrubsAlike, SyncsAlike}
@@ -38,14 +38,14 @@ use Rattle.snap_top.specs.Scrubbed.{EndsScrubbed}
 use Rattle.snap_top.specs.Standing.{IsOrigin, Runs, Standing, after_of, before_of, nothing_synced}
 use Rattle.snap_top.specs.Task.{fixes, scrubs, syncs}
 use Rattle.snap_top.proofs.CompleteLemmas.{same_ok}
-use Rattle.snap_top_histories.specs.Lived.{AskForNoFix, IsLeftOf, IsNoFix, standing_of}
+use Rattle.snap_top_histories.specs.Lived.{IsLeftOf, standing_of}
 use Rattle.snap_top_histories.specs.Repeated.{are_calm}
 use Rattle.snap_top_histories.proofs.LivedLemmas.{goes_with, trees_kept}
 use Rattle.snap_top_histories.proofs.RepeatedLemmas.{few_is, hold_alike, nothing_rose}
 use Rattle.snap_top_histories.proofs.ResumedLemmas.{HoldsAlways, begins_nothing, not_risen, same_first}
 use Rattle.snap_top_instances.specs.Asked.{AsksFor, everything, full_scrub, plain_sync}
 use Rattle.snap_top_instances.specs.Told.{HoldsFile, RunsTold}
-use Rattle.snap_top_instances.proofs.EndsLemmas.{ask_same, ends_fixed, ends_scrubbed, ends_synced}
+use Rattle.snap_top_instances.proofs.EndsLemmas.{ask_same, ends_fixed, ends_scrubbed, ends_synced, no_fix_of}
 use Rattle.snap_top_pairs.specs.Twice.{AreOfOneArray, AskForOthers, IsFixedTwice, IsScrubbedTwice, IsSyncedTwice}
 
 -- ---- what was asked for
@@ -56,9 +56,6 @@ readers_of one other asked asked_then words words_then others same =
     others.readers (
     ap (λ (options : Options). options.readers) (same_ok (asked_by one.texts) others.asked asked others.words words) ∙ same
     ∙ ap (λ (options : Options). options.readers) (same_ok (asked_by other.texts) asked_then others.asked_then words_then others.words_then))
-
-no_fix_of : (command : Command) (texts : List (List ℕ)) → IsNoFix command → AsksFor command texts → AskForNoFix texts
-no_fix_of command texts none asks = record { asked = asks.asked; words = asks.words; is_none = subst IsNoFix (sym asks.command_is) none }
 
 -- ---- something was read
 
@@ -144,6 +141,11 @@ module _ {O F V W : Type 0} (opener_view : O → OpenerView) (folder_view : F �
   ScrubsReadAlike = (run again : RunOf O F V W) (one : EndsScrubbed (begun run) (ended run) run.status) (other : EndsScrubbed (begun again) (ended again) again.status) → HoldAlike (begun run) (begun again)
       → run.moment ≡ again.moment → one.run.loaded ≡ other.run.loaded → one.run.readings ≡ other.run.readings
       → ScrubsAlike one.run other.run (ended run) (ended again) × PrintAlike (begun run) (begun again) (ended run) (ended again) run.status again.status
+
+  abbrev pub FixesSeenAlike : Type 0
+  FixesSeenAlike = (run again : RunOf O F V W) (one : EndsFixed (begun run) (ended run) run.status) (other : EndsFixed (begun again) (ended again) again.status) → HoldAlike (begun run) (begun again)
+      → KeepStampsAlike (begun run) (begun again) → SeenAlike (seen_by one.run) (seen_by other.run)
+      → FixesAlike one.run other.run one.finishes other.finishes (ended run) (ended again) × PrintAlike (begun run) (begun again) (ended run) (ended again) run.status again.status
 
   -- two runs over what is the same, for the same
   module _ (config : List ℕ) (texts others : List (List ℕ)) (seed : List ℕ) (folders folders_then : List FolderView) (vault vault_then : VaultView) (last : LastSynced) (status status_then : ℕ)
@@ -239,16 +241,17 @@ module _ {O F V W : Type 0} (opener_view : O → OpenerView) (folder_view : F �
           status_is = again.over.status_is;
         }
 
-    pub fixed_alike : FixesLeaveAlike → AsksFor (commands.Fix everything) texts → AsksFor (commands.Fix everything) others → AskForOthers texts others → folders ≡ fresh_folder true ∷ [] → folders_then ≡ folders
+    pub fixed_alike : FixesLeaveAlike → FixesSeenAlike → AsksFor (commands.Fix everything) texts → AsksFor (commands.Fix everything) others → AskForOthers texts others → folders ≡ fresh_folder true ∷ [] → folders_then ≡ folders
         → HoldsFile (map folder_view left_folders) → IsFixedTwice opener_view folder_view vault_view sink_view status_then
-    fixed_alike law asks asks_then differ are_new are_same holds =
+    fixed_alike law seen_alike asks asks_then differ are_new are_same holds =
         let both = of_one (commands.Fix everything) asks asks_then differ in
         let one : EndsFixed (begun run) (ended run) run.status
         = ends_fixed (begun run) (ended run) run.status tells_here asks.asked (words_of (commands.Fix everything) asks) runs.over.step few_ran everything asks.command_is in
         let one_then : EndsFixed (begun run_then) (ended run_then) run_then.status
         = ends_fixed (begun run_then) (ended run_then) run_then.status tells_there asks_then.asked (words_then (commands.Fix everything) asks_then) again.over.step few_ran_then everything asks_then.command_is in
         let stamps : KeepStampsAlike (begun run) (begun run_then) = λ d. ap (λ (fs : List FolderView). (folder_at fs d).keeps_stamps) (runs.held ∙ sym are_same ∙ sym again.held) in
-        let alike = law run run_then one one_then both.hold both.ask stamps both.well both.well_then in
+        let left_alike = law run run_then one one_then both.hold both.ask stamps both.well both.well_then in
+        let alike = seen_alike run run_then one one_then both.hold stamps left_alike.0.seen in
         record {
           run = run;
           again = run_then;
@@ -306,16 +309,16 @@ module _ {O F V W : Type 0} (opener_view : O → OpenerView) (folder_view : F �
       printed printed_then runs again faults calm faults_then calm_then few few_then as_it_was law reads_alike asks asks_then differ says
 
   pub fixed_twice : (config : List ℕ) (texts others : List (List ℕ)) (seed : List ℕ) (folders folders_then : List FolderView) (one other : VaultValue) (status status_then : ℕ) (left_folders then_folders : List F)
-      (left left_then : V) (printed printed_then : List ℕ) → FixesLeaveAlike → AsksFor (commands.Fix everything) texts → AsksFor (commands.Fix everything) others → AskForOthers texts others → other ≡ one
+      (left left_then : V) (printed printed_then : List ℕ) → FixesLeaveAlike → FixesSeenAlike → AsksFor (commands.Fix everything) texts → AsksFor (commands.Fix everything) others → AskForOthers texts others → other ≡ one
       → folders ≡ fresh_folder true ∷ [] → folders_then ≡ fresh_folder true ∷ []
       → IsTold config texts seed folders (view_of one) status left_folders left printed → (vault_view left).faults ≡ 0 → are_calm folder_view left_folders ≡ true → status ≤ 1
       → HoldsFile (map folder_view left_folders)
       → IsTold config others seed folders_then (view_of other) status_then then_folders left_then printed_then → (vault_view left_then).faults ≡ 0 → are_calm folder_view then_folders ≡ true
       → status_then ≤ 1 → IsFixedTwice opener_view folder_view vault_view sink_view status_then
   fixed_twice config texts others seed folders folders_then one other status status_then left_folders then_folders left left_then printed printed_then
-      law asks asks_then differ same_value are_new are_new_then runs faults calm few holds again faults_then calm_then few_then =
+      law seen_alike asks asks_then differ same_value are_new are_new_then runs faults calm few holds again faults_then calm_then few_then =
       let same : standing_of config folders_then (view_of other) nothing_synced ≡ standing_of config folders (view_of one) nothing_synced
       = ap (λ (v : VaultValue). standing_of config folders_then (view_of v) nothing_synced) same_value
       ∙ ap (λ (fs : List FolderView). standing_of config fs (view_of one) nothing_synced) (are_new_then ∙ sym are_new) in
       fixed_alike config texts others seed folders folders_then (view_of one) (view_of other) nothing_synced status status_then left_folders then_folders left left_then printed printed_then
-      runs again faults calm faults_then calm_then few few_then same law asks asks_then differ are_new (are_new_then ∙ sym are_new) holds
+      runs again faults calm faults_then calm_then few few_then same law seen_alike asks asks_then differ are_new (are_new_then ∙ sym are_new) holds

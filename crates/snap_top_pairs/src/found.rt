@@ -1,20 +1,16 @@
 // Two checks of a lost disk, and a check and then a fix of it, find the same.
-ghost use Rattle.std.specs.Prelude.{IfOk, IsTrue, map, string_bytes};
+ghost use Rattle.std.specs.Prelude.{IfOk};
 ghost use Rattle.disk_memory.specs.Folder.{folder_view};
 ghost use Rattle.disk_memory.specs.Sink.{sink_view};
 ghost use Rattle.disk_memory.specs.Vault.{vault_view};
-ghost use Rattle.snap_config.specs.declared.options.Command.TheVariants as commands;
-ghost use Rattle.snap_top_instances.specs.Asked.{AsksFor, everything};
 ghost use Rattle.snap_top_pairs.specs.Found.{AreFoundAndFixed, AreFoundTwice};
 
 use crate::lost::lose_and_run_twice;
 use content_file::laws::one_table_has_a_spelling;
 use disk_memory::{MemFolder, MemOpener, MemSink, MemVault};
 use disk_model::Opener;
-use snap_config::{Command, read_words_among};
-use snap_top::COMMANDS;
 use snap_top::laws::{one_array_is_found_alike, what_is_read_alike_is_found_alike};
-use snap_top_instances::asked::{asks_fix_of_all, selects_all};
+use snap_top_instances::asked::{asks_check_of_all, asks_fix_of_all};
 use snap_top_memory::arrays::{Array, owned};
 use std::alloc::Global;
 use std::test::Fail;
@@ -88,20 +84,4 @@ pub fn check_lost_twice<R: Threads + Sync>(
         return Err("nothing was found".into());
     }
     Ok(ends.last)
-}
-
-// Whether the words ask for a check of everything, and name no log.
-fn asks_check_of_all(alloc: Global, words: &[String]) -> bool
-    ensures { IsTrue result → AsksFor (commands.Check everything) (map string_bytes words.now) }
-{
-    let Ok(asked) = read_words_among(alloc, &COMMANDS, words) else {
-        return false;
-    };
-    if asked.log.is_some() {
-        return false;
-    }
-    match &asked.command {
-        Command::Check(selection) => selects_all(selection),
-        _ => false,
-    }
 }

@@ -133,6 +133,12 @@ pub fn fix_twice<R: Threads + Sync>(
     ensures { IfOk result (IsFixedTwice (⟦<MemOpener<MemFolder, MemVault> as Opener>⟧.view) folder_view vault_view sink_view) }
 {
     one_array_is_left_alike::<MemOpener<MemFolder, MemVault>, MemFolder, MemVault, MemSink>();
+    what_is_read_alike_is_left_alike::<
+        MemOpener<MemFolder, MemVault>,
+        MemFolder,
+        MemVault,
+        MemSink,
+    >();
     let begin = owned(alloc, first)?;
     let first = begin.as_slice();
     let line = owned(alloc, words)?;

@@ -242,6 +242,7 @@ module _ {O F V W : Type 0} (opener_view : O â†’ OpenerView) (folder_view : F â†
         let syncs : SyncsWell opener_view folder_view vault_view sink_view run
         = record { asked = asks.asked; way = plain_sync; words = words; command_is = asks.command_is; well = inr (is_three, unbroken) } in
         let ends : EndsInPart (begun run) (ended run) run.status = runs.synced begins.tells (ByFaults is_three unbroken) asks.asked plain_sync words asks.command_is in
+        let last = headline.synced run at_end.0 at_end.3 syncs (inl at_end.1) in
         let ends_by_run : EndsInPart (begun run) (ended run) run.status = runs.synced begins.tells (ByRun by_run) asks.asked plain_sync words asks.command_is in
         record {
           first = first;
@@ -256,12 +257,12 @@ module _ {O F V W : Type 0} (opener_view : O â†’ OpenerView) (folder_view : F â†
           syncs = syncs;
           ends = ends;
           ends_by_run = ends_by_run;
-          closed = closed_in ends;
           some = some_in ends;
           some_by_run = some_in ends_by_run;
           unheard = ends.status_is.failed.0 is_three;
           done = at_end.3.step.done asks.asked words (subst ChangesFiles (sym asks.command_is) tt) (inr (is_three, unbroken));
           stands = inl at_end.1;
-          synced = headline.synced run at_end.0 at_end.3 syncs (inl at_end.1);
+          synced = last;
+          closed = closed_in last.ends;
           status_is = runs.over.status_is;
         }

@@ -1,4 +1,4 @@
--- An exercise that surely ends well, and was made.
+-- An exercise that surely ends well, if memory does not run out, and was made.
 use Rattle.std.specs.Prelude.{◌≡◌, ◌≢◌, ◌⊎◌, ℕ, ◌≤◌, List, [], IsTrue}
 use Rattle.disk_model.specs.Folder.{FolderView}
 use Rattle.disk_model.specs.Opener.{OpenerView}
@@ -23,7 +23,8 @@ module _ {O F V W : Type 0} (opener_view : O → OpenerView) (folder_view : F �
     pub complete : SmoothRunsAreDone (before_of opener_view folder_view vault_view sink_view run) (after_of opener_view folder_view vault_view sink_view run) run.status
     pub out_begins : (before_of opener_view folder_view vault_view sink_view run).out.written ≡ []
 
-  -- The words of a run asked for an exercise, and its output did not fail. The exercise of that number was made and printed, and the run is done.
+  -- The words of a run asked for an exercise, and its output did not fail. The exercise of that number was made and printed, and the run is done, or
+  -- memory ran out.
   pub record IsSmoothlyExercised (status : ℕ) : Type 0 where
     pub run : RunOf O F V W
     pub answer : Answer

@@ -57,7 +57,6 @@ module _ {O F V W : Type 0} (opener_view : O â†’ OpenerView) (folder_view : F â†
     pub syncs : SyncsWell opener_view folder_view vault_view sink_view run
     pub ends : EndsInPart (before_of opener_view folder_view vault_view sink_view run) (after_of opener_view folder_view vault_view sink_view run) run.status
     pub ends_by_run : EndsInPart (before_of opener_view folder_view vault_view sink_view run) (after_of opener_view folder_view vault_view sink_view run) run.status
-    pub closed : 0 < verified_in ends.run.plan.start ends.run.readings
     pub some : 0 < length ends.run.readings
     pub some_by_run : 0 < length ends_by_run.run.readings
     pub unheard : IsTrue ends.output_failed
@@ -65,4 +64,5 @@ module _ {O F V W : Type 0} (opener_view : O â†’ OpenerView) (folder_view : F â†
     pub stands : StandsAfter (after_of opener_view folder_view vault_view sink_view run) next.files
     pub synced : IsSyncedLast (before_of opener_view folder_view vault_view sink_view run) (after_of opener_view folder_view vault_view sink_view run)
         run.status goes.step.always.did first next
+    pub closed : 0 < verified_in synced.ends.run.plan.start synced.ends.run.readings
     pub status_is : run.status â‰¡ status

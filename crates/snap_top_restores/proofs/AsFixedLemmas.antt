@@ -4,8 +4,7 @@ use Rattle.std.proofs.Math.Path.{fun_ext}
 use Rattle.std.specs.Prelude.{filter, slice_index, slice_index_or}
 use Rattle.std.specs.List.{All, Contains, range_with_len}
 use Rattle.std.proofs.lemmas.List.{get_or_default, length-map}
-use Rattle.std.proofs.lemmas.List.Elements.{All-contains_itself, All-filter, filter_passes}
-use Rattle.std.proofs.lemmas.List.FromFn.{get_or-range_with_len, length-range_with_len}
+use Rattle.std.proofs.lemmas.List.Elements.{All-contains_itself}
 use Rattle.array_scan.specs.Kept.{each_column}
 use Rattle.cauchy.specs.Matrix.{parity_byte}
 use Rattle.file_table.specs.Table.{TableValue}
@@ -14,14 +13,12 @@ use Rattle.parity_writer.specs.LevelsValue.{no_level}
 use Rattle.parity_writer.specs.Parity.{Row}
 use Rattle.parity_writer.specs.Sound.{Snapshot}
 use Rattle.parity_writer.specs.WindowRow.{bytes_found, bytes_of}
-use Rattle.parity_writer.specs.declared.levels.LevelRead.{LevelRead}
-use Rattle.parity_writer.specs.declared.levels.LevelRead.TheVariants as here
 use Rattle.snap_fix.specs.Fixing.{facts_of}
 use Rattle.snap_fix.specs.Found.{DifferInMode}
 use Rattle.snap_fix.specs.Genuine.{AreGenuine, IsBlockIn, IsGenuine, IsIntactLevel, TellsIntactLevels, lost_of}
 use Rattle.snap_sync.specs.Part.{trees_of}
 use Rattle.stripe_examiner.specs.Facts.{IsGift, StripeFacts, gift_of, gift_or, is_missing, row_before, slot_of, wanted_at, wanted_in}
-use Rattle.stripe_examiner.specs.Known.{AreFacts, AreRemainders, is_whole, whole_level, whole_levels}
+use Rattle.stripe_examiner.specs.Known.{AreFacts, AreRemainders, whole_level, whole_levels}
 use Rattle.stripe_examiner.specs.Looking.{facts_at, no_facts, numbers_of}
 use Rattle.stripe_examiner.specs.Plan.{FixPlan, is_audit, is_searched, names_of, plan_of, seen_at}
 use Rattle.stripe_examiner.specs.Restorable.{CandidatesAreGenuine, LostStripe}
@@ -30,20 +27,21 @@ use Rattle.stripe_examiner.specs.declared.search.Wanted.{Wanted}
 use Rattle.stripe_reader.specs.SlotValue.{SlotValue}
 use Rattle.stripe_reader.specs.WindowValue.{no_slot}
 use Rattle.stripe_reader.specs.declared.slot.Found.{Found}
-use Rattle.snap_top.specs.Alike.{AskAlike, FixAlike, HoldAlike, NothingRose}
+use Rattle.snap_top.specs.Alike.{AskAlike, FixAlike, HoldAlike, KeptAlike, NothingRose}
 use Rattle.snap_top.specs.Check.{CheckRun}
 use Rattle.snap_top.specs.Fix.{FixRun}
 use Rattle.snap_top.specs.Naming.{HasChecked}
 use Rattle.snap_top.specs.Restoring.{EndsFixed}
 use Rattle.snap_top.specs.Run.{Entry, Exit}
-use Rattle.snap_top.specs.Undamaged.{IsUndamaged, is_read}
+use Rattle.snap_top.specs.Undamaged.{IsUndamaged}
 use Rattle.snap_top.proofs.AlikeLemmas.{FixFindsWhatACheckFinds}
 use Rattle.snap_top.proofs.HeldLemmas.{CameAsHeld, lists_same}
 use Rattle.snap_top.proofs.OneArrayLemmas.{FactsInMode, a_fix_of_one_array, came_as, check_came, check_tells, fix_came, fix_tells, gifts_same, levels_same, plan_as, selections, setups, slot_alike, stripe_same}
-use Rattle.snap_top.proofs.SeenLemmas.{IsDetermined, KeptAlike, damaged_same, is_mid}
+use Rattle.snap_top.proofs.SeenLemmas.{IsDetermined, damaged_same, is_mid}
 use Rattle.snap_top.proofs.SyncedLemmas.{OneTable}
 use Rattle.snap_top_restores.specs.Named.{AllSynced}
 use Rattle.snap_top_restores.proofs.LostCellLemmas.{searched_of}
+use Rattle.snap_top_restores.proofs.CountLemmas.{passing, whole_is_read}
 
 -- ---- a stripe of which the same came, but for what was seen of files
 
@@ -107,21 +105,6 @@ genuine_by plan plan_then row facts same is =
     let its : IsGenuine (plan_of plan_then.scope plan.table plan_then.entries) row facts
     = subst (λ (t : TableValue). IsGenuine (plan_of plan_then.scope t plan_then.entries) row facts) (sym same) is in
     record { present = its.present; given = its.given; recovered = its.recovered }
-
--- ---- levels that were read whole
-
-whole_is_read : (state : LevelRead) → is_whole state ≡ true → is_read state ≡ true
-whole_is_read here.Bytes is = refl
-whole_is_read here.Short is = absurd (let clash : false ≡ true = is in cc)
-whole_is_read here.Unread is = absurd (let clash : false ≡ true = is in cc)
-
-passing : (p : ℕ → Bool) (n k other : ℕ) → k < length (filter p (range_with_len 0 n))
-    → (get_or (filter p (range_with_len 0 n)) k other < n) × (p (get_or (filter p (range_with_len 0 n)) k other) ≡ true)
-passing p n k other within =
-    let numbers : All (λ (e : ℕ). e < n) (range_with_len 0 n) = λ j d inside.
-    let below : j < n = omega (arith, inside, length-range_with_len 0 n) in
-    omega (arith, below, get_or-range_with_len 0 n j d below) in
-    (All-filter p (λ (e : ℕ). e < n) (range_with_len 0 n) numbers k other within, filter_passes p (range_with_len 0 n) k other within)
 
 -- ---- both of one array
 

@@ -1,4 +1,5 @@
 mod AsFixedLemmas
+mod CountLemmas
 mod FixedLineLemmas
 mod LostCellLemmas
 mod NamedLemmas

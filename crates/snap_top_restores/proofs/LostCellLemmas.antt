@@ -1,11 +1,10 @@
 -- What a check tells of an array with synced stripes alone, of which no record is blocked: what a fix would leave is a cell that is lost.
-use Rattle.std.proofs.Common.{◌≡◌, ⊎_elim, ℕ, zero, suc, ◌<◌, ◌&&◌, List, [], ◌∷◌, length, get_or, not, Bool, true, false, cond, Option, None, Some, is_some, refl, sym, ap, ap₂, ◌∙◌, subst, arith}
-use Rattle.std.specs.Prelude.{count_by, slice_index_or, sum_by}
+use Rattle.std.proofs.Common.{◌≡◌, ⊎_elim, ℕ, ◌<◌, ◌&&◌, List, [], length, get_or, not, Bool, true, false, None, Some, is_some, refl, sym, ap, ap₂, ◌∙◌, subst, arith}
+use Rattle.std.specs.Prelude.{slice_index_or}
 use Rattle.std.specs.List.{All, Contains, range_with_len}
 use Rattle.std.proofs.lemmas.Bool.{cases_lt}
 use Rattle.std.proofs.lemmas.List.{get_or-map, get_or_past}
 use Rattle.std.proofs.lemmas.List.FromFn.{get_or-range_with_len, length-range_with_len}
-use Rattle.std.proofs.lemmas.List.Sums.{sum_by-cons}
 use Rattle.array_scan.specs.Kept.{ListedFile}
 use Rattle.file_table.specs.Cells.{cell_in}
 use Rattle.file_table.specs.Table.{Column, TableValue, no_column, no_record, records_in}
@@ -25,27 +24,7 @@ use Rattle.stripe_examiner.specs.declared.scope.Mode.{Mode}
 use Rattle.snap_top.specs.Lost.{IsToldLost}
 use Rattle.snap_top.proofs.LostEvents.{IsLostIn, lost_is_told, told_is_blocked, told_is_lost, told_is_unsynced}
 use Rattle.snap_top_restores.specs.Named.{AllSynced}
-
--- ---- what a count has counted
-
-some_summed : {X : Type 0} (f : X → ℕ) (xs : List X) → 0 < sum_by f xs → (x : X) × Contains xs x × (0 < f x)
-some_summed f [] some = absurd (let none : sum_by f [] ≡ 0 = refl in omega (arith, some, none))
-some_summed {X} f (y ∷ ys) some = by (f y) refl (λ more. some_summed f ys more)
-  where
-    by : (n : ℕ) → f y ≡ n → (0 < sum_by f ys → (x : X) × Contains ys x × (0 < f x)) → (x : X) × Contains (y ∷ ys) x × (0 < f x)
-    by zero is rest =
-        let more = rest (omega (arith, some, is, sum_by-cons f y ys)) in
-        (more.0, (suc more.1.0, omega (arith, more.1.1), more.1.2), more.2)
-    by (suc n) is rest = (y, (0, omega arith, refl), omega (arith, is))
-
-positive : (b : Bool) → 0 < cond b 1 0 → b ≡ true
-positive true more = refl
-positive false more = absurd (omega (arith, more))
-
-pub some_counted : {X : Type 0} (p : X → Bool) (xs : List X) → 0 < count_by p xs → (x : X) × Contains xs x × (p x ≡ true)
-some_counted {X} p xs some =
-    let one = some_summed (λ (x : X). cond (p x) 1 0) xs some in
-    (one.0, one.1, positive (p one.0) one.2)
+use Rattle.snap_top_restores.proofs.CountLemmas.{cell_selected, first_of, second_of}
 
 -- ---- tests that hold
 
@@ -54,18 +33,6 @@ all_three true true true is = (refl, refl, refl)
 all_three true true false is = absurd (let clash : false ≡ true = is in cc)
 all_three true false c is = absurd (let clash : false ≡ true = is in cc)
 all_three false b c is = absurd (let clash : false ≡ true = is in cc)
-
-first_of : (a b : Bool) → (a && b) ≡ true → a ≡ true
-first_of true b is = refl
-first_of false b is = absurd (let clash : false ≡ true = is in cc)
-
-second_of : (a b : Bool) → (a && b) ≡ true → b ≡ true
-second_of true b is = is
-second_of false b is = absurd (let clash : false ≡ true = is in cc)
-
-cell_selected : (plan : FixPlan) (d : ℕ) (found : Option Cell) → has_selected plan d found ≡ true → (cell : Cell) × (found ≡ Some cell)
-cell_selected plan d None is = absurd (let clash : false ≡ true = is in cc)
-cell_selected plan d (Some cell) is = (cell, refl)
 
 -- a cell stands in a column of its table
 column_of : (plan : FixPlan) (stripe d : ℕ) (cell : Cell) → cell_at plan stripe d ≡ Some cell → d < length plan.table.columns

@@ -1,5 +1,5 @@
 -- A check of an array whose disks were lost, and a fix of it that leaves something: the check names a cell that can't be restored.
-use Rattle.std.proofs.Common.{◌≡◌, inl, inr, ⊎_elim, ℕ, zero, suc, ◌<◌, ◌≤◌, List, [], ◌∷◌, length, map, get_or, Bool, true, false, if◌then◌else◌, is_some, IsTrue, Option, None, Some, refl, sym, ap, ◌∙◌, subst, arith}
+use Rattle.std.proofs.Common.{◌≡◌, inl, inr, ⊎_elim, ℕ, zero, suc, ◌<◌, ◌≤◌, List, [], ◌∷◌, length, map, get_or, Bool, true, false, is_some, IsTrue, Option, None, Some, refl, sym, ap, ◌∙◌, subst, arith}
 use Rattle.std.specs.Prelude.{count_by}
 use Rattle.std.specs.Cmp.Lexicographic.{slice_cmp}
 use Rattle.std.specs.FinMap as finite_map
@@ -19,7 +19,6 @@ use Rattle.disk_model.specs.Vault.{VaultView, copies_of}
 use Rattle.file_table.specs.Table.{TableValue, info_at, is_synced_mark}
 use Rattle.file_table.specs.declared.info.Mark.{Mark}
 use Rattle.parity_writer.specs.Sound.{Snapshot, Sound}
-use Rattle.snap_config.specs.declared.options.Command.{Command}
 use Rattle.snap_config.specs.declared.options.Command.TheVariants as commands
 use Rattle.snap_fix.specs.Fixing.{facts_of}
 use Rattle.snap_fix.specs.Genuine.{AreGenuine, IsIntactLevel, TellsIntactLevels}
@@ -29,18 +28,17 @@ use Rattle.snap_sync.specs.Part.{AllTell, tree_at, trees_of}
 use Rattle.stripe_examiner.specs.Facts.{StripeFacts}
 use Rattle.stripe_examiner.specs.Known.{whole_level}
 use Rattle.stripe_examiner.specs.Plan.{is_audit, names_of}
-use Rattle.stripe_examiner.specs.declared.scope.Mode.{Mode}
 use Rattle.stripe_examiner.specs.declared.scope.Mode.TheVariants as modes
 use Rattle.snap_top.specs.Alike.{AskAlike, FixAlike}
 use Rattle.snap_top.specs.Check.{CheckRun}
-use Rattle.snap_top.specs.Ended.{ByStatus, IsEndStatus}
+use Rattle.snap_top.specs.Ended.{ByStatus}
 use Rattle.snap_top.specs.Fix.{FixRun}
 use Rattle.snap_top.specs.Headline.{Headline}
 use Rattle.snap_top.specs.History.{AreSoundBy, LastSynced, synced_by}
 use Rattle.snap_top.specs.Levels.{said_by}
 use Rattle.snap_top.specs.Lost.{IsDamagedOfSynced, NamesLost}
-use Rattle.snap_top.specs.Moment.{IsFixOf, TellsAll, rows_closed}
-use Rattle.snap_top.specs.Naming.{ChecksEnd, EndsAsAsked, EndsChecked, command_in, events_found}
+use Rattle.snap_top.specs.Moment.{IsFixOf, rows_closed}
+use Rattle.snap_top.specs.Naming.{EndsChecked, events_found}
 use Rattle.snap_top.specs.Restoring.{EndsFixed, events_in}
 use Rattle.snap_top.specs.Resumed.{RunOf}
 use Rattle.snap_top.specs.Run.{Entry, Exit}
@@ -68,7 +66,9 @@ use Rattle.snap_top_instances.specs.Told.{RunsTold}
 use Rattle.snap_top_instances.proofs.SmoothLemmas.{content_by, first_content}
 use Rattle.snap_top_restores.specs.Named.{AllSynced, AreRunOverLost, HoldsSynced, IsNamedLost}
 use Rattle.snap_top_restores.proofs.AsFixedLemmas.{alike, genuine_then, intact_then}
-use Rattle.snap_top_restores.proofs.LostCellLemmas.{LostCell, left_found, left_lost, none_blocked, searched_of, some_counted}
+use Rattle.snap_top_restores.proofs.LostCellLemmas.{LostCell, left_found, left_lost, none_blocked, searched_of}
+use Rattle.snap_top_restores.proofs.CountLemmas.{some_counted, still_unchanged}
+use Rattle.snap_top_instances.proofs.EndsLemmas.{asks_alike, counted_some, ended_as}
 
 -- ---- the stripes of a table
 
@@ -118,33 +118,6 @@ nothing_listed : listing_of bare_tree ≡ []
 nothing_listed =
     ap (λ (entries : List (List ℕ × File)). map (λ (e : List ℕ × File). (e.0, meta_of e.1)) entries)
     (no_elements (finite_map.entries bare_tree) (sym (finite_map.len-entries bare_tree) ∙ finite_map.len-empty (slice_cmp nat_cmp) File))
-
--- ---- how a run ends
-
-ended_as : (command : Command) (before : Entry) (exit : Exit) (status : ℕ) → TellsAll before → ChecksEnd before exit status → status ≤ 1 → AsksFor command before.texts → EndsAsAsked command before exit status
-ended_as command before exit status tells checked few asks =
-    subst (λ (its : Command). EndsAsAsked its before exit status) asks.command_is (checked tells (ByStatus few) asks.asked asks.words)
-
-counted_some : (status : ℕ) (failed : Bool) (count : ℕ) → IsEndStatus status failed (count ≡ 0) → status ≡ 1 → 0 < count
-counted_some status failed (suc count) is one = omega arith
-counted_some status true zero is one = absurd (let three = is.failed.1 refl in omega (arith, three, one))
-counted_some status false zero is one = absurd (let none = is.clean.1 (refl, refl) in omega (arith, none, one))
-
-asks_alike : (mode mode_then : Mode) (one other : Entry) → AsksFor (command_in mode everything) one.texts → AsksFor (command_in mode_then everything) other.texts → AskAlike mode mode_then one other
-asks_alike mode mode_then one other asks asks_then = record {
-  asked = asks.asked;
-  asked_then = asks_then.asked;
-  selection = everything;
-  words = asks.words;
-  words_then = asks_then.words;
-  command_is = asks.command_is;
-  command_then = asks_then.command_is;
-  log = asks.no_log ∙ sym asks_then.no_log;
-}
-
-still_unchanged : (is_closed : Bool) → (if is_closed then false else false) ≡ false
-still_unchanged true = refl
-still_unchanged false = refl
 
 module _ {O F V W : Type 0} (opener_view : O → OpenerView) (folder_view : F → FolderView) (vault_view : V → VaultView) (sink_view : W → SinkView) where
   abbrev begun : RunOf O F V W → Entry
@@ -346,6 +319,7 @@ module _ {O F V W : Type 0} (opener_view : O → OpenerView) (folder_view : F �
       run = two.run;
       origin = two.origin;
       history = history;
+      bare = two.bare;
       begins = two.begins;
       ends = checks;
       genuine = genuine;

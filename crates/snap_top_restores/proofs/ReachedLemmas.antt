@@ -1,11 +1,10 @@
 -- A fix that printed that it fixed one block: that block was in reach, and enough of its stripe's levels were undamaged.
-use Rattle.std.proofs.Common.{◌≡◌, inl, ℕ, zero, suc, ◌+◌, ◌*◌, ◌<◌, ◌≤◌, ◌==◌, ◌&&◌, List, [], ◌∷◌, ◌++◌, length, get_or, not, Bool, true, false, cond, if◌then◌else◌, Option, None, Some, is_some, Ok, IsTrue, refl, sym, ap, ◌∙◌, subst, arith, append-nil}
+use Rattle.std.proofs.Common.{◌≡◌, inl, ℕ, ◌+◌, ◌*◌, ◌<◌, ◌≤◌, ◌==◌, ◌&&◌, List, [], ◌∷◌, ◌++◌, length, get_or, not, Bool, true, false, if◌then◌else◌, Option, None, Some, is_some, Ok, IsTrue, refl, sym, ap, ◌∙◌, subst, arith, append-nil}
 use Rattle.std.specs.Prelude.{count_by, sum_by}
-use Rattle.std.specs.List.{All, Contains, filter, range_with_len}
+use Rattle.std.specs.List.{Contains, filter, range_with_len}
 use Rattle.std.proofs.lemmas.List.{get_or_default}
-use Rattle.std.proofs.lemmas.List.Elements.{All-filter, filter_passes}
 use Rattle.std.proofs.lemmas.List.FromFn.{get_or-range_with_len, length-range_with_len}
-use Rattle.std.proofs.lemmas.List.Sums.{count_by-le-length, length-filter, sum_by-cons}
+use Rattle.std.proofs.lemmas.List.Sums.{count_by-le-length, length-filter}
 use Rattle.cauchy.specs.Matrix.{byte_of}
 use Rattle.disk_model.specs.Bytes.{read_from}
 use Rattle.disk_model.specs.Files.{Files, parity_of}
@@ -18,7 +17,6 @@ use Rattle.file_table.specs.declared.block.Cell.{Cell}
 use Rattle.parity_writer.specs.LevelReading.{kept_level}
 use Rattle.parity_writer.specs.LevelsValue.{LevelValue, no_level}
 use Rattle.parity_writer.specs.Sound.{Snapshot, Sound}
-use Rattle.parity_writer.specs.declared.levels.LevelRead.{LevelRead}
 use Rattle.parity_writer.specs.declared.levels.LevelRead.TheVariants as here
 use Rattle.snap_fix.specs.Ending.{Finishes}
 use Rattle.snap_fix.specs.Fixing.{facts_of}
@@ -31,7 +29,7 @@ use Rattle.snap_report.specs.Kind.{is_left}
 use Rattle.snap_sync.specs.Part.{trees_of}
 use Rattle.stripe_examiner.specs.Counts.{at_most}
 use Rattle.stripe_examiner.specs.Facts.{StripeFacts, damaged_at, gift_of, is_missing, missing_in}
-use Rattle.stripe_examiner.specs.Known.{AreFacts, IsTried, is_whole, whole_level, whole_levels}
+use Rattle.stripe_examiner.specs.Known.{AreFacts, IsTried, whole_level, whole_levels}
 use Rattle.stripe_examiner.specs.Looking.{facts_at, no_facts, unread_in}
 use Rattle.stripe_examiner.specs.Plan.{FixPlan, cell_at, entry_at, has_selected, is_in_scope, is_searched, selects_cell}
 use Rattle.stripe_examiner.specs.Showing.{known_block, known_by}
@@ -59,27 +57,9 @@ use Rattle.snap_top_restores.specs.Reached.{IsReachedCell, TellsOneFixed}
 use Rattle.snap_top_instances.specs.Told.{RunsTold}
 use Rattle.snap_top_restores.proofs.FixedLineLemmas.{some_written}
 use Rattle.snap_top_instances.proofs.SaidLemmas.{not_set}
+use Rattle.snap_top_restores.proofs.CountLemmas.{cell_selected, first_of, passing, second_of, some_counted, some_summed, still_unchanged, whole_is_read}
 
 -- ---- what a count has counted
-
-some_summed : {X : Type 0} (f : X → ℕ) (xs : List X) → 0 < sum_by f xs → (x : X) × Contains xs x × (0 < f x)
-some_summed f [] some = absurd (let none : sum_by f [] ≡ 0 = refl in omega (arith, some, none))
-some_summed {X} f (y ∷ ys) some = by (f y) refl (λ more. some_summed f ys more)
-  where
-    by : (n : ℕ) → f y ≡ n → (0 < sum_by f ys → (x : X) × Contains ys x × (0 < f x)) → (x : X) × Contains (y ∷ ys) x × (0 < f x)
-    by zero is rest =
-        let more = rest (omega (arith, some, is, sum_by-cons f y ys)) in
-        (more.0, (suc more.1.0, omega (arith, more.1.1), more.1.2), more.2)
-    by (suc n) is rest = (y, (0, omega arith, refl), omega (arith, is))
-
-positive : (b : Bool) → 0 < cond b 1 0 → b ≡ true
-positive true more = refl
-positive false more = absurd (omega (arith, more))
-
-some_counted : (p : ℕ → Bool) (xs : List ℕ) → 0 < count_by p xs → (x : ℕ) × Contains xs x × (p x ≡ true)
-some_counted p xs some =
-    let one = some_summed (λ (x : ℕ). cond (p x) 1 0) xs some in
-    (one.0, one.1, positive (p one.0) one.2)
 
 in_range : (n d : ℕ) → Contains (range_with_len 0 n) d → d < n
 in_range n d has =
@@ -99,18 +79,6 @@ all_four true true false d is = absurd (let clash : false ≡ true = is in cc)
 all_four true false c d is = absurd (let clash : false ≡ true = is in cc)
 all_four false b c d is = absurd (let clash : false ≡ true = is in cc)
 
-first_of : (a b : Bool) → (a && b) ≡ true → a ≡ true
-first_of true b is = refl
-first_of false b is = absurd (let clash : false ≡ true = is in cc)
-
-second_of : (a b : Bool) → (a && b) ≡ true → b ≡ true
-second_of true b is = is
-second_of false b is = absurd (let clash : false ≡ true = is in cc)
-
-cell_selected : (plan : FixPlan) (d : ℕ) (found : Option Cell) → has_selected plan d found ≡ true → (cell : Cell) × (found ≡ Some cell)
-cell_selected plan d None is = absurd (let clash : false ≡ true = is in cc)
-cell_selected plan d (Some cell) is = (cell, refl)
-
 -- a level of which something was read was read
 read_some : (level : LevelValue) (size : ℕ) (bytes : List ℕ) → level ≡ kept_level size (Some bytes) → is_read level.state ≡ true
 read_some level size bytes is = ap (λ (it : LevelValue). is_read it.state) is ∙ by (length bytes == size)
@@ -118,21 +86,6 @@ read_some level size bytes is = ap (λ (it : LevelValue). is_read it.state) is �
     by : (b : Bool) → is_read (if b then here.Bytes else here.Short) ≡ true
     by true = refl
     by false = refl
-
--- a level that was read whole was read
-whole_is_read : (state : LevelRead) → is_whole state ≡ true → is_read state ≡ true
-whole_is_read here.Bytes is = refl
-whole_is_read here.Short is = absurd (let clash : false ≡ true = is in cc)
-whole_is_read here.Unread is = absurd (let clash : false ≡ true = is in cc)
-
--- numbers that pass a test
-passing : (p : ℕ → Bool) (n k other : ℕ) → k < length (filter p (range_with_len 0 n))
-    → (get_or (filter p (range_with_len 0 n)) k other < n) × (p (get_or (filter p (range_with_len 0 n)) k other) ≡ true)
-passing p n k other within =
-    let numbers : All (λ (e : ℕ). e < n) (range_with_len 0 n) = λ j d inside.
-    let below : j < n = omega (arith, inside, length-range_with_len 0 n) in
-    omega (arith, below, get_or-range_with_len 0 n j d below) in
-    (All-filter p (λ (e : ℕ). e < n) (range_with_len 0 n) numbers k other within, filter_passes p (range_with_len 0 n) k other within)
 
 -- ---- a cell that a fix wrote
 
@@ -276,11 +229,6 @@ some_fixed before exit status ends tells none zero_is one =
     (lines_of ends.run.loaded.columns (events_in ends.run ends.finishes)) one.0 (ends.status_is.clean.0 zero_is).1 (sym (all_printed before exit status ends tells none zero_is) ∙ one.1)
 
 -- ---- a fix of what is left
-
--- nothing counts as changed after a run over an array without content
-still_unchanged : (is_closed : Bool) → (if is_closed then false else false) ≡ false
-still_unchanged true = refl
-still_unchanged false = refl
 
 module _ {O F V W : Type 0} (opener_view : O → OpenerView) (folder_view : F → FolderView) (vault_view : V → VaultView) (sink_view : W → SinkView) where
   abbrev begun : RunOf O F V W → Entry

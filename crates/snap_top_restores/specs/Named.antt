@@ -32,7 +32,7 @@ pub record HoldsSynced (vault : VaultView) : Type 0 where
 
 module _ {O F V W : Type 0} (opener_view : O → OpenerView) (folder_view : F → FolderView) (vault_view : V → VaultView) (sink_view : W → SinkView) where
   -- A run over an array without content; then all files were taken away, and these words and those were run over one such array, which has content
-  -- with synced stripes alone. Both went to their ends with these statuses, and nothing failed in them. They say of themselves what each run says.
+  -- whose stripes, if any, are synced. Both went to their ends with these statuses, and nothing failed in them. They say of themselves what `KeepsClauses` has.
   pub record AreRunOverLost (texts others : List (List ℕ)) (status status_then : ℕ) : Type 0 where
     pub first : Standing
     pub next : Standing
@@ -59,8 +59,9 @@ module _ {O F V W : Type 0} (opener_view : O → OpenerView) (folder_view : F �
     pub status_is : run.status ≡ status
     pub status_then_is : again.status ≡ status_then
 
-  -- A check of what stood after a history went to its end with this status, and met no hash by chance. Of a stripe that was synced more cells are
-  -- missing than levels are intact, by a test that tells the intact ones. So this one, which is selected and damaged, is told to be lost.
+  -- No file stood after a history. A check of that went to its end with this status, and met no hash by chance. Of a stripe that was synced more
+  -- cells are missing than levels are intact, by a test that tells the intact ones. So this one, which is selected and damaged, is told to be lost.
+  -- More cells may be missing than levels were read; then no block can be met.
   pub record IsNamedLost (status : ℕ) : Type 0 where
     pub first : Standing
     pub standing : Standing
@@ -68,6 +69,7 @@ module _ {O F V W : Type 0} (opener_view : O → OpenerView) (folder_view : F �
     pub run : RunOf O F V W
     pub origin : IsOrigin first
     pub history : IsHistory opener_view folder_view vault_view sink_view first stages standing
+    pub bare : (d : ℕ) → tree_at standing.trees d ≡ finite_map.empty
     pub begins : BeginsOver standing (before_of opener_view folder_view vault_view sink_view run)
     pub ends : EndsChecked (before_of opener_view folder_view vault_view sink_view run) (after_of opener_view folder_view vault_view sink_view run) run.status
     pub genuine : AreGenuine ends.run.plan standing.last.snapshot ends.run.stripes

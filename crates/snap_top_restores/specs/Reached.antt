@@ -1,4 +1,4 @@
--- A file that was taken away and fixed: an instance of what the laws suppose of a cell that is restored by counting undamaged levels.
+-- A damaged block that is fixed: an instance of what the laws suppose of a cell that is restored by counting undamaged levels.
 use Rattle.std.specs.Prelude.{◌≡◌, ℕ, List, ◌++◌, codes, Bool, true, IsTrue}
 use Rattle.cauchy.specs.Matrix.{byte_of}
 use Rattle.disk_model.specs.Folder.{FolderView}

@@ -4,8 +4,6 @@ ghost use Rattle.disk_memory.specs.Folder.{folder_view, fresh_folder};
 ghost use Rattle.disk_memory.specs.Sink.{sink_view};
 ghost use Rattle.disk_memory.specs.Vault.{vault_view};
 ghost use Rattle.file_table.specs.Table.{is_synced_mark};
-ghost use Rattle.snap_config.specs.declared.options.Command.TheVariants as commands;
-ghost use Rattle.snap_top_instances.specs.Asked.{AsksFor, everything};
 ghost use Rattle.snap_top_restores.specs.Named.{AllSynced, AreRunOverLost, HoldsSynced, IsNamedLost};
 
 use content_file::laws::one_table_has_a_spelling;
@@ -13,11 +11,9 @@ use content_file::load;
 use disk_memory::{MemFolder, MemOpener, MemSink, MemVault};
 use disk_model::{Opener, Vault};
 use file_table::{Mark, Table};
-use snap_config::{Command, read_words_among};
 use snap_fix::laws::a_check_finds_what_a_fix_finds;
-use snap_top::COMMANDS;
 use snap_top::laws::{a_fix_of_what_is_left_meets_no_chance, headline, undamaged_levels_restore};
-use snap_top_instances::asked::{asks_fix_of_all, asks_plain_sync, selects_all};
+use snap_top_instances::asked::{asks_check_of_all, asks_fix_of_all, asks_plain_sync};
 use snap_top_instances::told::{picked, run_well};
 use snap_top_memory::arrays::{Array, folders, owned};
 use snap_top_memory::next::WRITTEN;
@@ -158,21 +154,5 @@ fn is_mark_synced(mark: Mark) -> bool
     match mark {
         Mark::Synced => true,
         Mark::Pending => false,
-    }
-}
-
-// Whether the words ask for a check of everything, and name no log.
-fn asks_check_of_all(alloc: Global, words: &[String]) -> bool
-    ensures { IsTrue result → AsksFor (commands.Check everything) (map string_bytes words.now) }
-{
-    let Ok(asked) = read_words_among(alloc, &COMMANDS, words) else {
-        return false;
-    };
-    if asked.log.is_some() {
-        return false;
-    }
-    match &asked.command {
-        Command::Check(selection) => selects_all(selection),
-        _ => false,
     }
 }

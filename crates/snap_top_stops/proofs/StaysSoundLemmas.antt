@@ -24,7 +24,7 @@ use Rattle.snap_top_histories.proofs.SeenLemmas.{contents_seen, files_whole, spl
 use Rattle.snap_top_instances.specs.Asked.{HasWholeLevels}
 use Rattle.snap_top_stops.specs.StaysSound.{IsSoundHistory, first_level, steps_of}
 use Rattle.snap_top_instances.proofs.FullLemmas.{files_left}
-use Rattle.snap_top_stops.proofs.StoppedRunsLemmas.{no_parity, nothing_sound}
+use Rattle.snap_top_stops.proofs.StoppedRunsLemmas.{no_copy, no_parity, nothing_sound}
 
 -- ---- a level that was lost
 
@@ -140,6 +140,7 @@ module _ {O F V W : Type 0} (opener_view : O → OpenerView) (folder_view : F �
         way = asks.way;
         words = subst (λ (ts : List (List ℕ)). asked_by ts ≡ Ok asks.asked) (sym runs.texts_are) asks.words;
         command_is = asks.command_is;
+        bare = no_copy config levels copies value many fresh refl;
         none = no_parity config levels copies value fresh one_each;
         there = λ gone. there (ap (λ (v : VaultValue). content_of (view_of v).files 0) same_shown
             ∙ ap (λ (fs : Files). content_of fs 0) (sym (files_whole (said_by config) (view_of made) one_each)) ∙ gone);

@@ -222,15 +222,28 @@ module _ {O F V W : Type 0} (opener_view : O → OpenerView) (folder_view : F �
         let well = nothing_rose opener_view folder_view vault_view sink_view config texts seed folders vault status left_folders left runs faults calm in
         let kept : IsCellAt stop.fix.plan.table stripe d path = planned_at stop.fix (begun run) (ended run) has.table stripe d path one_table is well content has.kept in
         let lost : IsCellAt stop.fix.plan.table stripe 0 name = planned_at stop.fix (begun run) (ended run) has.table stripe 0 name one_table is well content has.lost in
+        let is_history = history opener_view folder_view vault_view sink_view config texts seed folders vault made before status left_folders left holds meets once runs in
+        let at_end = fix_of opener_view folder_view vault_view sink_view run going.1.over.tells.tells asks_fix going.1.step few_ran in
+        let is_then : IsFixOf (begun run) (ended run) at_end.0 = subst (λ (did : Did). IsDidOf (begun run) (ended run) did) at_end.1 going.1.step.always.is_did in
+        let headline = holds once.first standing all once.origin is_history in
+        let spares : SparesRest at_end.0 standing next = subst (λ (did : Did). SparesBy did standing next) at_end.1 (headline.spares run next going.1) in
         record {
           first = once.first;
           standing = standing;
           stages = all;
           run = run;
           origin = once.origin;
-          history = history opener_view folder_view vault_view sink_view config texts seed folders vault made before status left_folders left holds meets once runs;
+          history = is_history;
           wrote = λ same. restored (ap (λ (fs : List F). file_of (tree_at (trees_of (map folder_view fs)) 0) name) (sym runs.folders_are) ∙ ap (λ (tree : Tree). file_of tree name) same ∙ gone);
           stops = stop;
           one = spares_one standing stop.next stop.fix (begun run) (ended run) stripe d path name stop.goes.over is asks_run
               (all_looked_at stop.next stop.failed stop.fix stop.goes stop.did_is asks_fix few_ran) kept lost there gone stop.spares;
+          end = next;
+          fix = at_end.0;
+          goes = going.1;
+          did_is = at_end.1;
+          changed = λ same. restored (ap (λ (tree : Tree). file_of tree name) same ∙ gone);
+          one_at_end = spares_one standing next at_end.0 (begun run) (ended run) stripe d path name going.1.over is_then asks_run
+              (all_looked_at next false at_end.0 going.1 at_end.1 asks_fix few_ran) (planned_at at_end.0 (begun run) (ended run) has.table stripe d path one_table is_then well content has.kept)
+              (planned_at at_end.0 (begun run) (ended run) has.table stripe 0 name one_table is_then well content has.lost) there gone spares;
         }

@@ -56,7 +56,7 @@ nothing_sound standing origin copies many last copy table below valid spells =
 nothing_there : (levels copies copy : ℕ) → copy < length (replicate copies Absent) → content_of (view_of (fresh_vault levels copies)).files copy ≡ None
 nothing_there levels copies copy below = get_or-replicate copies copy None None (omega (arith, below, length-replicate copies Absent))
 
-no_copy : (config : List ℕ) (levels copies : ℕ) (value : VaultValue) (many : ℕ) → value ≡ fresh_vault levels copies → copies_of (view_of value) ≡ many → HasNoCopy many (files_seen config (view_of value))
+pub no_copy : (config : List ℕ) (levels copies : ℕ) (value : VaultValue) (many : ℕ) → value ≡ fresh_vault levels copies → copies_of (view_of value) ≡ many → HasNoCopy many (files_seen config (view_of value))
 no_copy config levels copies value many fresh same copy below =
     let within : copy < copies_of (view_of value) = subst (λ (n : ℕ). copy < n) (sym same) below in
     ap (λ (cs : List (Option (List ℕ))). get_or cs copy None) (contents_seen (said_by config) (view_of value))

@@ -14,6 +14,7 @@ use Rattle.snap_top.specs.Moment.{StandsAfter, SyncsToItsEnd}
 use Rattle.snap_top.specs.Opening.{asked_by}
 use Rattle.snap_top.specs.Resumed.{StoppedRun}
 use Rattle.snap_top.specs.Standing.{after_of, before_of}
+use Rattle.snap_top.specs.Sync.{HasNoCopy}
 use Rattle.snap_top.specs.Task.{Did}
 
 -- all blocks of the first level count as changed from outside
@@ -25,8 +26,8 @@ abbrev pub steps_of : {O F V W : Type 0} → ℕ → StoppedRun O F V W → File
 steps_of copies sync hurt last = Runs sync ∷ Changes copies hurt first_level ∷ Runs last ∷ []
 
 module _ {O F V W : Type 0} (opener_view : O → OpenerView) (folder_view : F → FolderView) (vault_view : V → VaultView) (sink_view : W → SinkView) where
-  -- The copies were sound, and there was no parity. A sync was stopped at some moment or ended; it left a content copy, and parity. The first level
-  -- was lost; and one more sync went to its end and wrote parity. So the copies stay sound.
+  -- There was no content copy, and no byte of the first level. A sync was stopped at some moment or ended; it left a content copy, and parity. The
+  -- first level was lost; and one more sync went to its end and wrote parity. So the copies stay sound.
   pub record IsSoundHistory : Type 0 where
     pub copies : ℕ
     pub files : Files
@@ -40,6 +41,7 @@ module _ {O F V W : Type 0} (opener_view : O → OpenerView) (folder_view : F �
     pub way : SyncWay
     pub words : asked_by sync.run.texts ≡ Ok asked
     pub command_is : asked.command ≡ commands.Sync way
+    pub bare : HasNoCopy copies files
     pub none : length (parity_of files 0) ≡ 0
     pub there : content_of sync.left 0 ≢ None
     pub wrote : 0 < length (parity_of sync.left 0)

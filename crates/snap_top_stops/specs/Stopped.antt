@@ -1,4 +1,4 @@
--- A fix that is stopped within the calls of its folders: an instance of what the headline supposes of such a stop, and says of it.
+-- A fix that may be stopped before any call of its folders was done, and that went to its end: an instance of what the headline says of both.
 use Rattle.std.specs.Prelude.{◌≡◌, ◌≢◌, ℕ, ◌<◌, List, [], length, Bool, true, false, None, Some, Contains}
 use Rattle.std.specs.List.{list_all}
 use Rattle.disk_model.specs.Folder.{FolderView}
@@ -83,7 +83,7 @@ module _ {O F V W : Type 0} (opener_view : O → OpenerView) (folder_view : F �
     pub spares : SparesRest fix standing next
 
   -- A fix of what stood after a history changed the files of the first disk. It may be stopped before any of its calls of the folders was
-  -- done. It leaves a cell alone of which a file stands.
+  -- done. There, and at its end, it leaves a cell alone of which a file stands.
   pub record IsSparedAtStop : Type 0 where
     pub first : Standing
     pub standing : Standing
@@ -94,3 +94,9 @@ module _ {O F V W : Type 0} (opener_view : O → OpenerView) (folder_view : F �
     pub wrote : tree_at (trees_of (after_of opener_view folder_view vault_view sink_view run).after.folders) 0 ≢ tree_at standing.trees 0
     pub stops : IsSparedStop run standing
     pub one : SparesOne stops.fix standing stops.next
+    pub end : Standing
+    pub fix : FixRun
+    pub goes : GoesOver opener_view folder_view vault_view sink_view run standing end
+    pub did_is : goes.step.always.did ≡ fixes false fix
+    pub changed : tree_at end.trees 0 ≢ tree_at standing.trees 0
+    pub one_at_end : SparesOne fix standing end

@@ -1,5 +1,5 @@
 use Rattle.snap_top.proofs.LeftAlikeLemmas.{scrubs_of_one_array, syncs_of_one_array}
-use Rattle.snap_top.proofs.TwoFixesLemmas.{fixes_of_one_array}
+use Rattle.snap_top.proofs.ReadFixesLemmas.{fixes_of_one_array}
 use Rattle.snap_top.proofs.laws.one_array_is_left_alike.Goals as goal
 
 pub returns-clause-syncs : goal.returns-clause-syncs

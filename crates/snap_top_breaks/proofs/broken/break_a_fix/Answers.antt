@@ -21,6 +21,6 @@ returns g c =
     let failed : FailedOnce (map folder_view broke.folders.items)
     = subst (λ (folders : List MemFolder). FailedOnce (map folder_view folders)) c.as_slice-2.ensures.value (c.failed_once.ensures c.if-not-failed_once.false) in
     front_printed _ folder_view vault_view sink_view _ _ _ _ _ _ (vault_value c.in_ok-one.one) (vault_value c.in_ok-same.same)
-    _ _ _ _ _ _ _ _ c.a_broken_run_prints_a_front.ensures.fixes
+    _ _ _ _ _ _ _ _ c.a_broken_run_reads_the_same_first.ensures.reads_right c.a_broken_run_reads_the_same_first.ensures.fixes c.a_broken_run_prints_a_front.ensures.seen_fixes
     (c.asks_fix_of_all.ensures c.if-not-asks_fix_of_all.false) (c.asks_fix_of_all-2.ensures c.if-not-asks_fix_of_all-2.false) (same.picked ∙ sym one.picked)
     c.in_ok-lost.ensures c.in_ok-lost_again.ensures c.in_ok-broke.ensures three faults some less failed last.ran last.faults last.calm last.ended
