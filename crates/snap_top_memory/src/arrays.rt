@@ -7,7 +7,7 @@ ghost use Rattle.disk_memory.specs.Vault.{vault_view};
 
 pub use crate::failing::{Failing, NONE, calls_before};
 use disk_memory::{MemFolder, MemOpener, MemSink, MemVault};
-use disk_model::{Folder, Path, Stamp, Vault};
+use disk_model::{Folder, Opener, Path, Stamp, Vault};
 use snap_report::Report;
 use snap_top::{Outcome, run};
 use std::alloc::Global;
@@ -69,6 +69,8 @@ pub const FIVE: Array = Array {
 #[derive(Drop)]
 pub struct Ran<F: Folder + Drop, V: Vault + Drop> {
     pub outcome: Outcome<F, V>,
+    /// How often a call of the opener failed.
+    pub opener_faults: u64,
     pub out: MemSink,
     pub err: MemSink,
 }
@@ -313,7 +315,12 @@ pub fn run_told<R: Threads + Sync, F: Folder + Drop, V: Vault + Drop>(
         now,
         *b"abcdefghijklmnop",
     );
-    Ok(Ran { outcome, out, err })
+    Ok(Ran {
+        outcome,
+        opener_faults: opener.faults(),
+        out,
+        err,
+    })
 }
 
 /// Runs what is asked for over folders and a vault, where neither the opener nor a stream fails.

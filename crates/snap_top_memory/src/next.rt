@@ -108,13 +108,14 @@ fn calmed(folders: Vec<MemFolder>) -> Vec<MemFolder> {
     folders
 }
 
-/// Whether a call of the vault, of a folder or of a stream failed.
+/// Whether a call of the opener, of the vault, of a folder or of a stream failed.
 pub fn has_failed(left: &Left) -> bool {
     let vault = match &left.outcome.vault {
         Some(vault) => vault.faults() > 0,
         None => false,
     };
     vault
+        || left.opener_faults > 0
         || left.out.faults() > 0
         || left.err.faults() > 0
         || left

@@ -65,11 +65,12 @@ fn call_fails<R: Threads + Sync>(
 ) -> Result<(), Fail> {
     let left = run_before(rt, alloc, turns)?;
     let left = follow(rt, alloc, 0, left, &broken(turns, failing, ended))?;
-    if failing.opener > 0 {
-        return Ok(());
-    }
     if !has_failed(&left) {
         return Err(Fail::new(format_args!("{failing:?}: no call failed")));
+    }
+    // nothing was opened, so no run can be made over it
+    if failing.opener > 0 {
+        return Ok(());
     }
     run_then(rt, alloc, 0, left, &turns.next, choice)?;
     Ok(())

@@ -47,7 +47,12 @@ fn joined(alloc: Global, files: MemVault) -> Result<SplitVault<MemVault, Two>, F
 
 // What was left, with the files of the parts as they are.
 fn in_files<P: Shape>(ran: Ran<MemFolder, SplitVault<MemVault, P>>) -> Left {
-    let Ran { outcome, out, err } = ran;
+    let Ran {
+        outcome,
+        opener_faults,
+        out,
+        err,
+    } = ran;
     let Outcome {
         status,
         folders,
@@ -63,6 +68,7 @@ fn in_files<P: Shape>(ran: Ran<MemFolder, SplitVault<MemVault, P>>) -> Left {
             folders,
             vault,
         },
+        opener_faults,
         out,
         err,
     }
