@@ -317,6 +317,17 @@ fn leaves_any(alloc: Global, left: &Left, byte: u8) -> Result<bool, Fail> {
     )
 }
 
+// Whether the next sync over it is done, and says just that.
+fn all_are_synced_next<R: Threads + Sync>(
+    rt: &R,
+    alloc: Global,
+    left: &Left,
+    byte: u8,
+) -> Result<bool, Fail> {
+    let (files, _) = picked(alloc, left, byte)?;
+    Ok(run_in_parts(rt, alloc, &DONE, files)?.is(0, DONE.out, ""))
+}
+
 // The 23rd call is the second write.
 #[test]
 fn a_stop_within_the_second_write_leaves_any_parity_in_both_parts(
@@ -326,6 +337,7 @@ fn a_stop_within_the_second_write_leaves_any_parity_in_both_parts(
     let left = run_in_parts(&rt, alloc, &DONE, limited(vault(alloc, IN_PARTS)?, 22))?;
     for byte in [1, 0x5a, 0xff] {
         assert!(rt; leaves_any(alloc, &left, byte)?, "{byte}");
+        assert!(rt; all_are_synced_next(&rt, alloc, &left, byte)?, "{byte}");
     }
     Ok(())
 }

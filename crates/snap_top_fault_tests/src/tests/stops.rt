@@ -8,6 +8,7 @@ use snap_top_memory::cases::{Case, SYNCED, each_follows, plays};
 use snap_top_memory::contents::{FIVE_PENDING, FIVE_SYNCED, FOUR_OF_FIVE, TWO_OF_FIVE};
 use std::alloc::Global;
 use std::test::Fail;
+use std::thread::Threads;
 
 const TWO_COPIES: Array = Array {
     config: "blocksize 1\nparity p\ncontent content\ncontent copy\ndata d1 d\n",
@@ -85,6 +86,24 @@ fn leaves_any(alloc: Global, left: &Left, byte: u8) -> Result<bool, Fail> {
     )
 }
 
+// Whether the next sync over it is done, and says just that.
+fn all_are_synced_next<R: Threads + Sync>(
+    rt: &R,
+    alloc: Global,
+    left: &Left,
+    byte: u8,
+) -> Result<bool, Fail> {
+    let choice = picking(alloc, byte)?;
+    let next = run_over(
+        rt,
+        alloc,
+        SYNC,
+        TWO_COPIES,
+        left.stopped(choice.as_slice())?,
+    )?;
+    Ok(next.is(0, DONE.out, ""))
+}
+
 // The fourteenth call is the second write.
 #[test]
 fn a_stop_within_the_second_write_leaves_any_parity(rt: HostRuntime) -> Result<(), Fail> {
@@ -93,6 +112,7 @@ fn a_stop_within_the_second_write_leaves_any_parity(rt: HostRuntime) -> Result<(
     let left = run_over(&rt, alloc, DONE.words, TWO_COPIES, vault)?;
     for byte in [1, 0x5a, 0xff] {
         assert!(rt; leaves_any(alloc, &left, byte)?, "{byte}");
+        assert!(rt; all_are_synced_next(&rt, alloc, &left, byte)?, "{byte}");
     }
     Ok(())
 }
