@@ -5,5 +5,6 @@ mod failing;
 mod findings;
 mod planned;
 mod refused;
+mod reports;
 mod stopped;
 mod story;

@@ -5,8 +5,8 @@ use snap_top_memory::cases::{Case, SYNCED, follows};
 use snap_top_memory::damage::Damage;
 use std::test::Fail;
 
-// What a check prints of the three files, which were synced before.
-const CHECKED: Case = Case {
+/// What a check prints of the three files, which were synced before.
+pub const CHECKED: Case = Case {
     words: &["snapraid", "check", "-c", "FILE"],
     array: WHOLE,
     status: 1,
