@@ -1,67 +1,85 @@
-// Each call failing in turn.
+// Each call of a list and of a status failing in turn, and failures beside others.
 use crate::tests::usual::{KEPT, REFUSED, STATUS};
 use snap_top_memory::arrays::{Failing, NONE};
 use snap_top_memory::cases::{Case, plays};
+use snap_top_memory::contents::ONE_FILE;
+use snap_top_memory::next::WRITTEN;
+use snap_top_memory::turns::{Calls, Ended, Turns, each_call_fails};
 use std::test::Fail;
 
-const OPENING: Case = Case {
-    status: 3,
-    err: "snapraid: configuration or opening failed\n",
-    ..REFUSED
-};
-
-const VAULT: Case = Case {
-    status: 3,
-    err: "snapraid: parity or content failed\n",
+const LISTED: Case = Case {
+    out: "10 1.000000005 d1:a\n1 files, 10 bytes\n",
+    contents: &[ONE_FILE],
+    levels: &[&[]],
+    left: Some(&[&[]]),
     ..KEPT
 };
 
-const OUTPUT: Case = Case {
-    failing: Failing { out: 1, ..NONE },
-    status: 3,
-    err: "snapraid: output failed\n",
-    ..KEPT
+const SHOWN: Case = Case {
+    words: STATUS,
+    out: "files 1\nbytes 10\nstripes 1\nsynced 1\npending 0\nfresh 1\nbad 0\noldest 100\n\
+          disk d1 files 1 blocks 1 free 0\n",
+    ..LISTED
 };
 
+const UNOPENED: Ended = (3, "", "snapraid: configuration or opening failed\n");
+
+const NO_VAULT: Ended = (3, "", "snapraid: parity or content failed\n");
+
+// The configuration is read, and all is opened. The content is asked for its size and read. All lines are written at once.
+// No folder is asked for anything, and nothing is written to the other stream.
 #[test]
-fn one_call_fails(rt: HostRuntime) -> Result<(), Fail> {
-    static CASES: [Case; 9] = [
-        Case {
-            failing: Failing { opener: 1, ..NONE },
-            ..OPENING
+fn each_call_of_a_list_and_of_a_status_fails(rt: HostRuntime) -> Result<(), Fail> {
+    static LISTS: Turns = Turns {
+        before: None,
+        whole: LISTED,
+        next: LISTED,
+    };
+    static SHOWS: Turns = Turns {
+        before: None,
+        whole: SHOWN,
+        next: SHOWN,
+    };
+    static OBJECTS: [Calls; 5] = [
+        Calls {
+            first: Failing { opener: 1, ..NONE },
+            ends: &[UNOPENED, UNOPENED],
         },
-        Case {
-            failing: Failing { opener: 2, ..NONE },
-            ..OPENING
+        Calls {
+            first: Failing { vault: 1, ..NONE },
+            ends: &[NO_VAULT, NO_VAULT],
         },
-        Case {
-            failing: Failing { vault: 1, ..NONE },
-            ..VAULT
+        Calls {
+            first: Failing { folder: 1, ..NONE },
+            ends: &[],
         },
-        Case {
-            failing: Failing { vault: 2, ..NONE },
-            ..VAULT
+        Calls {
+            first: Failing { out: 1, ..NONE },
+            ends: &[(3, "", "snapraid: output failed\n")],
         },
-        OUTPUT,
-        Case {
-            words: STATUS,
-            ..OUTPUT
+        Calls {
+            first: Failing { err: 1, ..NONE },
+            ends: &[],
         },
-        Case {
-            failing: Failing { err: 1, ..NONE },
-            out: "10 1.000000005 d1:a\n1 files, 10 bytes\n",
-            ..KEPT
-        },
+    ];
+    let alloc = rt.alloc();
+    each_call_fails(&rt, alloc, &LISTS, &OBJECTS, WRITTEN)?;
+    each_call_fails(&rt, alloc, &SHOWS, &OBJECTS, WRITTEN)
+}
+
+// What is refused is not told, and its status stays.
+#[test]
+fn a_refusal_is_not_told(rt: HostRuntime) -> Result<(), Fail> {
+    static CASES: [Case; 2] = [
         Case {
             failing: Failing {
                 vault: 1,
                 err: 1,
                 ..NONE
             },
-            err: "",
-            ..VAULT
+            status: 3,
+            ..KEPT
         },
-        // the refusal is not told, and its status stays
         Case {
             words: &["snapraid", "frob"],
             failing: Failing { err: 1, ..NONE },
