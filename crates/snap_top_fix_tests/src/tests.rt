@@ -7,3 +7,4 @@ mod obstacles;
 mod reports;
 mod selected;
 mod stopped;
+mod torn;

@@ -1,6 +1,7 @@
 // A fix of two disks that are lost, of which a call fails, or all from one on, and the next fix.
 use crate::tests::arrays::{BEFORE, FIX, FIXED, WHOLE};
 use crate::tests::failing::LOST;
+use crate::tests::torn::{Written, tear};
 use snap_top_memory::arrays::{Array, Disk, Failing, Left, NONE};
 use snap_top_memory::cases::{Case, SYNCED, follow, run_after, vault_after};
 use snap_top_memory::damage::Damage;
@@ -33,6 +34,29 @@ struct Story<'a> {
     next: Case<'a>,
     whole: (usize, &'a str, &'a [u8]),
 }
+
+// What is left: the vault that these bytes pick, and the files with other bytes where they were written.
+#[derive(Clone, Copy)]
+struct Image<'a> {
+    vault: &'a [u8],
+    torn: &'a [Written<'a>],
+}
+
+const ALL_WRITTEN: Image = Image {
+    vault: WRITTEN,
+    torn: &[],
+};
+
+const TORN_VAULT: Image = Image {
+    vault: TORN,
+    torn: &[],
+};
+
+// Of the several files, one is written whole, and one from its second block on.
+const ALL_TORN: Image = Image {
+    vault: TORN,
+    torn: &[(0, "a", 0), (1, "x", 1024)],
+};
 
 const FIRST: Case = Case {
     array: Array {
@@ -152,17 +176,18 @@ fn ends<R: Threads + Sync>(
     alloc: Global,
     story: &Story,
     failing: Failing,
-    choice: &[u8],
+    image: Image,
 ) -> Result<bool, Fail> {
     let before = follow(rt, alloc, 0, None, &story.first)?;
     let mut whole = before.reopened()?;
     let mut case = story.broken;
     case.failing = failing;
-    let left = break_fix(rt, alloc, before, &case, story)?;
+    let mut left = break_fix(rt, alloc, before, &case, story)?;
     if !has_failed(&left) {
         return Ok(left.is(0, case.out, ""));
     }
-    run_next(rt, alloc, 0, left, &mut whole, &story.next, choice)?;
+    tear(alloc, &mut left, image.torn)?;
+    run_next(rt, alloc, 0, left, &mut whole, &story.next, image.vault)?;
     Ok(false)
 }
 
@@ -172,11 +197,11 @@ fn fail_in_turn<R: Threads + Sync>(
     alloc: Global,
     story: &Story,
     first: Failing,
-    choice: &[u8],
+    image: Image,
 ) -> Result<(), Fail> {
     let mut failing = first;
     for _ in 0..MANY {
-        if ends(rt, alloc, story, failing, choice)? {
+        if ends(rt, alloc, story, failing, image)? {
             return Ok(());
         }
         failing = failing.later();
@@ -211,9 +236,9 @@ fn wherever_a_fix_stops_the_next_one_restores_all(rt: HostRuntime) -> Result<(),
         },
     ];
     for first in &STOPS {
-        fail_in_turn(&rt, rt.alloc(), &SEVERAL, *first, TORN)?;
-        fail_in_turn(&rt, rt.alloc(), &ONE_EACH, *first, TORN)?;
-        fail_in_turn(&rt, rt.alloc(), &ONE_EACH, *first, WRITTEN)?;
+        fail_in_turn(&rt, rt.alloc(), &SEVERAL, *first, ALL_TORN)?;
+        fail_in_turn(&rt, rt.alloc(), &ONE_EACH, *first, TORN_VAULT)?;
+        fail_in_turn(&rt, rt.alloc(), &ONE_EACH, *first, ALL_WRITTEN)?;
     }
     Ok(())
 }
@@ -235,7 +260,7 @@ fn whichever_call_of_a_fix_fails_the_next_one_restores_all(rt: HostRuntime) -> R
         },
     ];
     for first in &FAULTS {
-        fail_in_turn(&rt, rt.alloc(), &SEVERAL, *first, WRITTEN)?;
+        fail_in_turn(&rt, rt.alloc(), &SEVERAL, *first, ALL_WRITTEN)?;
     }
     Ok(())
 }
