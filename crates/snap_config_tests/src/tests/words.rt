@@ -169,9 +169,10 @@ fn lines_of_all_commands(rt: HostRuntime) -> Result<(), Fail> {
 }
 
 // The log, of the commands that are built: none where the words are refused.
-static LOGS: [(&str, Option<&str>); 7] = [
+static LOGS: [(&str, Option<&str>); 8] = [
     ("sync|-l|x", Some("x")),
     ("list", None),
+    ("list|-l|x", Some("x")),
     ("list|-l|", Some("")),
     ("scrub|-l|x", Some("x")),
     ("frob|-l|x", None),
