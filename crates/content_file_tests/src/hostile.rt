@@ -36,35 +36,52 @@ fn by_two(alloc: Global, bytes: &[u8], cut: usize) -> Result<Option<DecodeFault>
     Ok(decoder.finish().err())
 }
 
+// A size, a place and the bytes there; then the place of the first wrong field, what is wrong with it, and how that is
+// printed.
+static HOSTILE: [(usize, usize, &[u8], u64, Flaw, &str); 19] = [
+    (0, 0, &[], 0, Flaw::Short, "too short"),
+    (40, 0, &[], 38, Flaw::Short, "too short"),
+    (44, 0, &[], 42, Flaw::Short, "too short"),
+    (127, 0, &[0x73], 0, Flaw::Magic, "not a content file"),
+    (127, 7, &[0x09], 7, Flaw::Version, "unknown version"),
+    (127, 8, &[0; 4], 8, Flaw::Value, "bad value"),
+    (127, 35, &[0x00], 35, Flaw::Name, "bad name"),
+    (127, 38, &[0xff; 4], 38, Flaw::Full, "too many"),
+    (127, 44, &[0x2f], 42, Flaw::Path, "bad path"),
+    (127, 45, &[0xff; 8], 45, Flaw::Full, "too many"),
+    (
+        127,
+        61,
+        &[0x00, 0xca, 0x9a, 0x3b],
+        61,
+        Flaw::Value,
+        "bad value",
+    ),
+    (127, 65, &[0x01], 65, Flaw::Position, "bad position"),
+    (127, 30, &[0x02], 30, Flaw::Length, "wrong length"),
+    (127, 86, &[0x00], 87, Flaw::Value, "bad value"),
+    // a synced stripe with a block that has no hash
+    (127, 69, &[0x00, 0x05], 70, Flaw::Hash, "missing hash"),
+    // an empty file `a` and another `a`
+    (127, 38, TWO_OF_A_NAME, 65, Flaw::Order, "out of order"),
+    (127, 126, &[0xd0], 95, Flaw::Digest, "wrong digest"),
+    (126, 0, &[], 95, Flaw::Short, "too short"),
+    (128, 127, &[0x00], 127, Flaw::Extra, "bytes after the end"),
+];
+
+// The records of a column, from their count on.
+const TWO_OF_A_NAME: &[u8] = b"\
+    \x02\x00\x00\x00\
+    \x01\x00\x61\x00\x00\x00\x00\x00\x00\x00\x00\x01\x00\x00\x00\x00\x00\x00\x00\x05\x00\x00\x00\
+    \x01\x00\x61";
+
 #[test]
 fn the_first_wrong_field_is_named(rt: HostRuntime) -> Result<(), Fail> {
-    for (size, at, bytes, offset, why) in [
-        (0, 0, [].as_slice(), 0, Flaw::Short),
-        (40, 0, [].as_slice(), 38, Flaw::Short),
-        (44, 0, [].as_slice(), 42, Flaw::Short),
-        (127, 0, [0x73].as_slice(), 0, Flaw::Magic),
-        (127, 7, [0x09].as_slice(), 7, Flaw::Version),
-        (127, 8, [0; 4].as_slice(), 8, Flaw::Value),
-        (127, 35, [0x00].as_slice(), 35, Flaw::Name),
-        (127, 38, [0xff; 4].as_slice(), 38, Flaw::Full),
-        (127, 44, [0x2f].as_slice(), 42, Flaw::Path),
-        (127, 45, [0xff; 8].as_slice(), 45, Flaw::Full),
-        (
-            127,
-            61,
-            [0x00, 0xca, 0x9a, 0x3b].as_slice(),
-            61,
-            Flaw::Value,
-        ),
-        (127, 65, [0x01].as_slice(), 65, Flaw::Position),
-        (127, 30, [0x02].as_slice(), 30, Flaw::Length),
-        (127, 86, [0x00].as_slice(), 87, Flaw::Value),
-        (127, 126, [0xd0].as_slice(), 95, Flaw::Digest),
-        (126, 0, [].as_slice(), 95, Flaw::Short),
-        (128, 127, [0x00].as_slice(), 127, Flaw::Extra),
-    ] {
-        let file = changed(rt.alloc(), size, at, bytes)?;
+    for (size, at, bytes, offset, why, words) in &HOSTILE {
+        let file = changed(rt.alloc(), *size, *at, bytes)?;
+        let (offset, why) = (*offset, *why);
         let refused = Some(DecodeFault::Damaged(Damage { offset, why }));
+        assert_eq!(rt; why.as_str(), *words);
         assert_eq!(rt; decode(rt.alloc(), file.as_slice()).err(), refused);
         assert_eq!(rt; by_bytes(rt.alloc(), file.as_slice())?, refused);
         for cut in 0..file.len() {
