@@ -75,27 +75,30 @@ class Array:
     """An array in a room, of which a copy is kept aside."""
 
     def __init__(self, room, aside, program, seed):
-        self.room, self.aside, self.program, self.rnd = room, aside, program, random.Random(seed)
-        rnd = self.rnd
-        self.disks, self.levels = rnd.randint(1, 4), rnd.randint(1, 3)
-        self.known = set()
-        shutil.rmtree(room, ignore_errors=True)
-        os.makedirs(room)
-        copies = ["content", "d1/.content", "more"][:rnd.randint(1, 3)]
-        self.copies = [f"{room}/{name}" for name in copies]
-        self.parities = [f"{room}/p{level}" for level in range(self.levels)]
-        lines = [f"{KEYWORDS[level]} {name}" for level, name in enumerate(self.parities)]
-        lines += [f"content {name}" for name in self.copies] + ["blocksize 1"]
-        for disk in range(self.disks):
-            os.mkdir(self.dir(disk))
-            lines.append(f"data d{disk + 1} {self.dir(disk)}")
-        with open(f"{room}/conf", "w", encoding="ascii") as out:
-            out.write("\n".join(lines) + "\n")
-        self.trees = [{} for _ in range(self.disks)]
+        rnd = self.rnd = random.Random(seed)
+        disks, levels = rnd.randint(1, 4), rnd.randint(1, 3)
+        self.begin(room, aside, program, disks, levels, ["content", "d1/.content", "more"][:rnd.randint(1, 3)])
         for disk in range(self.disks):
             for number in range(rnd.randint(0, 5)):
                 self.trees[disk][rnd.choice(FOLDERS) + f"f{number}"] = (self.data(), self.stamp())
         self.lay_trees()
+
+    def begin(self, room, aside, program, disks, levels, copies):
+        """Makes its configuration and its disks, which are empty."""
+        self.room, self.aside, self.program = room, aside, program
+        self.disks, self.levels = disks, levels
+        self.known, self.trees = set(), [{} for _ in range(disks)]
+        shutil.rmtree(room, ignore_errors=True)
+        os.makedirs(room)
+        self.copies = [f"{room}/{name}" for name in copies]
+        self.parities = [f"{room}/p{level}" for level in range(levels)]
+        lines = [f"{KEYWORDS[level]} {name}" for level, name in enumerate(self.parities)]
+        lines += [f"content {name}" for name in self.copies] + ["blocksize 1"]
+        for disk in range(disks):
+            os.mkdir(self.dir(disk))
+            lines.append(f"data d{disk + 1} {self.dir(disk)}")
+        with open(f"{room}/conf", "w", encoding="ascii") as out:
+            out.write("\n".join(lines) + "\n")
 
     def dir(self, disk):
         return f"{self.room}/d{disk + 1}"
@@ -227,6 +230,16 @@ class Array:
                 if content.synced[stripe] and held[stripe * BLOCK:(stripe + 1) * BLOCK] != row_sum(level, row):
                     return f"stripe {stripe} is called synced, and level {level} has not its sum"
         return None
+
+
+class FixedArray(Array):
+    """An array of these files, of a block each. Their stamps are 1 s and 5 ns."""
+
+    def __init__(self, room, aside, program, disks, levels, copies):
+        self.begin(room, aside, program, len(disks), levels, copies)
+        self.trees = [{path: (block, 10**9 + 5) for path, block in files.items()} for files in disks]
+        self.known.update(block for files in disks for block in files.values())
+        self.lay_trees()
 
 
 @functools.lru_cache(64)

@@ -218,7 +218,7 @@ class Case:
     # The next run.
 
     def next_run(self):
-        again = self.run(Tamper())
+        again = self.again = self.run(Tamper())
         if (again.status, MISSING.sub("", again.err)) != (self.plain.status, ""):
             return f"then status {again.status}, {again.err!r}, {again.out[-200:]!r}"
         if self.command == "sync":
