@@ -1,4 +1,5 @@
 // The lines of events.
+use crate::tests::reports::log_of;
 use crate::tests::table_of;
 use block_hash::Digest16;
 use disk_memory::MemSink;
@@ -141,6 +142,18 @@ fn each_kind_has_its_line(rt: HostRuntime) -> Result<(), Fail> {
     tell_all(&mut reports, &mut lines, &table, &EVERY_KIND);
     assert!(rt; !lines.failed());
     assert_eq!(rt; str::from_utf8(out.bytes())?, THEIR_LINES);
+    Ok(())
+}
+
+#[test]
+fn a_log_has_the_line_of_each_kind(rt: HostRuntime) -> Result<(), Fail> {
+    let alloc = rt.alloc();
+    let table = table_of(alloc, "a\\\n\u{7f}\u{e9}")?;
+    assert!(rt; table.disks() == 1);
+    assert!(rt; table.records(0) == 1);
+    let log = log_of(alloc, &table, &EVERY_KIND);
+    assert!(rt; !log.failed());
+    assert_eq!(rt; str::from_utf8(log.sink().bytes())?, THEIR_LINES);
     Ok(())
 }
 

@@ -155,7 +155,7 @@ fn tally_of(table: &Table, events: &[Event]) -> TallyReport
 }
 
 // A log of these events, in memory.
-fn log_of(alloc: Global, table: &Table, events: &[Event]) -> LogReport<MemSink>
+pub(super) fn log_of(alloc: Global, table: &Table, events: &[Event]) -> LogReport<MemSink>
     requires { All (λ event. Fits table.now.columns event) events.now }
 {
     let mut log = LogReport::new(MemSink::new(alloc));
