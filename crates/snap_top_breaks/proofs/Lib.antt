@@ -1,3 +1,4 @@
 mod BrokenLemmas
 mod BrokenScrubLemmas
 mod BrokenSyncLemmas
+mod FrontOfSyncLemmas

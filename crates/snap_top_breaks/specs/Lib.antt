@@ -1,3 +1,4 @@
 pub mod Broken
 pub mod BrokenScrub
 pub mod BrokenSync
+pub mod FrontOfSync

@@ -104,7 +104,11 @@ pub(crate) fn failing_vault(vault: MemVault, call: u64) -> Result<MemVault, Fail
 }
 
 // Other bytes stand in a file of the first disk, and its size and stamp stay.
-fn spoil(alloc: Global, folders: Vec<MemFolder>, name: &str) -> Result<Vec<MemFolder>, Fail> {
+pub(crate) fn spoil(
+    alloc: Global,
+    folders: Vec<MemFolder>,
+    name: &str,
+) -> Result<Vec<MemFolder>, Fail> {
     let path = Path::new(alloc, name)?;
     let mut folders = folders;
     let Some(folder) = folders.get_mut(0) else {

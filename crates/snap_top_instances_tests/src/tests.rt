@@ -7,6 +7,7 @@ mod stops;
 use snap_top_breaks::broken::break_a_fix;
 use snap_top_breaks::broken_scrub::break_a_scrub;
 use snap_top_breaks::broken_sync::break_a_sync;
+use snap_top_breaks::front_of_sync::break_a_sync_and_sync;
 use snap_top_instances::resumed::stop_and_sync_in_full;
 use snap_top_instances::smooth::sync_smoothly;
 use snap_top_memory::arrays::{Array, FIVE, SYNC};
@@ -22,6 +23,15 @@ const TWO: Array = Array {
         &[("a", b"a", 1, 5), ("b", b"bb", 1, 5)],
         &[("c", b"ccc", 1, 5)],
     ],
+};
+
+// The same, and one more file.
+const TWO_AND_ONE: Array = Array {
+    disks: &[
+        &[("a", b"a", 1, 5), ("b", b"bb", 1, 5)],
+        &[("c", b"ccc", 1, 5), ("d", b"d", 1, 5)],
+    ],
+    ..TWO
 };
 
 const SYNC_BY_MANY: &[&str] = &["snapraid", "sync", "-c", "FILE", "--readers", "16"];
@@ -72,5 +82,15 @@ fn runs_break_off(rt: HostRuntime) -> Result<(), Fail> {
     assert!(rt; break_a_scrub(&rt, alloc, FIVE, SYNC, SCRUB, SCRUB_BY_MANY, "c", 9)? == 1);
     // The copy is saved, parity made longer, written and synced; and then the copy saved again.
     assert!(rt; break_a_sync(&rt, alloc, FIVE, SYNC, 15)? == 3);
+    Ok(())
+}
+
+#[test]
+fn a_sync_breaks_off_that_found_something(rt: HostRuntime) -> Result<(), Fail> {
+    let alloc = rt.alloc();
+    // The stripe of the file that is gone has a block of other bytes, which is printed before this call.
+    assert!(rt;
+        break_a_sync_and_sync(&rt, alloc, TWO_AND_ONE, SYNC, SYNC_BY_MANY, "a", "c", 9)? == 1
+    );
     Ok(())
 }
