@@ -1,4 +1,4 @@
--- What every run promises by its status alone, and when a run surely ends well.
+-- What every run promises by its status alone, and when a run surely ends well, if memory does not run out.
 use Rattle.std.specs.Prelude.{◌≡◌, ◌⊎◌, ℕ, ◌<◌, ◌≤◌, List, length, take, true, false, IsTrue, Option, Some, None, Ok}
 use Rattle.array_scan.specs.declared.fault.ScanFault.{ScanFault}
 use Rattle.array_scan.specs.declared.fault.ScanFault.TheVariants as scans

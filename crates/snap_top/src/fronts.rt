@@ -22,8 +22,9 @@ use stripe_examiner::laws::what_is_read_determines_what_is_found;
 /// and no reading did. Scrubs begin at one moment, and the folders of both fixes keep stamps alike. It is enough that by the account of
 /// a fix no reading of a copy failed, nor one of what it looked at. Whatever readings failed, it is enough of a sync that the other one
 /// read the same of its stripes first, in the same layout; of a scrub that it began with the same table and read the same; and of a fix
-/// that the other one was asked for the same of disks with the same names, began with the same table, listed the same, and saw the same
-/// blocks of its stripes first. A run that ended early printed nothing: it was refused, or it only read and did not come to its end.
+/// that the other one was of the same array, with folders that keep stamps alike, was asked for the same of disks with the same names,
+/// began with the same table, listed the same, and saw the same blocks of its stripes first. A run that ended early printed nothing: it
+/// was refused, or it only read and did not come to its end.
 pub fn a_broken_run_prints_a_front<O: Opener, F: Folder, V: Vault, W: Sink>()
     ensures syncs { (run again : RunOf O F V W)
         (other : EndsInPart (entry_of O.view W.view again) (end_of O.view F.view V.view W.view again) again.status)

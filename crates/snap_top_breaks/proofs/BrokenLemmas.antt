@@ -220,6 +220,7 @@ module _ {O F V W : Type 0} (opener_view : O → OpenerView) (folder_view : F �
         well = well;
         few = few_is run_then.status status_then 1 again.over.status_is few_then;
         printed_some = printed_some;
+        out_begins = runs.out_begins ∙ sym again.out_begins;
         printed_less = λ same. less (sym runs.printed_is ∙ same ∙ again.printed_is);
         right = reads_right run off.0 begins.tells once;
         seen = seen;

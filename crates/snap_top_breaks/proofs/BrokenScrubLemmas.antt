@@ -194,6 +194,7 @@ module _ {O F V W : Type 0} (opener_view : O → OpenerView) (folder_view : F �
           loaded = read.0;
           read = read.1;
           printed_some = printed_some;
+          out_begins = runs.out_begins ∙ sym again.out_begins;
           printed_less = λ same_text. less (sym runs.printed_is ∙ same_text ∙ again.printed_is);
           front = law run run_then other off.0.broke hold ask at_once rose well;
         }

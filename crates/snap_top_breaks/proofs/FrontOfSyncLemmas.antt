@@ -168,6 +168,7 @@ module _ {O F V W : Type 0} (opener_view : O → OpenerView) (folder_view : F �
           read = read.1.1;
           read_some = read_some (begun run) (ended run) off.0 off.2 runs.out_tells printed_some;
           printed_some = printed_some;
+          out_begins = runs.out_begins ∙ sym again.out_begins;
           printed_less = λ same_text. less (sym runs.printed_is ∙ same_text ∙ again.printed_is);
           front = law run run_then read.1.0 other off.0 read.0 read.1.1;
         }

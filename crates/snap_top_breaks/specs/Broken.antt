@@ -21,8 +21,8 @@ pub record FailedOnce (folders : List FolderView) : Type 0 where
 
 module _ {O F V W : Type 0} (opener_view : O → OpenerView) (folder_view : F → FolderView) (vault_view : V → VaultView) (sink_view : W → SinkView) where
   -- A fix broke off by a folder, of which just that call failed; it had printed something. Another one of the same array, which was asked for the
-  -- same, went to its end, and nothing failed. So the first one read all that it came to, saw what the second one saw first, and printed a front of what
-  -- that did, and not all of it.
+  -- same, went to its end, and nothing failed. No reading failed in either: the first one read all that it came to. Of each stripe that it looked at, if
+  -- any, it saw what the second one saw first. It printed a front of what that did, and not all of it.
   pub record IsFrontPrinted : Type 0 where
     pub run : RunOf O F V W
     pub again : RunOf O F V W
@@ -39,6 +39,8 @@ module _ {O F V W : Type 0} (opener_view : O → OpenerView) (folder_view : F �
     pub few : again.status ≤ 1
     pub printed_some : (after_of opener_view folder_view vault_view sink_view run).after.out.written
         ≢ (before_of opener_view folder_view vault_view sink_view run).out.written
+    pub out_begins : (before_of opener_view folder_view vault_view sink_view run).out.written
+        ≡ (before_of opener_view folder_view vault_view sink_view again).out.written
     pub printed_less : (after_of opener_view folder_view vault_view sink_view run).after.out.written
         ≢ (after_of opener_view folder_view vault_view sink_view again).after.out.written
     pub front : PrintsFront off.broke.told (events_in other.run other.finishes)

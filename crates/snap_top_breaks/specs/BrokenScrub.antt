@@ -32,6 +32,8 @@ module _ {O F V W : Type 0} (opener_view : O → OpenerView) (folder_view : F �
     pub read : off.scrub.course.readings ≡ other.run.readings
     pub printed_some : (after_of opener_view folder_view vault_view sink_view run).after.out.written
         ≢ (before_of opener_view folder_view vault_view sink_view run).out.written
+    pub out_begins : (before_of opener_view folder_view vault_view sink_view run).out.written
+        ≡ (before_of opener_view folder_view vault_view sink_view again).out.written
     pub printed_less : (after_of opener_view folder_view vault_view sink_view run).after.out.written
         ≢ (after_of opener_view folder_view vault_view sink_view again).after.out.written
     pub front : PrintsFront off.broke.told (events_scrubbed other.run)

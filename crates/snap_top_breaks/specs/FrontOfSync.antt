@@ -35,6 +35,8 @@ module _ {O F V W : Type 0} (opener_view : O → OpenerView) (folder_view : F �
     pub read_some : 0 < length off.sync.course.readings
     pub printed_some : (after_of opener_view folder_view vault_view sink_view run).after.out.written
         ≢ (before_of opener_view folder_view vault_view sink_view run).out.written
+    pub out_begins : (before_of opener_view folder_view vault_view sink_view run).out.written
+        ≡ (before_of opener_view folder_view vault_view sink_view again).out.written
     pub printed_less : (after_of opener_view folder_view vault_view sink_view run).after.out.written
         ≢ (after_of opener_view folder_view vault_view sink_view again).after.out.written
     pub front : PrintsFront off.broke.told (events_of other.run.plan.start other.run.readings)

@@ -64,7 +64,8 @@ module _ {O F V W : Type 0} (opener_view : O → OpenerView) (folder_view : F �
     pub printed : Prints run again
     pub status_is : again.status ≡ status
 
-  -- Two fixes of one array, likewise: they saw the same blocks (`FixesAlike`). The first disk was lost before the first one, which left files there.
+  -- Two fixes of one array, likewise: they saw the same blocks of each stripe that they looked at, if any (`FixesAlike`). The first disk was lost before
+  -- the first one, which left files there.
   pub record IsFixedTwice (status : ℕ) : Type 0 where
     pub run : RunOf O F V W
     pub again : RunOf O F V W

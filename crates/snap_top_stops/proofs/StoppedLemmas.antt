@@ -242,7 +242,7 @@ module _ {O F V W : Type 0} (opener_view : O → OpenerView) (folder_view : F �
           fix = at_end.0;
           goes = going.1;
           did_is = at_end.1;
-          changed = λ same. restored (ap (λ (tree : Tree). file_of tree name) same ∙ gone);
+          at_end = ap (λ (fs : List F). trees_of (map folder_view fs)) (sym runs.folders_are);
           one_at_end = spares_one standing next at_end.0 (begun run) (ended run) stripe d path name going.1.over is_then asks_run
               (all_looked_at next false at_end.0 going.1 at_end.1 asks_fix few_ran) (planned_at at_end.0 (begun run) (ended run) has.table stripe d path one_table is_then well content has.kept)
               (planned_at at_end.0 (begun run) (ended run) has.table stripe 0 name one_table is_then well content has.lost) there gone spares;

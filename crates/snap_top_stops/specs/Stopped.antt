@@ -82,8 +82,8 @@ module _ {O F V W : Type 0} (opener_view : O → OpenerView) (folder_view : F �
     pub stopped : next.trees ≡ standing.trees
     pub spares : SparesRest fix standing next
 
-  -- A fix of what stood after a history changed the files of the first disk. It may be stopped before any of its calls of the folders was
-  -- done. There, and at its end, it leaves a cell alone of which a file stands.
+  -- A fix of what stood after a history left the first disk other files than it had. It may be stopped before any of its calls of the folders was
+  -- done. There, and where the trees are those at its end, it leaves a cell alone of which a file stands.
   pub record IsSparedAtStop : Type 0 where
     pub first : Standing
     pub standing : Standing
@@ -98,5 +98,5 @@ module _ {O F V W : Type 0} (opener_view : O → OpenerView) (folder_view : F �
     pub fix : FixRun
     pub goes : GoesOver opener_view folder_view vault_view sink_view run standing end
     pub did_is : goes.step.always.did ≡ fixes false fix
-    pub changed : tree_at end.trees 0 ≢ tree_at standing.trees 0
+    pub at_end : end.trees ≡ trees_of (after_of opener_view folder_view vault_view sink_view run).after.folders
     pub one_at_end : SparesOne fix standing end
