@@ -169,40 +169,45 @@ fn break_fix<R: Threads + Sync>(
     Ok(left)
 }
 
-// Whether the calls of a fix were all made, for it to be seen that what fails is none of them. Else it ends as it
-// may, and the next one restores all.
+// Nothing where the calls of a fix were all made, for it to be seen that what fails is none of them. Else it ends as it
+// may, so many bytes of files are torn, and the next one restores all.
 fn ends<R: Threads + Sync>(
     rt: &R,
     alloc: Global,
     story: &Story,
     failing: Failing,
     image: Image,
-) -> Result<bool, Fail> {
+) -> Result<Option<usize>, Fail> {
     let before = follow(rt, alloc, 0, None, &story.first)?;
     let mut whole = before.reopened()?;
     let mut case = story.broken;
     case.failing = failing;
     let mut left = break_fix(rt, alloc, before, &case, story)?;
     if !has_failed(&left) {
-        return Ok(left.is(0, case.out, ""));
+        if !left.is(0, case.out, "") {
+            return Err("it made all its calls, and ended otherwise".into());
+        }
+        return Ok(None);
     }
-    tear(alloc, &mut left, image.torn)?;
+    let torn = tear(alloc, &mut left, image.torn)?;
     run_next(rt, alloc, 0, left, &mut whole, &story.next, image.vault)?;
-    Ok(false)
+    Ok(Some(torn))
 }
 
-// A call fails, and then each after it in its place, until there are no more.
+// A call fails, and then each after it in its place, until there are no more. It answers how many bytes were torn in all.
 fn fail_in_turn<R: Threads + Sync>(
     rt: &R,
     alloc: Global,
     story: &Story,
     first: Failing,
     image: Image,
-) -> Result<(), Fail> {
+) -> Result<usize, Fail> {
     let mut failing = first;
+    let mut torn = 0usize;
     for _ in 0..MANY {
-        if ends(rt, alloc, story, failing, image)? {
-            return Ok(());
+        match ends(rt, alloc, story, failing, image)? {
+            Some(more) => torn = torn.saturating_add(more),
+            None => return Ok(torn),
         }
         failing = failing.later();
     }
@@ -236,7 +241,11 @@ fn wherever_a_fix_stops_the_next_one_restores_all(rt: HostRuntime) -> Result<(),
         },
     ];
     for first in &STOPS {
-        fail_in_turn(&rt, rt.alloc(), &SEVERAL, *first, ALL_TORN)?;
+        let torn = fail_in_turn(&rt, rt.alloc(), &SEVERAL, *first, ALL_TORN)?;
+        if torn == 0 {
+            return Err(Fail::new(format_args!("{first:?} tears no file")));
+        }
+        fail_in_turn(&rt, rt.alloc(), &SEVERAL, *first, TORN_VAULT)?;
         fail_in_turn(&rt, rt.alloc(), &ONE_EACH, *first, TORN_VAULT)?;
         fail_in_turn(&rt, rt.alloc(), &ONE_EACH, *first, ALL_WRITTEN)?;
     }
