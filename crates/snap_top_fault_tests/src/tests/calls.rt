@@ -1,6 +1,6 @@
 // Each call of each object fails in turn: in a sync and a check of four disks.
 use snap_top_memory::arrays::{Failing, NONE};
-use snap_top_memory::cases::{Case, SYNCED, plays};
+use snap_top_memory::cases::{Case, SYNCED, each_follows, plays};
 use snap_top_memory::four::{FOUR, FOUR_PENDING, FOUR_SUMS, FOUR_SYNCED};
 use snap_top_memory::next::{TORN, WRITTEN};
 use snap_top_memory::turns::{Calls, Ended, Turns, each_call_fails};
@@ -232,4 +232,42 @@ fn each_call_of_a_check_fails_and_the_next_one_finds_nothing(rt: HostRuntime) ->
     let alloc = rt.alloc();
     each_call_fails(&rt, alloc, &TURNS, &OBJECTS, WRITTEN)?;
     each_call_fails(&rt, alloc, &TURNS, &TOLD, WRITTEN)
+}
+
+// A check of the four disks, where the first copy is of the table from before the stripe was synced.
+const OLDER: Case = Case {
+    put: &[Some(FOUR_PENDING)],
+    status: 1,
+    out: "unsynced 0\ncheck: 1 findings\n",
+    keeps: false,
+    contents: &[FOUR_PENDING, FOUR_SYNCED, FOUR_SYNCED],
+    ..CHECKED
+};
+
+// The first copy is taken; where it can't be asked for its size, or is no content, the second one is, and else the third one.
+#[test]
+fn a_check_takes_the_first_copy_that_it_can_read(rt: HostRuntime) -> Result<(), Fail> {
+    static CASES: [Case; 4] = [
+        OLDER,
+        Case {
+            failing: VAULT,
+            status: 0,
+            out: "check: 0 findings\n",
+            ..OLDER
+        },
+        Case {
+            put: &[Some(b""), Some(FOUR_PENDING)],
+            contents: &[b"", FOUR_PENDING, FOUR_SYNCED],
+            ..OLDER
+        },
+        Case {
+            put: &[Some(FOUR_PENDING), Some(b"")],
+            failing: VAULT,
+            status: 0,
+            out: "check: 0 findings\n",
+            contents: &[FOUR_PENDING, b"", FOUR_SYNCED],
+            ..OLDER
+        },
+    ];
+    each_follows(&rt, rt.alloc(), &WHOLE, &CASES)
 }

@@ -67,9 +67,9 @@ fn each_call_of_a_list_and_of_a_status_fails(rt: HostRuntime) -> Result<(), Fail
     each_call_fails(&rt, alloc, &SHOWS, &OBJECTS, WRITTEN)
 }
 
-// What is refused is not told, and its status stays.
+// A standard error that fails changes no status of a run that is refused or aborted.
 #[test]
-fn a_refusal_is_not_told(rt: HostRuntime) -> Result<(), Fail> {
+fn a_failing_standard_error_changes_no_status(rt: HostRuntime) -> Result<(), Fail> {
     static CASES: [Case; 2] = [
         Case {
             failing: Failing {
