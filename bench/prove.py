@@ -1,16 +1,18 @@
 #!/usr/bin/env python3
-"""Proves a program and all crates that it stands on, on all processors, and says how far it is.
+"""Proves a program and all crates that it stands on, and builds it, on all processors, and says how far it is.
 
-usage: bench/prove.py PROGRAM WIDE [WORD ..]     for ./demo: bench/prove.py snapraid snap_sync exercise 3
-The crate WIDE stands on many others: they and it are proved first, side by side. The others follow one after another, each on all
-processors: rt works on one crate at a time where they stand on the same ones. Crates whose proofs are kept take a second each. Where
-there is more to prove, the program is run unproved with these words meanwhile, so that it is seen at work within two minutes. How long
-the rest takes is guessed from the table of costs in CONTRIBUTING.md.
+usage: bench/prove.py PROGRAM [WORD ..]     for ./demo: bench/prove.py snapraid exercise 3
+
+This is the gate of these crates alone, in a copy of them without mutants and most tests; the program is copied back. What is proved is kept, so a
+second run takes a minute, and the whole gate need not prove it again. Where there is more to prove, the program is run unproved with these words
+meanwhile, so that it is seen at work within two minutes. How long the rest takes is guessed from the table of costs in CONTRIBUTING.md.
 """
 import os
 import re
+import shutil
 import subprocess
 import sys
+import tempfile
 import threading
 import time
 
@@ -18,19 +20,20 @@ TOP = os.path.dirname(os.path.dirname(os.path.abspath(__file__)))
 # Where the program was built before, what is kept is through by then.
 PATIENCE = 15
 MINUTE = 60
+TELLS_WHY = re.compile(r"error|no proof|stays open|NOT PROVED|FAILED|passed, ")
 
 
 def crates_below(top):
-    """The crates that `top` stands on, and it, each with those that it stands on itself."""
+    """The crates that `top` stands on, and it, each with its line of crates.txt, in the order of these lines."""
     with open(f"{TOP}/crates.txt", encoding="utf-8") as text:
-        named = dict(re.findall(r"^(\w+)[^#\n:]*:(.*)$", text.read(), re.M))
-    found, left = {}, [top]
+        lines = {line[1]: line[0] for line in re.finditer(r"^(\w+)[^#\n:]*:.*$", text.read(), re.M)}
+    found, left = set(), [top]
     while left:
         name = left.pop()
         if name not in found:
-            found[name] = [it for it in named[name].split() if it in named]
-            left += found[name]
-    return found
+            found.add(name)
+            left += [it for it in re.findall(r"\w+", lines[name].partition(":")[2]) if it in lines]
+    return {name: line for name, line in lines.items() if name in found}
 
 
 def costs(names):
@@ -40,54 +43,54 @@ def costs(names):
     return {name: int(table.get(name, 60)) for name in names}
 
 
+def left_out(folder, names):
+    """What was made, mutants, and tests that stand in files of their own."""
+    return ({"tests", "tests.rt"} if folder.endswith(("/src", "/proofs")) else {"out", "must-fail"}) & set(names)
+
+
+def copy_crates(lines, to):
+    """A repository of these crates, without their mutants and most of their tests."""
+    for name in lines:
+        crate = f"{to}/crates/{name}"
+        shutil.copytree(f"{TOP}/crates/{name}", crate, ignore=left_out)
+        for top in filter(os.path.exists, (f"{crate}/src/lib.rt", f"{crate}/src/main.rt")):
+            with open(top, encoding="utf-8") as text:
+                kept = text.read().replace("#[cfg(test)]\nmod tests;\n", "")
+            with open(top, "w", encoding="utf-8") as text:
+                text.write(re.sub("\n{3,}", "\n\n", kept).rstrip("\n") + "\n")
+    shutil.copy(f"{TOP}/HANDLES", to)
+    with open(f"{to}/crates.txt", "w", encoding="utf-8") as text:
+        text.writelines(f"{line}\n" for line in lines.values())
+    os.mkdir(f"{to}/.git")
+
+
 class Proving(threading.Thread):
     """Proves in a thread of its own, and knows what is done."""
 
-    def __init__(self, program, wide):
+    def __init__(self, program, room):
         super().__init__(daemon=True)
-        self.program, self.wide = program, wide
+        self.program, self.room = program, room
         self.below = crates_below(program)
         self.cost = costs(self.below)
-        self.done, self.now, self.said = [], [], []
+        self.done, self.said = [], []
         self.failed = False
         self.begun = self.latest = time.time()
 
     def run(self):
-        first = crates_below(self.wide)
-        cores = len(os.sched_getaffinity(0))
-        self.now = list(first)
-        # Some of those that run side by side wait for others.
-        self.failed = self.ends_badly(self.wide, ["all", "check", "--jobs", str(cores + 2)])
-        for name in sorted(set(self.below) - set(first), key=lambda name: len(crates_below(name))):
-            if not self.failed:
-                self.now.append(name)
-                # A library is proved and built at once; the program is built when it is run.
-                verb = "check" if name == self.program else "lib"
-                self.failed = self.ends_badly(name, [verb, "--jobs", str(cores)])
-                if not self.failed:
-                    self.ends(name)
-
-    def ends(self, name):
-        """Notes that a crate is done, if that was not noted before."""
-        if name in self.now:
-            self.now.remove(name)
-            self.done.append(name)
-            self.latest = time.time()
-
-    def ends_badly(self, name, words):
+        copy_crates(self.below, self.room)
         # What a user waits for, the run of the unproved program, goes before.
-        ran = subprocess.Popen(["nice", "rt", *words], cwd=f"{TOP}/crates/{name}", stdout=subprocess.PIPE,
-                               stderr=subprocess.STDOUT, text=True)
-        said = []
+        ran = subprocess.Popen(["nice", "rt", "ci"], cwd=self.room, stdout=subprocess.PIPE, stderr=subprocess.STDOUT, text=True)
         for line in ran.stdout:
-            said.append(line)
-            crate = re.fullmatch(r"== (\w+)\n", line)
-            if crate:
-                self.ends(crate[1])
-        failed = ran.wait() != 0
-        if failed:
-            self.said += said
-        return failed
+            self.said.append(line)
+            crate = re.match(r"rt: (\w+) (proved$|is kept)", line)
+            if crate and crate[1] in self.below:
+                self.done.append(crate[1])
+                self.latest = time.time()
+        self.failed = ran.wait() != 0
+        if not self.failed:
+            out = f"{TOP}/crates/{self.program}/out"
+            os.makedirs(out, exist_ok=True)
+            shutil.copy(f"{self.room}/crates/{self.program}/out/{self.program}", out)
 
     def how_far(self):
         """How many crates are proved, the last of them, and how many minutes are left, by what is done so far."""
@@ -117,12 +120,11 @@ def show_unproved(proving, words):
         print(f"    unproved: {line}", flush=True)
 
 
-def main():
-    proving = Proving(sys.argv[1], sys.argv[2])
-    words = sys.argv[3:]
+def prove(program, words, room):
+    proving = Proving(program, room)
     print(f"proving {len(proving.below)} crates; those whose proofs are kept take a second each", flush=True)
     proving.start()
-    if os.path.exists(f"{TOP}/crates/{proving.program}/out/{proving.program}"):
+    if os.path.exists(f"{TOP}/crates/{program}/out/{program}"):
         proving.join(PATIENCE)
     if words and proving.is_alive():
         minutes = sum(proving.cost.values()) // MINUTE
@@ -132,8 +134,10 @@ def main():
         print(proving.how_far(), flush=True)
         proving.join(MINUTE)
     if proving.failed:
-        sys.exit("".join(proving.said) + "not all is proved")
-    print(f"{len(proving.below)} of {len(proving.below)} crates are proved", flush=True)
+        sys.exit("".join(filter(TELLS_WHY.search, proving.said)) + "not all is proved")
+    print(f"{len(proving.below)} of {len(proving.below)} crates are proved, and the program is built", flush=True)
 
 
-main()
+if __name__ == "__main__":
+    with tempfile.TemporaryDirectory(prefix="prove-") as place:
+        prove(sys.argv[1], sys.argv[2:], place)
