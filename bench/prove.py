@@ -73,7 +73,8 @@ class Proving(threading.Thread):
         self.below = crates_below(program)
         self.cost = costs(self.below)
         self.done, self.said = [], []
-        self.failed = False
+        # Until all is proved and the program stands there: whatever ends this thread before is a failure.
+        self.failed = True
         self.begun = self.latest = time.time()
 
     def run(self):
@@ -86,11 +87,11 @@ class Proving(threading.Thread):
             if crate and crate[1] in self.below:
                 self.done.append(crate[1])
                 self.latest = time.time()
-        self.failed = ran.wait() != 0
-        if not self.failed:
+        if ran.wait() == 0:
             out = f"{TOP}/crates/{self.program}/out"
             os.makedirs(out, exist_ok=True)
             shutil.copy(f"{self.room}/crates/{self.program}/out/{self.program}", out)
+            self.failed = False
 
     def how_far(self):
         """How many crates are proved, the last of them, and how many minutes are left, by what is done so far."""
