@@ -13,8 +13,8 @@ use Rattle.snap_top.specs.Standing.{after_of, before_of}
 use Rattle.snap_top.specs.Task.{syncs}
 
 module _ {O F V W : Type 0} (opener_view : O → OpenerView) (folder_view : F → FolderView) (vault_view : V → VaultView) (sink_view : W → SinkView) where
-  -- A sync of an array without content broke off once a copy was saved, and just one call of the vault failed. So no reading of a copy did while it
-  -- looked for a table.
+  -- A sync of an array without its first copy broke off once that was saved, and just one call of the vault failed. So no reading of a copy did
+  -- while it looked for a table.
   pub record IsBrokenWellLoaded : Type 0 where
     pub run : RunOf O F V W
     pub always : IsSoundAlways (before_of opener_view folder_view vault_view sink_view run) (after_of opener_view folder_view vault_view sink_view run) run.status

@@ -1,4 +1,4 @@
--- A second sync over content: an instance of what is supposed of a run that surely ends well, if memory does not run out.
+-- A sync over content with a record: an instance of what is supposed of a run that surely ends well, if memory does not run out.
 use Rattle.std.specs.Prelude.{◌≡◌, ◌⊎◌, ℕ, ◌<◌, ◌≤◌, length, false, Ok}
 use Rattle.disk_model.specs.Folder.{FolderView}
 use Rattle.disk_model.specs.Opener.{OpenerView}

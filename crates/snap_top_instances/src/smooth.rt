@@ -1,4 +1,4 @@
-// A second sync over content with a record surely ends well, if memory does not run out.
+// A sync over content with a record surely ends well, if memory does not run out.
 ghost use Rattle.std.specs.Prelude.{◌≡◌, ◌<◌, IfOk, IsTrue, length};
 ghost use Rattle.disk_memory.specs.Folder.{folder_view};
 ghost use Rattle.disk_memory.specs.Sink.{sink_view};

@@ -1,4 +1,4 @@
--- Two checks of a lost disk, and a check and then a fix: instances of what is supposed of runs that find the same.
+-- Two checks, and a check and then a fix: instances of what is supposed of runs that find the same.
 use Rattle.std.specs.Prelude.{◌≡◌, ℕ, ◌<◌, length, count_by}
 use Rattle.disk_model.specs.Folder.{FolderView}
 use Rattle.disk_model.specs.Opener.{OpenerView}

@@ -1,4 +1,4 @@
--- Two runs over an array whose disk was lost after a sync.
+-- Two runs over one array, which has content.
 use Rattle.std.specs.Prelude.{◌≡◌, ℕ, ◌<◌, ◌≤◌, List, length}
 use Rattle.disk_model.specs.Folder.{FolderView}
 use Rattle.disk_model.specs.Opener.{OpenerView}
@@ -25,7 +25,7 @@ pub record HoldsRows (vault : VaultView) : Type 0 where
 
 module _ {O F V W : Type 0} (opener_view : O → OpenerView) (folder_view : F → FolderView) (vault_view : V → VaultView) (sink_view : W → SinkView) where
   -- Runs of these words and of those over one array, which has content with rows. Both went to their ends with these statuses, and nothing failed
-  -- in them. They say of themselves what each run says.
+  -- in them. They say of themselves what `KeepsClauses` has.
   pub record AreRunTwice (texts others : List (List ℕ)) (status status_then : ℕ) : Type 0 where
     pub run : RunOf O F V W
     pub again : RunOf O F V W

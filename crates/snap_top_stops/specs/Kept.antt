@@ -16,7 +16,7 @@ use Rattle.snap_top.specs.Views.{folder_at}
 
 module _ {O F V W : Type 0} (opener_view : O → OpenerView) (folder_view : F → FolderView) (vault_view : V → VaultView) (sink_view : W → SinkView) where
   -- A run over what stands after a history fixed nothing, and ended with this status. The first disk holds a file. These are its files at the end of
-  -- the run; they are those that stood. It tells its calls, so those of each stop within them are, too.
+  -- the run, or after a stop of it; they are those that stood. It tells its calls, so those of each stop within them are, too.
   pub record IsTreeKept (status : ℕ) : Type 0 where
     pub first : Standing
     pub standing : Standing

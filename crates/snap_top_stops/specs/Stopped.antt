@@ -56,8 +56,8 @@ pub record HasStripe (vault : VaultView) (stripe d : ℕ) (path name : List ℕ)
   pub kept : IsCellAt table stripe d path
   pub lost : IsCellAt table stripe 0 name
 
--- A fix leaves a cell alone in a stripe that it looked at. A file stood in the place of its record, and next one stands there with the bytes
--- of that cell.
+-- A fix leaves a cell alone in a stripe that it looked at. A file stood in the place of its record, and next one stands there with those bytes
+-- of that cell that the first one had.
 pub record SparesOne (fix : FixRun) (standing next : Standing) : Type 0 where
   pub disk : ℕ
   pub facts : StripeFacts
