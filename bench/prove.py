@@ -116,7 +116,8 @@ def show_unproved(proving, words):
     if reading.is_alive():
         ran.terminate()
     reading.join()
-    ran.wait()
+    if ran.wait() > 0:
+        said.append(f"failed with status {ran.returncode}\n")
     for line in "".join(said).splitlines():
         print(f"    unproved: {line}", flush=True)
 
@@ -135,8 +136,8 @@ def prove(program, words, room):
         print(proving.how_far(), flush=True)
         proving.join(MINUTE)
     if proving.failed:
-        sys.exit("".join(filter(TELLS_WHY.search, proving.said)) + "not all is proved")
-    print(f"{len(proving.below)} of {len(proving.below)} crates are proved, and the program is built", flush=True)
+        sys.exit("".join([*filter(TELLS_WHY.search, proving.said)] or proving.said[-20:]) + "not all is proved")
+    print(f"all {len(proving.below)} crates are proved, and the program is built", flush=True)
 
 
 if __name__ == "__main__":
