@@ -7,4 +7,5 @@ pub mod WindowLemmas
 pub mod ReadingsLemmas
 pub mod PutLemmas
 pub mod HashingLemmas
-pub mod EightLemmas
+pub mod FrontLemmas
+pub mod LaneLemmas

@@ -1,6 +1,5 @@
 -- The digests of blocks, which are given to their slots after all blocks of a column were read.
-use Rattle.std.specs.Prelude.{◌≡◌, ◌⊎◌, ℕ, ◌<◌, ◌≤◌, List, length, take, Option, None, Some, slice_index_or}
-use Rattle.std.specs.List.{AllZip}
+use Rattle.std.specs.Prelude.{◌≡◌, ◌⊎◌, ℕ, ◌≤◌, List, length, take, Option, None, Some, slice_index_or}
 use Rattle.block_hash.specs.Hash.{hash}
 use Rattle.block_hash.specs.declared.Digest16.{Digest16}
 use Rattle.file_table.specs.declared.shape.Shape.{Shape}
@@ -37,10 +36,6 @@ pub record HasNoOtherDigest (shape : Shape) (slot : SlotValue) : Type 0 where
 abbrev pub MayHash : Shape → SlotValue → SlotValue → Type 0
 MayHash shape before after = (after ≡ before) ⊎ (after ≡ hashed shape before)
 
--- some of these slots have their digests now
-abbrev pub HashesSome : Shape → List SlotValue → List SlotValue → Type 0
-HashesSome shape before after = AllZip (MayHash shape) before after
-
 -- the slot of a number
 abbrev pub slot_in : List SlotValue → ℕ → SlotValue
 slot_in slots i = slice_index_or slots i no_slot
@@ -49,8 +44,3 @@ slot_in slots i = slice_index_or slots i no_slot
 pub record HasFullBlock (block_size : ℕ) (slot : SlotValue) : Type 0 where
   pub found : slot.cell.found ≡ found.Bytes
   pub got : slot.cell.got ≡ block_size
-
--- the number of a slot with a full block
-pub record IsFullAt (block_size : ℕ) (slots : List SlotValue) (i : ℕ) : Type 0 where
-  pub within : i < length slots
-  pub full : HasFullBlock block_size (slot_in slots i)

@@ -11,3 +11,5 @@ pub mod KeptWindow
 pub mod Columns
 pub mod Came
 pub mod Readings
+pub mod Fetched
+pub mod HashedLanes

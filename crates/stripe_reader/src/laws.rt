@@ -7,6 +7,7 @@ ghost use Rattle.file_table.specs.Table.{TableValue, column_at};
 ghost use Rattle.file_table.specs.declared.shape.Shape.{Shape};
 ghost use Rattle.stripe_reader.specs.Column.{ReadsColumn};
 ghost use Rattle.stripe_reader.specs.Columns.{ReadsWindow};
+ghost use Rattle.stripe_reader.specs.Fetched.{FetchesWindow, hashed_window};
 ghost use Rattle.stripe_reader.specs.Reading.{CellReading, NoBlock, IsReadingBy, Task, given_by, task_at};
 ghost use Rattle.stripe_reader.specs.Readings.{bytes_read, IsReadingAt, HasReadings, readings_at, ReadsStripe};
 ghost use Rattle.stripe_reader.specs.Slot.{kept};
@@ -28,6 +29,14 @@ pub fn readings_follow_one_another()
     ensures { (shape : Shape) (tasks others : List Task) (slots more : List SlotValue) (before mid after : FolderView) →
         ReadsColumn shape tasks slots before mid → ReadsColumn shape others more mid after →
         ReadsColumn shape (tasks ++ others) (slots ++ more) before after }
+{}
+
+/// What was fetched into a window and then hashed is what was read.
+pub fn what_is_fetched_and_hashed_is_read()
+    ensures { (table : TableValue) (starts : StartsValue) (stripes : List ℕ) (before after : WindowValue)
+        (olds news : List FolderView) →
+        FetchesWindow table starts stripes before after olds news →
+        ReadsWindow table starts stripes before (hashed_window table.shape after) olds news }
 {}
 
 /// A window that was read keeps a reading of each cell, and of each column they are those that its folder was read for.

@@ -1,20 +1,23 @@
-//! Reads windows of stripes by several readers, each of which owns its columns.
+//! Reads windows of stripes, a thread for each column, and hashes their blocks by several threads.
 //!
-//! Start at `read_window` in `readers.rt`. A `Window` (`window.rt`) has a lane for each column, a lane has a slot for
-//! each stripe, and a slot keeps what was read of one cell, with its digest (`slot.rt`). So the columns of a window are
-//! split as the folders are, by `split_at_mut`, and one column is read by one reader, stripe after stripe
-//! (`reading.rt`), which then hashes its full blocks eight at a time (`hashing.rt`). What is asked of a folder depends
-//! on where its files stood when the run began (`Starts`, `starts.rt`).
+//! Start at `read_window` in `readers.rt`: it is `fetch_window` and then `hash_window` (`hashers.rt`). A `Window`
+//! (`window.rt`) has a lane for each column, a lane has a slot for each stripe, and a slot keeps what was read of one
+//! cell, with its digest (`slot.rt`). So the columns of a window are split as the folders are, by `split_at_mut`, and
+//! one column is read by one thread, stripe after stripe (`reading.rt`). Full blocks are hashed eight at a time, over all
+//! lanes that a thread has (`hashing.rt`). What is asked of a folder depends on where its files stood when the run began
+//! (`Starts`, `starts.rt`).
 //! Its definitions: what is asked for a cell and what is read of it (`specs/Reading.antt`), by which calls
 //! (`specs/FolderCalls.antt`), what a slot keeps of it (`specs/Slot.antt`), and what a window then holds, column by
-//! column (`specs/Column.antt`, `specs/Columns.antt`) and stripe by stripe (`specs/Readings.antt`). None of them speaks
-//! of readers. What has to hold before stripes are read, and what a window has then, is `specs/Held.antt`.
-//! Proved: a window holds that reading for any number of readers; no more cells are unread than a folder failed, and
-//! where it did not fail, the reading is what its files give (`laws.rt`). A block that is put into a window changes its
-//! slot alone (`Window::put`).
+//! column (`specs/Column.antt`, `specs/Columns.antt`) and stripe by stripe (`specs/Readings.antt`), and before it is
+//! hashed (`specs/Fetched.antt`). None of them speaks of threads. What has to hold before stripes are read, and what a
+//! window has then, is `specs/Held.antt`.
+//! Proved: a window that was fetched and hashed holds that reading, for any number of threads; no more cells are unread
+//! than a folder failed, and where it did not fail, the reading is what its files give (`laws.rt`). A block that is put
+//! into a window changes its slot alone (`Window::put`).
 //! Not here: what a reading means for a stripe, and any writing.
 #![tactic(auto)]
 
+mod hashers;
 mod hashing;
 pub mod laws;
 mod readers;
@@ -23,7 +26,8 @@ mod slot;
 mod starts;
 mod window;
 
-pub use readers::read_window;
+pub use hashers::hash_window;
+pub use readers::{fetch_window, read_window};
 pub use slot::{CellRead, Found};
 pub use starts::{Place, Start, Starts};
 pub use window::{MOST_STRIPES, WINDOW_BYTES, Window, stripe_count};

@@ -1,19 +1,24 @@
-// The columns of a window, shared out to readers.
+// The columns of a window: read side by side, a thread for each, and then hashed.
 ghost use Rattle.std.specs.Prelude.{◌≡◌, ◌<◌, ◌≤◌, All, length, map};
 ghost use Rattle.std.specs.Thread.{IsSend, IsSync};
 ghost use Rattle.stripe_reader.specs.Columns.{HasLanes, ReadsColumns, ReadsWindow};
+ghost use Rattle.stripe_reader.specs.Fetched.{FetchesWindow, IsUnhashedFront, hashed_front};
 ghost use Rattle.stripe_reader.specs.Starts.{StartsFit};
 ghost use Rattle.stripe_reader.specs.WindowValue.{Fits};
 
-use crate::reading::read_slots;
+use crate::hashers::hash_window;
+use crate::reading::read_cells;
 use crate::slot::Lane;
 use crate::{Starts, Window};
 use disk_model::Folder;
 use file_table::Table;
 use std::thread::{Threads, join_mut};
 
+// The most threads that read columns.
+const MOST_THREADS: u32 = 64;
+
 // Reads columns one after another.
-fn read_lanes<F: Folder>(
+fn fetch_lanes<F: Folder>(
     table: &Table,
     starts: &Starts,
     stripes: &[u32],
@@ -24,12 +29,14 @@ fn read_lanes<F: Folder>(
 )
     requires { HasLanes table.now starts.now first stripes.now room (length folders.old) lanes.old }
     ensures lanes { HasLanes table.now starts.now first stripes.now room (length folders.new) lanes.new }
-    ensures read { ReadsColumns table.now starts.now first stripes.now lanes.new
+    ensures unhashed { All (IsUnhashedFront table.now.shape.block_size (length stripes.now)) lanes.new }
+    ensures read { ReadsColumns table.now starts.now first stripes.now
+        (map (hashed_front table.now.shape (length stripes.now)) lanes.new)
         (map F.view folders.old) (map F.view folders.new) }
 {
     for k in 0..folders.len() {
         let lane = &mut lanes[k];
-        read_slots(
+        read_cells(
             &mut folders[k],
             table,
             starts,
@@ -40,16 +47,17 @@ fn read_lanes<F: Folder>(
     }
 }
 
-// A group of columns, from one on, and how many readers it has.
+// A group of columns, from one on, and how many threads read it.
 #[derive(Clone, Copy)]
 struct Group {
     first: u32,
-    readers: u32,
+    threads: u32,
 }
 
-// Reads the columns of a group: by one reader one after another, and by more in two groups side by side.
+// Reads the columns of a group, as even shares by so many threads. All of them are started by this one, which reads
+// the last share: a thread that has only just begun starts others late.
 #[cycle(groups)]
-fn read_group<R: Threads + Sync, F: Folder>(
+fn fetch_group<R: Threads + Sync, F: Folder>(
     rt: &R,
     table: &Table,
     starts: &Starts,
@@ -61,33 +69,30 @@ fn read_group<R: Threads + Sync, F: Folder>(
 )
     requires { HasLanes table.now starts.now group.first stripes.now room (length folders.old) lanes.old }
     ensures lanes { HasLanes table.now starts.now group.first stripes.now room (length folders.new) lanes.new }
-    ensures read { ReadsColumns table.now starts.now group.first stripes.now lanes.new
+    ensures unhashed { All (IsUnhashedFront table.now.shape.block_size (length stripes.now)) lanes.new }
+    ensures read { ReadsColumns table.now starts.now group.first stripes.now
+        (map (hashed_front table.now.shape (length stripes.now)) lanes.new)
         (map F.view folders.old) (map F.view folders.new) }
 {
-    if group.readers < 2 {
-        read_lanes(table, starts, stripes, room, group.first, folders, lanes);
+    if group.threads < 2 {
+        fetch_lanes(table, starts, stripes, room, group.first, folders, lanes);
         return;
     }
-    let half = group.readers / 2;
-    let count = folders.len() * half as usize / group.readers as usize;
-    let near = Group {
-        first: group.first,
-        readers: half,
-    };
-    let far = Group {
+    let count = folders.len() / group.threads as usize;
+    let rest = Group {
         first: group.first + count as u32,
-        readers: group.readers - half,
+        threads: group.threads - 1,
     };
     let (near_folders, far_folders) = folders.split_at_mut(count);
     let (near_lanes, far_lanes) = lanes.split_at_mut(count);
-    read_both(
+    fetch_both(
         rt,
         table,
         starts,
         stripes,
         room,
-        near,
-        far,
+        group.first,
+        rest,
         near_folders,
         near_lanes,
         far_folders,
@@ -95,70 +100,78 @@ fn read_group<R: Threads + Sync, F: Folder>(
     );
 }
 
-// Reads two groups side by side. The slices that are written come last, as in the calls of the closures.
+// Reads columns in a new thread, and a group beside it. The slices that are written come last, as in the calls of the
+// closures.
 #[cycle(groups)]
-fn read_both<R: Threads + Sync, F: Folder>(
+fn fetch_both<R: Threads + Sync, F: Folder>(
     rt: &R,
     table: &Table,
     starts: &Starts,
     stripes: &[u32],
     room: u32,
-    near: Group,
-    far: Group,
+    first: u32,
+    rest: Group,
     near_folders: &mut [F],
     near_lanes: &mut [Lane],
     far_folders: &mut [F],
     far_lanes: &mut [Lane],
 )
-    requires some_near { 0 < near.readers }
-    requires some_far { 0 < far.readers }
-    requires near { HasLanes table.now starts.now near.first stripes.now room
+    requires near { HasLanes table.now starts.now first stripes.now room
         (length near_folders.old) near_lanes.old }
-    requires far { HasLanes table.now starts.now far.first stripes.now room
+    requires far { HasLanes table.now starts.now rest.first stripes.now room
         (length far_folders.old) far_lanes.old }
-    ensures near { HasLanes table.now starts.now near.first stripes.now room
+    ensures near { HasLanes table.now starts.now first stripes.now room
         (length near_folders.new) near_lanes.new }
-    ensures near_read { ReadsColumns table.now starts.now near.first stripes.now near_lanes.new
+    ensures near_unhashed { All (IsUnhashedFront table.now.shape.block_size (length stripes.now)) near_lanes.new }
+    ensures near_read { ReadsColumns table.now starts.now first stripes.now
+        (map (hashed_front table.now.shape (length stripes.now)) near_lanes.new)
         (map F.view near_folders.old) (map F.view near_folders.new) }
-    ensures far { HasLanes table.now starts.now far.first stripes.now room
+    ensures far { HasLanes table.now starts.now rest.first stripes.now room
         (length far_folders.new) far_lanes.new }
-    ensures far_read { ReadsColumns table.now starts.now far.first stripes.now far_lanes.new
+    ensures far_unhashed { All (IsUnhashedFront table.now.shape.block_size (length stripes.now)) far_lanes.new }
+    ensures far_read { ReadsColumns table.now starts.now rest.first stripes.now
+        (map (hashed_front table.now.shape (length stripes.now)) far_lanes.new)
         (map F.view far_folders.old) (map F.view far_folders.new) }
 {
     let mut one = ||
-        requires { IsSync R.row × IsSend F.row × HasLanes table.now starts.now near.first stripes.now room
+        requires { IsSend F.row × HasLanes table.now starts.now first stripes.now room
             (length near_folders.now) near_lanes.now }
-        ensures lanes { HasLanes table.entry.now starts.entry.now near.first stripes.entry.now room
+        ensures lanes { HasLanes table.entry.now starts.entry.now first stripes.entry.now room
             (length near_folders.exit.now) near_lanes.exit.now }
-        ensures read { ReadsColumns table.entry.now starts.entry.now near.first stripes.entry.now near_lanes.exit.now
+        ensures unhashed { All (IsUnhashedFront table.entry.now.shape.block_size (length stripes.entry.now))
+            near_lanes.exit.now }
+        ensures read { ReadsColumns table.entry.now starts.entry.now first stripes.entry.now
+            (map (hashed_front table.entry.now.shape (length stripes.entry.now)) near_lanes.exit.now)
             (map F.view near_folders.entry.now) (map F.view near_folders.exit.now) }
     {
-        read_group(
-            rt,
+        fetch_lanes(
             table,
             starts,
             stripes,
             room,
-            near,
+            first,
             near_folders,
             near_lanes,
         )
     };
     let mut other = ||
-        requires { IsSync R.row × IsSend F.row × HasLanes table.now starts.now far.first stripes.now room
+        requires { IsSync R.row × IsSend F.row × HasLanes table.now starts.now rest.first stripes.now room
             (length far_folders.now) far_lanes.now }
-        ensures lanes { HasLanes table.entry.now starts.entry.now far.first stripes.entry.now room
+        ensures lanes { HasLanes table.entry.now starts.entry.now rest.first stripes.entry.now room
             (length far_folders.exit.now) far_lanes.exit.now }
-        ensures read { ReadsColumns table.entry.now starts.entry.now far.first stripes.entry.now far_lanes.exit.now
+        ensures unhashed { All (IsUnhashedFront table.entry.now.shape.block_size (length stripes.entry.now))
+            far_lanes.exit.now }
+        ensures read { ReadsColumns table.entry.now starts.entry.now rest.first stripes.entry.now
+            (map (hashed_front table.entry.now.shape (length stripes.entry.now)) far_lanes.exit.now)
             (map F.view far_folders.entry.now) (map F.view far_folders.exit.now) }
     {
-        read_group(
+        fetch_group(
             rt,
             table,
             starts,
             stripes,
             room,
-            far,
+            rest,
             far_folders,
             far_lanes,
         )
@@ -166,7 +179,37 @@ fn read_both<R: Threads + Sync, F: Folder>(
     join_mut(rt, &mut one, &mut other);
 }
 
-/// Reads these stripes of all columns into a window, by so many readers at most, each of which owns its columns.
+/// Reads these stripes of all columns into a window, side by side: a thread for each column, up to 64 of them. No
+/// block is hashed, and no memory is taken.
+pub fn fetch_window<R: Threads + Sync, F: Folder>(
+    rt: &R,
+    folders: &mut [F],
+    table: &Table,
+    starts: &Starts,
+    stripes: &[u32],
+    window: &mut Window,
+)
+    requires folders { length folders.old ≡ length table.now.columns }
+    requires starts { StartsFit table.now starts.now }
+    requires stripes { All (λ stripe. stripe < length table.now.infos) stripes.now }
+    requires fits { Fits table.now window.old }
+    requires room { length stripes.now ≤ window.old.room }
+    ensures fits { Fits table.now window.new }
+    ensures count { window.new.count ≡ length stripes.now }
+    ensures fetched { FetchesWindow table.now starts.now stripes.now window.old window.new
+        (map F.view folders.old) (map F.view folders.new) }
+{
+    let all = Group {
+        first: 0,
+        threads: table.disks().min(MOST_THREADS),
+    };
+    let room = window.room;
+    window.count = stripes.len() as u32;
+    let lanes = window.lanes.as_mut_slice();
+    fetch_group(rt, table, starts, stripes, room, all, folders, lanes);
+}
+
+/// Reads these stripes of all columns into a window, side by side, and hashes their blocks by so many threads at most.
 /// No memory is taken.
 pub fn read_window<R: Threads + Sync, F: Folder>(
     rt: &R,
@@ -186,12 +229,6 @@ pub fn read_window<R: Threads + Sync, F: Folder>(
     ensures read { ReadsWindow table.now starts.now stripes.now window.old window.new
         (map F.view folders.old) (map F.view folders.new) }
 {
-    let all = Group {
-        first: 0,
-        readers: readers.min(table.disks()),
-    };
-    let room = window.room;
-    window.count = stripes.len() as u32;
-    let lanes = window.lanes.as_mut_slice();
-    read_group(rt, table, starts, stripes, room, all, folders, lanes);
+    fetch_window(rt, folders, table, starts, stripes, window);
+    hash_window(rt, table.shape(), readers, window);
 }

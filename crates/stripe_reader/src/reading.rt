@@ -1,4 +1,4 @@
-// One column, read by one reader.
+// One column, read by one thread.
 ghost use Rattle.std.specs.Prelude.{◌≡◌, ◌<◌, ◌≤◌, All, length, map, take};
 ghost use Rattle.file_table.specs.Table.{column_at};
 ghost use Rattle.stripe_reader.specs.Came.{reading_of, HasCome};
@@ -9,7 +9,6 @@ ghost use Rattle.stripe_reader.specs.Slot.{kept};
 ghost use Rattle.stripe_reader.specs.Starts.{StartsFit, starts_at};
 ghost use Rattle.stripe_reader.specs.WindowValue.{HasBlocks};
 
-use crate::hashing::hash_slots;
 use crate::slot::{Found, Slot};
 use crate::starts::{Place, Starts};
 use disk_model::{FileFault, Folder, Meta, Path};
@@ -159,8 +158,8 @@ fn read_slot<F: Folder>(
     }
 }
 
-// Reads the cells of a column at these stripes, in their order, each into its slot. No block is hashed.
-fn read_cells<F: Folder>(
+/// Reads the cells of a column at these stripes, in their order, each into its slot. No block is hashed.
+pub(crate) fn read_cells<F: Folder>(
     folder: &mut F,
     table: &Table,
     starts: &Starts,
@@ -181,26 +180,4 @@ fn read_cells<F: Folder>(
     for i in 0..stripes.len() {
         read_slot(folder, table, starts, d, stripes[i], &mut slots[i]);
     }
-}
-
-/// Reads the cells of a column at these stripes, in their order, each into its slot, and hashes their blocks.
-pub(crate) fn read_slots<F: Folder>(
-    folder: &mut F,
-    table: &Table,
-    starts: &Starts,
-    d: u32,
-    stripes: &[u32],
-    slots: &mut [Slot],
-)
-    requires column { d < length table.now.columns }
-    requires stripes { All (λ stripe. stripe < length table.now.infos) stripes.now }
-    requires starts { StartsFit table.now starts.now }
-    requires enough { length stripes.now ≤ length slots.old }
-    requires blocks { HasBlocks table.now.shape.block_size slots.old }
-    ensures blocks { HasBlocks table.now.shape.block_size slots.new }
-    ensures read { ReadsColumn table.now.shape (tasks_at table.now starts.now d stripes.now)
-        (take (length stripes.now) slots.new) (F.view folder.old) (F.view folder.new) }
-{
-    read_cells(folder, table, starts, d, stripes, slots);
-    hash_slots(table.shape(), &mut slots[..stripes.len()]);
 }

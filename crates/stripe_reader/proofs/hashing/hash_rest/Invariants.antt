@@ -1,5 +1,7 @@
-use Rattle.stripe_reader.proofs.HashingLemmas.{HashesFirst}
+use Rattle.std.proofs.Common.{[]}
+use Rattle.stripe_reader.specs.Fetched.{hashed_front}
+use Rattle.stripe_reader.proofs.FrontLemmas.{MapsFirst}
 use Rattle.stripe_reader.proofs.hashing.hash_rest.Given as goal
 
-abbrev pub invariant-loop-i : goal.invariant-loop-i
-invariant-loop-i l = HashesFirst l.shape l.i l.fn.slots l.slots
+abbrev pub invariant-loop-k : goal.invariant-loop-k
+invariant-loop-k l = MapsFirst (hashed_front l.shape l.count) [] l.k l.fn.lanes l.lanes

@@ -1,9 +1,6 @@
-use Rattle.std.proofs.Common.{◌∙◌}
-use Rattle.stripe_reader.proofs.HashingLemmas.{all_none_other, some_then_all}
+use Rattle.std.proofs.Common.{arith}
+use Rattle.stripe_reader.proofs.HashingLemmas.{first_more}
 use Rattle.stripe_reader.proofs.hashing.hash_slots.Goals as goal
 
-pub hash_rest-requires-clause-none_other : goal.hash_rest-requires-clause-none_other
-hash_rest-requires-clause-none_other c = all_none_other c.args.shape c.args.slots.now c.hash_in_lanes.new.slots c.requires.unhashed c.hash_in_lanes.ensures
-
-pub returns : goal.returns
-returns c = c.hash_rest.ensures ∙ some_then_all c.args.shape c.args.slots.now c.hash_in_lanes.new.slots c.hash_in_lanes.ensures
+pub loop-i-preserved : goal.loop-i-preserved
+loop-i-preserved c = first_more c.args.shape c.loop-i.i c.args.slots.now c.loop-i.slots c.index-slots-i.result c.hash.new.self (omega (arith, c.loop-i.invariant.as_many)) c.loop-i.invariant c.hash.ensures

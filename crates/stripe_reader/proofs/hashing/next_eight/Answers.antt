@@ -1,24 +1,43 @@
-use Rattle.std.proofs.Common.{refl, ◌∙◌, arith}
-use Rattle.std.proofs.lemmas.List.{length-set}
-use Rattle.stripe_reader.proofs.EightLemmas.{full_all, full_here, full_more, last_is}
+use Rattle.std.proofs.Common.{refl, arith}
+use Rattle.stripe_reader.specs.HashedLanes.{IsFullAt}
+use Rattle.stripe_reader.proofs.LaneLemmas.{IsNext, all_eight, full_at, more_found, number_is}
 use Rattle.stripe_reader.proofs.hashing.next_eight.Goals as goal
-use Rattle.stripe_reader.proofs.hashing.next_eight.Goals.{then-is_full+else-count-eq7, else-is_full}
+use Rattle.stripe_reader.proofs.hashing.next_eight.Goals.{then-is_full+else-found-eq8, else-is_full}
 
-pub returns-then-count-eq7-clause-full : goal.returns-then-count-eq7-clause-full
-returns-then-count-eq7-clause-full c =
-    full_all c.args.block_size c.args.slots.now c.loop-i.eight c.loop-i.count c.loop-i.i c.loop-i.invariant.long c.loop-i.invariant.few c.loop-i.invariant.full
-    (full_here c.args.block_size c.args.slots.now c.loop-i.i c.index-slots-i.result (omega arith) c.index-slots-i.is (c.if-is_full.ensures.0 refl)) (omega arith)
+pub slot_of-requires : goal.slot_of-requires
+slot_of-requires c = number_is c.args.shape c.args.count c.args.lanes.now c.loop-at.at c.requires (omega arith)
 
-pub returns-then-count-eq7-clause-later : goal.returns-then-count-eq7-clause-later
-returns-then-count-eq7-clause-later c =
-    let last = last_is c.loop-i.eight c.loop-i.count c.loop-i.i c.loop-i.invariant.long (omega arith) in
-    omega (arith, last)
+pub returns-then-found-eq8-clause-full : goal.returns-then-found-eq8-clause-full
+returns-then-found-eq8-clause-full c =
+    let number = number_is c.args.shape c.args.count c.args.lanes.now c.loop-at.at c.requires (omega arith) in
+    let full = full_at c.args.shape c.args.count c.args.lanes.now c.loop-at.at c.slot_of.result.now number c.slot_of.ensures (c.if-is_full.ensures.0 refl) in
+    let next = more_found (IsNext c.args.shape c.args.count c.args.lanes.now c.args.from) c.loop-at.found c.loop-at.at c.loop-at.eight c.filled-eight.result
+    (record { full = full; later = omega arith; few = omega arith }) c.loop-at.invariant.full c.filled-eight.ensures.before c.filled-eight.ensures.behind in
+    all_eight (IsFullAt c.args.shape.block_size c.args.count c.args.lanes.now) c.filled-eight.result (omega arith) (λ k lt. (next k lt).full)
 
-pub loop-i-preserved : goal.loop-i-preserved
-loop-i-preserved c = elim c.if-is_full.branch [
-  | then-is_full+else-count-eq7 w ↦
-      let more = full_more c.args.block_size c.args.slots.now c.loop-i.eight c.loop-i.count c.loop-i.i c.loop-i.invariant.long c.loop-i.invariant.few c.loop-i.invariant.full
-      (full_here c.args.block_size c.args.slots.now c.loop-i.i c.index-slots-i.result (omega arith) c.index-slots-i.is (w.if-is_full.ensures.0 refl)) in
-      rw (w.eight-is, w.count-is) (record { long = length-set c.loop-i.eight c.loop-i.count c.loop-i.i ∙ c.loop-i.invariant.long; few = omega arith; full = more })
-  | else-is_full w ↦ rw (w.eight-is, w.count-is) c.loop-i.invariant
+pub returns-then-found-eq8-clause-later : goal.returns-then-found-eq8-clause-later
+returns-then-found-eq8-clause-later c = let last = c.filled-eight.ensures.behind 7 (omega arith) (omega arith) in omega (arith, last)
+
+pub returns-then-found-eq8-clause-few : goal.returns-then-found-eq8-clause-few
+returns-then-found-eq8-clause-few c = let last = c.filled-eight.ensures.behind 7 (omega arith) (omega arith) in omega (arith, last)
+
+pub loop-at-preserved : goal.loop-at-preserved
+loop-at-preserved c = elim c.if-is_full.branch [
+  | then-is_full+else-found-eq8 w ↦
+      let number = number_is c.args.shape c.args.count c.args.lanes.now c.loop-at.at c.requires (omega arith) in
+      let full = full_at c.args.shape c.args.count c.args.lanes.now c.loop-at.at c.slot_of.result.now number c.slot_of.ensures (w.if-is_full.ensures.0 refl) in
+      let next = more_found (IsNext c.args.shape c.args.count c.args.lanes.now c.args.from) c.loop-at.found c.loop-at.at c.loop-at.eight w.filled-eight.result
+      (record { full = full; later = omega arith; few = omega arith }) c.loop-at.invariant.full w.filled-eight.ensures.before w.filled-eight.ensures.behind in
+      rw (w.eight-is, w.found-is) (record { long = omega arith; few = omega arith; full = λ k lt some. next k lt })
+  | else-is_full w ↦ rw (w.eight-is, w.found-is) c.loop-at.invariant
 ]
+
+pub returns-clause-full : goal.returns-clause-full
+returns-clause-full c =
+    all_eight (IsFullAt c.args.shape.block_size c.args.count c.args.lanes.now) c.loop-at.eight c.loop-at.invariant.long (λ k lt. (c.loop-at.invariant.full k lt (omega arith)).full)
+
+pub returns-clause-later : goal.returns-clause-later
+returns-clause-later c = (c.loop-at.invariant.full 7 (omega arith) (omega arith)).later
+
+pub returns-clause-few : goal.returns-clause-few
+returns-clause-few c = (c.loop-at.invariant.full 7 (omega arith) (omega arith)).few
