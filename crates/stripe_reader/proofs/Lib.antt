@@ -9,3 +9,4 @@ pub mod PutLemmas
 pub mod HashingLemmas
 pub mod FrontLemmas
 pub mod LaneLemmas
+pub mod PartLemmas

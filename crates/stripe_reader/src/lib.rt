@@ -20,6 +20,7 @@
 mod hashers;
 mod hashing;
 pub mod laws;
+mod parts;
 mod readers;
 mod reading;
 mod slot;
@@ -27,6 +28,7 @@ mod starts;
 mod window;
 
 pub use hashers::hash_window;
+pub use parts::{for_each_chunk_mut, for_each_mut};
 pub use readers::{fetch_window, read_window};
 pub use slot::{CellRead, Found};
 pub use starts::{Place, Start, Starts};
