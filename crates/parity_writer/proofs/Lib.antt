@@ -15,3 +15,4 @@ pub mod ElsewhereLemmas
 pub mod LevelReadingLemmas
 pub mod WholeLevelLemmas
 pub mod PutRowLemmas
+pub mod ChosenWrites

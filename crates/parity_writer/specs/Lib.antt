@@ -9,3 +9,4 @@ pub mod Closing
 pub mod LevelsValue
 pub mod LevelReading
 pub mod KeptLevels
+pub mod Summing

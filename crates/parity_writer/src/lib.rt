@@ -19,11 +19,13 @@ pub mod laws;
 mod lengths;
 mod levels;
 mod settling;
+mod summing;
 mod sums;
 mod writing;
 
 pub use lengths::set_lengths;
 pub use levels::{LevelRead, Levels, read_levels};
 pub use settling::settle;
+pub use summing::{Sums, make_sums, sum_window, write_sums};
 pub use sums::{sum_levels, sum_row};
 pub use writing::write_window;
