@@ -11,3 +11,4 @@ pub mod LengthLemmas
 pub mod SeenLemmas
 pub mod SplitLemmas
 pub mod ReadLemmas
+mod MakingLemmas

@@ -14,6 +14,7 @@ mod base;
 mod cutting;
 mod growth;
 mod lengths;
+mod making;
 mod parts;
 mod reading;
 mod vault;

@@ -9,7 +9,8 @@ ghost use Rattle.parity_split.specs.Works.{Works, IsWithin, LevelBy, LevelReads,
 
 use crate::base::Base;
 use crate::growth::fill;
-use crate::parts::{End, Parts, find, larger, smaller};
+use crate::making::find_to_write;
+use crate::parts::{End, Parts, larger, smaller};
 use disk_model::Failed;
 
 // Writes what lies in one part before the end of the level.
@@ -159,7 +160,7 @@ pub fn write<V: Base>(base: &mut V, parts: Parts, at: u64, bytes: &[u8]) -> Resu
     if parts.count == 1 {
         return base.part_write(parts.first, at, bytes);
     }
-    let end = find(base, parts)?;
+    let end = find_to_write(base, parts)?;
     if at + bytes.len() as u64 > parts.len_to(end) {
         return write_past(base, parts, end, at, bytes);
     }

@@ -69,65 +69,65 @@ returns-then-parts-eq1-clause-written g c =
 pub returns-in_err-end-clause-works : goal.returns-in_err-end-clause-works
 returns-in_err-end-clause-works g c =
     let n = length c.args.bytes.now in
-    works_level c.args.parts (Torn c.args.at n) (g.V.Base.view c.args.base.now) (g.V.Base.view c.find.new.base) (λ x. same_torn c.args.at n x x refl) c.find.ensures.works
+    works_level c.args.parts (Torn c.args.at n) (g.V.Base.view c.args.base.now) (g.V.Base.view c.find_to_write.new.base) (λ x. same_torn c.args.at n x x refl) c.find_to_write.ensures.works
 
 pub returns-in_err-end-clause-kept : goal.returns-in_err-end-clause-kept
-returns-in_err-end-clause-kept g c = still_holds c.args.parts (InStep c.args.parts.capacity) (g.V.Base.view c.args.base.now) (g.V.Base.view c.find.new.base) (g.V.Base.well_formed _) c.find.ensures.works c.requires.in_step
+returns-in_err-end-clause-kept g c = still_holds c.args.parts (InStep c.args.parts.capacity) (g.V.Base.view c.args.base.now) (g.V.Base.view c.find_to_write.new.base) (g.V.Base.well_formed _) c.find_to_write.ensures.works c.requires.in_step
 
 pub returns-then-at-bytes-clause-works : goal.returns-then-at-bytes-clause-works
 returns-then-at-bytes-clause-works g c =
     let n = length c.args.bytes.now in
     let old = g.V.Base.view c.args.base.now in
-    let mid = g.V.Base.view c.find.new.base in
+    let mid = g.V.Base.view c.find_to_write.new.base in
     level_works_then c.args.parts (Torn c.args.at n) old mid (g.V.Base.view c.write_past.new.base) (torn_then c.args.at n)
-    (works_level c.args.parts (Torn c.args.at n) old mid (λ x. same_torn c.args.at n x x refl) c.find.ensures.works) c.write_past.ensures.works
+    (works_level c.args.parts (Torn c.args.at n) old mid (λ x. same_torn c.args.at n x x refl) c.find_to_write.ensures.works) c.write_past.ensures.works
 
 pub returns-then-at-bytes-clause-cause : goal.returns-then-at-bytes-clause-cause
-returns-then-at-bytes-clause-cause g c = rose_after c.write_past.result Stays (g.V.Base.view c.args.base.now) (g.V.Base.view c.find.new.base) (g.V.Base.view c.write_past.new.base) c.find.ensures.works c.write_past.ensures.cause
+returns-then-at-bytes-clause-cause g c = rose_after c.write_past.result Stays (g.V.Base.view c.args.base.now) (g.V.Base.view c.find_to_write.new.base) (g.V.Base.view c.write_past.new.base) c.find_to_write.ensures.works c.write_past.ensures.cause
 
 pub returns-then-at-bytes-clause-written : goal.returns-then-at-bytes-clause-written
 returns-then-at-bytes-clause-written g c =
     let p = c.args.parts in
     let old = g.V.Base.view c.args.base.now in
-    let mid = g.V.Base.view c.find.new.base in
+    let mid = g.V.Base.view c.find_to_write.new.base in
     let new = g.V.Base.view c.write_past.new.base in
-    on_ok c.write_past.result (λ is. level_put_after p c.args.at c.args.bytes.now old mid new (omega (arith, c.requires.room)) c.find.ensures.works c.write_past.ensures.works.calls.goes_on.tells is) c.write_past.ensures.written
+    on_ok c.write_past.result (λ is. level_put_after p c.args.at c.args.bytes.now old mid new (omega (arith, c.requires.room)) c.find_to_write.ensures.works c.write_past.ensures.works.calls.goes_on.tells is) c.write_past.ensures.written
 
 pub returns-clause-works : goal.returns-clause-works
 returns-clause-works g c =
     let n = length c.args.bytes.now in
     let old = g.V.Base.view c.args.base.now in
-    let mid = g.V.Base.view c.find.new.base in
+    let mid = g.V.Base.view c.find_to_write.new.base in
     level_works_then c.args.parts (Torn c.args.at n) old mid (g.V.Base.view c.write_within.new.base) (torn_then c.args.at n)
-    (works_level c.args.parts (Torn c.args.at n) old mid (λ x. same_torn c.args.at n x x refl) c.find.ensures.works) c.write_within.ensures.works
+    (works_level c.args.parts (Torn c.args.at n) old mid (λ x. same_torn c.args.at n x x refl) c.find_to_write.ensures.works) c.write_within.ensures.works
 
 pub returns-clause-cause : goal.returns-clause-cause
-returns-clause-cause g c = rose_after c.write_within.result Stays (g.V.Base.view c.args.base.now) (g.V.Base.view c.find.new.base) (g.V.Base.view c.write_within.new.base) c.find.ensures.works c.write_within.ensures.cause
+returns-clause-cause g c = rose_after c.write_within.result Stays (g.V.Base.view c.args.base.now) (g.V.Base.view c.find_to_write.new.base) (g.V.Base.view c.write_within.new.base) c.find_to_write.ensures.works c.write_within.ensures.cause
 
 pub returns-clause-written : goal.returns-clause-written
 returns-clause-written g c =
     let p = c.args.parts in
     let old = g.V.Base.view c.args.base.now in
-    let mid = g.V.Base.view c.find.new.base in
+    let mid = g.V.Base.view c.find_to_write.new.base in
     let new = g.V.Base.view c.write_within.new.base in
-    on_ok c.write_within.result (λ is. level_put_after p c.args.at c.args.bytes.now old mid new (omega (arith, c.requires.room)) c.find.ensures.works c.write_within.ensures.works.calls.goes_on.tells is) c.write_within.ensures.written
+    on_ok c.write_within.result (λ is. level_put_after p c.args.at c.args.bytes.now old mid new (omega (arith, c.requires.room)) c.find_to_write.ensures.works c.write_within.ensures.works.calls.goes_on.tells is) c.write_within.ensures.written
 
 pub write_past-requires-clause-end : goal.write_past-requires-clause-end
 write_past-requires-clause-end g c =
     let p = c.args.parts in
     let old = g.V.Base.view c.args.base.now in
-    let mid = g.V.Base.view c.find.new.base in
-    let within = still_within p Stays old mid c.find.ensures.works c.requires.parts in
-    let found : Reads (IsFound p c.in_ok-end.end) mid = reads_still (IsFound p c.in_ok-end.end) old mid c.find.ensures.works c.in_ok-end.ensures.found in
-    let near = near_found p c.in_ok-end.end mid (g.V.Base.well_formed _) within found (still_holds p (InStep p.capacity) old mid (g.V.Base.well_formed _) c.find.ensures.works c.requires.in_step) in
+    let mid = g.V.Base.view c.find_to_write.new.base in
+    let within = still_within p Stays old mid c.find_to_write.ensures.works c.requires.parts in
+    let found : Reads (IsFound p c.in_ok-end.end) mid = reads_still (IsFound p c.in_ok-end.end) old mid c.find_to_write.ensures.works c.in_ok-end.ensures.found in
+    let near = near_found p c.in_ok-end.end mid (g.V.Base.well_formed _) within found (still_holds p (InStep p.capacity) old mid (g.V.Base.well_formed _) c.find_to_write.ensures.works c.requires.in_step) in
     record { parts = within; within = c.in_ok-end.ensures.within; near = near; held = found_has p c.in_ok-end.end mid found }
 
 pub write_within-requires-clause-at : goal.write_within-requires-clause-at
 write_within-requires-clause-at g c =
     let p = c.args.parts in
     let old = g.V.Base.view c.args.base.now in
-    let mid = g.V.Base.view c.find.new.base in
-    let within = still_within p Stays old mid c.find.ensures.works c.requires.parts in
-    let found : Reads (IsFound p c.in_ok-end.end) mid = reads_still (IsFound p c.in_ok-end.end) old mid c.find.ensures.works c.in_ok-end.ensures.found in
-    let near = near_found p c.in_ok-end.end mid (g.V.Base.well_formed _) within found (still_holds p (InStep p.capacity) old mid (g.V.Base.well_formed _) c.find.ensures.works c.requires.in_step) in
+    let mid = g.V.Base.view c.find_to_write.new.base in
+    let within = still_within p Stays old mid c.find_to_write.ensures.works c.requires.parts in
+    let found : Reads (IsFound p c.in_ok-end.end) mid = reads_still (IsFound p c.in_ok-end.end) old mid c.find_to_write.ensures.works c.in_ok-end.ensures.found in
+    let near = near_found p c.in_ok-end.end mid (g.V.Base.well_formed _) within found (still_holds p (InStep p.capacity) old mid (g.V.Base.well_formed _) c.find_to_write.ensures.works c.requires.in_step) in
     record { parts = within; within = c.in_ok-end.ensures.within; near = near; found = found }
