@@ -29,8 +29,8 @@ use Rattle.snap_report.specs.declared.events.Event.{Event}
 use Rattle.snap_report.specs.declared.events.Event.TheVariants as event
 use Rattle.stripe_examiner.specs.Facts.{is_missing}
 use Rattle.stripe_examiner.specs.Findings.{all_cell_events, all_level_events, all_level_io_events, all_lost_events, changed_event, column_events, file_events, is_lost, lost_event, lost_events, opening_events, record_events, stripe_events, unsynced_events}
-use Rattle.stripe_examiner.specs.Plan.{FixPlan, cell_at, entry_at, is_audit}
-use Rattle.stripe_examiner.specs.declared.entry.Entry.{Entry}
+use Rattle.repair_scope.specs.Plan.{FixPlan, cell_at, entry_at, is_audit}
+use Rattle.repair_scope.specs.declared.entry.Entry.{Entry}
 use Rattle.stripe_reader.specs.Columns.{folder_at}
 use Rattle.stripe_reader.specs.Starts.{StartsValue, no_start, starts_at}
 use Rattle.stripe_reader.specs.declared.starts.Place.{Place}

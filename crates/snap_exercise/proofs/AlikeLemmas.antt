@@ -22,7 +22,7 @@ use Rattle.snap_report.specs.declared.events.Event.{Event}
 use Rattle.stripe_examiner.specs.Facts.{StripeFacts, slot_of}
 use Rattle.stripe_examiner.specs.Known.{AreFacts, IsTried}
 use Rattle.stripe_examiner.specs.Looking.{facts_at, no_facts, numbers_of}
-use Rattle.stripe_examiner.specs.Plan.{FixPlan, cell_at, is_searched, seen_at, selects_cell}
+use Rattle.repair_scope.specs.Plan.{FixPlan, cell_at, is_searched, seen_at, selects_cell}
 use Rattle.stripe_examiner.specs.Showing.{known_block}
 use Rattle.stripe_reader.specs.WindowValue.{no_slot}
 

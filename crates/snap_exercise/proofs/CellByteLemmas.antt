@@ -32,7 +32,7 @@ use Rattle.snap_fix.specs.Restored.{HasFixed, HasFixedRecord, HoldsCell, IsNotWr
 use Rattle.snap_sync.proofs.CellLemmas.{IsWhole, whole_of}
 use Rattle.stripe_examiner.proofs.CellFactsLemmas.{given_found}
 use Rattle.stripe_examiner.specs.Facts.{IsGift, StripeFacts, agrees, damaged_at, is_damaged, slot_of}
-use Rattle.stripe_examiner.specs.Plan.{FixPlan, cell_at, entry_at, seen_at, selects_cell}
+use Rattle.repair_scope.specs.Plan.{FixPlan, cell_at, entry_at, seen_at, selects_cell}
 use Rattle.stripe_examiner.specs.Present.{IsPresent}
 use Rattle.stripe_examiner.specs.Showing.{known_block}
 use Rattle.stripe_reader.specs.Columns.{folder_at}

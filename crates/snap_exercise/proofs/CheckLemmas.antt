@@ -27,7 +27,7 @@ use Rattle.stripe_examiner.specs.Facts.{StripeFacts, gift_of}
 use Rattle.stripe_examiner.specs.Findings.{events_of, opening_events}
 use Rattle.stripe_examiner.specs.Known.{AreFacts}
 use Rattle.stripe_examiner.specs.Looking.{facts_at, no_facts, numbers_of, unread_in}
-use Rattle.stripe_examiner.specs.Plan.{FixPlan, stripes_of}
+use Rattle.repair_scope.specs.Plan.{FixPlan, stripes_of}
 use Rattle.stripe_reader.specs.Columns.{folder_at}
 
 -- What is known of a check that ended, by what these files and these levels hold.

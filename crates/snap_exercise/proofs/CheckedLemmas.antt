@@ -58,11 +58,11 @@ use Rattle.stripe_examiner.specs.Facts.{StripeFacts, bytes_before, gift_of, gift
 use Rattle.stripe_examiner.specs.Findings.{column_events, events_of, is_unread, opening_events, record_events, stripe_events}
 use Rattle.stripe_examiner.specs.Known.{AreFacts, IsKnown, IsTried}
 use Rattle.stripe_examiner.specs.Looking.{facts_at, no_facts}
-use Rattle.stripe_examiner.specs.Place.{found_in}
-use Rattle.stripe_examiner.specs.Plan.{FixPlan, column_entries, entries_of, entry_at, entry_of, is_audit, is_synced, names_of, no_entry, seen_at}
-use Rattle.stripe_examiner.specs.Selected.{is_as_recorded, means_level}
-use Rattle.stripe_examiner.specs.declared.entry.Entry.{Entry}
-use Rattle.stripe_examiner.specs.declared.scope.Mode.TheVariants as modes
+use Rattle.repair_scope.specs.Blocked.{found_in}
+use Rattle.repair_scope.specs.Plan.{FixPlan, column_entries, entries_of, entry_at, entry_of, is_audit, is_synced, names_of, no_entry, seen_at}
+use Rattle.repair_scope.specs.Selected.{is_as_recorded, means_level}
+use Rattle.repair_scope.specs.declared.entry.Entry.{Entry}
+use Rattle.repair_scope.specs.declared.scope.Mode.TheVariants as modes
 use Rattle.stripe_reader.specs.SlotValue.{SlotValue}
 use Rattle.stripe_reader.specs.WindowValue.{no_slot}
 

@@ -27,9 +27,9 @@ use Rattle.snap_sync.proofs.LeftLemmas.{columns_closed_by}
 use Rattle.snap_sync.proofs.PartLemmas.{length-layout}
 use Rattle.snap_sync.proofs.SeenLemmas.{shape_closed}
 use Rattle.array_scan.specs.Kept.{kept_lists}
-use Rattle.stripe_examiner.specs.Plan.{names_of}
+use Rattle.repair_scope.specs.Plan.{names_of}
 use Rattle.stripe_examiner.specs.Spare.{nothing}
-use Rattle.stripe_examiner.specs.declared.scope.Mode.TheVariants.{Check, Fix}
+use Rattle.repair_scope.specs.declared.scope.Mode.TheVariants.{Check, Fix}
 use Rattle.stripe_reader.specs.Columns.{folder_at}
 
 module _ {W R : Type 0} (view : W → SinkView) (standing_of : R → ReportView) (stands : R → List Event → Type 0)

@@ -50,10 +50,10 @@ use Rattle.stripe_examiner.specs.Facts.{StripeFacts, gift_of}
 use Rattle.stripe_examiner.specs.Findings.{opening_events}
 use Rattle.stripe_examiner.specs.Known.{AreFacts, IsTried}
 use Rattle.stripe_examiner.specs.Looking.{facts_at, no_facts, numbers_of, unread_in}
-use Rattle.stripe_examiner.specs.Plan.{FixPlan, entry_at, is_searched, names_of, stripes_of}
-use Rattle.stripe_examiner.specs.declared.entry.Entry.{Entry}
-use Rattle.stripe_examiner.specs.declared.scope.Mode.{Mode}
-use Rattle.stripe_examiner.specs.declared.scope.Mode.TheVariants as modes
+use Rattle.repair_scope.specs.Plan.{FixPlan, entry_at, is_searched, names_of, stripes_of}
+use Rattle.repair_scope.specs.declared.entry.Entry.{Entry}
+use Rattle.repair_scope.specs.declared.scope.Mode.{Mode}
+use Rattle.repair_scope.specs.declared.scope.Mode.TheVariants as modes
 use Rattle.stripe_reader.specs.Columns.{folder_at}
 use Rattle.stripe_reader.specs.Starts.{start_in, starts_at}
 

@@ -28,9 +28,9 @@ use Rattle.snap_exercise.proofs.AfterSyncLemmas.{length-trees}
 use Rattle.snap_exercise.proofs.PathLemmas.{IsPlain, plain_name}
 use Rattle.snap_sync.specs.Part.{tree_at}
 use Rattle.snap_sync.proofs.StaysLemmas.{differs-closed}
-use Rattle.stripe_examiner.specs.Place.{found_in, holds_one, is_blocked, is_inside_one}
-use Rattle.stripe_examiner.specs.Plan.{column_entries, entry_at, entry_of, names_of, no_entry}
-use Rattle.stripe_examiner.specs.declared.entry.Entry.{Entry}
+use Rattle.repair_scope.specs.Blocked.{found_in, holds_one, is_blocked, is_inside_one}
+use Rattle.repair_scope.specs.Plan.{column_entries, entry_at, entry_of, names_of, no_entry}
+use Rattle.repair_scope.specs.declared.entry.Entry.{Entry}
 
 -- ---- names without a slash
 

@@ -16,7 +16,7 @@ use Rattle.snap_fix.specs.Genuine.{IsIntactLevel, IsRestorableStripe, TellsIntac
 use Rattle.snap_sync.proofs.ListFacts.{filter_all, filter_none}
 use Rattle.stripe_examiner.specs.Facts.{StripeFacts, is_missing, missing_in}
 use Rattle.stripe_examiner.specs.Known.{is_whole, whole_level, whole_levels}
-use Rattle.stripe_examiner.specs.Plan.{FixPlan}
+use Rattle.repair_scope.specs.Plan.{FixPlan}
 
 -- what parity_writer says of a level that was read
 abbrev pub WholeLevelsHold : Type 0

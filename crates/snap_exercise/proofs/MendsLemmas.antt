@@ -50,7 +50,8 @@ use Rattle.stripe_examiner.specs.Facts.{StripeFacts, gift_of, is_missing, slot_o
 use Rattle.stripe_examiner.specs.Findings.{opening_events}
 use Rattle.stripe_examiner.specs.Known.{AreFacts, IsTried}
 use Rattle.stripe_examiner.specs.Looking.{facts_at, no_facts}
-use Rattle.stripe_examiner.specs.Plan.{FixPlan, is_audit, is_searched, is_synced, seen_in, starts_of}
+use Rattle.repair_scope.specs.Plan.{FixPlan, is_audit, is_searched, is_synced, seen_in}
+use Rattle.stripe_examiner.specs.Place.{starts_of}
 use Rattle.stripe_examiner.specs.Present.{ArePresent}
 use Rattle.stripe_findings.specs.Reading.{AreRead, StripeReading, is_verified}
 use Rattle.stripe_reader.specs.Starts.{StartsValue}

@@ -33,7 +33,7 @@ use Rattle.snap_exercise.proofs.PathLemmas.{one_part, plain_name}
 use Rattle.snap_exercise.proofs.UndamagedLemmas.{found_tree}
 use Rattle.snap_sync.specs.Part.{tree_at}
 use Rattle.snap_sync.proofs.ListFacts.{filter_all}
-use Rattle.stripe_examiner.specs.Place.{found_in}
+use Rattle.repair_scope.specs.Blocked.{found_in}
 
 -- ---- what is found in a tree
 

@@ -57,7 +57,8 @@ use Rattle.snap_sync.proofs.SeenLemmas.{GivesItsHashes, LeavesTheOthers}
 use Rattle.snap_sync.proofs.StaysLemmas.{differs-closed}
 use Rattle.stripe_examiner.specs.Facts.{StripeFacts, damaged_at}
 use Rattle.stripe_examiner.specs.Looking.{facts_at, no_facts, numbers_of}
-use Rattle.stripe_examiner.specs.Plan.{FixPlan, cell_at, has_selected, has_selected_cell, is_in_scope, is_looked_at, selects_cell, selects_level, starts_of}
+use Rattle.repair_scope.specs.Plan.{FixPlan, cell_at, has_selected, has_selected_cell, is_in_scope, is_looked_at, selects_cell, selects_level}
+use Rattle.stripe_examiner.specs.Place.{starts_of}
 use Rattle.stripe_reader.specs.Columns.{folder_at}
 use Rattle.stripe_reader.specs.Reading.{block_length}
 use Rattle.stripe_reader.specs.Starts.{StartsValue}

@@ -18,9 +18,9 @@ use Rattle.stripe_examiner.specs.Facts.{StripeFacts, agrees, gift_of, gift_or, i
 use Rattle.stripe_examiner.specs.Findings.{all_cell_events, all_level_events, all_level_io_events, all_lost_events, cell_events, events_of, is_unread, read_event, read_events, silent_event, stripe_events, unsynced_events}
 use Rattle.stripe_examiner.specs.Known.{AreFacts, IsKnown, IsTried}
 use Rattle.stripe_examiner.specs.Looking.{facts_at}
-use Rattle.stripe_examiner.specs.Plan.{FixPlan, cell_at, entry_at, is_searched, seen_at, selects_cell}
-use Rattle.stripe_examiner.specs.Selected.{is_as_recorded}
-use Rattle.stripe_examiner.specs.declared.entry.Entry.{Entry}
+use Rattle.repair_scope.specs.Plan.{FixPlan, cell_at, entry_at, is_searched, seen_at, selects_cell}
+use Rattle.repair_scope.specs.Selected.{is_as_recorded}
+use Rattle.repair_scope.specs.declared.entry.Entry.{Entry}
 use Rattle.stripe_examiner.specs.declared.search.Wanted.{Wanted}
 use Rattle.stripe_reader.specs.SlotValue.{SlotValue}
 use Rattle.stripe_reader.specs.declared.slot.Found.{Found}

@@ -30,7 +30,7 @@ use Rattle.snap_sync.proofs.ListFacts.{filter_all}
 use Rattle.snap_sync.proofs.RowLemmas.{row_closes}
 use Rattle.snap_sync.proofs.SeenLemmas.{GivesItsHashes, LeavesTheOthers, infos_closed, row_read, shape_closed, view_closed, view_in, view_read, view_with, views_at}
 use Rattle.stripe_examiner.proofs.CellFactsLemmas.{given_found}
-use Rattle.stripe_examiner.specs.Plan.{seen_in}
+use Rattle.repair_scope.specs.Plan.{seen_in}
 use Rattle.stripe_findings.specs.Reading.{AreRead, StripeReading, digests_of, is_verified, row_of, slot_of}
 use Rattle.stripe_reader.specs.Reading.{Beyond, CellReading, Fetch, Gone, IsReadingBy, Known, NoBlock, Nowhere, Part, Task, Unread, Whole, block_length}
 use Rattle.stripe_reader.specs.Slot.{kept}

@@ -39,10 +39,11 @@ use Rattle.snap_sync.proofs.SeenLemmas.{view_with}
 use Rattle.snap_sync.proofs.TasksLemmas.{task_at-same}
 use Rattle.stripe_examiner.specs.Facts.{agrees as matches, is_damaged}
 use Rattle.stripe_examiner.proofs.CellFactsLemmas.{given_found}
-use Rattle.stripe_examiner.proofs.LookUpLemmas.{tied_paths}
-use Rattle.stripe_examiner.specs.Listed.{path_cmp}
-use Rattle.stripe_examiner.specs.Place.{found_in, start_by, start_of}
-use Rattle.stripe_examiner.specs.Plan.{column_starts, seen_in, starts_of}
+use Rattle.repair_scope.proofs.LookUpLemmas.{tied_paths}
+use Rattle.repair_scope.specs.Listed.{path_cmp}
+use Rattle.repair_scope.specs.Blocked.{found_in}
+use Rattle.stripe_examiner.specs.Place.{start_by, start_of, column_starts, starts_of}
+use Rattle.repair_scope.specs.Plan.{seen_in}
 use Rattle.stripe_findings.specs.Reading.{agrees, is_recorded, is_right, is_seen, is_verified, row_of, slot_of}
 use Rattle.stripe_reader.specs.Reading.{Beyond, CellReading, Fetch, Gone, Known, NoBlock, Part, Task, Whole, block_length, came, cell_task, file_task, given_by, given_of, task_at}
 use Rattle.stripe_reader.specs.Slot.{kept}

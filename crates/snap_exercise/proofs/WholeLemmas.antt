@@ -40,9 +40,9 @@ use Rattle.snap_sync.specs.declared.syncing.SyncEnd.{SyncEnd}
 use Rattle.stripe_examiner.specs.Counts.{at_most}
 use Rattle.stripe_examiner.specs.Facts.{StripeFacts}
 use Rattle.stripe_examiner.specs.Findings.{is_wrong_by, opening_events}
-use Rattle.stripe_examiner.specs.Plan.{FixPlan, column_entries, entry_at, entry_of, is_audit, names_of, no_entry, selects_level}
-use Rattle.stripe_examiner.specs.declared.entry.Entry.{Entry}
-use Rattle.stripe_examiner.specs.declared.scope.Mode.TheVariants as modes
+use Rattle.repair_scope.specs.Plan.{FixPlan, column_entries, entry_at, entry_of, is_audit, names_of, no_entry, selects_level}
+use Rattle.repair_scope.specs.declared.entry.Entry.{Entry}
+use Rattle.repair_scope.specs.declared.scope.Mode.TheVariants as modes
 use Rattle.stripe_reader.specs.Columns.{folder_at}
 
 at_most_none : (k : ℕ) → at_most k ≡ 0 → k ≡ 0

@@ -40,10 +40,11 @@ use Rattle.stripe_examiner.specs.Counts.{at_most}
 use Rattle.stripe_examiner.specs.Facts.{StripeFacts}
 use Rattle.stripe_examiner.specs.Known.{AreFacts}
 use Rattle.stripe_examiner.specs.Looking.{AreRead, LevelsAreRead, numbers_of, unread_cells}
-use Rattle.stripe_examiner.specs.Plan.{FixPlan, entries_of, names_of, starts_of, stripes_of}
-use Rattle.stripe_examiner.specs.Selected.{means_level}
+use Rattle.repair_scope.specs.Plan.{FixPlan, entries_of, names_of, stripes_of}
+use Rattle.stripe_examiner.specs.Place.{starts_of}
+use Rattle.repair_scope.specs.Selected.{means_level}
 use Rattle.stripe_examiner.specs.Spare.{nothing}
-use Rattle.stripe_examiner.specs.declared.scope.Mode.TheVariants.{Check, Fix}
+use Rattle.repair_scope.specs.declared.scope.Mode.TheVariants.{Check, Fix}
 use Rattle.stripe_findings.specs.Findings.{events_of}
 use Rattle.stripe_findings.specs.Reading.{StripeReading}
 use Rattle.stripe_reader.specs.Columns.{folder_at}

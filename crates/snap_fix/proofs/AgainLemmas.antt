@@ -29,9 +29,9 @@ use Rattle.stripe_reader.specs.declared.starts.Place.TheVariants.{Plain, Lost, N
 use Rattle.stripe_reader.specs.declared.starts.Start.{Start}
 use Rattle.stripe_examiner.specs.Facts.{StripeFacts, agrees, damaged_at, is_damaged, slot_of}
 use Rattle.stripe_examiner.specs.Findings.{is_unread as is_not_found}
-use Rattle.stripe_examiner.specs.Place.{start_of}
+use Rattle.stripe_examiner.specs.Place.{start_of, column_starts, starts_of}
 use Rattle.stripe_examiner.specs.Looking.{numbers_of}
-use Rattle.stripe_examiner.specs.Plan.{FixPlan, cell_at, column_starts, seen_at, seen_in, selects_cell, starts_of}
+use Rattle.repair_scope.specs.Plan.{FixPlan, cell_at, seen_at, seen_in, selects_cell}
 use Rattle.stripe_examiner.specs.Present.{IsPresent}
 use Rattle.stripe_examiner.specs.Showing.{known_block}
 use Rattle.snap_fix.specs.Again.{IsFoundAgain, IsFoundIn, IsLookedAt}

@@ -5,7 +5,7 @@ use Rattle.std.proofs.lemmas.List.Elements.{All-nil, All-append}
 use Rattle.std.proofs.lemmas.List.Sums.{sum_by-append}
 use Rattle.stripe_examiner.specs.Asking.{AsksSpare, is_held, withheld_in}
 use Rattle.stripe_examiner.specs.Facts.{StripeFacts, gift_of}
-use Rattle.stripe_examiner.specs.Plan.{FixPlan}
+use Rattle.repair_scope.specs.Plan.{FixPlan}
 use Rattle.stripe_examiner.specs.Spare.{SpareView}
 
 -- what it gave is what it holds

@@ -16,14 +16,14 @@ use Rattle.snap_report.specs.Kind.{is_finding}
 use Rattle.snap_report.specs.declared.events.Event.{Event}
 use Rattle.snap_report.specs.declared.events.Event.TheVariants.{Changed, Blocked, Unsynced, Silent, Io}
 use Rattle.stripe_reader.specs.SlotValue.{SlotValue}
-use Rattle.stripe_examiner.specs.declared.entry.Entry.{Entry}
-use Rattle.stripe_examiner.specs.declared.scope.Mode.TheVariants.{Audit}
+use Rattle.repair_scope.specs.declared.entry.Entry.{Entry}
+use Rattle.repair_scope.specs.declared.scope.Mode.TheVariants.{Audit}
 use Rattle.stripe_examiner.specs.Counts.{at_most}
 use Rattle.stripe_examiner.specs.Facts.{StripeFacts, is_missing, slot_of}
 use Rattle.stripe_examiner.specs.Findings.{all_cell_events, all_level_events, all_level_io_events, all_lost_events, cell_events, column_events, events_of, file_events, is_lost, is_unread, lost_event, lost_events, opening_events, read_event, read_events, record_events, silent_event, stripe_events, unsynced_events}
 use Rattle.stripe_examiner.specs.Known.{AreFacts, IsTried}
-use Rattle.stripe_examiner.specs.Plan.{FixPlan, cell_at, entry_at, has_selected, has_selected_cell, is_audit, is_in_scope, is_synced, selects_cell}
-use Rattle.stripe_examiner.specs.Selected.{is_as_recorded}
+use Rattle.repair_scope.specs.Plan.{FixPlan, cell_at, entry_at, has_selected, has_selected_cell, is_audit, is_in_scope, is_synced, selects_cell}
+use Rattle.repair_scope.specs.Selected.{is_as_recorded}
 use Rattle.snap_fix.specs.Audited.{FindsNothing, IsReadRight}
 use Rattle.snap_fix.specs.Course.{check_events}
 use Rattle.snap_fix.proofs.FixCountLemmas.{count_append}

@@ -13,7 +13,7 @@ use Rattle.disk_model.specs.declared.answer.Answer.TheVariants.{Done}
 use Rattle.file_table.specs.Table.{TableValue, records_in}
 use Rattle.snap_config.specs.declared.options.Selection.{Selection}
 use Rattle.snap_fix.specs.Beginning.{BeginsNot, of_listing}
-use Rattle.stripe_examiner.specs.Plan.{EntriesFit, column_entries, entries_of, entry_of}
+use Rattle.repair_scope.specs.Plan.{EntriesFit, column_entries, entries_of, entry_of}
 
 -- each list of files is a listing
 pub lists_are_listings : (olds news : List FolderView) (lists : List (List ListedFile)) → ListsAll olds news lists → All IsListing lists

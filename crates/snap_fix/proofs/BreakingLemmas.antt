@@ -9,7 +9,7 @@ use Rattle.snap_report.specs.declared.answer.RunFault.TheVariants.{Folder, Vault
 use Rattle.file_restorer.specs.Breaking.{FailsAfter, FailsIn}
 use Rattle.snap_fix.specs.BrokenStripe.{BreaksLevels, FailsAtLevel, writes_below}
 use Rattle.stripe_examiner.specs.Facts.{StripeFacts}
-use Rattle.stripe_examiner.specs.Plan.{FixPlan}
+use Rattle.repair_scope.specs.Plan.{FixPlan}
 use Rattle.snap_fix.specs.Underway.{done_well, level_write}
 use Rattle.stripe_examiner.proofs.LookingLemmas.{vault_goes_on}
 

@@ -15,8 +15,8 @@ use Rattle.snap_report.specs.declared.answer.RunFault.TheVariants.{Folder, Vault
 use Rattle.snap_report.specs.declared.events.Event.{Event}
 use Rattle.stripe_reader.specs.Columns.{folder_at}
 use Rattle.snap_fix.specs.declared.checks.FixEnd.{FixEnd}
-use Rattle.stripe_examiner.specs.declared.scope.Mode.{Mode}
-use Rattle.stripe_examiner.specs.declared.scope.Mode.TheVariants.{Check, Audit, Fix}
+use Rattle.repair_scope.specs.declared.scope.Mode.{Mode}
+use Rattle.repair_scope.specs.declared.scope.Mode.TheVariants.{Check, Audit, Fix}
 use Rattle.snap_fix.specs.Beginning.{BeginsNot}
 use Rattle.snap_fix.specs.ByMode.{LeavesAll, LeavesFor, MayFailBy, Repairs, RepairsNot}
 use Rattle.snap_fix.specs.Course.{Checks, Outside}

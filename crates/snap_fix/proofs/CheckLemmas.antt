@@ -18,7 +18,7 @@ use Rattle.stripe_examiner.specs.Counts.{AreCounts}
 use Rattle.stripe_examiner.specs.Facts.{StripeFacts}
 use Rattle.stripe_examiner.specs.Findings.{events_of, stripe_events}
 use Rattle.stripe_examiner.specs.Looking.{AreRead, LooksAt, LooksInto, Scene, facts_at, no_facts, numbers_of}
-use Rattle.stripe_examiner.specs.Plan.{FixPlan}
+use Rattle.repair_scope.specs.Plan.{FixPlan}
 use Rattle.stripe_examiner.proofs.LookingLemmas.{looks_then}
 use Rattle.snap_fix.proofs.ReadLemmas.{read_then, read_window}
 

@@ -10,14 +10,14 @@ use Rattle.file_table.specs.Table.{Record, TableValue, records_in}
 use Rattle.snap_config.specs.declared.options.Selection.{Selection}
 use Rattle.stripe_reader.specs.Starts.{StartsFit, StartsValue}
 use Rattle.snap_fix.specs.declared.beginning.Work.{Work}
-use Rattle.stripe_examiner.specs.declared.entry.Entry.{Entry}
-use Rattle.stripe_examiner.specs.declared.scope.Mode.{Mode}
+use Rattle.repair_scope.specs.declared.entry.Entry.{Entry}
+use Rattle.repair_scope.specs.declared.scope.Mode.{Mode}
 use Rattle.snap_fix.specs.Beginning.{Begins}
 use Rattle.snap_fix.specs.Checking.{IsWorkFor, plan_for}
 use Rattle.stripe_examiner.specs.Facts.{StripeFacts}
 use Rattle.stripe_examiner.specs.Looking.{AreRead}
-use Rattle.stripe_examiner.specs.Place.{start_of}
-use Rattle.stripe_examiner.specs.Plan.{FixPlan, EntriesFit, column_starts, starts_of, stripes_of, is_looked_at}
+use Rattle.stripe_examiner.specs.Place.{start_of, column_starts, starts_of}
+use Rattle.repair_scope.specs.Plan.{FixPlan, EntriesFit, stripes_of, is_looked_at}
 use Rattle.snap_fix.proofs.BeginningLemmas.{entries_fit}
 
 pub starts_fit : (table : TableValue) (lists : List (List ListedFile)) → StartsFit table (starts_of table lists)

@@ -21,7 +21,7 @@ use Rattle.stripe_examiner.specs.Counts.{AreCounts}
 use Rattle.snap_fix.specs.Ending.{AreColumnFinishCalls, AreDone, FailsAtRecord, CanFinishAll, CanFinishColumn, FinishesAll, FinishesFiles, FinishesNotAll, FinishesFile, IsDone, all_finish_news, column_news, column_news_at, finish_at, finishes_at, is_finished, states_at}
 use Rattle.snap_fix.specs.EndingSteps.{CanEndColumn, EndsColumn, EndsNotColumn, column_outside}
 use Rattle.file_restorer.specs.Mending.{StatesFit}
-use Rattle.stripe_examiner.specs.Plan.{FixPlan}
+use Rattle.repair_scope.specs.Plan.{FixPlan}
 use Rattle.file_table.specs.Table.{records_in}
 use Rattle.snap_fix.specs.Repairing.{outside}
 use Rattle.file_restorer.specs.State.{FolderMakesBy}

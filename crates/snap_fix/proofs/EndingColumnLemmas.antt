@@ -24,7 +24,7 @@ use Rattle.snap_fix.specs.EndingSteps.{CanEndColumn, CanEndRecord, EndsColumn, E
 use Rattle.file_restorer.specs.Finishing.{FitsTree, HoldsFinished, IsFinishCall, SameNames, StandsWhole, bytes_now, finish_calls, finish_of, was_gone}
 use Rattle.file_restorer.specs.Mending.{StatesFit}
 use Rattle.file_restorer.specs.Order.{FolderWrites}
-use Rattle.stripe_examiner.specs.Plan.{FixPlan, entry_at}
+use Rattle.repair_scope.specs.Plan.{FixPlan, entry_at}
 use Rattle.file_restorer.specs.State.{AreStepCalls, FolderMakesBy, OthersStay, WellCall, no_state, record_path, state_in}
 use Rattle.snap_fix.proofs.EndingFilesLemmas.{fits_stays, free_stays, holds_on, holds_since, names_stay, whole_on, whole_since}
 use Rattle.snap_fix.proofs.EndingTellLemmas.{events_after, events_split, finish_before, finish_last, records_before}

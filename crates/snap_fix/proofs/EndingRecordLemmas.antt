@@ -20,7 +20,7 @@ use Rattle.snap_fix.specs.Ending.{FinishesThis, finish_news, is_finished, news_o
 use Rattle.snap_fix.specs.EndingSteps.{CanEndRecord, EndsNotRecord, EndsRecord, column_outside}
 use Rattle.file_restorer.specs.Finishing.{CanFinish, FinishesNot, FinishesRecord, FitsTree, IsFinishCall, finish_calls, finish_of, was_gone}
 use Rattle.file_restorer.specs.Order.{FolderWrites}
-use Rattle.stripe_examiner.specs.Plan.{FixPlan, entry_at}
+use Rattle.repair_scope.specs.Plan.{FixPlan, entry_at}
 use Rattle.file_restorer.specs.State.{StepMakes, record_path, state_in}
 use Rattle.file_restorer.proofs.FolderCallLemmas.{step_none, step_wider}
 use Rattle.file_restorer.proofs.FolderFailsLemmas.{step_fails_wider}

@@ -9,7 +9,7 @@ use Rattle.file_restorer.specs.declared.finishing.Finish.{Finish}
 use Rattle.file_restorer.specs.declared.finishing.Finish.TheVariants.{Kept, Restored, Unstamped, Renamed, Gone}
 use Rattle.snap_fix.specs.Ending.{column_news, column_news_at, finish_at, finish_news, finishes_at, news_of, record_news}
 use Rattle.snap_fix.specs.EndingSteps.{done_news, unstamped_news}
-use Rattle.stripe_examiner.specs.Plan.{FixPlan}
+use Rattle.repair_scope.specs.Plan.{FixPlan}
 use Rattle.stripe_examiner.proofs.TellingLemmas.{events_to, events_to-more}
 
 -- ---- of one record

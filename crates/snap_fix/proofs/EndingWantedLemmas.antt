@@ -14,7 +14,7 @@ use Rattle.file_restorer.specs.declared.finishing.Finish.TheVariants.{Kept}
 use Rattle.file_restorer.specs.declared.state.FileState.{FileState}
 use Rattle.snap_fix.specs.Ending.{IsDone, finish_at, finishes_at, is_finished, news_of, record_news, state_at, states_at}
 use Rattle.file_restorer.specs.Finishing.{finish_of}
-use Rattle.stripe_examiner.specs.Plan.{FixPlan, entry_at}
+use Rattle.repair_scope.specs.Plan.{FixPlan, entry_at}
 use Rattle.snap_fix.proofs.EndingTellLemmas.{events_same}
 use Rattle.stripe_examiner.proofs.TellingLemmas.{events_to}
 

@@ -15,7 +15,7 @@ use Rattle.file_restorer.specs.declared.finishing.Finish.{Finish}
 use Rattle.file_restorer.specs.declared.state.FileState.{FileState}
 use Rattle.snap_fix.specs.Ending.{AreColumnFinishCalls, AreFinishCalls, FinishesFile, FinishesOne, FinishesThis, finish_at, finishes_at, record_calls, state_at, states_at}
 use Rattle.file_restorer.specs.Finishing.{IsFinishCall, was_gone}
-use Rattle.stripe_examiner.specs.Plan.{FixPlan, entry_at}
+use Rattle.repair_scope.specs.Plan.{FixPlan, entry_at}
 use Rattle.snap_fix.specs.Reads.{FolderReads, IsQuiet}
 use Rattle.file_restorer.specs.State.{AnyCall, AreStepCalls, FolderMakes, FolderMakesBy, WellCall, record_path}
 use Rattle.file_restorer.proofs.FolderCallLemmas.{makes_each, well_wider}

@@ -29,7 +29,7 @@ use Rattle.snap_fix.specs.Fixing.{AreTotals, FixScene, FixesStripe, MendsVault, 
 use Rattle.stripe_examiner.specs.Known.{AreFacts}
 use Rattle.stripe_examiner.specs.Looking.{AreAllLevelsOf, numbers_of, unread_in}
 use Rattle.snap_fix.specs.Mended.{AnswersFit, Mended, all_mended_events, is_wrong_level, mended_events}
-use Rattle.stripe_examiner.specs.Plan.{FixPlan}
+use Rattle.repair_scope.specs.Plan.{FixPlan}
 use Rattle.stripe_examiner.specs.Spare.{SpareView}
 use Rattle.snap_fix.specs.Underway.{AddsZeros, AreStripeCalls, AreUnderway, HoldsWrong, IsMendedLevel, done_well}
 use Rattle.snap_fix.specs.Windows.{AreWindows, FixWindow, IsFull, all_wrong_writes, mend_calls, stripes_in, window_reads}

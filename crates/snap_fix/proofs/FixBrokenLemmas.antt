@@ -21,7 +21,7 @@ use Rattle.snap_report.proofs.ToldLemmas.{told_then}
 use Rattle.stripe_reader.specs.Columns.{folder_at}
 use Rattle.stripe_reader.specs.Starts.{StartsValue}
 use Rattle.snap_fix.specs.declared.beginning.Work.{Work}
-use Rattle.stripe_examiner.specs.declared.scope.Mode.{Mode}
+use Rattle.repair_scope.specs.declared.scope.Mode.{Mode}
 use Rattle.file_restorer.specs.declared.state.FileState.{FileState}
 use Rattle.snap_fix.specs.Beginning.{Begins}
 use Rattle.snap_fix.specs.Checking.{plan_for}
@@ -35,7 +35,8 @@ use Rattle.snap_fix.specs.Fixing.{FixScene, MendsVault, facts_of, fix_scene, unw
 use Rattle.stripe_examiner.specs.Known.{AreFacts}
 use Rattle.stripe_examiner.specs.Looking.{numbers_of}
 use Rattle.snap_fix.specs.Mended.{Mended, all_mended_events}
-use Rattle.stripe_examiner.specs.Plan.{FixPlan, starts_of, stripes_of}
+use Rattle.repair_scope.specs.Plan.{FixPlan, stripes_of}
+use Rattle.stripe_examiner.specs.Place.{starts_of}
 use Rattle.stripe_examiner.specs.Present.{ArePresent}
 use Rattle.stripe_examiner.specs.Spare.{SpareView}
 use Rattle.file_restorer.specs.State.{AnyCall, FolderMakes, first_states}

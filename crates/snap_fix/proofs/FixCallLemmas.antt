@@ -18,7 +18,7 @@ use Rattle.file_restorer.specs.Finishing.{IsFinishCall, IsWholeCall}
 use Rattle.snap_fix.specs.FixCourse.{IsFixCall, IsForPlace, IsForRecord, MakeFixCalls, WritesFiles, Written}
 use Rattle.snap_fix.specs.Mended.{Mended, has_lost, is_blocked_cell, is_repaired}
 use Rattle.stripe_examiner.specs.Showing.{known_block}
-use Rattle.stripe_examiner.specs.Plan.{FixPlan, cell_at, entry_at, has_selected, is_in_scope, selects_cell}
+use Rattle.repair_scope.specs.Plan.{FixPlan, cell_at, entry_at, has_selected, is_in_scope, selects_cell}
 use Rattle.file_restorer.specs.State.{AnyCall, FolderMakes, KeepsStarts, StaysPlace, record_path, state_in}
 use Rattle.snap_fix.specs.Underway.{IsMendCall, IsStripeCall, SetsUpOneOf}
 use Rattle.snap_fix.proofs.FinishPartsLemmas.{finish_calls_any}

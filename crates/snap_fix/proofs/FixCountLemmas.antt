@@ -16,14 +16,14 @@ use Rattle.snap_report.specs.Answer.{is_io_of, is_parity_io}
 use Rattle.snap_report.specs.declared.events.Event.{Event}
 use Rattle.snap_report.specs.declared.events.Event.TheVariants.{Unsynced, Silent, Io, ParityIo, Parity, Lost, Fixed, FixedParity}
 use Rattle.stripe_reader.specs.SlotValue.{SlotValue}
-use Rattle.stripe_examiner.specs.declared.entry.Entry.{Entry}
+use Rattle.repair_scope.specs.declared.entry.Entry.{Entry}
 use Rattle.stripe_examiner.specs.Facts.{StripeFacts, slot_of, is_missing}
 use Rattle.stripe_examiner.specs.Findings.{unsynced_events, silent_event, is_unread, read_event, read_events, cell_events, is_unread_level, level_io_events, level_events, lost_event, lost_events, all_cell_events, all_level_io_events, all_level_events, all_lost_events, stripe_events}
 use Rattle.snap_fix.specs.Fixing.{facts_of}
 use Rattle.stripe_examiner.specs.Looking.{slots_of, unread_cells}
 use Rattle.snap_fix.specs.Mended.{Mended, answer_of, is_repaired, is_wrong_level, fixed_event, mended_event, cell_news, level_news, all_cell_news, all_level_news, mended_events, all_mended_events}
-use Rattle.stripe_examiner.specs.Selected.{is_as_recorded}
-use Rattle.stripe_examiner.specs.Plan.{FixPlan, cell_at, entry_at, selects_cell, selects_level}
+use Rattle.repair_scope.specs.Selected.{is_as_recorded}
+use Rattle.repair_scope.specs.Plan.{FixPlan, cell_at, entry_at, selects_cell, selects_level}
 
 -- ---- counting
 

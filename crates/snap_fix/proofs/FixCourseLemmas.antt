@@ -28,7 +28,7 @@ use Rattle.stripe_reader.specs.Starts.{StartsValue, starts_at}
 use Rattle.snap_fix.specs.declared.beginning.Work.{Work}
 use Rattle.stripe_examiner.specs.declared.counts.Counts.{Counts}
 use Rattle.snap_fix.specs.declared.fixing.Totals.{Totals}
-use Rattle.stripe_examiner.specs.declared.scope.Mode.{Mode}
+use Rattle.repair_scope.specs.declared.scope.Mode.{Mode}
 use Rattle.file_restorer.specs.declared.state.FileState.{FileState}
 use Rattle.snap_fix.specs.Beginning.{Begins}
 use Rattle.snap_fix.specs.Checking.{plan_for}
@@ -46,7 +46,8 @@ use Rattle.snap_fix.specs.Fixing.{FixScene, facts_of, fix_scene, was_written}
 use Rattle.stripe_examiner.specs.Known.{AreFacts}
 use Rattle.stripe_examiner.specs.Looking.{numbers_of, unread_cells, unread_in}
 use Rattle.snap_fix.specs.Mended.{Mended, all_mended_events}
-use Rattle.stripe_examiner.specs.Plan.{FixPlan, starts_of, stripes_of}
+use Rattle.repair_scope.specs.Plan.{FixPlan, stripes_of}
+use Rattle.stripe_examiner.specs.Place.{starts_of}
 use Rattle.snap_fix.specs.Repairing.{outside as files_outside}
 use Rattle.snap_fix.specs.Reads.{AreAllRead, AreReadBy, FolderReads}
 use Rattle.stripe_examiner.specs.Spare.{SpareView}

@@ -19,7 +19,7 @@ use Rattle.snap_fix.specs.Ending.{CanFinishAll, CanFinishFile, is_finished, stat
 use Rattle.file_restorer.specs.Finishing.{FitsTree}
 use Rattle.snap_fix.specs.Mended.{Mended, column_writes}
 use Rattle.file_restorer.specs.Mending.{IsFree, StatesFit}
-use Rattle.stripe_examiner.specs.Plan.{EntriesFit, FixPlan, entry_at}
+use Rattle.repair_scope.specs.Plan.{EntriesFit, FixPlan, entry_at}
 use Rattle.file_restorer.specs.State.{HoldsBy, HoldsColumn, HoldsRecord, IsNameOf, IsTouched, IsUntouched, Write, bytes_or, bytes_placed, lost_then, no_state, place_by, place_in, place_then, puts, record_path, stands}
 use Rattle.snap_fix.specs.Underway.{AreFixable, AreUnderway}
 use Rattle.snap_fix.proofs.EndingFilesLemmas.{names_not_nested}

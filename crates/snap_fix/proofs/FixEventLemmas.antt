@@ -7,13 +7,13 @@ use Rattle.file_table.specs.Table.{record_at, records_in}
 use Rattle.snap_report.specs.Answer.{is_io_of, is_parity_io}
 use Rattle.snap_report.specs.declared.events.Event.{Event}
 use Rattle.snap_report.specs.declared.events.Event.TheVariants.{Changed, Blocked, Restored as RestoredEvent, Renamed as RenamedEvent, NoStamp}
-use Rattle.stripe_examiner.specs.declared.entry.Entry.{Entry}
+use Rattle.repair_scope.specs.declared.entry.Entry.{Entry}
 use Rattle.file_restorer.specs.declared.finishing.Finish.{Finish}
 use Rattle.file_restorer.specs.declared.finishing.Finish.TheVariants.{Kept, Restored, Unstamped, Renamed, Gone}
 use Rattle.snap_fix.specs.Ending.{all_finish_news, column_news_at, finish_at, finish_news, finishes_at, is_finished, record_news, stamp_news}
 use Rattle.stripe_examiner.specs.Findings.{blocked_event, changed_event, column_events, file_events, opening_events, record_events}
-use Rattle.stripe_examiner.specs.Plan.{FixPlan, entry_at, is_audit}
-use Rattle.stripe_examiner.specs.Selected.{is_as_recorded}
+use Rattle.repair_scope.specs.Plan.{FixPlan, entry_at, is_audit}
+use Rattle.repair_scope.specs.Selected.{is_as_recorded}
 use Rattle.snap_fix.proofs.FixCountLemmas.{count_append}
 
 -- the test passes no event that is told of a file as a whole

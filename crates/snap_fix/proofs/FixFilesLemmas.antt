@@ -8,7 +8,7 @@ use Rattle.snap_fix.specs.Ending.{FinishesColumn, column_calls, finishes_at, sta
 use Rattle.snap_fix.specs.FixCourse.{FixesFiles, Written, WritesFiles}
 use Rattle.snap_fix.specs.Fixing.{facts_of}
 use Rattle.snap_fix.specs.Mended.{Mended}
-use Rattle.stripe_examiner.specs.Plan.{FixPlan}
+use Rattle.repair_scope.specs.Plan.{FixPlan}
 use Rattle.snap_fix.specs.Reads.{AreReadBy, FolderReads}
 use Rattle.snap_fix.specs.StripeOrder.{writes_after}
 use Rattle.snap_fix.proofs.FixCallLemmas.{fix_calls_of_all}

@@ -29,7 +29,7 @@ use Rattle.stripe_examiner.specs.Known.{AreFacts}
 use Rattle.stripe_examiner.specs.Looking.{AreAllLevelsOf, LevelsAreRead, facts_at, no_facts, numbers_of, unread_in}
 use Rattle.stripe_examiner.specs.Marks.{slots_at}
 use Rattle.snap_fix.specs.Mended.{AnswersFit, Mended, all_mended_events}
-use Rattle.stripe_examiner.specs.Plan.{FixPlan}
+use Rattle.repair_scope.specs.Plan.{FixPlan}
 use Rattle.file_restorer.specs.State.{AnyCall}
 use Rattle.snap_fix.specs.Underway.{FixUnderway, IsMendCall, done_well, wrong_writes}
 use Rattle.snap_fix.specs.Windows.{AreWindows, FixWindow, all_wrong_writes, window_calls, window_reads, window_size}

@@ -25,7 +25,7 @@ use Rattle.stripe_examiner.specs.Looking.{facts_at, no_facts, slots_of, unread_c
 use Rattle.stripe_examiner.specs.Marks.{slots_at}
 use Rattle.snap_fix.specs.Mended.{Mended, column_writes}
 use Rattle.file_restorer.specs.Order.{FolderWrites}
-use Rattle.stripe_examiner.specs.Plan.{FixPlan}
+use Rattle.repair_scope.specs.Plan.{FixPlan}
 use Rattle.file_table.specs.Table.{records_in}
 use Rattle.snap_fix.specs.Reads.{FolderReads}
 use Rattle.file_restorer.specs.State.{FolderMakesBy, HoldsColumn}

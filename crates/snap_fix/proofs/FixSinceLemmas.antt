@@ -19,7 +19,7 @@ use Rattle.snap_fix.specs.Fixing.{AreTotals, FixScene, SceneFits}
 use Rattle.snap_fix.specs.Mended.{Mended}
 use Rattle.stripe_examiner.specs.Facts.{StripeFacts}
 use Rattle.stripe_examiner.specs.Looking.{unread_cells, unread_in}
-use Rattle.stripe_examiner.specs.Plan.{FixPlan}
+use Rattle.repair_scope.specs.Plan.{FixPlan}
 use Rattle.file_restorer.specs.State.{FolderMakesBy}
 use Rattle.snap_fix.specs.Underway.{AreStripeCalls}
 use Rattle.snap_fix.proofs.FixAllLemmas.{fixes_none}

@@ -15,9 +15,9 @@ use Rattle.stripe_reader.specs.Columns.{folder_at}
 use Rattle.stripe_reader.specs.Starts.{StartsFit, StartsValue, no_start, starts_at}
 use Rattle.stripe_reader.specs.declared.starts.Start.{Start}
 use Rattle.snap_fix.specs.declared.beginning.Work.{Work}
-use Rattle.stripe_examiner.specs.declared.entry.Entry.{Entry}
-use Rattle.stripe_examiner.specs.declared.scope.Mode.{Mode}
-use Rattle.stripe_examiner.specs.declared.scope.Scope.{Scope}
+use Rattle.repair_scope.specs.declared.entry.Entry.{Entry}
+use Rattle.repair_scope.specs.declared.scope.Mode.{Mode}
+use Rattle.repair_scope.specs.declared.scope.Scope.{Scope}
 use Rattle.file_restorer.specs.declared.state.FileState.{FileState}
 use Rattle.snap_fix.specs.Beginning.{Begins}
 use Rattle.snap_fix.specs.Checking.{plan_for}
@@ -25,8 +25,9 @@ use Rattle.snap_fix.specs.FixCourse.{AreOpen}
 use Rattle.snap_fix.specs.FixRun.{AreAscending}
 use Rattle.snap_fix.specs.Mended.{column_writes, writes_of}
 use Rattle.file_restorer.specs.Mending.{StatesFit}
-use Rattle.stripe_examiner.specs.Place.{found_in, is_blocked, start_of}
-use Rattle.stripe_examiner.specs.Plan.{FixPlan, column_entries, column_starts, entries_of, entry_at, entry_in, entry_of, is_looked_at, no_entry, plan_of, starts_of, stripes_of}
+use Rattle.repair_scope.specs.Blocked.{found_in, is_blocked}
+use Rattle.stripe_examiner.specs.Place.{start_of, column_starts, starts_of}
+use Rattle.repair_scope.specs.Plan.{FixPlan, column_entries, entries_of, entry_at, entry_in, entry_of, is_looked_at, no_entry, plan_of, stripes_of}
 use Rattle.file_restorer.specs.State.{HoldsColumn, first_state, first_states, no_state, record_path}
 use Rattle.snap_fix.specs.Underway.{AreFixable, AreUnderway}
 use Rattle.file_restorer.proofs.OrderLemmas.{writes_none}

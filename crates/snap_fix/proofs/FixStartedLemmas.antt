@@ -10,7 +10,7 @@ use Rattle.stripe_reader.specs.Columns.{folder_at}
 use Rattle.stripe_reader.specs.Reading.{task_at}
 use Rattle.stripe_reader.specs.Starts.{StartsValue}
 use Rattle.snap_fix.specs.declared.beginning.Work.{Work}
-use Rattle.stripe_examiner.specs.declared.scope.Mode.{Mode}
+use Rattle.repair_scope.specs.declared.scope.Mode.{Mode}
 use Rattle.file_restorer.specs.declared.state.FileState.{FileState}
 use Rattle.snap_fix.specs.Beginning.{Begins}
 use Rattle.snap_fix.specs.Checking.{plan_for}
@@ -21,7 +21,8 @@ use Rattle.stripe_examiner.specs.Facts.{StripeFacts, slot_of}
 use Rattle.stripe_examiner.specs.Known.{AreFacts}
 use Rattle.stripe_examiner.specs.Looking.{numbers_of}
 use Rattle.snap_fix.specs.Mended.{Mended}
-use Rattle.stripe_examiner.specs.Plan.{FixPlan, starts_of, stripes_of}
+use Rattle.repair_scope.specs.Plan.{FixPlan, stripes_of}
+use Rattle.stripe_examiner.specs.Place.{starts_of}
 use Rattle.stripe_examiner.specs.Present.{ArePresent, IsPresent}
 use Rattle.file_restorer.specs.State.{first_states}
 use Rattle.snap_fix.specs.Underway.{AreUnderway}

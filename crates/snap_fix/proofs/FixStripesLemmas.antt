@@ -30,7 +30,7 @@ use Rattle.stripe_examiner.specs.Known.{AreFacts}
 use Rattle.stripe_examiner.specs.Looking.{facts_at, no_facts, numbers_of, unread_cells, unread_in}
 use Rattle.stripe_examiner.specs.Marks.{slots_at}
 use Rattle.snap_fix.specs.Mended.{Mended, all_mended_events}
-use Rattle.stripe_examiner.specs.Plan.{FixPlan}
+use Rattle.repair_scope.specs.Plan.{FixPlan}
 use Rattle.snap_fix.specs.Reads.{AreAllRead, AreReadBy, FolderReads}
 use Rattle.file_restorer.specs.State.{AnyCall, FolderMakes, FolderMakesBy}
 use Rattle.snap_fix.specs.Underway.{AreFixable, AreStripeCalls, AreUnderway, IsStripeCall}

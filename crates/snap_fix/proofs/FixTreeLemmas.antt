@@ -16,11 +16,12 @@ use Rattle.disk_model.proofs.TreeLemmas.{own_name}
 use Rattle.array_scan.specs.Kept.{ListedFile}
 use Rattle.stripe_reader.specs.declared.starts.Start.{Start}
 use Rattle.file_restorer.specs.declared.state.FileState.{FileState}
-use Rattle.stripe_examiner.specs.Listed.{path_cmp}
+use Rattle.repair_scope.specs.Listed.{path_cmp}
 use Rattle.file_restorer.specs.Mending.{IsFree}
-use Rattle.stripe_examiner.specs.Place.{found_in, holds_one, is_blocked, is_inside_one, start_by, start_of}
+use Rattle.repair_scope.specs.Blocked.{found_in, holds_one, is_blocked, is_inside_one}
+use Rattle.stripe_examiner.specs.Place.{start_by, start_of}
 use Rattle.file_restorer.specs.State.{HoldsRecord, Write, bytes_or, first_state, place_by}
-use Rattle.stripe_examiner.proofs.LookUpLemmas.{tied_paths}
+use Rattle.repair_scope.proofs.LookUpLemmas.{tied_paths}
 
 -- ---- what is found in the listing of a tree is what the tree holds
 

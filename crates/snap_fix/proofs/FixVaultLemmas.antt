@@ -13,7 +13,7 @@ use Rattle.snap_fix.specs.FixRun.{HoldAllWrong}
 use Rattle.snap_fix.specs.Fixing.{MendsVault, Writes, facts_of, was_written}
 use Rattle.stripe_examiner.specs.Looking.{unread_in}
 use Rattle.snap_fix.specs.Mended.{Mended}
-use Rattle.stripe_examiner.specs.Plan.{FixPlan}
+use Rattle.repair_scope.specs.Plan.{FixPlan}
 use Rattle.snap_fix.specs.Underway.{AddsZeros, HoldsWrong, IsMendedLevel, KeepsLevels, done_well}
 use Rattle.snap_fix.specs.Windows.{AreWindows, FixWindow, mend_calls}
 

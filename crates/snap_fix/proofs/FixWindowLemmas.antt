@@ -18,7 +18,7 @@ use Rattle.stripe_examiner.specs.declared.room.StripeRoom.{StripeRoom}
 use Rattle.stripe_examiner.specs.Facts.{StripeFacts}
 use Rattle.stripe_examiner.specs.Known.{AreFacts}
 use Rattle.stripe_examiner.specs.Looking.{no_facts}
-use Rattle.stripe_examiner.specs.Plan.{FixPlan}
+use Rattle.repair_scope.specs.Plan.{FixPlan}
 use Rattle.stripe_examiner.specs.Room.{IsRoomFor}
 use Rattle.stripe_examiner.specs.Spare.{IsSpareFor, SpareView, nothing}
 use Rattle.stripe_examiner.specs.WindowExamined.{ExaminesWindow}

@@ -14,7 +14,7 @@ use Rattle.stripe_examiner.specs.Facts.{StripeFacts}
 use Rattle.stripe_examiner.specs.Findings.{stripe_events}
 use Rattle.snap_fix.specs.Fixing.{AreTotals, Writes}
 use Rattle.snap_fix.specs.Mended.{Mended, all_cell_news, all_level_news, all_mended_events, is_wrong_level, level_news, written_in, wrong_in}
-use Rattle.stripe_examiner.specs.Plan.{FixPlan}
+use Rattle.repair_scope.specs.Plan.{FixPlan}
 use Rattle.snap_fix.specs.Repairing.{FlagsWritten}
 
 -- ---- that a level was written is no finding

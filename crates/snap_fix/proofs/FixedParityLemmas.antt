@@ -18,7 +18,7 @@ use Rattle.snap_fix.specs.FixSteps.{MendsNotParity, MendsParity, ShowsTried}
 use Rattle.stripe_examiner.specs.Known.{IsTried}
 use Rattle.stripe_examiner.specs.Marks.{levels_read}
 use Rattle.snap_fix.specs.Mended.{all_level_news, is_wrong_level, level_news}
-use Rattle.stripe_examiner.specs.Plan.{FixPlan, is_searched, selects_level}
+use Rattle.repair_scope.specs.Plan.{FixPlan, is_searched, selects_level}
 use Rattle.snap_fix.specs.Repairing.{FlagsWritten, LevelsOutside, MendsLevels, MendsNotLevels, ShowsLevels, levels_outside}
 use Rattle.snap_fix.specs.Underway.{IsMendedLevel, KeepsLevels, done_well, wrong_write, wrong_writes}
 use Rattle.stripe_examiner.proofs.TellingLemmas.{told_as}

@@ -23,7 +23,7 @@ use Rattle.snap_fix.specs.Fixing.{BreaksStripe, FixScene, FixesStripe, MendsVaul
 use Rattle.snap_fix.specs.FixSteps.{MendsNotParity, MendsParity, ShowsTried}
 use Rattle.snap_fix.specs.Mended.{Mended, all_cell_news, all_level_news, cell_news, level_news}
 use Rattle.stripe_examiner.specs.Marks.{levels_read}
-use Rattle.stripe_examiner.specs.Plan.{FixPlan, is_searched}
+use Rattle.repair_scope.specs.Plan.{FixPlan, is_searched}
 use Rattle.snap_fix.specs.Repairing.{LevelsOutside, MendsFiles, MendsNotFiles, levels_outside, outside}
 use Rattle.stripe_examiner.specs.Showing.{ShowsFacts}
 use Rattle.stripe_examiner.specs.Spare.{IsSpareFor, SpareView}

@@ -5,7 +5,7 @@ use Rattle.disk_model.specs.Vault.{VaultView, SomeCalls}
 use Rattle.disk_model.proofs.VaultLemmas.{calls_then, stays_then}
 use Rattle.stripe_examiner.specs.Facts.{StripeFacts}
 use Rattle.stripe_examiner.specs.Looking.{LevelsAreRead}
-use Rattle.stripe_examiner.specs.Plan.{FixPlan}
+use Rattle.repair_scope.specs.Plan.{FixPlan}
 use Rattle.snap_fix.specs.Fixing.{MendsVault}
 use Rattle.snap_fix.specs.Underway.{AddsZeros, IsMendedLevel, KeepsLevels}
 use Rattle.snap_fix.proofs.WrittenLevelLemmas.{keeps_nothing}

@@ -21,7 +21,7 @@ use Rattle.stripe_reader.specs.SlotValue.{SlotValue}
 use Rattle.stripe_reader.specs.Starts.{StartsValue, start_in, starts_at}
 use Rattle.stripe_reader.specs.WindowValue.{no_slot}
 use Rattle.stripe_reader.specs.declared.starts.Start.{Start}
-use Rattle.stripe_examiner.specs.declared.entry.Entry.{Entry}
+use Rattle.repair_scope.specs.declared.entry.Entry.{Entry}
 use Rattle.file_restorer.specs.declared.finishing.Finish.{Finish}
 use Rattle.file_restorer.specs.declared.finishing.Finish.TheVariants.{Kept, Restored, Unstamped, Renamed, Gone}
 use Rattle.file_restorer.specs.declared.state.FileState.{FileState}
@@ -34,9 +34,9 @@ use Rattle.snap_fix.specs.FixCourse.{Written, fix_events}
 use Rattle.snap_fix.specs.Fixing.{facts_of}
 use Rattle.snap_fix.specs.Found.{AreAllWritten, IsNoneGone}
 use Rattle.snap_fix.specs.Mended.{AnswersFit, Mended, all_cell_news, all_level_news, all_mended_events, answer_of, cell_news, fixed_event, is_repaired, is_wrong_level, level_news, mended_event, mended_events}
-use Rattle.stripe_examiner.specs.Plan.{FixPlan, cell_at, entry_at, has_selected_cell, is_audit, is_synced, selects_cell, selects_level}
+use Rattle.repair_scope.specs.Plan.{FixPlan, cell_at, entry_at, has_selected_cell, is_audit, is_synced, selects_cell, selects_level}
 use Rattle.snap_fix.specs.Restored.{HasFixed}
-use Rattle.stripe_examiner.specs.Selected.{is_as_recorded}
+use Rattle.repair_scope.specs.Selected.{is_as_recorded}
 use Rattle.file_restorer.specs.State.{stands}
 
 -- ---- the findings among some events

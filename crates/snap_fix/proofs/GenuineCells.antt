@@ -27,7 +27,7 @@ use Rattle.stripe_reader.specs.declared.starts.Place.TheVariants as place
 use Rattle.stripe_examiner.specs.Facts.{StripeFacts, IsGift, IsGiftFor, agrees, bytes_before, damaged_at, gift_of, gift_or, is_damaged, is_missing, slot_of}
 use Rattle.stripe_examiner.specs.Present.{IsPresent}
 use Rattle.snap_fix.specs.Genuine.{HasGenuineFacts, IsBlockIn}
-use Rattle.stripe_examiner.specs.Plan.{FixPlan, seen_at}
+use Rattle.repair_scope.specs.Plan.{FixPlan, seen_at}
 use Rattle.stripe_examiner.proofs.CellFactsLemmas.{given_found}
 
 not_false : (b : Bool) → not b ≡ false → b ≡ true

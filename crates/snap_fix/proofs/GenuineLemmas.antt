@@ -31,7 +31,7 @@ use Rattle.stripe_examiner.specs.declared.search.Wanted.{Wanted}
 use Rattle.stripe_examiner.specs.Facts.{StripeFacts, bytes_before, gift_of, gift_or, hash_or_none, is_damaged, is_missing, missing_in, row_before, slot_of, wanted_by, wanted_in}
 use Rattle.snap_fix.specs.Genuine.{HasGenuineFacts, IsRestorableStripe, IsSameRow, TellsIntactLevels, lost_of}
 use Rattle.stripe_examiner.specs.Known.{AreRemainders, IsKnown, IsSearchOf, IsTried, whole_level, whole_levels}
-use Rattle.stripe_examiner.specs.Plan.{FixPlan, seen_at}
+use Rattle.repair_scope.specs.Plan.{FixPlan, seen_at}
 use Rattle.stripe_examiner.specs.Restorable.{AgreesOutside, AreBlocksOf, HasRemainders, IsLost, IsSnapshotOf, LostStripe, filled, padded_block, SomeAccepted}
 use Rattle.stripe_examiner.specs.Search.{IsRightBlock, columns_of, no_wanted, wanted_at as wanted_of}
 use Rattle.snap_fix.proofs.GenuineCells.{before_is, snapshot_block, snapshot_long}

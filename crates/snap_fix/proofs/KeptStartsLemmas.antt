@@ -13,7 +13,7 @@ use Rattle.file_restorer.specs.declared.state.FileState.{FileState}
 use Rattle.snap_fix.specs.FixRun.{BreaksFolders}
 use Rattle.snap_fix.specs.Fixing.{BreaksCells}
 use Rattle.snap_fix.specs.Mended.{Mended}
-use Rattle.stripe_examiner.specs.Plan.{FixPlan}
+use Rattle.repair_scope.specs.Plan.{FixPlan}
 use Rattle.file_restorer.specs.Order.{is_writing}
 use Rattle.snap_fix.specs.Reads.{FolderReads, IsQuiet}
 use Rattle.file_restorer.specs.State.{AnyCall, WellCall, FolderMakes, FolderMakesBy, KeepsStarts}

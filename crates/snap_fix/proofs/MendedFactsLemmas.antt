@@ -18,7 +18,7 @@ use Rattle.stripe_examiner.specs.Marks.{mark_in, row_if, is_marked_missing}
 use Rattle.snap_fix.specs.Mended.{Mended, is_blocked_cell, is_repaired, is_written, is_of, loses, has_lost, write_of, writes_in, writes_of, column_writes, answer_of}
 use Rattle.stripe_examiner.specs.Showing.{known_by, known_block, block_or_none, ShowsFacts, is_damaged_mark, is_given_mark}
 use Rattle.file_restorer.specs.Mending.{block_start, with_write}
-use Rattle.stripe_examiner.specs.Plan.{FixPlan, cell_at, selects_cell}
+use Rattle.repair_scope.specs.Plan.{FixPlan, cell_at, selects_cell}
 use Rattle.snap_fix.specs.RepairSteps.{is_repaired_by, is_lost_by}
 use Rattle.file_restorer.specs.State.{Write}
 

@@ -16,7 +16,7 @@ use Rattle.stripe_examiner.specs.Facts.{StripeFacts}
 use Rattle.snap_fix.specs.FixRun.{HoldAllWrong}
 use Rattle.snap_fix.specs.Fixing.{MendsVault}
 use Rattle.stripe_examiner.specs.Looking.{AreAllLevelsOf}
-use Rattle.stripe_examiner.specs.Plan.{FixPlan}
+use Rattle.repair_scope.specs.Plan.{FixPlan}
 use Rattle.snap_fix.specs.Underway.{AddsZeros, HoldsWrong, IsMendedLevel, KeepsLevels}
 
 -- each of these stripes comes before each of those

@@ -3,15 +3,15 @@ use Rattle.std.proofs.Common.{◌≡◌, ℕ, List, Bool, sym, ap, ◌∙◌, su
 use Rattle.array_scan.specs.Kept.{ListedFile}
 use Rattle.file_table.specs.Table.{TableValue}
 use Rattle.snap_config.specs.declared.options.Selection.{Selection}
-use Rattle.stripe_examiner.specs.declared.entry.Entry.{Entry}
-use Rattle.stripe_examiner.specs.declared.scope.Mode.{Mode}
-use Rattle.stripe_examiner.specs.declared.scope.Mode.TheVariants.{Check, Fix}
-use Rattle.stripe_examiner.specs.declared.scope.Scope.{Scope}
+use Rattle.repair_scope.specs.declared.entry.Entry.{Entry}
+use Rattle.repair_scope.specs.declared.scope.Mode.{Mode}
+use Rattle.repair_scope.specs.declared.scope.Mode.TheVariants.{Check, Fix}
+use Rattle.repair_scope.specs.declared.scope.Scope.{Scope}
 use Rattle.snap_fix.specs.Course.{IsPlan, check_events}
 use Rattle.stripe_examiner.specs.Facts.{StripeFacts}
 use Rattle.snap_fix.specs.Found.{DifferInMode}
 use Rattle.stripe_examiner.specs.Known.{AreFacts}
-use Rattle.stripe_examiner.specs.Plan.{FixPlan, stripes_of}
+use Rattle.repair_scope.specs.Plan.{FixPlan, stripes_of}
 
 -- a plan with another mode
 abbrev plan_in : FixPlan → Mode → FixPlan

@@ -3,7 +3,7 @@ use Rattle.std.proofs.Common.{◌≡◌, ℕ, suc, ◌+◌, ◌<◌, List, [], �
 use Rattle.std.proofs.lemmas.List.{length-append}
 use Rattle.parity_writer.specs.LevelReading.{LevelReading}
 use Rattle.stripe_examiner.specs.Facts.{StripeFacts}
-use Rattle.stripe_examiner.specs.Plan.{FixPlan}
+use Rattle.repair_scope.specs.Plan.{FixPlan}
 use Rattle.snap_fix.specs.Windows.{AreWindows, FixWindow, IsFixWindow, IsFull, no_window, readings_in, stripes_in}
 
 -- two lists that are the same, cut behind as many elements

@@ -27,7 +27,7 @@ use Rattle.stripe_examiner.specs.Known.{AreFacts}
 use Rattle.stripe_examiner.specs.Looking.{numbers_of}
 use Rattle.snap_fix.specs.Mended.{Mended, answer_of, column_writes, is_blocked_cell, is_of, is_repaired, is_written, write_of, writes_in, writes_of}
 use Rattle.stripe_examiner.specs.Showing.{block_or_none, known_block}
-use Rattle.stripe_examiner.specs.Plan.{FixPlan, cell_at, selects_cell}
+use Rattle.repair_scope.specs.Plan.{FixPlan, cell_at, selects_cell}
 use Rattle.file_restorer.specs.State.{HoldsRecord, Write, bytes_placed, first_state, first_states, no_state, puts, record_path}
 use Rattle.snap_fix.specs.Underway.{AreUnderway, IsColumnUnderway}
 use Rattle.snap_fix.proofs.MendedFactsLemmas.{and_parts}

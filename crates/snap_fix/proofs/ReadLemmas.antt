@@ -14,7 +14,7 @@ use Rattle.stripe_reader.proofs.ColumnLemmas.{no_cells, column_then}
 use Rattle.stripe_examiner.specs.Facts.{StripeFacts, slot_of}
 use Rattle.stripe_examiner.specs.Looking.{AreRead, numbers_of, slots_of, facts_at, no_facts}
 use Rattle.stripe_examiner.specs.Marks.{slots_at}
-use Rattle.stripe_examiner.specs.Plan.{FixPlan}
+use Rattle.repair_scope.specs.Plan.{FixPlan}
 
 module _ (plan : FixPlan) (starts : StartsValue) where
   abbrev task : ℕ → ℕ → Task

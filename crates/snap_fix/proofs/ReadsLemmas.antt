@@ -16,7 +16,7 @@ use Rattle.stripe_reader.proofs.FolderLemmas.{goes_on_then}
 use Rattle.file_restorer.specs.Breaking.{FailsInColumn, FolderFails}
 use Rattle.stripe_examiner.specs.Facts.{StripeFacts, slot_of}
 use Rattle.stripe_examiner.specs.Looking.{facts_at, numbers_of}
-use Rattle.stripe_examiner.specs.Plan.{FixPlan}
+use Rattle.repair_scope.specs.Plan.{FixPlan}
 use Rattle.snap_fix.specs.Reads.{AreReadBy, FolderReads, IsQuiet, is_read}
 use Rattle.file_restorer.specs.State.{FolderMakesBy, KeepsStarts, WellCall}
 use Rattle.file_restorer.proofs.FolderCallLemmas.{well_column}

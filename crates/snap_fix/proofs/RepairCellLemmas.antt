@@ -22,7 +22,7 @@ use Rattle.stripe_examiner.specs.Counts.{AreCounts}
 use Rattle.stripe_examiner.specs.Marks.{mark_in}
 use Rattle.snap_fix.specs.Mended.{Mended, is_gone, is_repaired, is_written, is_of, loses, column_writes, answer_of, cell_news, mended_event}
 use Rattle.file_restorer.specs.Mending.{StatesFit, with_state}
-use Rattle.stripe_examiner.specs.Plan.{FixPlan, cell_at}
+use Rattle.repair_scope.specs.Plan.{FixPlan, cell_at}
 use Rattle.snap_fix.specs.RepairSteps.{ColumnOutside, IsMendedAs, CanMendColumn, MendsColumn, is_repaired_by, is_lost_by}
 use Rattle.file_restorer.specs.Order.{FolderWrites}
 use Rattle.file_restorer.specs.State.{AreStepCalls, Write, HoldsTold, FolderMakesBy, KeepsStarts, state_in}

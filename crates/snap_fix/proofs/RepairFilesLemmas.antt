@@ -20,7 +20,7 @@ use Rattle.stripe_examiner.specs.Counts.{AreCounts}
 use Rattle.stripe_examiner.specs.Facts.{StripeFacts}
 use Rattle.snap_fix.specs.Mended.{Mended, answer_of, cell_news, is_repaired, is_written}
 use Rattle.file_restorer.specs.Mending.{StatesFit}
-use Rattle.stripe_examiner.specs.Plan.{FixPlan}
+use Rattle.repair_scope.specs.Plan.{FixPlan}
 use Rattle.snap_fix.specs.Repairing.{FilesOutside, CanMend, MendsFiles, MendsNotFiles}
 use Rattle.snap_fix.specs.RepairSteps.{column_outside, IsMendedAs, CanMendColumn, MendsColumn, MendsNotColumn}
 use Rattle.file_restorer.specs.State.{FolderMakesBy, KeepsStarts}

@@ -14,7 +14,7 @@ use Rattle.file_restorer.specs.declared.state.FileState.{FileState}
 use Rattle.snap_fix.specs.Mended.{Mended, loses, column_writes, writes_in, writes_of}
 use Rattle.file_restorer.specs.Mending.{StatesFit, with_place, with_state}
 use Rattle.file_restorer.specs.Order.{FolderWrites}
-use Rattle.stripe_examiner.specs.Plan.{FixPlan}
+use Rattle.repair_scope.specs.Plan.{FixPlan}
 use Rattle.file_restorer.specs.State.{Write, HoldsBy, HoldsRecord, HoldsColumn, HoldsTold, has_some, size_after, record_path, state_in, no_state}
 use Rattle.snap_fix.specs.StripeOrder.{stripe_writes, writes_after}
 use Rattle.snap_fix.specs.Underway.{IsColumnUnderway}

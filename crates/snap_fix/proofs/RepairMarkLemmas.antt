@@ -6,7 +6,7 @@ use Rattle.stripe_examiner.specs.declared.marking.CellMark.{CellMark}
 use Rattle.stripe_examiner.specs.declared.marking.CellMark.TheVariants.{Right, Given, Missing}
 use Rattle.stripe_examiner.specs.Marks.{is_marked_missing}
 use Rattle.snap_fix.specs.Mended.{is_blocked_cell}
-use Rattle.stripe_examiner.specs.Plan.{FixPlan, cell_at, has_selected, is_in_scope, selects_cell}
+use Rattle.repair_scope.specs.Plan.{FixPlan, cell_at, has_selected, is_in_scope, selects_cell}
 use Rattle.snap_fix.specs.RepairSteps.{is_repaired_by, is_lost_by}
 use Rattle.stripe_examiner.specs.Showing.{is_damaged_mark, is_given_mark}
 

@@ -24,7 +24,7 @@ use Rattle.stripe_examiner.specs.Marks.{mark_in}
 use Rattle.snap_fix.specs.Mended.{Mended, is_gone, is_repaired, is_written, is_of, loses, column_writes, writes_in, answer_of, cell_news, mended_event, is_blocked_cell}
 use Rattle.stripe_examiner.specs.Showing.{known_block, block_or_none, ShowsFacts, is_damaged_mark, is_given_mark}
 use Rattle.file_restorer.specs.Mending.{StatesFit, IsBlockCall, CanWrite, block_start, cell_path, mended_writes, with_state}
-use Rattle.stripe_examiner.specs.Plan.{FixPlan, cell_at, entry_at, selects_cell}
+use Rattle.repair_scope.specs.Plan.{FixPlan, cell_at, entry_at, selects_cell}
 use Rattle.snap_fix.specs.RepairSteps.{ColumnOutside, IsMendedAs, CanMendColumn, MendsColumn, MendsNotColumn, WritesBlockOf, WritesNotBlockOf, is_repaired_by, is_lost_by}
 use Rattle.file_restorer.specs.Order.{FolderWrites, block_calls}
 use Rattle.file_restorer.specs.State.{AreStepCalls, Write, HoldsTold, FolderMakesBy, KeepsStarts, StaysPlace, StepMakes, has_some, size_after, state_in}

@@ -20,7 +20,7 @@ use Rattle.stripe_reader.specs.Columns.{folder_at}
 use Rattle.stripe_reader.specs.SlotValue.{SlotValue}
 use Rattle.stripe_reader.specs.Starts.{StartsValue}
 use Rattle.stripe_reader.specs.WindowValue.{no_slot}
-use Rattle.stripe_examiner.specs.declared.entry.Entry.{Entry}
+use Rattle.repair_scope.specs.declared.entry.Entry.{Entry}
 use Rattle.file_restorer.specs.declared.finishing.Finish.{Finish}
 use Rattle.file_restorer.specs.declared.finishing.Finish.TheVariants.{Kept, Restored, Unstamped, Renamed, Gone}
 use Rattle.snap_fix.specs.Ending.{all_finish_news, column_news_at, finish_news, record_news, finish_at, finishes_at, is_finished, stamp_news}
@@ -30,9 +30,9 @@ use Rattle.snap_fix.specs.FixCourse.{fix_events}
 use Rattle.snap_fix.specs.Fixing.{facts_of}
 use Rattle.snap_fix.specs.Mended.{Mended, all_cell_news, all_level_news, all_mended_events, AnswersFit, answer_of, cell_news, fixed_event, is_repaired, is_wrong_level, level_news, mended_event, mended_events}
 use Rattle.stripe_examiner.specs.Showing.{known_by}
-use Rattle.stripe_examiner.specs.Plan.{FixPlan, cell_at, entry_at, is_audit, is_synced, has_selected_cell, selects_cell, selects_level}
+use Rattle.repair_scope.specs.Plan.{FixPlan, cell_at, entry_at, is_audit, is_synced, has_selected_cell, selects_cell, selects_level}
 use Rattle.snap_fix.specs.Restored.{HasFixed, IsUnknownCell}
-use Rattle.stripe_examiner.specs.Selected.{is_as_recorded}
+use Rattle.repair_scope.specs.Selected.{is_as_recorded}
 
 -- ---- what is so of each lost cell that is told
 

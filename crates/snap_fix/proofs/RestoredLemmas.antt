@@ -39,7 +39,7 @@ use Rattle.snap_fix.specs.Genuine.{HasGenuineFacts, IsBlockIn, TellsIntactLevels
 use Rattle.snap_fix.specs.Mended.{Mended, all_cell_news, all_level_news, all_mended_events, answer_of, column_writes, has_lost, is_blocked_cell, is_repaired, is_written, mended_events, writes_of}
 use Rattle.stripe_examiner.specs.Showing.{block_or_none, known_block, known_by}
 use Rattle.file_restorer.specs.Mending.{block_start, cell_path}
-use Rattle.stripe_examiner.specs.Plan.{FixPlan, cell_at, entry_at, is_audit, is_searched, is_synced, is_in_scope, has_selected, selects_cell}
+use Rattle.repair_scope.specs.Plan.{FixPlan, cell_at, entry_at, is_audit, is_searched, is_synced, is_in_scope, has_selected, selects_cell}
 use Rattle.snap_fix.specs.Restored.{CanBeHad, HasFixed, HoldsCell, IsDamagedCell}
 use Rattle.file_restorer.specs.State.{HoldsBy, HoldsRecord, IsTouched, Write, bytes_or, bytes_placed, place_then, puts, stands, state_in}
 use Rattle.snap_fix.specs.Underway.{IsColumnUnderway}

@@ -25,7 +25,7 @@ use Rattle.snap_fix.specs.Ending.{FinishesColumn, HoldsEnd, StandsEnd, IsDone, f
 use Rattle.file_restorer.specs.Finishing.{StandsLost, bytes_now, finish_of, lost_finish, lost_after, stamped_finish, whole_finish, is_changed, is_stamped}
 use Rattle.snap_fix.specs.FixCourse.{Written}
 use Rattle.snap_fix.specs.Mended.{Mended, column_writes, has_lost, is_blocked_cell, is_of, is_repaired, is_written, answer_of, write_of, writes_in, writes_of}
-use Rattle.stripe_examiner.specs.Plan.{FixPlan, cell_at, entry_at, has_selected, is_in_scope}
+use Rattle.repair_scope.specs.Plan.{FixPlan, cell_at, entry_at, has_selected, is_in_scope}
 use Rattle.snap_fix.specs.Restored.{HadNoFile, HasFixed, IsNotWritten, StandsFinished, StandsRestored, StandsUnrecoverable}
 use Rattle.file_restorer.specs.State.{HoldsBy, HoldsRecord, IsNameOf, IsTouched, IsUntouched, Write, bytes_or, bytes_placed, has_some, lost_then, place_by, place_in, place_then, record_path, stands, state_in}
 use Rattle.snap_fix.specs.Underway.{IsColumnUnderway}

@@ -27,7 +27,7 @@ use Rattle.stripe_examiner.specs.Looking.{no_facts}
 use Rattle.snap_fix.specs.Mended.{Mended, answer_of, is_blocked_cell, is_of, is_repaired, is_written, write_of, writes_in, writes_of}
 use Rattle.stripe_examiner.specs.Showing.{block_or_none, known_block}
 use Rattle.file_restorer.specs.Mending.{block_start}
-use Rattle.stripe_examiner.specs.Plan.{FixPlan, cell_at, is_looked_at, selects_cell, stripes_of}
+use Rattle.repair_scope.specs.Plan.{FixPlan, cell_at, is_looked_at, selects_cell, stripes_of}
 use Rattle.snap_fix.specs.Restored.{HasFixed}
 use Rattle.file_restorer.specs.State.{Write, has_some, puts}
 use Rattle.stripe_examiner.proofs.KnowLemmas.{passed_distinct}

@@ -32,7 +32,7 @@ use Rattle.stripe_examiner.specs.Present.{IsPresent}
 use Rattle.snap_fix.specs.Genuine.{AreGenuineOf, HasGenuineFacts, IsLevelOf, IsGenuine, IsSameRow}
 use Rattle.stripe_examiner.specs.Known.{AreFacts, IsTried}
 use Rattle.snap_fix.specs.Mended.{is_wrong_level}
-use Rattle.stripe_examiner.specs.Plan.{FixPlan, is_searched, selects_level}
+use Rattle.repair_scope.specs.Plan.{FixPlan, is_searched, selects_level}
 use Rattle.snap_fix.specs.Underway.{HoldsWrong, IsMendedLevel, KeepsLevels}
 use Rattle.snap_fix.proofs.GenuineLemmas.{row_same}
 use Rattle.stripe_examiner.proofs.RestorableSums.{sum_below-same}

@@ -11,7 +11,7 @@ use Rattle.stripe_reader.specs.declared.starts.Place.TheVariants.{Plain, Lost, N
 use Rattle.stripe_examiner.specs.Facts.{StripeFacts}
 use Rattle.snap_fix.specs.Mended.{Mended, is_gone}
 use Rattle.file_restorer.specs.Mending.{with_place}
-use Rattle.stripe_examiner.specs.Plan.{FixPlan}
+use Rattle.repair_scope.specs.Plan.{FixPlan}
 use Rattle.file_restorer.specs.State.{FolderMakesBy, StaysPlace, KeepsStarts}
 use Rattle.snap_fix.specs.Underway.{AreMendCalls, IsMendCall, SetsUpCell, SetsUpOneOf, written_calls}
 use Rattle.file_restorer.proofs.FolderCallLemmas.{makes_by_wider, step_calls_wider}

@@ -10,7 +10,7 @@ use Rattle.file_table.proofs.CellInLemmas.{cell_in-Some}
 use Rattle.disk_model.specs.Tree.{File}
 use Rattle.stripe_examiner.specs.Facts.{damaged_at}
 use Rattle.stripe_examiner.specs.Known.{AreFacts}
-use Rattle.stripe_examiner.specs.Plan.{cell_at, selects_cell}
+use Rattle.repair_scope.specs.Plan.{cell_at, selects_cell}
 use Rattle.stripe_examiner.specs.Showing.{known_block}
 use Rattle.stripe_examiner.proofs.ShownLemmas.{known_long}
 use Rattle.file_restorer.specs.Mending.{block_start}

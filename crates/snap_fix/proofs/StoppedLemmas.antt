@@ -15,8 +15,8 @@ use Rattle.stripe_reader.specs.declared.starts.Start.{Start}
 use Rattle.snap_fix.specs.Ending.{is_finished}
 use Rattle.snap_fix.specs.FixCourse.{IsFixCall, IsForPlace, IsForRecord}
 use Rattle.snap_fix.specs.Mended.{Mended, has_lost}
-use Rattle.stripe_examiner.specs.Place.{start_of}
-use Rattle.stripe_examiner.specs.Plan.{FixPlan, column_starts, entry_at, starts_of}
+use Rattle.stripe_examiner.specs.Place.{start_of, column_starts, starts_of}
+use Rattle.repair_scope.specs.Plan.{FixPlan, entry_at}
 use Rattle.file_restorer.specs.State.{first_state, place_by, place_in, record_path}
 use Rattle.snap_fix.specs.Stopped.{FixStop, IsNoneOf, IsSpared, IsStop, StandInPlace, StandsSpared, file_or, file_placed, records_of}
 use Rattle.snap_fix.specs.Underway.{WritesOneOf}

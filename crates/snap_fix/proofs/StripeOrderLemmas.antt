@@ -12,7 +12,7 @@ use Rattle.snap_fix.specs.Mended.{Mended, is_written, writes_of}
 use Rattle.stripe_examiner.specs.Showing.{block_or_none, known_block}
 use Rattle.file_restorer.specs.Mending.{block_start, cell_path}
 use Rattle.file_restorer.specs.Order.{FolderWrites, block_calls, put_calls, set_up_calls}
-use Rattle.stripe_examiner.specs.Plan.{FixPlan, cell_at}
+use Rattle.repair_scope.specs.Plan.{FixPlan, cell_at}
 use Rattle.file_restorer.specs.State.{HoldsBy, HoldsRecord, Write, has_some, place_in, place_then}
 use Rattle.snap_fix.specs.StripeOrder.{cell_calls, stripe_writes, writes_after}
 use Rattle.file_restorer.proofs.OrderLemmas.{writes_none}

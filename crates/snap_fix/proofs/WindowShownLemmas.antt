@@ -6,7 +6,7 @@ use Rattle.stripe_reader.specs.WindowValue.{WindowValue}
 use Rattle.stripe_examiner.specs.declared.room.StripeRoom.{StripeRoom}
 use Rattle.stripe_examiner.specs.Facts.{StripeFacts}
 use Rattle.stripe_examiner.specs.Looking.{facts_at, no_facts, numbers_of}
-use Rattle.stripe_examiner.specs.Plan.{FixPlan}
+use Rattle.repair_scope.specs.Plan.{FixPlan}
 use Rattle.stripe_examiner.specs.Shown.{ShowsStripe}
 use Rattle.snap_fix.specs.FixRun.{AreAscending}
 use Rattle.snap_fix.specs.WindowShown.{ShowsAll, ShowsFactsOf}

@@ -13,7 +13,7 @@ use Rattle.parity_writer.specs.LevelReading.{LevelReading, has_failed}
 use Rattle.snap_report.specs.Answer.{is_parity_io}
 use Rattle.stripe_examiner.specs.Facts.{StripeFacts}
 use Rattle.stripe_examiner.specs.Looking.{AreAllLevelsOf, numbers_of, unread_in}
-use Rattle.stripe_examiner.specs.Plan.{FixPlan}
+use Rattle.repair_scope.specs.Plan.{FixPlan}
 use Rattle.snap_fix.specs.FixRun.{AreAscending}
 use Rattle.snap_fix.specs.Fixing.{facts_of}
 use Rattle.snap_fix.specs.Mended.{Mended, all_mended_events, mended_events}

@@ -8,7 +8,7 @@ use Rattle.file_table.specs.declared.block.Cell.{Cell}
 use Rattle.snap_fix.specs.Mended.{Mended, is_written, is_of, write_of, writes_in, writes_of}
 use Rattle.stripe_examiner.specs.Showing.{known_block, block_or_none}
 use Rattle.file_restorer.specs.Mending.{block_start}
-use Rattle.stripe_examiner.specs.Plan.{FixPlan, cell_at}
+use Rattle.repair_scope.specs.Plan.{FixPlan, cell_at}
 use Rattle.file_restorer.specs.State.{Write, has_some, size_after}
 
 -- ---- some writes, and then others

@@ -7,7 +7,8 @@ use Rattle.stripe_examiner.specs.Facts.{StripeFacts, slot_of}
 use Rattle.stripe_examiner.specs.Findings.{is_unread}
 use Rattle.stripe_examiner.specs.Known.{AreFacts}
 use Rattle.stripe_examiner.specs.Looking.{numbers_of}
-use Rattle.stripe_examiner.specs.Plan.{FixPlan, starts_of, stripes_of}
+use Rattle.repair_scope.specs.Plan.{FixPlan, stripes_of}
+use Rattle.stripe_examiner.specs.Place.{starts_of}
 use Rattle.stripe_examiner.specs.Present.{IsPresent}
 use Rattle.stripe_reader.specs.Reading.{task_at}
 use Rattle.snap_fix.specs.Fixing.{facts_of}

@@ -6,8 +6,8 @@ use Rattle.file_table.specs.Table.{column_at, record_at, records_in}
 use Rattle.file_table.specs.declared.block.Cell.{Cell}
 use Rattle.stripe_examiner.specs.Facts.{StripeFacts, slot_of}
 use Rattle.stripe_examiner.specs.Findings.{is_unread}
-use Rattle.stripe_examiner.specs.Plan.{FixPlan, cell_at, entry_at, selects_cell}
-use Rattle.stripe_examiner.specs.Selected.{is_as_recorded}
+use Rattle.repair_scope.specs.Plan.{FixPlan, cell_at, entry_at, selects_cell}
+use Rattle.repair_scope.specs.Selected.{is_as_recorded}
 
 -- the reading of a cell did not fail, and a block that came has the recorded hash, where there is one
 pub record IsReadRight (plan : FixPlan) (facts : StripeFacts) (d : ℕ) (cell : Cell) : Type 0 where

@@ -10,8 +10,9 @@ use Rattle.snap_config.specs.declared.options.Selection.{Selection}
 use Rattle.snap_report.specs.declared.answer.RunFault.{RunFault}
 use Rattle.snap_report.specs.declared.answer.RunFault.TheVariants.{Folder, Vault, Memory}
 use Rattle.snap_fix.specs.declared.beginning.Work.{Work}
-use Rattle.stripe_examiner.specs.declared.scope.Mode.{Mode}
-use Rattle.stripe_examiner.specs.Plan.{IsScope, plan_of, entries_of, starts_of, stripes_of}
+use Rattle.repair_scope.specs.declared.scope.Mode.{Mode}
+use Rattle.repair_scope.specs.Plan.{IsScope, plan_of, entries_of, stripes_of}
+use Rattle.stripe_examiner.specs.Place.{starts_of}
 use Rattle.stripe_examiner.specs.Room.{IsRoomFor}
 
 -- The folders were listed, each once, and this is what the run works with.

@@ -10,7 +10,7 @@ use Rattle.snap_report.specs.declared.events.Event.{Event}
 use Rattle.stripe_examiner.specs.Facts.{StripeFacts}
 use Rattle.stripe_examiner.specs.Findings.{stripe_events}
 use Rattle.snap_fix.specs.Mended.{Mended, all_cell_news, cell_news, is_wrong_level, level_news}
-use Rattle.stripe_examiner.specs.Plan.{FixPlan}
+use Rattle.repair_scope.specs.Plan.{FixPlan}
 use Rattle.snap_fix.specs.Underway.{done_well, level_write, wrong_write}
 
 -- ---- its levels

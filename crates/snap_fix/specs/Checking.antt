@@ -13,7 +13,7 @@ use Rattle.stripe_examiner.specs.declared.counts.Counts.{Counts}
 use Rattle.stripe_examiner.specs.declared.room.StripeRoom.{StripeRoom}
 use Rattle.stripe_examiner.specs.Facts.{StripeFacts}
 use Rattle.stripe_examiner.specs.Looking.{AreRead, LooksAt, LooksInto, Scene, facts_at, numbers_of}
-use Rattle.stripe_examiner.specs.Plan.{FixPlan, EntriesFit, plan_of}
+use Rattle.repair_scope.specs.Plan.{FixPlan, EntriesFit, plan_of}
 use Rattle.stripe_examiner.specs.Room.{IsRoomFor}
 use Rattle.stripe_examiner.specs.Shown.{ShowsStripe}
 

@@ -16,8 +16,8 @@ use Rattle.snap_report.specs.Telling.{Settled}
 use Rattle.snap_report.specs.declared.events.Event.{Event}
 use Rattle.snap_report.specs.declared.pages.Lines.{Lines}
 use Rattle.snap_fix.specs.declared.checks.FixEnd.{FixEnd}
-use Rattle.stripe_examiner.specs.declared.scope.Mode.{Mode}
-use Rattle.stripe_examiner.specs.declared.scope.Mode.TheVariants.{Audit}
+use Rattle.repair_scope.specs.declared.scope.Mode.{Mode}
+use Rattle.repair_scope.specs.declared.scope.Mode.TheVariants.{Audit}
 use Rattle.snap_fix.specs.Audited.{FindsNothing}
 use Rattle.stripe_examiner.specs.Asking.{AsksSpare}
 use Rattle.stripe_examiner.specs.Counts.{at_most}
@@ -25,7 +25,8 @@ use Rattle.stripe_examiner.specs.Facts.{StripeFacts}
 use Rattle.stripe_examiner.specs.Findings.{opening_events, events_of}
 use Rattle.stripe_examiner.specs.Known.{AreFacts}
 use Rattle.stripe_examiner.specs.Looking.{AreRead, LevelsAreRead, numbers_of}
-use Rattle.stripe_examiner.specs.Plan.{FixPlan, IsScope, entries_of, starts_of, stripes_of}
+use Rattle.repair_scope.specs.Plan.{FixPlan, IsScope, entries_of, stripes_of}
+use Rattle.stripe_examiner.specs.Place.{starts_of}
 use Rattle.stripe_examiner.specs.Spare.{SpareView, IsSpareFor}
 
 -- what a check or a fix works on: the folders, the vault, the spare, the lines, and those who are told

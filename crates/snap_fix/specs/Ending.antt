@@ -25,7 +25,7 @@ use Rattle.stripe_examiner.specs.Counts.{AreCounts}
 use Rattle.file_restorer.specs.Finishing.{FitsTree, HoldsFinished, StandsWhole, IsFinishCall, bytes_now, finish_calls, finish_of, was_gone}
 use Rattle.file_restorer.specs.Mending.{StatesFit, IsFree}
 use Rattle.file_restorer.specs.Order.{FolderWrites}
-use Rattle.stripe_examiner.specs.Plan.{FixPlan, EntriesFit, entry_at}
+use Rattle.repair_scope.specs.Plan.{FixPlan, EntriesFit, entry_at}
 use Rattle.snap_fix.specs.Repairing.{FilesOutside}
 use Rattle.file_restorer.specs.State.{AreStepCalls, FolderMakesBy, no_state, record_path}
 use Rattle.snap_fix.specs.Underway.{done_well}

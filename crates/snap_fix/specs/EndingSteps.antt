@@ -20,7 +20,7 @@ use Rattle.snap_fix.specs.Ending.{FailsAtRecord, CanFinishFile, CanFinishColumn,
 use Rattle.file_restorer.specs.Finishing.{was_gone}
 use Rattle.file_restorer.specs.Mending.{StatesFit}
 use Rattle.file_restorer.specs.Order.{FolderWrites}
-use Rattle.stripe_examiner.specs.Plan.{FixPlan, EntriesFit}
+use Rattle.repair_scope.specs.Plan.{FixPlan, EntriesFit}
 use Rattle.file_table.specs.Table.{records_in}
 use Rattle.file_restorer.specs.State.{StepMakes, record_path, state_in}
 

@@ -11,7 +11,7 @@ use Rattle.snap_report.specs.declared.answer.RunFault.{RunFault}
 use Rattle.snap_report.specs.declared.events.Event.{Event}
 use Rattle.file_restorer.specs.State.{first_states}
 use Rattle.stripe_examiner.specs.Spare.{IsSpareFor, SpareView}
-use Rattle.stripe_examiner.specs.declared.scope.Mode.TheVariants.{Fix}
+use Rattle.repair_scope.specs.declared.scope.Mode.TheVariants.{Fix}
 use Rattle.snap_fix.specs.declared.beginning.Work.{Work}
 use Rattle.snap_fix.specs.declared.checks.FixEnd.{FixEnd}
 use Rattle.snap_fix.specs.declared.plan.Progress.{Progress}

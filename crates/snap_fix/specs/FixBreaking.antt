@@ -18,7 +18,7 @@ use Rattle.snap_report.specs.declared.events.Event.{Event}
 use Rattle.stripe_reader.specs.Columns.{folder_at}
 use Rattle.stripe_reader.specs.Starts.{StartsValue}
 use Rattle.file_restorer.specs.declared.finishing.Finish.{Finish}
-use Rattle.stripe_examiner.specs.declared.scope.Mode.{Mode}
+use Rattle.repair_scope.specs.declared.scope.Mode.{Mode}
 use Rattle.stripe_examiner.specs.Asking.{AsksSpare}
 use Rattle.snap_fix.specs.Beginning.{BeginsNot}
 use Rattle.file_restorer.specs.Breaking.{FailsAfter}
@@ -31,7 +31,8 @@ use Rattle.snap_fix.specs.FixRun.{BreaksInLast, HasBroken, HoldAllWrong, LooksAh
 use Rattle.snap_fix.specs.Fixing.{MendsVault, facts_of}
 use Rattle.stripe_examiner.specs.Looking.{numbers_of, unread_cells, unread_in}
 use Rattle.snap_fix.specs.Mended.{Mended, all_mended_events}
-use Rattle.stripe_examiner.specs.Plan.{FixPlan, starts_of, stripes_of}
+use Rattle.repair_scope.specs.Plan.{FixPlan, stripes_of}
+use Rattle.stripe_examiner.specs.Place.{starts_of}
 use Rattle.stripe_examiner.specs.Present.{ArePresent}
 use Rattle.snap_fix.specs.Reads.{AreAllRead, FolderReads}
 use Rattle.snap_fix.specs.Repairing.{FailsInCell}

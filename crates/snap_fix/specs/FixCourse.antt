@@ -26,7 +26,7 @@ use Rattle.stripe_reader.specs.declared.starts.Place.{Place}
 use Rattle.stripe_reader.specs.declared.starts.Place.TheVariants.{Lost, Nowhere}
 use Rattle.snap_fix.specs.declared.checks.FixEnd.{FixEnd}
 use Rattle.file_restorer.specs.declared.finishing.Finish.{Finish}
-use Rattle.stripe_examiner.specs.declared.scope.Mode.{Mode}
+use Rattle.repair_scope.specs.declared.scope.Mode.{Mode}
 use Rattle.file_restorer.specs.declared.state.FileState.{FileState}
 use Rattle.stripe_examiner.specs.Asking.{AsksSpare}
 use Rattle.stripe_examiner.specs.Counts.{at_most}
@@ -40,7 +40,8 @@ use Rattle.stripe_examiner.specs.Known.{AreFacts}
 use Rattle.stripe_examiner.specs.Looking.{AreAllLevelsOf, numbers_of, unread_cells, unread_in}
 use Rattle.snap_fix.specs.Mended.{AnswersFit, Mended, has_lost, all_mended_events, written_in, wrong_in}
 use Rattle.file_restorer.specs.Order.{FolderWrites}
-use Rattle.stripe_examiner.specs.Plan.{FixPlan, entry_at, starts_of, stripes_of}
+use Rattle.repair_scope.specs.Plan.{FixPlan, entry_at, stripes_of}
+use Rattle.stripe_examiner.specs.Place.{starts_of}
 use Rattle.snap_fix.specs.Reads.{AreReadBy, FolderReads}
 use Rattle.file_restorer.specs.State.{AnyCall, FolderMakes, FolderMakesBy, KeepsStarts, record_path}
 use Rattle.snap_fix.specs.StripeOrder.{writes_after}

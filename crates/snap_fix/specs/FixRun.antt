@@ -25,7 +25,7 @@ use Rattle.stripe_examiner.specs.Known.{AreFacts}
 use Rattle.stripe_examiner.specs.Looking.{AreAllLevelsOf, numbers_of, facts_at, unread_cells, unread_in}
 use Rattle.stripe_examiner.specs.Marks.{slots_at}
 use Rattle.snap_fix.specs.Mended.{Mended, AnswersFit, all_mended_events}
-use Rattle.stripe_examiner.specs.Plan.{EntriesFit, FixPlan}
+use Rattle.repair_scope.specs.Plan.{EntriesFit, FixPlan}
 use Rattle.stripe_examiner.specs.declared.room.Room.{Room}
 use Rattle.snap_fix.specs.Reads.{AreAllRead, AreReadBy, FolderReads, IsQuiet}
 use Rattle.stripe_examiner.specs.Room.{IsRoomFor}

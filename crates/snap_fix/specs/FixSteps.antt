@@ -16,7 +16,7 @@ use Rattle.stripe_examiner.specs.Facts.{StripeFacts}
 use Rattle.stripe_examiner.specs.Known.{AreFacts}
 use Rattle.stripe_examiner.specs.Marks.{levels_read, row_if}
 use Rattle.snap_fix.specs.Mended.{all_level_news, level_news, wrong_in}
-use Rattle.stripe_examiner.specs.Plan.{FixPlan, is_searched}
+use Rattle.repair_scope.specs.Plan.{FixPlan, is_searched}
 use Rattle.snap_fix.specs.Repairing.{FlagsWritten, LevelsOutside}
 use Rattle.snap_fix.specs.Underway.{AddsZeros, KeepsLevels, IsMendedLevel, HoldsWrong, done_well, wrong_writes}
 

@@ -27,7 +27,7 @@ use Rattle.stripe_examiner.specs.Counts.{AreCounts, at_most}
 use Rattle.stripe_examiner.specs.Facts.{StripeFacts, slot_of}
 use Rattle.snap_fix.specs.Mended.{Mended, AnswersFit, all_mended_events, mended_events, is_wrong_level, written_in, wrong_in}
 use Rattle.file_restorer.specs.Mending.{StatesFit}
-use Rattle.stripe_examiner.specs.Plan.{FixPlan}
+use Rattle.repair_scope.specs.Plan.{FixPlan}
 use Rattle.snap_fix.specs.Repairing.{FailsInCell}
 use Rattle.stripe_examiner.specs.Spare.{SpareView, IsSpareFor}
 use Rattle.file_restorer.specs.State.{FolderMakesBy, KeepsStarts}

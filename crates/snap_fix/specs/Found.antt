@@ -2,10 +2,10 @@
 use Rattle.std.specs.Prelude.{◌≡◌, ◌≢◌, ℕ, ◌<◌, List, length, true, Contains}
 use Rattle.file_restorer.specs.declared.finishing.Finish.{Finish}
 use Rattle.file_restorer.specs.declared.finishing.Finish.TheVariants.{Gone}
-use Rattle.stripe_examiner.specs.declared.scope.Mode.TheVariants.{Check, Fix}
+use Rattle.repair_scope.specs.declared.scope.Mode.TheVariants.{Check, Fix}
 use Rattle.snap_fix.specs.Ending.{finish_at, finishes_at, is_finished}
 use Rattle.snap_fix.specs.Mended.{Mended, answer_of, is_repaired}
-use Rattle.stripe_examiner.specs.Plan.{FixPlan}
+use Rattle.repair_scope.specs.Plan.{FixPlan}
 use Rattle.file_table.specs.Table.{records_in}
 
 -- each cell that is to be written is

@@ -15,7 +15,7 @@ use Rattle.stripe_reader.specs.Starts.{StartsValue}
 use Rattle.stripe_examiner.specs.Facts.{StripeFacts, IsGift, gift_of, missing_in, row_before, slot_of, wanted_in}
 use Rattle.stripe_examiner.specs.Present.{ArePresent}
 use Rattle.stripe_examiner.specs.Known.{AreFacts, AreRemainders, whole_levels}
-use Rattle.stripe_examiner.specs.Plan.{FixPlan, is_searched, seen_at}
+use Rattle.repair_scope.specs.Plan.{FixPlan, is_searched, seen_at}
 use Rattle.stripe_examiner.specs.Restorable.{LostStripe, CandidatesAreGenuine, IsIntact}
 
 -- the stripe with what is missing of it, as it is searched

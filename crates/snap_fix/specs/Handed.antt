@@ -12,7 +12,7 @@ use Rattle.file_restorer.specs.declared.state.FileState.{FileState}
 use Rattle.stripe_examiner.specs.Facts.{StripeFacts}
 use Rattle.stripe_examiner.specs.Judging.{TellsWrong}
 use Rattle.stripe_examiner.specs.Marks.{CanExamine, row_if}
-use Rattle.stripe_examiner.specs.Plan.{FixPlan, is_searched, plan_of}
+use Rattle.repair_scope.specs.Plan.{FixPlan, is_searched, plan_of}
 use Rattle.stripe_examiner.specs.Spare.{IsSpareFor, SpareView, nothing}
 use Rattle.stripe_examiner.specs.WindowExamined.{CanExamineWindow}
 use Rattle.snap_fix.specs.declared.fixing.Totals.{Totals}

@@ -9,7 +9,7 @@ use Rattle.snap_report.specs.declared.events.Event.TheVariants.{Fixed, FixedPari
 use Rattle.stripe_reader.specs.Columns.{folder_at}
 use Rattle.stripe_examiner.specs.Facts.{StripeFacts, damaged_at, is_missing}
 use Rattle.stripe_examiner.specs.Findings.{is_lost, is_wrong, lost_event, stripe_events}
-use Rattle.stripe_examiner.specs.Plan.{FixPlan, cell_at, entry_at, selects_cell}
+use Rattle.repair_scope.specs.Plan.{FixPlan, cell_at, entry_at, selects_cell}
 use Rattle.stripe_examiner.specs.Showing.{block_or_none, known_block}
 use Rattle.file_restorer.specs.State.{Write}
 

@@ -7,7 +7,7 @@ use Rattle.stripe_reader.specs.Reading.{CellReading, task_at}
 use Rattle.stripe_reader.specs.Slot.{kept}
 use Rattle.stripe_reader.specs.Starts.{StartsValue}
 use Rattle.stripe_examiner.specs.Facts.{StripeFacts, slot_of}
-use Rattle.stripe_examiner.specs.Plan.{FixPlan}
+use Rattle.repair_scope.specs.Plan.{FixPlan}
 use Rattle.file_restorer.specs.State.{KeepsStarts}
 
 -- a call that looks at a file or reads one

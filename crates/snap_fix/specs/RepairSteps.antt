@@ -31,7 +31,7 @@ use Rattle.stripe_examiner.specs.Marks.{is_marked_missing}
 use Rattle.snap_fix.specs.Mended.{Mended, answer_of, cell_news, is_repaired, is_written, is_blocked_cell, mended_event}
 use Rattle.file_restorer.specs.Mending.{StatesFit, IsFree, IsBlockCall, block_start, cell_path, mended_writes, with_place, with_state}
 use Rattle.file_restorer.specs.Order.{FolderWrites, block_calls}
-use Rattle.stripe_examiner.specs.Plan.{FixPlan, cell_at, selects_cell}
+use Rattle.repair_scope.specs.Plan.{FixPlan, cell_at, selects_cell}
 use Rattle.snap_fix.specs.Repairing.{LevelsOutside}
 use Rattle.file_restorer.specs.State.{Write, HoldsTold, FolderMakesBy, KeepsStarts, StaysPlace, StepMakes, size_after, state_in}
 use Rattle.snap_fix.specs.Underway.{AreMendCalls, IsFixable, IsColumnUnderway, IsMendCall, done_well}

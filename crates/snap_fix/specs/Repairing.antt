@@ -24,7 +24,7 @@ use Rattle.stripe_examiner.specs.Facts.{StripeFacts}
 use Rattle.stripe_examiner.specs.Marks.{row_if}
 use Rattle.snap_fix.specs.Mended.{Mended, AnswersFit, all_cell_news, all_level_news, cell_news, is_wrong_level, level_news, written_in, wrong_in}
 use Rattle.file_restorer.specs.Mending.{StatesFit}
-use Rattle.stripe_examiner.specs.Plan.{FixPlan}
+use Rattle.repair_scope.specs.Plan.{FixPlan}
 use Rattle.file_restorer.specs.State.{FolderMakesBy, KeepsStarts, has_missing}
 use Rattle.snap_fix.specs.Underway.{AreFixable, AreMendCalls, AreUnderway, FixUnderway, IsMendCall, KeepsLevels, AddsZeros, IsMendedLevel, HoldsWrong, done_well, wrong_writes}
 use Rattle.stripe_examiner.specs.Showing.{ShowsFacts}

@@ -28,7 +28,7 @@ use Rattle.snap_fix.specs.Mended.{AnswersFit, Mended, has_lost, is_repaired, is_
 use Rattle.stripe_examiner.specs.Showing.{known_block}
 use Rattle.file_restorer.specs.Mending.{block_start, cell_path}
 use Rattle.file_restorer.specs.State.{has_some, place_in, record_path}
-use Rattle.stripe_examiner.specs.Plan.{FixPlan, cell_at, entry_at, selects_cell, stripes_of}
+use Rattle.repair_scope.specs.Plan.{FixPlan, cell_at, entry_at, selects_cell, stripes_of}
 
 -- A fix that ended: it found these facts of the stripes of its plan, and did that to the files.
 pub record HasFixed (plan : FixPlan) (starts : StartsValue) (stripes : List Mended) (finishes : List (List Finish)) (firsts news : List FolderView) : Type 0 where

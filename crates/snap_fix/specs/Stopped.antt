@@ -15,7 +15,7 @@ use Rattle.snap_fix.specs.Fixing.{facts_of}
 use Rattle.stripe_examiner.specs.Known.{AreFacts}
 use Rattle.snap_fix.specs.Mended.{Mended, has_lost, is_repaired}
 use Rattle.file_restorer.specs.Mending.{block_start}
-use Rattle.stripe_examiner.specs.Plan.{FixPlan, cell_at}
+use Rattle.repair_scope.specs.Plan.{FixPlan, cell_at}
 use Rattle.file_restorer.specs.State.{AnyCall, place_in, record_path}
 use Rattle.snap_fix.specs.Underway.{WritesOneOf}
 

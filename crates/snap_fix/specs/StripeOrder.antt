@@ -8,7 +8,7 @@ use Rattle.snap_fix.specs.Mended.{Mended, is_written, writes_of}
 use Rattle.stripe_examiner.specs.Showing.{block_or_none, known_block}
 use Rattle.file_restorer.specs.Mending.{block_start, cell_path}
 use Rattle.file_restorer.specs.Order.{set_up_calls}
-use Rattle.stripe_examiner.specs.Plan.{FixPlan, cell_at}
+use Rattle.repair_scope.specs.Plan.{FixPlan, cell_at}
 use Rattle.file_restorer.specs.State.{has_some, place_in}
 
 -- The calls that write the block of a cell, after some stripes: before the first block of its file, that is put under PATH, from the place

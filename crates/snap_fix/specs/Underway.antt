@@ -21,7 +21,7 @@ use Rattle.snap_fix.specs.Mended.{Mended, is_gone, is_repaired, is_written, is_w
 use Rattle.stripe_examiner.specs.Showing.{known_block, block_or_none}
 use Rattle.file_restorer.specs.Mending.{IsFree, block_start, cell_path}
 use Rattle.file_restorer.specs.Order.{FolderWrites, block_calls, is_writing}
-use Rattle.stripe_examiner.specs.Plan.{FixPlan, cell_at, entry_at}
+use Rattle.repair_scope.specs.Plan.{FixPlan, cell_at, entry_at}
 use Rattle.file_restorer.specs.State.{AreStepCalls, HoldsTold, StaysPlace, WellCall, has_some, record_path, size_after, state_in}
 use Rattle.snap_fix.specs.StripeOrder.{writes_after}
 

@@ -4,7 +4,7 @@ use Rattle.stripe_reader.specs.WindowValue.{Fits, WindowValue}
 use Rattle.stripe_examiner.specs.declared.room.StripeRoom.{StripeRoom}
 use Rattle.stripe_examiner.specs.Facts.{StripeFacts}
 use Rattle.stripe_examiner.specs.Looking.{facts_at, numbers_of}
-use Rattle.stripe_examiner.specs.Plan.{FixPlan}
+use Rattle.repair_scope.specs.Plan.{FixPlan}
 use Rattle.stripe_examiner.specs.Shown.{ShowsStripe}
 
 -- these are the facts of the stripe of this number

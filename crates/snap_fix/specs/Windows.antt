@@ -6,7 +6,7 @@ use Rattle.parity_writer.specs.LevelReading.{LevelReading}
 use Rattle.stripe_reader.specs.WindowValue.{stripe_count}
 use Rattle.stripe_examiner.specs.Facts.{StripeFacts}
 use Rattle.stripe_examiner.specs.Looking.{level_reads}
-use Rattle.stripe_examiner.specs.Plan.{FixPlan}
+use Rattle.repair_scope.specs.Plan.{FixPlan}
 use Rattle.snap_fix.specs.Underway.{done_well, wrong_writes}
 
 -- the stripes of a window, and what was read of the levels of each

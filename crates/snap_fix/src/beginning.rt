@@ -2,15 +2,16 @@
 ghost use Rattle.std.specs.Prelude.{◌≡◌, length, map, IfOk, IfErr};
 ghost use Rattle.snap_config.specs.Setup.{setup_value};
 ghost use Rattle.snap_fix.specs.Beginning.{Begins, BeginsNot, of_listing};
-ghost use Rattle.stripe_examiner.specs.Plan.{names_of};
+ghost use Rattle.repair_scope.specs.Plan.{names_of};
 
 use array_scan::{ListingFault, listings};
 use disk_model::Folder;
 use file_table::Table;
+use repair_scope::{Entries, Mode, Scope, scope_of, stripes_to_look_at};
 use snap_config::{Selection, Setup};
 use snap_report::RunFault;
 use std::alloc::Global;
-use stripe_examiner::{Entries, Mode, Room, Scope, place_all, scope_of, stripes_to_look_at};
+use stripe_examiner::{Room, place_all};
 use stripe_reader::Starts;
 
 /// What a run works with: what it is for, what is known of the files, where they stand, the stripes

@@ -3,18 +3,19 @@ ghost use Rattle.std.specs.Prelude.{◌≡◌, IfOk, IfErr, length, map};
 ghost use Rattle.snap_config.specs.Setup.{setup_value};
 ghost use Rattle.snap_fix.specs.ByMode.{AreOpenFor, LeavesFor, MayFailBy, Repairs, RepairsNot};
 ghost use Rattle.snap_fix.specs.Course.{IsArray, outside};
-ghost use Rattle.stripe_examiner.specs.Plan.{names_of};
+ghost use Rattle.repair_scope.specs.Plan.{names_of};
 
 use crate::checks::{FixEnd, check};
 use crate::plan::Task;
 use crate::repairs::fix;
 use disk_model::{Folder, Sink, Vault};
 use file_table::Table;
+use repair_scope::Mode;
 use snap_config::{Selection, Setup};
 use snap_report::{Lines, Report, RunFault};
 use std::alloc::Global;
 use std::thread::Threads;
-use stripe_examiner::{Mode, Spare};
+use stripe_examiner::Spare;
 
 /// Tells what is damaged of an array by its table and, in the mode `Fix`, writes what is known of it anew. A check or an
 /// audit fails only where a folder can't be listed or memory runs out. So does a fix, before anything is written; and it

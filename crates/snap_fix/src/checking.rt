@@ -7,7 +7,7 @@ ghost use Rattle.stripe_examiner.specs.Counts.{AreCounts};
 ghost use Rattle.stripe_examiner.specs.Facts.{StripeFacts};
 ghost use Rattle.stripe_examiner.specs.Findings.{events_of};
 ghost use Rattle.stripe_examiner.specs.Looking.{scene};
-ghost use Rattle.stripe_examiner.specs.Plan.{plan_of};
+ghost use Rattle.repair_scope.specs.Plan.{plan_of};
 ghost use Rattle.stripe_examiner.specs.Shown.{CanTell};
 ghost use Rattle.stripe_examiner.specs.Spare.{IsSpareFor};
 ghost use Rattle.stripe_reader.specs.WindowValue.{WindowValue};
@@ -16,9 +16,10 @@ use crate::beginning::Work;
 use crate::plan::Task;
 use disk_model::{Folder, Sink, Vault};
 use file_table::Table;
+use repair_scope::{Entries, Scope};
 use snap_report::{Lines, Report};
 use std::thread::Threads;
-use stripe_examiner::{Counts, Entries, Scope, Spare, StripeRoom, examine_window, tell_stripe};
+use stripe_examiner::{Counts, Spare, StripeRoom, examine_window, tell_stripe};
 
 // Tells what is found in the stripes of a window that was examined, one stripe after another.
 fn tell_window<W: Sink>(

@@ -3,7 +3,7 @@ ghost use Rattle.std.specs.Prelude.{◌≡◌, IfOk, IfErr, length, map};
 ghost use Rattle.snap_config.specs.Setup.{setup_value};
 ghost use Rattle.snap_fix.specs.Beginning.{BeginsNot};
 ghost use Rattle.snap_fix.specs.Course.{Checks, IsArray, outside};
-ghost use Rattle.stripe_examiner.specs.Plan.{names_of};
+ghost use Rattle.repair_scope.specs.Plan.{names_of};
 
 use crate::beginning::begin;
 use crate::checking::check_stripes;

@@ -6,7 +6,7 @@ ghost use Rattle.snap_fix.specs.Handed.{beside, BreaksShown, BreaksStretch, CanE
 ghost use Rattle.snap_fix.specs.Handed.{IsUnderway, ShowsIn, scene_at, seen};
 ghost use Rattle.snap_fix.specs.Mended.{Mended};
 ghost use Rattle.stripe_examiner.specs.Facts.{StripeFacts};
-ghost use Rattle.stripe_examiner.specs.Plan.{FixPlan};
+ghost use Rattle.repair_scope.specs.Plan.{FixPlan};
 ghost use Rattle.stripe_examiner.specs.Room.{IsRoomFor};
 ghost use Rattle.snap_fix.specs.Underway.{FixUnderway};
 

@@ -9,8 +9,9 @@ ghost use Rattle.snap_fix.specs.Underway.{FixUnderway};
 use crate::plan::{Examined, Plan, Progress};
 use crate::repairing::{mend_files, mend_levels};
 use disk_model::{Failed, Folder, Sink, Vault};
+use repair_scope::is_searched;
 use snap_report::{Lines, Report, RunFault};
-use stripe_examiner::{Counts, is_searched, tell_stripe};
+use stripe_examiner::{Counts, tell_stripe};
 
 /// How much was found, and how many blocks of files and of levels were written anew. Each number stays at the greatest u64.
 #[derive(Clone, Copy, Debug, PartialEq, Eq)]

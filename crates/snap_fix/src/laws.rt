@@ -20,7 +20,7 @@ ghost use Rattle.stripe_reader.specs.Columns.{folder_at};
 ghost use Rattle.stripe_reader.specs.Reading.{block_length};
 ghost use Rattle.stripe_reader.specs.Starts.{StartsValue};
 ghost use Rattle.file_restorer.specs.declared.finishing.Finish.{Finish};
-ghost use Rattle.stripe_examiner.specs.declared.scope.Mode.TheVariants as mode;
+ghost use Rattle.repair_scope.specs.declared.scope.Mode.TheVariants as mode;
 ghost use Rattle.snap_fix.specs.Again.{IsFoundAgain, IsFoundIn, IsLookedAt};
 ghost use Rattle.snap_fix.specs.Audited.{FindsNothing};
 ghost use Rattle.snap_fix.specs.Course.{IsPlan, check_events};
@@ -34,7 +34,8 @@ ghost use Rattle.snap_fix.specs.Genuine.{AreGenuineOf, HasGenuineFacts, IsBlockI
 ghost use Rattle.stripe_examiner.specs.Known.{AreFacts};
 ghost use Rattle.snap_fix.specs.Mended.{Mended, has_lost, is_repaired, is_wrong_level};
 ghost use Rattle.stripe_examiner.specs.Showing.{block_or_none, known_block};
-ghost use Rattle.stripe_examiner.specs.Plan.{FixPlan, entry_at, is_audit, is_searched, starts_of, stripes_of};
+ghost use Rattle.repair_scope.specs.Plan.{FixPlan, entry_at, is_audit, is_searched, stripes_of};
+ghost use Rattle.stripe_examiner.specs.Place.{starts_of};
 ghost use Rattle.stripe_examiner.specs.Restorable.{Accepts, AreBlocksOf, CanAccept, CandidatesAreGenuine, Follows, IsIntact, IsKnownBeside, IsLost, IsOneOf, IsRestorable, IsSnapshotOf, LostStripe, SearchFinds, SearchFindsNone, SomeAccepted, TellsIntact, row_with};
 ghost use Rattle.snap_fix.specs.Restored.{CanBeHad, HasFinished, HasFixed, HasFixedRecord, HoldsCell, IsDamagedCell, IsNotWritten, IsUnknownCell, LosesGenuine, RestoresGenuine, StandsFinished};
 ghost use Rattle.stripe_examiner.specs.Search.{IsRightBlock, wanted_at};

@@ -20,4 +20,5 @@ mod repairs;
 
 pub use by_mode::repair;
 pub use checks::FixEnd;
-pub use stripe_examiner::{Mode, NoSpare, Spare};
+pub use repair_scope::Mode;
+pub use stripe_examiner::{NoSpare, Spare};

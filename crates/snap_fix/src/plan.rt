@@ -1,8 +1,9 @@
 // What a run is asked for, what it goes by, how far a fix is, and stripes of a window that were examined: each as one value.
 use file_restorer::States;
 use file_table::Table;
+use repair_scope::{Entries, Mode, Scope};
 use snap_config::{Selection, Setup};
-use stripe_examiner::{Entries, Mode, Room, Scope, StripeRoom};
+use stripe_examiner::{Room, StripeRoom};
 use stripe_reader::{Starts, Window};
 
 /// What a run is asked for: what to do, for which records of which disks, by which table, and by how many readers at most.

@@ -9,7 +9,7 @@ ghost use Rattle.snap_fix.specs.Beginning.{BeginsNot};
 ghost use Rattle.snap_fix.specs.FixBegun.{BeginsFix, BreaksBegun, FixesBegun, HasBegun, IsFirst};
 ghost use Rattle.snap_fix.specs.FixBreaking.{FixesNot};
 ghost use Rattle.snap_fix.specs.FixCourse.{AreOpen, Fixes};
-ghost use Rattle.stripe_examiner.specs.Plan.{names_of};
+ghost use Rattle.repair_scope.specs.Plan.{names_of};
 ghost use Rattle.file_restorer.specs.State.{first_state, first_states};
 
 use crate::beginning::{Work, begin};
@@ -21,11 +21,12 @@ use crate::plan::{Plan, Progress, Stretch, Task, Workspace};
 use disk_model::{Folder, NoMemory, Sink, Vault};
 use file_restorer::{FileState, States};
 use file_table::Table;
+use repair_scope::{Entries, Mode, Scope};
 use snap_config::{Selection, Setup};
 use snap_report::{Lines, Report, RunFault};
 use std::alloc::Global;
 use std::thread::Threads;
-use stripe_examiner::{Counts, Entries, Mode, Scope, Spare, tell_opening};
+use stripe_examiner::{Counts, Spare, tell_opening};
 use stripe_reader::{Start, Starts};
 
 /// What a fix works with: what it is for, what is known of the files, the stripes that are looked at, and what it works in.

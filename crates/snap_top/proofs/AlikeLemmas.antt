@@ -21,10 +21,10 @@ use Rattle.stripe_examiner.specs.Alike.{AreReadAlike, SeeAlike}
 use Rattle.stripe_examiner.specs.Facts.{StripeFacts, gift_of}
 use Rattle.stripe_examiner.specs.Known.{AreFacts}
 use Rattle.stripe_examiner.specs.Looking.{facts_at, no_facts, numbers_of}
-use Rattle.stripe_examiner.specs.Plan.{FixPlan, is_audit, names_of, stripes_of}
-use Rattle.stripe_examiner.specs.declared.entry.Entry.{Entry as PlanEntry}
-use Rattle.stripe_examiner.specs.declared.scope.Mode.{Mode}
-use Rattle.stripe_examiner.specs.declared.scope.Mode.TheVariants as modes
+use Rattle.repair_scope.specs.Plan.{FixPlan, is_audit, names_of, stripes_of}
+use Rattle.repair_scope.specs.declared.entry.Entry.{Entry as PlanEntry}
+use Rattle.repair_scope.specs.declared.scope.Mode.{Mode}
+use Rattle.repair_scope.specs.declared.scope.Mode.TheVariants as modes
 use Rattle.stripe_reader.specs.Columns.{folder_at}
 use Rattle.stripe_reader.specs.Starts.{StartsValue}
 use Rattle.snap_top.specs.Alike.{FindAlike, FixFindsAlike, ReadAlike, seen_by}

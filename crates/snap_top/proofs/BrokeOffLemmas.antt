@@ -19,8 +19,8 @@ use Rattle.snap_report.specs.declared.answer.RunFault.{RunFault}
 use Rattle.snap_report.specs.declared.answer.RunFault.TheVariants as runs
 use Rattle.snap_report.specs.declared.events.Event.{Event}
 use Rattle.snap_report.proofs.TellingLemmas.{tells_nothing}
-use Rattle.stripe_examiner.specs.declared.scope.Mode.{Mode}
-use Rattle.stripe_examiner.specs.declared.scope.Mode.TheVariants as modes
+use Rattle.repair_scope.specs.declared.scope.Mode.{Mode}
+use Rattle.repair_scope.specs.declared.scope.Mode.TheVariants as modes
 use Rattle.snap_top.specs.BrokeOff.{BrokeOff, EndedEarly, RoseOnce, WasRefused, WasUndone, answered, is_undone}
 use Rattle.snap_top.specs.Checking.{CheckRefuses, ChecksBy}
 use Rattle.snap_top.specs.Does.{DoesCommand}

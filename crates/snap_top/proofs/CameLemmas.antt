@@ -7,7 +7,7 @@ use Rattle.snap_fix.specs.Mended.{Mended}
 use Rattle.stripe_examiner.specs.Facts.{StripeFacts}
 use Rattle.stripe_examiner.specs.Known.{AreFacts}
 use Rattle.stripe_examiner.specs.Looking.{facts_at, no_facts, numbers_of}
-use Rattle.stripe_examiner.specs.Plan.{FixPlan, stripes_of}
+use Rattle.repair_scope.specs.Plan.{FixPlan, stripes_of}
 use Rattle.snap_top.specs.Alike.{BlocksAlike}
 use Rattle.snap_top.specs.BrokeOff.{FixBrokeOff}
 use Rattle.snap_top.specs.Restoring.{EndsFixed}

@@ -38,7 +38,8 @@ use Rattle.snap_sync.proofs.CellLemmas.{FindsCells}
 use Rattle.snap_sync.proofs.StaysLemmas.{differs-closed}
 use Rattle.stripe_examiner.specs.Facts.{StripeFacts, gift_of, slot_of}
 use Rattle.stripe_examiner.specs.Known.{AreFacts, is_whole, whole_level}
-use Rattle.stripe_examiner.specs.Plan.{FixPlan, is_searched, seen_at, starts_of}
+use Rattle.repair_scope.specs.Plan.{FixPlan, is_searched, seen_at}
+use Rattle.stripe_examiner.specs.Place.{starts_of}
 use Rattle.stripe_examiner.specs.Present.{IsPresent}
 use Rattle.stripe_reader.specs.Column.{IsReadingOf}
 use Rattle.stripe_reader.specs.Columns.{folder_at}

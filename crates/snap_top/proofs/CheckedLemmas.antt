@@ -19,11 +19,11 @@ use Rattle.stripe_examiner.specs.Facts.{StripeFacts, gift_of}
 use Rattle.parity_writer.specs.LevelReading.{LevelReading, IsReadingOf}
 use Rattle.stripe_examiner.specs.Looking.{AreAllLevelsOf, AreRead, LevelsAreRead}
 use Rattle.stripe_reader.specs.Starts.{StartsValue}
-use Rattle.stripe_examiner.specs.Plan.{FixPlan, names_of}
+use Rattle.repair_scope.specs.Plan.{FixPlan, names_of}
 use Rattle.stripe_examiner.specs.Spare.{SpareView, nothing}
 use Rattle.snap_fix.specs.declared.checks.FixEnd.{FixEnd}
-use Rattle.stripe_examiner.specs.declared.scope.Mode.{Mode}
-use Rattle.stripe_examiner.specs.declared.scope.Mode.TheVariants as modes
+use Rattle.repair_scope.specs.declared.scope.Mode.{Mode}
+use Rattle.repair_scope.specs.declared.scope.Mode.TheVariants as modes
 use Rattle.snap_report.specs.Answer.{Outside, IsCaused, done_answer}
 use Rattle.snap_report.specs.EndLines.{check_text}
 use Rattle.snap_report.specs.EventLines.{lines_of}

@@ -27,7 +27,7 @@ use Rattle.snap_config.specs.declared.options.Command.{Command}
 use Rattle.snap_config.specs.declared.options.Command.TheVariants as commands
 use Rattle.file_restorer.specs.Breaking.{broke_parity}
 use Rattle.snap_fix.specs.FixRun.{VaultFailedBy}
-use Rattle.stripe_examiner.specs.declared.scope.Mode.TheVariants as modes
+use Rattle.repair_scope.specs.declared.scope.Mode.TheVariants as modes
 use Rattle.snap_top.specs.Checking.{ChecksBy}
 use Rattle.snap_top.specs.Fixing.{FixBroke, FixesBy}
 use Rattle.snap_config.specs.declared.options.Options.{Options}

@@ -14,7 +14,7 @@ use Rattle.file_table.specs.Table.{record_at, records_in}
 use Rattle.snap_fix.specs.Ending.{AreDone, IsDone, all_finish_news, column_news_at, finish_at, finish_news, finishes_at, is_finished, record_news}
 use Rattle.snap_fix.specs.FixCourse.{Written, WritesFiles}
 use Rattle.snap_fix.specs.Mended.{Mended, column_writes, has_lost, writes_of}
-use Rattle.stripe_examiner.specs.Plan.{FixPlan, entry_at}
+use Rattle.repair_scope.specs.Plan.{FixPlan, entry_at}
 use Rattle.stripe_examiner.proofs.CellFactsLemmas.{flat_map_below}
 use Rattle.stripe_reader.specs.Columns.{folder_at}
 use Rattle.stripe_reader.specs.Starts.{StartsValue, start_in, starts_at}

@@ -35,8 +35,9 @@ use Rattle.stripe_examiner.specs.Facts.{StripeFacts}
 use Rattle.stripe_examiner.specs.Findings.{opening_events, stripe_events}
 use Rattle.stripe_examiner.specs.Known.{AreFacts}
 use Rattle.stripe_examiner.specs.Looking.{facts_at, numbers_of}
-use Rattle.stripe_examiner.specs.Plan.{FixPlan, names_of, starts_of}
-use Rattle.stripe_examiner.specs.declared.scope.Mode.TheVariants as modes
+use Rattle.repair_scope.specs.Plan.{FixPlan, names_of}
+use Rattle.stripe_examiner.specs.Place.{starts_of}
+use Rattle.repair_scope.specs.declared.scope.Mode.TheVariants as modes
 use Rattle.stripe_reader.specs.Columns.{folder_at}
 use Rattle.stripe_reader.specs.Starts.{StartsValue}
 use Rattle.snap_top.specs.Alike.{BlocksAlike, HoldAlike, SeenAlike, seen_by}

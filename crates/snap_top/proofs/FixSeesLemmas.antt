@@ -12,8 +12,8 @@ use Rattle.snap_sync.specs.Part.{AllTell, trees_of}
 use Rattle.stripe_examiner.specs.Facts.{StripeFacts}
 use Rattle.stripe_examiner.specs.Known.{AreFacts}
 use Rattle.stripe_examiner.specs.Looking.{facts_at, numbers_of}
-use Rattle.stripe_examiner.specs.Plan.{FixPlan, names_of}
-use Rattle.stripe_examiner.specs.declared.scope.Mode.TheVariants as modes
+use Rattle.repair_scope.specs.Plan.{FixPlan, names_of}
+use Rattle.repair_scope.specs.declared.scope.Mode.TheVariants as modes
 use Rattle.snap_top.specs.Alike.{BlocksAlike, HoldAlike, NothingRose, SeenAlike, seen_by}
 use Rattle.snap_top.specs.BrokeOff.{BrokeOff, FixBrokeOff, PrintsFront, ReadsRight, answered, left_of, seen_so_far}
 use Rattle.snap_top.proofs.CameLemmas.{first_are, first_at, first_gifts, numbers_first}

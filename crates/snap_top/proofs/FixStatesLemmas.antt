@@ -12,7 +12,7 @@ use Rattle.snap_fix.specs.FixCourse.{FixFinds, FixesVault, Written}
 use Rattle.snap_fix.specs.FixRun.{HasBroken, LooksAhead, RoseBeyond}
 use Rattle.snap_fix.specs.Fixing.{MendsVault, facts_of}
 use Rattle.snap_fix.specs.Mended.{Mended}
-use Rattle.stripe_examiner.specs.Plan.{FixPlan}
+use Rattle.repair_scope.specs.Plan.{FixPlan}
 use Rattle.snap_fix.specs.Underway.{IsMendedLevel, KeepsLevels}
 use Rattle.snap_fix.specs.Windows.{FixWindow}
 use Rattle.snap_report.specs.declared.answer.RunFault.{RunFault}

@@ -34,12 +34,13 @@ use Rattle.stripe_examiner.specs.Known.{AreFacts, IsTried}
 use Rattle.stripe_examiner.specs.Looking.{unread_cells}
 use Rattle.snap_fix.proofs.FixCountLemmas.{count_append}
 use Rattle.snap_fix.specs.Mended.{Mended, is_wrong_level}
-use Rattle.stripe_examiner.specs.Plan.{FixPlan, is_searched, names_of, selects_level, starts_of}
+use Rattle.repair_scope.specs.Plan.{FixPlan, is_searched, names_of, selects_level}
+use Rattle.stripe_examiner.specs.Place.{starts_of}
 use Rattle.stripe_examiner.specs.Spare.{nothing}
 use Rattle.file_restorer.specs.State.{AnyCall, FolderMakes}
 use Rattle.snap_fix.specs.Underway.{HoldsWrong}
 use Rattle.snap_fix.specs.declared.checks.FixEnd.{FixEnd}
-use Rattle.stripe_examiner.specs.declared.scope.Mode.TheVariants as modes
+use Rattle.repair_scope.specs.declared.scope.Mode.TheVariants as modes
 use Rattle.snap_report.specs.Answer.{FolderFailed, IsCaused, Outside, broke_vault, done_answer}
 use Rattle.snap_report.specs.EndLines.{fix_text}
 use Rattle.snap_report.specs.EventLines.{lines_of}

@@ -19,7 +19,8 @@ use Rattle.snap_sync.specs.Part.{AllTell, NoneRose, tree_at, trees_of}
 use Rattle.stripe_examiner.specs.Facts.{StripeFacts, slot_of}
 use Rattle.stripe_examiner.specs.Findings.{is_unread as is_not_found}
 use Rattle.stripe_examiner.specs.Looking.{AreAllLevelsOf, AreRead, facts_at, no_facts, numbers_of, unread_cells, unread_in}
-use Rattle.stripe_examiner.specs.Plan.{FixPlan, starts_of}
+use Rattle.repair_scope.specs.Plan.{FixPlan}
+use Rattle.stripe_examiner.specs.Place.{starts_of}
 use Rattle.stripe_examiner.specs.Present.{ArePresent}
 use Rattle.stripe_reader.specs.Column.{IsReadingOf, no_task}
 use Rattle.stripe_reader.specs.Columns.{folder_at}

@@ -25,7 +25,8 @@ use Rattle.snap_fix.specs.Genuine.{AreGenuine, AreLevelsIn, IsIntactLevel, IsLev
 use Rattle.snap_fix.specs.Mended.{Mended}
 use Rattle.stripe_examiner.specs.Facts.{StripeFacts}
 use Rattle.stripe_examiner.specs.Known.{AreFacts, IsTried, is_whole, whole_level, whole_levels}
-use Rattle.stripe_examiner.specs.Plan.{is_searched, starts_of}
+use Rattle.repair_scope.specs.Plan.{is_searched}
+use Rattle.stripe_examiner.specs.Place.{starts_of}
 use Rattle.snap_top.specs.Fix.{FixRun, FixesOver, MayStandFixed}
 use Rattle.snap_top.specs.Moment.{IsFixOf}
 use Rattle.snap_top.specs.Run.{Entry, Exit}

@@ -15,7 +15,7 @@ use Rattle.snap_fix.specs.Underway.{AddsZeros, HoldsWrong, IsMendedLevel, KeepsL
 use Rattle.stripe_examiner.specs.Facts.{StripeFacts}
 use Rattle.stripe_examiner.specs.Findings.{is_wrong}
 use Rattle.stripe_examiner.specs.Looking.{facts_at, no_facts}
-use Rattle.stripe_examiner.specs.Plan.{FixPlan, selects_level}
+use Rattle.repair_scope.specs.Plan.{FixPlan, selects_level}
 use Rattle.snap_top.specs.FixedAlike.{HaveSameFiles}
 use Rattle.snap_top.proofs.PlacesLemmas.{found_or_nowhere}
 use Rattle.snap_top.proofs.RestoredLastLemmas.{unknown_right}

@@ -22,8 +22,8 @@ use Rattle.stripe_examiner.specs.Facts.{StripeFacts, is_missing}
 use Rattle.stripe_examiner.specs.Findings.{all_cell_events, all_level_events, all_level_io_events, all_lost_events, blocked_event, cell_events, changed_event, column_events, events_of, is_lost, is_unread, is_unread_level, is_wrong, level_events, level_io_events, lost_event, lost_events, opening_events, read_event, read_events, record_events, silent_event, stripe_events, unsynced_events}
 use Rattle.stripe_examiner.specs.Known.{AreFacts}
 use Rattle.stripe_examiner.specs.Looking.{numbers_of}
-use Rattle.stripe_examiner.specs.Plan.{FixPlan, cell_at, entry_at, has_selected_cell, has_selected_level, is_audit, is_looked_at, is_synced, selects_cell, selects_level, stripes_of}
-use Rattle.stripe_examiner.specs.Selected.{is_as_recorded}
+use Rattle.repair_scope.specs.Plan.{FixPlan, cell_at, entry_at, has_selected_cell, has_selected_level, is_audit, is_looked_at, is_synced, selects_cell, selects_level, stripes_of}
+use Rattle.repair_scope.specs.Selected.{is_as_recorded}
 use Rattle.snap_fix.specs.Restored.{IsDamagedCell}
 use Rattle.snap_top.specs.Lost.{IsPendingSelected, IsSelectedBlocked, IsToldLost}
 use Rattle.snap_top.proofs.KeptLemmas.{kept_in}

@@ -12,7 +12,7 @@ use Rattle.stripe_reader.specs.Starts.{StartsValue}
 use Rattle.stripe_examiner.specs.Facts.{StripeFacts}
 use Rattle.snap_fix.specs.Genuine.{AreGenuineOf, HasGenuineFacts}
 use Rattle.stripe_examiner.specs.Looking.{numbers_of}
-use Rattle.stripe_examiner.specs.Plan.{FixPlan, is_looked_at, is_searched, stripes_of}
+use Rattle.repair_scope.specs.Plan.{FixPlan, is_looked_at, is_searched, stripes_of}
 
 -- what snap_fix says of stripes that were looked at
 abbrev pub FactsAreGenuine : Type 0

@@ -11,7 +11,7 @@ use Rattle.snap_report.specs.declared.events.Event.{Event}
 use Rattle.stripe_examiner.specs.Facts.{StripeFacts, damaged_at, is_missing, slot_of}
 use Rattle.stripe_examiner.specs.Findings.{is_lost, stripe_events}
 use Rattle.stripe_examiner.specs.Known.{AreFacts}
-use Rattle.stripe_examiner.specs.Plan.{FixPlan, cell_at, seen_at, selects_cell}
+use Rattle.repair_scope.specs.Plan.{FixPlan, cell_at, seen_at, selects_cell}
 use Rattle.stripe_examiner.specs.Showing.{known_block}
 use Rattle.stripe_examiner.proofs.CellFactsLemmas.{flat_map_below}
 use Rattle.snap_top.specs.Alike.{KeptAlike}

@@ -35,7 +35,7 @@ use Rattle.stripe_reader.specs.WindowValue.{no_slot}
 use Rattle.stripe_examiner.specs.declared.search.Wanted.{Wanted}
 use Rattle.stripe_examiner.specs.Facts.{IsGift, StripeFacts, agrees, bytes_before, damaged_at, gift_of, gift_or, hash_or_none, is_damaged, is_missing, missing_in, row_before, slot_of, wanted_by, wanted_in}
 use Rattle.stripe_examiner.specs.Known.{AreFacts, AreRemainders, IsTried, whole_level, whole_levels}
-use Rattle.stripe_examiner.specs.Plan.{FixPlan, is_searched, seen_at}
+use Rattle.repair_scope.specs.Plan.{FixPlan, is_searched, seen_at}
 use Rattle.stripe_examiner.specs.Restorable.{AgreesOutside, AreBlocksOf, CandidatesAreGenuine, Follows, HasRemainders, IsIntact, IsLost, IsOneOf, IsSnapshotOf, LostStripe, padded_block}
 use Rattle.stripe_examiner.specs.Search.{IsRightBlock, columns_of, no_wanted, wanted_at as wanted_of}
 use Rattle.stripe_examiner.proofs.CellFactsLemmas.{given_found}

@@ -25,9 +25,10 @@ use Rattle.stripe_examiner.specs.Facts.{StripeFacts, damaged_at, gift_of, is_dam
 use Rattle.stripe_examiner.specs.Findings.{is_unread}
 use Rattle.stripe_examiner.specs.Known.{AreFacts, IsTried}
 use Rattle.stripe_examiner.specs.Looking.{facts_at, no_facts, unread_cells, unread_in}
-use Rattle.stripe_examiner.specs.Plan.{is_audit, is_searched, starts_of}
+use Rattle.repair_scope.specs.Plan.{is_audit, is_searched}
+use Rattle.stripe_examiner.specs.Place.{starts_of}
 use Rattle.stripe_examiner.specs.Present.{IsPresent}
-use Rattle.stripe_examiner.specs.declared.scope.Mode.{Mode}
+use Rattle.repair_scope.specs.declared.scope.Mode.{Mode}
 use Rattle.stripe_reader.specs.Columns.{folder_at}
 use Rattle.stripe_reader.specs.Reading.{task_at}
 use Rattle.snap_top.specs.NextFix.{IsNextFix}

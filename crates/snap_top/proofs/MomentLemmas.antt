@@ -14,7 +14,8 @@ use Rattle.stripe_reader.specs.Starts.{StartsValue}
 use Rattle.stripe_examiner.specs.Facts.{StripeFacts}
 use Rattle.snap_fix.specs.Fixing.{facts_of}
 use Rattle.snap_fix.specs.Genuine.{AreGenuineOf}
-use Rattle.stripe_examiner.specs.Plan.{FixPlan, starts_of}
+use Rattle.repair_scope.specs.Plan.{FixPlan}
+use Rattle.stripe_examiner.specs.Place.{starts_of}
 use Rattle.snap_fix.specs.Underway.{IsMendedLevel, KeepsLevels}
 use Rattle.snap_report.specs.declared.events.Event.{Event}
 use Rattle.snap_sync.specs.Images.{MayStand, rows_after}

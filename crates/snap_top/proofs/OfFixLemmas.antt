@@ -19,9 +19,10 @@ use Rattle.stripe_examiner.specs.Facts.{StripeFacts}
 use Rattle.snap_fix.specs.Fixing.{facts_of}
 use Rattle.snap_fix.specs.Genuine.{AreGenuine, AreGenuineOf, AreLevelsIn, IsLevelOf}
 use Rattle.stripe_examiner.specs.Looking.{AreAllLevelsOf, numbers_of}
-use Rattle.stripe_examiner.specs.Plan.{starts_of, stripes_of}
-use Rattle.stripe_examiner.specs.declared.scope.Mode.{Mode}
-use Rattle.stripe_examiner.specs.declared.scope.Mode.TheVariants as modes
+use Rattle.repair_scope.specs.Plan.{stripes_of}
+use Rattle.stripe_examiner.specs.Place.{starts_of}
+use Rattle.repair_scope.specs.declared.scope.Mode.{Mode}
+use Rattle.repair_scope.specs.declared.scope.Mode.TheVariants as modes
 use Rattle.snap_report.specs.declared.answer.Answer.{Answer}
 use Rattle.snap_report.specs.declared.answer.Answer.TheVariants as answers
 use Rattle.snap_report.specs.declared.answer.RunFault.{RunFault}

@@ -27,9 +27,9 @@ use Rattle.stripe_examiner.specs.Facts.{StripeFacts, slot_of}
 use Rattle.stripe_examiner.specs.Findings.{events_of, opening_events}
 use Rattle.stripe_examiner.specs.Known.{AreFacts, IsTried}
 use Rattle.stripe_examiner.specs.Looking.{facts_at, no_facts, numbers_of, unread_in}
-use Rattle.stripe_examiner.specs.Plan.{FixPlan, is_searched, names_of, stripes_of}
-use Rattle.stripe_examiner.specs.declared.scope.Mode.{Mode}
-use Rattle.stripe_examiner.specs.declared.scope.Mode.TheVariants as modes
+use Rattle.repair_scope.specs.Plan.{FixPlan, is_searched, names_of, stripes_of}
+use Rattle.repair_scope.specs.declared.scope.Mode.{Mode}
+use Rattle.repair_scope.specs.declared.scope.Mode.TheVariants as modes
 use Rattle.stripe_reader.specs.WindowValue.{no_slot}
 use Rattle.snap_top.specs.Alike.{AskAlike, CheckAlike, FixAlike, HoldAlike, KeptAlike, NothingRose}
 use Rattle.snap_top.specs.Check.{CheckRun}

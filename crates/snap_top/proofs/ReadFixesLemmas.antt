@@ -5,8 +5,8 @@ use Rattle.std.specs.Prelude.{All}
 use Rattle.snap_fix.specs.Fixing.{facts_of}
 use Rattle.stripe_examiner.specs.Known.{AreFacts}
 use Rattle.stripe_examiner.specs.Looking.{numbers_of}
-use Rattle.stripe_examiner.specs.Plan.{FixPlan, names_of, stripes_of}
-use Rattle.stripe_examiner.specs.declared.scope.Mode.TheVariants as modes
+use Rattle.repair_scope.specs.Plan.{FixPlan, names_of, stripes_of}
+use Rattle.repair_scope.specs.declared.scope.Mode.TheVariants as modes
 use Rattle.snap_top.specs.Alike.{HoldAlike, seen_by, AskAlike, NothingRose, SeenAlike}
 use Rattle.snap_top.specs.FixedAlike.{FixesAlike, KeepStampsAlike}
 use Rattle.snap_top.specs.LeftAlike.{PrintAlike, AskSame}

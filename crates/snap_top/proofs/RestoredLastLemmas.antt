@@ -49,7 +49,8 @@ use Rattle.parity_writer.specs.Parity.{HasLevel, Row}
 use Rattle.parity_writer.specs.LevelsValue.{LevelValue, no_level}
 use Rattle.snap_fix.specs.Underway.{HoldsWrong}
 use Rattle.stripe_examiner.specs.Known.{AreFacts, IsTried}
-use Rattle.stripe_examiner.specs.Plan.{FixPlan, is_audit, is_searched, selects_level, starts_of}
+use Rattle.repair_scope.specs.Plan.{FixPlan, is_audit, is_searched, selects_level}
+use Rattle.stripe_examiner.specs.Place.{starts_of}
 use Rattle.snap_report.specs.declared.events.Event.{Event}
 use Rattle.snap_report.specs.declared.events.Event.TheVariants as event
 use Rattle.stripe_examiner.specs.Facts.{StripeFacts}

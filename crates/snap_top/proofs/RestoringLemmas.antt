@@ -33,7 +33,8 @@ use Rattle.stripe_examiner.specs.Known.{AreFacts, IsTried}
 use Rattle.stripe_examiner.specs.Looking.{numbers_of, unread_in}
 use Rattle.snap_fix.specs.Mended.{Mended, has_lost, is_repaired, wrong_in, written_in}
 use Rattle.stripe_examiner.specs.Showing.{known_block, known_by}
-use Rattle.stripe_examiner.specs.Plan.{FixPlan, entry_at, is_audit, is_searched, is_synced, starts_of, stripes_of}
+use Rattle.repair_scope.specs.Plan.{FixPlan, entry_at, is_audit, is_searched, is_synced, stripes_of}
+use Rattle.stripe_examiner.specs.Place.{starts_of}
 use Rattle.snap_fix.specs.Restored.{CanBeHad, HasFixed, HoldsCell, IsDamagedCell, IsUnknownCell}
 use Rattle.snap_fix.specs.Underway.{AddsZeros, IsMendedLevel, KeepsLevels}
 use Rattle.snap_report.specs.Answer.{status_of as answer_status}

@@ -11,7 +11,7 @@ use Rattle.snap_fix.specs.Mended.{Mended, is_blocked_cell, is_repaired}
 use Rattle.snap_fix.specs.Stopped.{FixStop, IsCellSpared}
 use Rattle.snap_fix.specs.Underway.{IsMendedLevel}
 use Rattle.stripe_examiner.specs.Facts.{StripeFacts, damaged_at}
-use Rattle.stripe_examiner.specs.Plan.{FixPlan, cell_at, selects_cell}
+use Rattle.repair_scope.specs.Plan.{FixPlan, cell_at, selects_cell}
 use Rattle.stripe_examiner.specs.Showing.{known_block}
 use Rattle.snap_top.specs.Fix.{FixRun, MayStandFixed}
 use Rattle.snap_top.specs.Moment.{IsFixOf}

@@ -16,7 +16,7 @@ use Rattle.snap_report.specs.declared.answer.Answer.{Answer}
 use Rattle.snap_report.specs.declared.answer.Answer.TheVariants as answers
 use Rattle.snap_report.specs.declared.answer.RunFault.TheVariants as runs
 use Rattle.snap_report.specs.declared.events.Event.{Event}
-use Rattle.stripe_examiner.specs.declared.scope.Mode.TheVariants as modes
+use Rattle.repair_scope.specs.declared.scope.Mode.TheVariants as modes
 use Rattle.snap_sync.specs.Part.{SyncRun}
 use Rattle.snap_top.specs.Does.{DoesCommand}
 use Rattle.snap_top.specs.End.{ending_status, status_of}

@@ -15,7 +15,8 @@ use Rattle.snap_fix.specs.Again.{IsFoundAgain, IsFoundIn, IsLookedAt}
 use Rattle.snap_fix.specs.Ending.{is_finished}
 use Rattle.stripe_examiner.specs.Facts.{StripeFacts, damaged_at, is_missing, missing_in}
 use Rattle.snap_fix.specs.Mended.{Mended}
-use Rattle.stripe_examiner.specs.Plan.{FixPlan, starts_of}
+use Rattle.repair_scope.specs.Plan.{FixPlan}
+use Rattle.stripe_examiner.specs.Place.{starts_of}
 use Rattle.file_restorer.specs.State.{AnyCall, FolderMakes}
 use Rattle.snap_fix.specs.Stopped.{FixStop, IsCellSpared, IsNoneOf, IsStop, StandInPlace, StandsInCell, StandsSpared, file_placed, path_at, records_of}
 use Rattle.snap_top.specs.Fix.{FixRun, IsRunCall}

@@ -27,7 +27,8 @@ use Rattle.stripe_examiner.specs.Facts.{StripeFacts}
 use Rattle.stripe_examiner.specs.Findings.{opening_events}
 use Rattle.stripe_examiner.specs.Known.{AreFacts}
 use Rattle.stripe_examiner.specs.Looking.{facts_at, no_facts}
-use Rattle.stripe_examiner.specs.Plan.{FixPlan, starts_of}
+use Rattle.repair_scope.specs.Plan.{FixPlan}
+use Rattle.stripe_examiner.specs.Place.{starts_of}
 use Rattle.stripe_reader.specs.Columns.{folder_at}
 use Rattle.stripe_reader.specs.Starts.{StartsValue}
 use Rattle.snap_top.specs.Alike.{HoldAlike, SeenAlike, seen_by}

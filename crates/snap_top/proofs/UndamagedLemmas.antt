@@ -26,7 +26,7 @@ use Rattle.snap_fix.specs.Fixing.{facts_of}
 use Rattle.snap_fix.specs.Genuine.{AreLevelsIn, IsIntactLevel, IsLevelOf, IsRestorableStripe, TellsIntactLevels}
 use Rattle.stripe_examiner.specs.Known.{AreFacts, IsTried, is_whole, whole_level, whole_levels}
 use Rattle.snap_fix.specs.Mended.{has_lost}
-use Rattle.stripe_examiner.specs.Plan.{FixPlan, is_searched, is_synced}
+use Rattle.repair_scope.specs.Plan.{FixPlan, is_searched, is_synced}
 use Rattle.snap_fix.specs.Restored.{HoldsCell}
 use Rattle.snap_top.specs.Fix.{FixRun}
 use Rattle.snap_top.specs.Moment.{IsFixOf}

@@ -9,7 +9,7 @@ use Rattle.file_table.specs.Table.{records_in}
 use Rattle.snap_fix.specs.Ending.{is_finished}
 use Rattle.snap_fix.specs.Mended.{Mended, has_lost}
 use Rattle.snap_fix.specs.Restored.{HasFixed, HasFixedRecord, StandsFinished}
-use Rattle.stripe_examiner.specs.Plan.{FixPlan}
+use Rattle.repair_scope.specs.Plan.{FixPlan}
 use Rattle.stripe_reader.specs.Columns.{folder_at}
 use Rattle.stripe_reader.specs.Starts.{StartsValue}
 use Rattle.stripe_reader.specs.declared.starts.Place.{Place}

@@ -10,8 +10,8 @@ use Rattle.snap_report.specs.Kind.{is_finding}
 use Rattle.snap_sync.specs.Part.{NoneRose, trees_of}
 use Rattle.stripe_examiner.specs.Facts.{StripeFacts, slot_of}
 use Rattle.stripe_examiner.specs.Looking.{facts_at}
-use Rattle.stripe_examiner.specs.Plan.{names_of}
-use Rattle.stripe_examiner.specs.declared.scope.Mode.{Mode}
+use Rattle.repair_scope.specs.Plan.{names_of}
+use Rattle.repair_scope.specs.declared.scope.Mode.{Mode}
 use Rattle.stripe_reader.specs.SlotValue.{SlotValue}
 use Rattle.snap_top.specs.Check.{CheckRun}
 use Rattle.snap_top.specs.Fix.{FixRun}

@@ -13,8 +13,9 @@ use Rattle.snap_fix.specs.Course.{IsPlan}
 use Rattle.stripe_examiner.specs.Facts.{StripeFacts, gift_of}
 use Rattle.stripe_examiner.specs.Known.{AreFacts}
 use Rattle.stripe_examiner.specs.Looking.{AreAllLevelsOf, AreRead, numbers_of}
-use Rattle.stripe_examiner.specs.Plan.{FixPlan, names_of, starts_of, stripes_of}
-use Rattle.stripe_examiner.specs.declared.scope.Mode.{Mode}
+use Rattle.repair_scope.specs.Plan.{FixPlan, names_of, stripes_of}
+use Rattle.stripe_examiner.specs.Place.{starts_of}
+use Rattle.repair_scope.specs.declared.scope.Mode.{Mode}
 use Rattle.snap_sync.specs.Soundness.{IsLoadedFrom}
 
 -- What it was asked for, and by which configuration; the table that it began with; what the folders listed, and the

@@ -14,9 +14,10 @@ use Rattle.snap_fix.specs.Course.{IsPlan, check_events}
 use Rattle.stripe_examiner.specs.Facts.{StripeFacts, gift_of}
 use Rattle.stripe_examiner.specs.Known.{AreFacts}
 use Rattle.stripe_examiner.specs.Looking.{AreRead, LevelsAreRead, numbers_of}
-use Rattle.stripe_examiner.specs.Plan.{FixPlan, names_of, starts_of, stripes_of}
-use Rattle.stripe_examiner.specs.declared.scope.Mode.{Mode}
-use Rattle.stripe_examiner.specs.declared.scope.Mode.TheVariants as modes
+use Rattle.repair_scope.specs.Plan.{FixPlan, names_of, stripes_of}
+use Rattle.stripe_examiner.specs.Place.{starts_of}
+use Rattle.repair_scope.specs.declared.scope.Mode.{Mode}
+use Rattle.repair_scope.specs.declared.scope.Mode.TheVariants as modes
 use Rattle.snap_report.specs.EndLines.{check_text}
 use Rattle.snap_report.specs.EventLines.{lines_of}
 use Rattle.snap_report.specs.Kind.{is_finding}

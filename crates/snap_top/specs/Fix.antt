@@ -19,10 +19,11 @@ use Rattle.snap_fix.specs.Fixing.{facts_of}
 use Rattle.snap_fix.specs.Genuine.{AreGenuine}
 use Rattle.stripe_examiner.specs.Looking.{numbers_of}
 use Rattle.snap_fix.specs.Mended.{Mended}
-use Rattle.stripe_examiner.specs.Plan.{FixPlan, names_of, starts_of, stripes_of}
+use Rattle.repair_scope.specs.Plan.{FixPlan, names_of, stripes_of}
+use Rattle.stripe_examiner.specs.Place.{starts_of}
 use Rattle.file_restorer.specs.State.{AnyCall, FolderMakes}
 use Rattle.snap_fix.specs.Underway.{HoldsWrong, IsMendedLevel, KeepsLevels}
-use Rattle.stripe_examiner.specs.declared.scope.Mode.TheVariants as modes
+use Rattle.repair_scope.specs.declared.scope.Mode.TheVariants as modes
 use Rattle.snap_sync.specs.Soundness.{IsLoadedFrom}
 use Rattle.snap_top.specs.Views.{folder_at}
 

@@ -19,9 +19,10 @@ use Rattle.stripe_examiner.specs.Looking.{numbers_of, unread_cells, unread_in}
 use Rattle.snap_fix.specs.Reads.{AreAllRead, FolderReads}
 use Rattle.snap_fix.specs.Mended.{Mended, wrong_in, written_in}
 use Rattle.snap_fix.specs.Windows.{FixWindow}
-use Rattle.stripe_examiner.specs.Plan.{FixPlan, names_of, starts_of, stripes_of}
+use Rattle.repair_scope.specs.Plan.{FixPlan, names_of, stripes_of}
+use Rattle.stripe_examiner.specs.Place.{starts_of}
 use Rattle.stripe_examiner.specs.Present.{ArePresent}
-use Rattle.stripe_examiner.specs.declared.scope.Mode.TheVariants as modes
+use Rattle.repair_scope.specs.declared.scope.Mode.TheVariants as modes
 use Rattle.snap_report.specs.Answer.{is_io_of}
 use Rattle.snap_report.specs.EndLines.{fix_text}
 use Rattle.snap_report.specs.EventLines.{lines_of}

@@ -6,7 +6,7 @@ use Rattle.file_table.specs.declared.block.Cell.{Cell}
 use Rattle.parity_writer.specs.Sound.{Snapshot}
 use Rattle.stripe_examiner.specs.Facts.{StripeFacts}
 use Rattle.snap_fix.specs.Genuine.{IsRestorableStripe, TellsIntactLevels}
-use Rattle.stripe_examiner.specs.Plan.{FixPlan, entry_at, has_selected_cell, is_searched, is_synced}
+use Rattle.repair_scope.specs.Plan.{FixPlan, entry_at, has_selected_cell, is_searched, is_synced}
 use Rattle.snap_fix.specs.Restored.{IsDamagedCell}
 use Rattle.snap_report.specs.declared.events.Event.{Event}
 use Rattle.snap_report.specs.declared.events.Event.TheVariants as events

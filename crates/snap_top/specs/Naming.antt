@@ -13,8 +13,8 @@ use Rattle.snap_fix.specs.Audited.{FindsNothing}
 use Rattle.snap_fix.specs.Course.{check_events}
 use Rattle.snap_fix.specs.Genuine.{AreGenuine}
 use Rattle.stripe_examiner.specs.Looking.{unread_in}
-use Rattle.stripe_examiner.specs.declared.scope.Mode.{Mode}
-use Rattle.stripe_examiner.specs.declared.scope.Mode.TheVariants as modes
+use Rattle.repair_scope.specs.declared.scope.Mode.{Mode}
+use Rattle.repair_scope.specs.declared.scope.Mode.TheVariants as modes
 use Rattle.snap_report.specs.EndLines.{check_text}
 use Rattle.snap_report.specs.EventLines.{lines_of}
 use Rattle.snap_report.specs.Kind.{is_finding}

@@ -13,7 +13,7 @@ use Rattle.snap_fix.specs.Mended.{has_lost, is_wrong_level}
 use Rattle.snap_fix.specs.Restored.{HoldsCell, IsDamagedCell, StandsFinished}
 use Rattle.snap_sync.specs.Part.{tree_at}
 use Rattle.stripe_examiner.specs.Facts.{StripeFacts}
-use Rattle.stripe_examiner.specs.Plan.{entry_at, is_searched}
+use Rattle.repair_scope.specs.Plan.{entry_at, is_searched}
 use Rattle.stripe_reader.specs.Columns.{folder_at}
 use Rattle.snap_top.specs.Fix.{FixRun}
 use Rattle.snap_top.specs.History.{LastSynced}

@@ -16,7 +16,8 @@ use Rattle.stripe_examiner.specs.Facts.{StripeFacts}
 use Rattle.snap_fix.specs.Genuine.{AreGenuine, IsRestorableStripe}
 use Rattle.stripe_examiner.specs.Looking.{unread_cells, unread_in}
 use Rattle.snap_fix.specs.Mended.{has_lost, wrong_in, written_in}
-use Rattle.stripe_examiner.specs.Plan.{entry_at, starts_of}
+use Rattle.repair_scope.specs.Plan.{entry_at}
+use Rattle.stripe_examiner.specs.Place.{starts_of}
 use Rattle.snap_fix.specs.Restored.{HasFixed, HoldsCell}
 use Rattle.snap_fix.specs.Underway.{AddsZeros, IsMendedLevel}
 use Rattle.snap_report.specs.EndLines.{fix_text}

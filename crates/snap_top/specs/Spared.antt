@@ -11,7 +11,7 @@ use Rattle.snap_fix.specs.Mended.{is_wrong_level}
 use Rattle.snap_fix.specs.Stopped.{StandsInCell, file_placed}
 use Rattle.snap_sync.specs.Part.{tree_at}
 use Rattle.stripe_examiner.specs.Facts.{StripeFacts, damaged_at}
-use Rattle.stripe_examiner.specs.Plan.{FixPlan, cell_at, entry_at, selects_cell}
+use Rattle.repair_scope.specs.Plan.{FixPlan, cell_at, entry_at, selects_cell}
 use Rattle.stripe_examiner.specs.Showing.{known_block}
 use Rattle.snap_top.specs.Fix.{FixRun, MayStandFixed}
 use Rattle.snap_top.specs.Standing.{Standing}

@@ -7,7 +7,7 @@ use Rattle.disk_model.specs.Tree.{File, IsTree, Tree, file_of, path_of}
 use Rattle.snap_fix.specs.Ending.{is_finished}
 use Rattle.stripe_examiner.specs.Facts.{is_missing}
 use Rattle.snap_fix.specs.Mended.{Mended}
-use Rattle.stripe_examiner.specs.Plan.{starts_of}
+use Rattle.stripe_examiner.specs.Place.{starts_of}
 use Rattle.snap_fix.specs.Stopped.{FixStop, IsNoneOf, StandsSpared, file_placed, path_at, records_of}
 use Rattle.snap_top.specs.Fix.{FixRun}
 use Rattle.snap_top.specs.Run.{Entry, Exit}

@@ -9,7 +9,7 @@ use Rattle.parity_writer.specs.declared.levels.LevelRead.{LevelRead}
 use Rattle.parity_writer.specs.declared.levels.LevelRead.TheVariants as here
 use Rattle.stripe_examiner.specs.Facts.{StripeFacts, missing_in}
 use Rattle.snap_fix.specs.Fixing.{facts_of}
-use Rattle.stripe_examiner.specs.Plan.{entry_at, is_searched}
+use Rattle.repair_scope.specs.Plan.{entry_at, is_searched}
 use Rattle.snap_fix.specs.Restored.{IsDamagedCell}
 use Rattle.snap_top.specs.Fix.{FixRun}
 

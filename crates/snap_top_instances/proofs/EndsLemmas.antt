@@ -6,7 +6,7 @@ use Rattle.snap_config.specs.declared.options.Options.{Options}
 use Rattle.snap_config.specs.declared.options.ScrubWay.{ScrubWay}
 use Rattle.snap_config.specs.declared.options.Selection.{Selection}
 use Rattle.snap_config.specs.declared.options.SyncWay.{SyncWay}
-use Rattle.stripe_examiner.specs.declared.scope.Mode.{Mode}
+use Rattle.repair_scope.specs.declared.scope.Mode.{Mode}
 use Rattle.snap_top.specs.Alike.{AskAlike}
 use Rattle.snap_top.specs.Ended.{ByStatus, IsEndStatus, has_ended}
 use Rattle.snap_top.specs.LeftAlike.{AskSame}

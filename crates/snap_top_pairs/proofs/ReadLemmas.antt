@@ -15,8 +15,9 @@ use Rattle.snap_sync.specs.Part.{AllTell, NoneRose, tree_at, trees_of}
 use Rattle.stripe_examiner.specs.Facts.{StripeFacts, slot_of}
 use Rattle.stripe_examiner.specs.Known.{AreFacts}
 use Rattle.stripe_examiner.specs.Looking.{AreRead, facts_at, no_facts, numbers_of}
-use Rattle.stripe_examiner.specs.Plan.{FixPlan, IsScope, has_selected_cell, is_looked_at, names_of, selects_level, starts_of, stripes_of}
-use Rattle.stripe_examiner.specs.declared.scope.Mode.{Mode}
+use Rattle.repair_scope.specs.Plan.{FixPlan, IsScope, has_selected_cell, is_looked_at, names_of, selects_level, stripes_of}
+use Rattle.stripe_examiner.specs.Place.{starts_of}
+use Rattle.repair_scope.specs.declared.scope.Mode.{Mode}
 use Rattle.stripe_reader.specs.Column.{IsReadingOf, no_task}
 use Rattle.stripe_reader.specs.Columns.{folder_at}
 use Rattle.stripe_reader.specs.Reading.{CellReading, NoBlock, Task, given_by, is_unread, task_at, tasks_at}

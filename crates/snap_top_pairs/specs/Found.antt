@@ -5,7 +5,7 @@ use Rattle.disk_model.specs.Opener.{OpenerView}
 use Rattle.disk_model.specs.Sink.{SinkView}
 use Rattle.disk_model.specs.Vault.{VaultView}
 use Rattle.snap_report.specs.Kind.{is_finding}
-use Rattle.stripe_examiner.specs.declared.scope.Mode.TheVariants as modes
+use Rattle.repair_scope.specs.declared.scope.Mode.TheVariants as modes
 use Rattle.snap_top.specs.Alike.{AskAlike, CheckAlike, FindAlike, FixAlike, HoldAlike, NothingRose, ReadAlike}
 use Rattle.snap_top.specs.Check.{CheckRun}
 use Rattle.snap_top.specs.Naming.{HasChecked, events_found}

@@ -20,9 +20,9 @@ use Rattle.snap_sync.specs.Part.{trees_of}
 use Rattle.stripe_examiner.specs.Facts.{IsGift, StripeFacts, gift_of, gift_or, is_missing, row_before, slot_of, wanted_at, wanted_in}
 use Rattle.stripe_examiner.specs.Known.{AreFacts, AreRemainders, whole_level, whole_levels}
 use Rattle.stripe_examiner.specs.Looking.{facts_at, no_facts, numbers_of}
-use Rattle.stripe_examiner.specs.Plan.{FixPlan, is_audit, is_searched, names_of, plan_of, seen_at}
+use Rattle.repair_scope.specs.Plan.{FixPlan, is_audit, is_searched, names_of, plan_of, seen_at}
 use Rattle.stripe_examiner.specs.Restorable.{CandidatesAreGenuine, LostStripe}
-use Rattle.stripe_examiner.specs.declared.scope.Mode.TheVariants as modes
+use Rattle.repair_scope.specs.declared.scope.Mode.TheVariants as modes
 use Rattle.stripe_examiner.specs.declared.search.Wanted.{Wanted}
 use Rattle.stripe_reader.specs.SlotValue.{SlotValue}
 use Rattle.stripe_reader.specs.WindowValue.{no_slot}

@@ -9,7 +9,7 @@ use Rattle.file_table.specs.declared.block.Cell.{Cell}
 use Rattle.parity_writer.specs.declared.levels.LevelRead.{LevelRead}
 use Rattle.parity_writer.specs.declared.levels.LevelRead.TheVariants as here
 use Rattle.stripe_examiner.specs.Known.{is_whole}
-use Rattle.stripe_examiner.specs.Plan.{FixPlan, has_selected}
+use Rattle.repair_scope.specs.Plan.{FixPlan, has_selected}
 use Rattle.snap_top.specs.Undamaged.{is_read}
 
 -- ---- what a sum or a count has counted

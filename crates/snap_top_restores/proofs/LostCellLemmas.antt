@@ -17,10 +17,10 @@ use Rattle.snap_report.specs.declared.events.Event.{Event}
 use Rattle.snap_report.specs.declared.events.Event.TheVariants as event
 use Rattle.stripe_examiner.specs.Facts.{StripeFacts, damaged_at, gift_of, is_missing}
 use Rattle.stripe_examiner.specs.Known.{AreFacts}
-use Rattle.stripe_examiner.specs.Place.{is_blocked}
-use Rattle.stripe_examiner.specs.Plan.{FixPlan, cell_at, column_entries, entries_of, entry_at, entry_in, entry_of, has_selected, is_audit, is_in_scope, is_searched, no_entry, selects_cell}
-use Rattle.stripe_examiner.specs.declared.entry.Entry.{Entry}
-use Rattle.stripe_examiner.specs.declared.scope.Mode.{Mode}
+use Rattle.repair_scope.specs.Blocked.{is_blocked}
+use Rattle.repair_scope.specs.Plan.{FixPlan, cell_at, column_entries, entries_of, entry_at, entry_in, entry_of, has_selected, is_audit, is_in_scope, is_searched, no_entry, selects_cell}
+use Rattle.repair_scope.specs.declared.entry.Entry.{Entry}
+use Rattle.repair_scope.specs.declared.scope.Mode.{Mode}
 use Rattle.snap_top.specs.Lost.{IsToldLost}
 use Rattle.snap_top.proofs.LostEvents.{IsLostIn, lost_is_told, told_is_blocked, told_is_lost, told_is_unsynced}
 use Rattle.snap_top_restores.specs.Named.{AllSynced}

@@ -27,8 +27,8 @@ use Rattle.snap_report.specs.declared.events.Event.{Event}
 use Rattle.snap_sync.specs.Part.{AllTell, tree_at, trees_of}
 use Rattle.stripe_examiner.specs.Facts.{StripeFacts}
 use Rattle.stripe_examiner.specs.Known.{whole_level}
-use Rattle.stripe_examiner.specs.Plan.{is_audit, names_of}
-use Rattle.stripe_examiner.specs.declared.scope.Mode.TheVariants as modes
+use Rattle.repair_scope.specs.Plan.{is_audit, names_of}
+use Rattle.repair_scope.specs.declared.scope.Mode.TheVariants as modes
 use Rattle.snap_top.specs.Alike.{AskAlike, FixAlike}
 use Rattle.snap_top.specs.Check.{CheckRun}
 use Rattle.snap_top.specs.Ended.{ByStatus}

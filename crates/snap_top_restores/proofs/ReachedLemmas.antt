@@ -31,7 +31,7 @@ use Rattle.stripe_examiner.specs.Counts.{at_most}
 use Rattle.stripe_examiner.specs.Facts.{StripeFacts, damaged_at, gift_of, is_missing, missing_in}
 use Rattle.stripe_examiner.specs.Known.{AreFacts, IsTried, whole_level, whole_levels}
 use Rattle.stripe_examiner.specs.Looking.{facts_at, no_facts, unread_in}
-use Rattle.stripe_examiner.specs.Plan.{FixPlan, cell_at, entry_at, has_selected, is_in_scope, is_searched, selects_cell}
+use Rattle.repair_scope.specs.Plan.{FixPlan, cell_at, entry_at, has_selected, is_in_scope, is_searched, selects_cell}
 use Rattle.stripe_examiner.specs.Showing.{known_block, known_by}
 use Rattle.snap_top.specs.Fix.{FixRun}
 use Rattle.snap_top.specs.Headline.{FixesToItsEnd, IsSoundStanding}

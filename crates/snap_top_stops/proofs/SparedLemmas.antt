@@ -24,10 +24,10 @@ use Rattle.snap_fix.specs.Stopped.{file_or, file_placed}
 use Rattle.snap_sync.specs.Part.{tree_at}
 use Rattle.stripe_examiner.specs.Facts.{StripeFacts}
 use Rattle.stripe_examiner.specs.Looking.{no_facts, numbers_of}
-use Rattle.stripe_examiner.specs.Place.{found_in}
-use Rattle.stripe_examiner.specs.Plan.{FixPlan, cell_at, column_entries, entries_of, entry_at, entry_in, entry_of, has_selected, has_selected_cell, has_selected_level, is_in_scope, is_looked_at, names_of, no_entry, selects_cell, stripes_of}
-use Rattle.stripe_examiner.specs.Selected.{selects}
-use Rattle.stripe_examiner.specs.declared.entry.Entry.{Entry as PlanEntry}
+use Rattle.repair_scope.specs.Blocked.{found_in}
+use Rattle.repair_scope.specs.Plan.{FixPlan, cell_at, column_entries, entries_of, entry_at, entry_in, entry_of, has_selected, has_selected_cell, has_selected_level, is_in_scope, is_looked_at, names_of, no_entry, selects_cell, stripes_of}
+use Rattle.repair_scope.specs.Selected.{selects}
+use Rattle.repair_scope.specs.declared.entry.Entry.{Entry as PlanEntry}
 use Rattle.snap_top.specs.Alike.{NothingRose}
 use Rattle.snap_top.specs.Fix.{FixRun, FixesOver}
 use Rattle.snap_top.specs.Moment.{IsFixOf}

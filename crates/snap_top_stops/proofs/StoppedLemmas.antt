@@ -14,7 +14,7 @@ use Rattle.file_table.specs.Table.{TableValue}
 use Rattle.snap_fix.specs.Fixing.{facts_of}
 use Rattle.snap_sync.specs.Part.{tree_at, trees_of}
 use Rattle.stripe_examiner.specs.Looking.{numbers_of}
-use Rattle.stripe_examiner.specs.Plan.{stripes_of}
+use Rattle.repair_scope.specs.Plan.{stripes_of}
 use Rattle.snap_top.specs.Ended.{has_ended}
 use Rattle.snap_top.specs.Fix.{FixRun}
 use Rattle.snap_top.specs.Levels.{said_by}

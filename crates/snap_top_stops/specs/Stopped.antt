@@ -16,7 +16,7 @@ use Rattle.snap_fix.specs.Fixing.{facts_of}
 use Rattle.snap_fix.specs.Stopped.{StandsInCell, file_placed}
 use Rattle.snap_sync.specs.Part.{tree_at, trees_of}
 use Rattle.stripe_examiner.specs.Facts.{StripeFacts}
-use Rattle.stripe_examiner.specs.Plan.{cell_at}
+use Rattle.repair_scope.specs.Plan.{cell_at}
 use Rattle.snap_top.specs.Fix.{FixRun}
 use Rattle.snap_top.specs.Resumed.{RunOf}
 use Rattle.snap_top.specs.Spared.{IsLeftAlone, SparesRest}

@@ -24,7 +24,7 @@ use Rattle.stripe_examiner.specs.Asking.{AsksSpare, is_held, is_withheld, withhe
 use Rattle.stripe_examiner.specs.Facts.{StripeFacts, gift_of, wanted_by}
 use Rattle.stripe_examiner.specs.Marks.{facts_after, gift_by, is_marked_missing, mark_in}
 use Rattle.stripe_examiner.specs.MarkedWindow.{HasMarks}
-use Rattle.stripe_examiner.specs.Plan.{FixPlan, is_searched, seen_at}
+use Rattle.repair_scope.specs.Plan.{FixPlan, is_searched, seen_at}
 use Rattle.stripe_examiner.specs.Spare.{SpareView, Hashing, IsSpareCall, IsSpareFor, HasHash, holds_block}
 use Rattle.stripe_examiner.proofs.CellFactsLemmas.{filter_below, gift_is, slot_is}
 

@@ -16,7 +16,7 @@ use Rattle.stripe_examiner.specs.declared.marking.CellMark.TheVariants.{Right, G
 use Rattle.stripe_examiner.specs.Facts.{StripeFacts, slot_of, gift_of, is_damaged, has_hash, is_missing, gift_or, bytes_before, row_before, IsGift, IsGiftFor, IsGiven, wanted_in, wanted_at}
 use Rattle.stripe_examiner.specs.Marks.{mark_in, is_marked_missing, IsMarked, MarksCells, wanted_marked, gift_by, facts_after}
 use Rattle.stripe_examiner.specs.MarkedWindow.{HasMarks}
-use Rattle.stripe_examiner.specs.Plan.{FixPlan, seen_at, is_searched}
+use Rattle.repair_scope.specs.Plan.{FixPlan, seen_at, is_searched}
 use Rattle.stripe_examiner.proofs.StripeLemmas.{slot_of_stripe}
 
 -- ---- one cell, by its mark

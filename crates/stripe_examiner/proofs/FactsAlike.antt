@@ -19,7 +19,7 @@ use Rattle.stripe_examiner.specs.Alike.{AreReadAlike, SeeAlike}
 use Rattle.stripe_examiner.specs.Facts.{StripeFacts, is_missing, missing_in, row_before, wanted_in}
 use Rattle.stripe_examiner.specs.Known.{AreFacts, AreRemainders, IsKnown, IsTried, SearchEnds, whole_level, whole_levels}
 use Rattle.stripe_examiner.specs.Looking.{facts_at, no_facts}
-use Rattle.stripe_examiner.specs.Plan.{FixPlan, is_audit, is_searched, plan_of, seen_at}
+use Rattle.repair_scope.specs.Plan.{FixPlan, is_audit, is_searched, plan_of, seen_at}
 use Rattle.stripe_examiner.specs.Restorable.{filled}
 use Rattle.stripe_examiner.specs.Search.{FindsAmong, IsAcceptable, IsAccepted, block_in, choices, columns_of, given}
 use Rattle.stripe_examiner.proofs.KnowLemmas.{passed_distinct, wanted_columns}

@@ -9,9 +9,9 @@ use Rattle.file_table.specs.declared.block.Cell.{Cell}
 use Rattle.snap_report.specs.declared.events.Event.{Event}
 use Rattle.stripe_reader.specs.SlotValue.{SlotValue}
 use Rattle.stripe_reader.specs.declared.slot.CellRead.{CellRead}
-use Rattle.stripe_examiner.specs.declared.entry.Entry.{Entry}
+use Rattle.repair_scope.specs.declared.entry.Entry.{Entry}
 use Rattle.stripe_examiner.specs.Findings.{changed_event, blocked_event, file_events, read_event, read_events, cell_events}
-use Rattle.stripe_examiner.specs.Plan.{FixPlan, cell_at, entry_at, selects_cell}
+use Rattle.repair_scope.specs.Plan.{FixPlan, cell_at, entry_at, selects_cell}
 
 -- ---- of a record
 

@@ -18,7 +18,7 @@ use Rattle.stripe_examiner.specs.FirstChoice.{AreDigestsOf, HasFirst, HasFirstIn
 use Rattle.stripe_examiner.specs.MarkedWindow.{number_at}
 use Rattle.stripe_examiner.specs.Judged.{KeepsRead}
 use Rattle.stripe_examiner.specs.Marks.{levels_read, wanted_marked}
-use Rattle.stripe_examiner.specs.Plan.{FixPlan}
+use Rattle.repair_scope.specs.Plan.{FixPlan}
 use Rattle.stripe_examiner.specs.Room.{IsStripeRoomFor}
 use Rattle.stripe_examiner.specs.Search.{block_in}
 

@@ -29,7 +29,7 @@ use Rattle.stripe_examiner.specs.Knowing.{HaveCells}
 use Rattle.stripe_examiner.specs.Known.{AreRemainders, IsKnown}
 use Rattle.stripe_examiner.specs.MarkedWindow.{HasMarks}
 use Rattle.stripe_examiner.specs.Marks.{IsMarked, mark_in, is_marked_missing, wanted_marked}
-use Rattle.stripe_examiner.specs.Plan.{FixPlan, is_searched, seen_at, selects_level}
+use Rattle.repair_scope.specs.Plan.{FixPlan, is_searched, seen_at, selects_level}
 use Rattle.stripe_examiner.specs.Restorable.{filled}
 use Rattle.stripe_examiner.specs.Room.{IsStripeRoomFor}
 use Rattle.stripe_examiner.specs.Search.{found_in}

@@ -18,12 +18,12 @@ use Rattle.snap_report.specs.declared.events.Event.TheVariants.{Parity}
 use Rattle.stripe_examiner.specs.Findings.{all_level_events, is_wrong_by, level_events}
 use Rattle.stripe_examiner.specs.Judging.{TellsWrong, flagged_event, flagged_events}
 use Rattle.stripe_examiner.specs.Known.{AreRemainders, is_whole}
-use Rattle.stripe_examiner.specs.Plan.{FixPlan, has_selected_level, selects_level}
+use Rattle.repair_scope.specs.Plan.{FixPlan, has_selected_level, selects_level}
 use Rattle.stripe_examiner.specs.Sharing.{IsLeftOf}
 use Rattle.stripe_examiner.proofs.KnowRemainders.{byte_of_level}
 use Rattle.stripe_examiner.proofs.RestorableSums.{added_twice}
 use Rattle.stripe_examiner.proofs.SearchBlocks.{block_byte}
-use Rattle.stripe_examiner.proofs.SelectLemmas.{any_at}
+use Rattle.repair_scope.proofs.SelectLemmas.{any_at}
 use Rattle.stripe_examiner.proofs.StripeLemmas.{level_of_first, levels_as_many}
 use Rattle.stripe_examiner.proofs.TellingLemmas.{events_to, events_to-more}
 

@@ -20,9 +20,6 @@ pub mod SearchExamples
 pub mod RestorableSums
 pub mod RestorableCounts
 pub mod RestorableFilling
-pub mod LookUpLemmas
-pub mod PlacingLemmas
-pub mod SelectLemmas
 pub mod TellingLemmas
 pub mod StripeLemmas
 pub mod FindingLemmas

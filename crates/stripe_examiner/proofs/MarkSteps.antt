@@ -22,7 +22,7 @@ use Rattle.stripe_examiner.specs.Knowing.{KeepsOtherColumns}
 use Rattle.stripe_examiner.specs.Known.{IsKnown}
 use Rattle.stripe_examiner.specs.MarkedWindow.{AsksForMarked, HasMarks, IsAsLarge, MarksStripe, PutsStripe, number_at}
 use Rattle.stripe_examiner.specs.Marks.{ChangesStripe, IsMarked, facts_after, gift_by, gifts_after, is_marked_missing, mark_in, slots_at, wanted_marked, levels_read}
-use Rattle.stripe_examiner.specs.Plan.{FixPlan, is_searched, seen_at}
+use Rattle.repair_scope.specs.Plan.{FixPlan, is_searched, seen_at}
 use Rattle.stripe_examiner.specs.Restorable.{filled}
 use Rattle.stripe_examiner.specs.Search.{found_in}
 use Rattle.stripe_examiner.specs.Shown.{IsFound, found_at}

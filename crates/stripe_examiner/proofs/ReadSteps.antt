@@ -17,7 +17,7 @@ use Rattle.stripe_examiner.specs.Facts.{StripeFacts, gift_of}
 use Rattle.stripe_examiner.specs.Looking.{AreAllLevelsOf, AreLevelsOf, LevelsAreRead, level_reads, facts_at, no_facts, numbers_of}
 use Rattle.stripe_examiner.specs.MarkedWindow.{ReadsLevelsOf, number_at}
 use Rattle.stripe_examiner.specs.Marks.{levels_read}
-use Rattle.stripe_examiner.specs.Plan.{FixPlan, is_searched}
+use Rattle.repair_scope.specs.Plan.{FixPlan, is_searched}
 use Rattle.stripe_examiner.specs.Spare.{SpareView}
 use Rattle.stripe_examiner.proofs.LookingLemmas.{levels_none, levels_then}
 use Rattle.stripe_examiner.proofs.StripeLemmas.{levels_as_many}

@@ -14,7 +14,7 @@ use Rattle.stripe_examiner.specs.Findings.{unsynced_events, cell_events, all_cel
 use Rattle.stripe_examiner.specs.Judging.{flagged_events}
 use Rattle.stripe_examiner.specs.Known.{IsTried}
 use Rattle.stripe_examiner.specs.Marks.{is_marked_missing, levels_read, mark_in}
-use Rattle.stripe_examiner.specs.Plan.{FixPlan, is_searched}
+use Rattle.repair_scope.specs.Plan.{FixPlan, is_searched}
 use Rattle.stripe_examiner.specs.Showing.{is_damaged_mark, is_given_mark}
 use Rattle.stripe_examiner.specs.Shown.{ShowsStripe, found_at, level_events_shown, noted_events}
 use Rattle.stripe_examiner.proofs.CellFactsLemmas.{flat_map_below}

@@ -26,7 +26,7 @@ use Rattle.stripe_examiner.specs.Known.{AreFacts, IsKnown, IsTried, whole_level,
 use Rattle.stripe_examiner.specs.Marks.{IsMarked, facts_after, gift_by, is_marked_missing, mark_in, row_if}
 use Rattle.stripe_examiner.specs.Showing.{block_or_none, known_block, known_by, ShowsFacts, is_damaged_mark, is_given_mark}
 use Rattle.stripe_examiner.specs.MarkedWindow.{HasMarks}
-use Rattle.stripe_examiner.specs.Plan.{FixPlan, is_searched, seen_at}
+use Rattle.repair_scope.specs.Plan.{FixPlan, is_searched, seen_at}
 use Rattle.stripe_examiner.specs.Search.{Finds, choices, columns_of, no_wanted, wanted_at as wanted_of}
 use Rattle.stripe_examiner.proofs.CellFactsLemmas.{slot_is, gift_is}
 use Rattle.stripe_examiner.proofs.KnowLemmas.{passed_distinct, wanted_columns, wanted_lengths}

@@ -22,7 +22,7 @@ use Rattle.stripe_examiner.specs.Facts.{StripeFacts}
 use Rattle.stripe_examiner.specs.Findings.{stripe_events}
 use Rattle.stripe_examiner.specs.Looking.{AreLevelsOf, LevelsAreRead, Scene, LooksAt, LooksInto, facts_at, no_facts}
 use Rattle.stripe_examiner.specs.Marks.{slots_at, levels_read}
-use Rattle.stripe_examiner.specs.Plan.{FixPlan, is_searched}
+use Rattle.repair_scope.specs.Plan.{FixPlan, is_searched}
 use Rattle.stripe_examiner.proofs.LookingLemmas.{looks_none, looks_then}
 
 -- ---- the levels of one stripe

@@ -24,7 +24,7 @@ use Rattle.stripe_examiner.specs.Known.{AreFacts, IsKnown, IsTried}
 use Rattle.stripe_examiner.specs.Looking.{LevelsAreRead, facts_at, no_facts, numbers_of}
 use Rattle.stripe_examiner.specs.MarkedWindow.{AsksForMarked, HasMarks, IsAsLarge, MarksStripe, PutsStripe, ReadsLevelsOf, number_at}
 use Rattle.stripe_examiner.specs.Marks.{facts_after, gift_by, gifts_after, is_marked_missing, levels_read, mark_in, row_if, slots_at}
-use Rattle.stripe_examiner.specs.Plan.{EntriesFit, FixPlan, is_searched}
+use Rattle.repair_scope.specs.Plan.{EntriesFit, FixPlan, is_searched}
 use Rattle.stripe_examiner.specs.Room.{IsRoomFor, IsStripeRoomFor}
 use Rattle.stripe_examiner.specs.Shown.{IsFound, ShowsStripe, found_at}
 use Rattle.stripe_examiner.specs.Spare.{SpareView}

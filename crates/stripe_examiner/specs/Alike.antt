@@ -1,7 +1,7 @@
 -- Stripes of which the same was read, by plans that see the same.
 use Rattle.std.specs.Prelude.{◌≡◌}
 use Rattle.stripe_examiner.specs.Facts.{StripeFacts}
-use Rattle.stripe_examiner.specs.Plan.{FixPlan, is_audit}
+use Rattle.repair_scope.specs.Plan.{FixPlan, is_audit}
 
 -- two plans are of one table, and parity is looked at by both or by neither: so are a check and a fix of one array
 pub record SeeAlike (plan other : FixPlan) : Type 0 where

@@ -11,7 +11,7 @@ use Rattle.stripe_examiner.specs.declared.marking.CellMark.TheVariants.{Right, G
 use Rattle.stripe_examiner.specs.declared.search.Wanted.{Wanted}
 use Rattle.stripe_examiner.specs.Facts.{is_damaged, has_hash, wanted_by}
 use Rattle.stripe_examiner.specs.Marks.{mark_in}
-use Rattle.stripe_examiner.specs.Plan.{FixPlan, is_searched, seen_at, seen_in}
+use Rattle.repair_scope.specs.Plan.{FixPlan, is_searched, seen_at, seen_in}
 use Rattle.stripe_examiner.specs.Spare.{SpareView, holds_block}
 
 -- A block was asked of the spare or not, and was given or not. What the spare holds stays. Where it tells that, it gave nothing but what

@@ -3,7 +3,7 @@ use Rattle.std.specs.Prelude.{◌≡◌, ℕ, ◌≤◌, ◌&&◌, not, List, le
 use Rattle.std.specs.List.{range_with_len}
 use Rattle.disk_model.specs.Cause.{RoseBy}
 use Rattle.stripe_examiner.specs.Facts.{StripeFacts, gift_of, is_asked, wanted_at}
-use Rattle.stripe_examiner.specs.Plan.{FixPlan}
+use Rattle.repair_scope.specs.Plan.{FixPlan}
 use Rattle.stripe_examiner.specs.Spare.{SpareView, holds_block}
 
 -- the spare holds the block of the cell of a column: one of its real length, with its recorded hash

@@ -14,7 +14,7 @@ use Rattle.parity_writer.specs.WindowRow.{bytes_of}
 use Rattle.stripe_reader.specs.SlotValue.{SlotValue}
 use Rattle.stripe_reader.specs.WindowValue.{no_slot}
 use Rattle.stripe_examiner.specs.declared.search.Wanted.{Wanted}
-use Rattle.stripe_examiner.specs.Plan.{FixPlan, seen_at, is_searched}
+use Rattle.repair_scope.specs.Plan.{FixPlan, seen_at, is_searched}
 
 -- The stripe, what was read of its cells, what the spare gave, both column by column, what was read of its levels, and its
 -- row: of each cell the bytes of its block, where all of them are known.

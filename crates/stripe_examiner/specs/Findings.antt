@@ -15,11 +15,11 @@ use Rattle.snap_report.specs.declared.events.Event.{Event}
 use Rattle.snap_report.specs.declared.events.Event.TheVariants.{Changed, Blocked, Unsynced, Silent, Io, ParityIo, Parity, Lost}
 pub use Rattle.stripe_reader.specs.Slot.{is_unread}
 use Rattle.stripe_reader.specs.SlotValue.{SlotValue}
-use Rattle.stripe_examiner.specs.declared.entry.Entry.{Entry}
+use Rattle.repair_scope.specs.declared.entry.Entry.{Entry}
 use Rattle.stripe_reader.specs.WindowValue.{no_slot}
 use Rattle.stripe_examiner.specs.Facts.{StripeFacts, is_missing}
-use Rattle.stripe_examiner.specs.Plan.{FixPlan, entry_at, cell_at, is_audit, is_synced, selects_cell, selects_level, has_selected_cell}
-use Rattle.stripe_examiner.specs.Selected.{is_as_recorded}
+use Rattle.repair_scope.specs.Plan.{FixPlan, entry_at, cell_at, is_audit, is_synced, selects_cell, selects_level, has_selected_cell}
+use Rattle.repair_scope.specs.Selected.{is_as_recorded}
 
 -- ---- of the files, before any block is read
 

@@ -13,7 +13,7 @@ use Rattle.stripe_examiner.specs.declared.search.Wanted.{Wanted}
 use Rattle.stripe_examiner.specs.Judged.{JudgesStripe, KeepsRead}
 use Rattle.stripe_examiner.specs.Known.{AreRemainders, whole_levels}
 use Rattle.stripe_examiner.specs.Marks.{levels_read, wanted_marked}
-use Rattle.stripe_examiner.specs.Plan.{FixPlan}
+use Rattle.repair_scope.specs.Plan.{FixPlan}
 use Rattle.stripe_examiner.specs.Room.{IsStripeRoomFor}
 use Rattle.stripe_examiner.specs.Search.{FollowsFrom, block_in, found_in}
 

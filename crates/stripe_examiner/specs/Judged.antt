@@ -11,7 +11,7 @@ use Rattle.stripe_examiner.specs.Judging.{TellsWrong}
 use Rattle.stripe_examiner.specs.Knowing.{HaveCells}
 use Rattle.stripe_examiner.specs.Known.{IsKnown}
 use Rattle.stripe_examiner.specs.Marks.{CanExamine, mark_in, is_marked_missing, wanted_marked, levels_read}
-use Rattle.stripe_examiner.specs.Plan.{FixPlan, is_searched}
+use Rattle.repair_scope.specs.Plan.{FixPlan, is_searched}
 use Rattle.stripe_examiner.specs.Restorable.{filled}
 use Rattle.stripe_examiner.specs.Room.{IsStripeRoomFor}
 use Rattle.stripe_examiner.specs.Search.{columns_of, found_in}

@@ -6,7 +6,7 @@ use Rattle.parity_writer.specs.Parity.{Row}
 use Rattle.snap_report.specs.declared.events.Event.{Event}
 use Rattle.snap_report.specs.declared.events.Event.TheVariants.{Parity}
 use Rattle.stripe_examiner.specs.Findings.{is_wrong}
-use Rattle.stripe_examiner.specs.Plan.{FixPlan}
+use Rattle.repair_scope.specs.Plan.{FixPlan}
 
 -- the flag of each level that was read tells whether it is selected and wrong
 abbrev pub TellsWrong : FixPlan → ℕ → LevelsValue → Option Row → List Bool → Type 0

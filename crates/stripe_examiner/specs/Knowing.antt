@@ -4,7 +4,7 @@ use Rattle.stripe_reader.specs.WindowValue.{WindowValue, slot_at}
 use Rattle.stripe_examiner.specs.declared.marking.CellMark.{CellMark}
 use Rattle.stripe_examiner.specs.declared.search.Wanted.{Wanted}
 use Rattle.stripe_examiner.specs.Marks.{is_marked_missing, mark_in}
-use Rattle.stripe_examiner.specs.Plan.{FixPlan, seen_at}
+use Rattle.repair_scope.specs.Plan.{FixPlan, seen_at}
 
 -- each column that is marked as missing has a cell
 abbrev pub HaveCells : FixPlan → ℕ → List CellMark → Type 0

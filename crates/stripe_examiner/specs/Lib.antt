@@ -1,7 +1,5 @@
 pub mod Place
-pub mod Selected
 pub mod Spare
-pub mod Plan
 pub mod Search
 pub mod Restorable
 pub mod Facts
@@ -28,4 +26,3 @@ pub mod Examining
 pub mod Present
 pub mod Looking
 pub mod WindowExamined
-pub mod Listed

@@ -25,7 +25,7 @@ use Rattle.stripe_examiner.specs.Facts.{StripeFacts, slot_of}
 use Rattle.stripe_examiner.specs.Findings.{events_of}
 use Rattle.stripe_examiner.specs.Known.{AreFacts}
 use Rattle.stripe_examiner.specs.Marks.{slots_at}
-use Rattle.stripe_examiner.specs.Plan.{FixPlan}
+use Rattle.repair_scope.specs.Plan.{FixPlan}
 use Rattle.stripe_examiner.specs.Spare.{SpareView}
 
 -- the numbers of stripes, and the slots of a column

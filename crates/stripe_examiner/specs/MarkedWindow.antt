@@ -9,7 +9,7 @@ use Rattle.stripe_examiner.specs.Facts.{StripeFacts}
 use Rattle.stripe_examiner.specs.Judged.{row_judged}
 use Rattle.stripe_examiner.specs.Looking.{LevelsAreRead, numbers_of, facts_at}
 use Rattle.stripe_examiner.specs.Marks.{ChangesStripe, IsMarked, mark_in, is_marked_missing, levels_read, row_if, gifts_after, slots_at}
-use Rattle.stripe_examiner.specs.Plan.{FixPlan, seen_at, is_searched}
+use Rattle.repair_scope.specs.Plan.{FixPlan, seen_at, is_searched}
 use Rattle.stripe_examiner.specs.Room.{AreRoomsFor, IsStripeRoomFor}
 use Rattle.stripe_examiner.specs.Shown.{IsFound, found_at}
 use Rattle.stripe_examiner.specs.Spare.{SpareView}

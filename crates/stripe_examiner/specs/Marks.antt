@@ -13,7 +13,7 @@ use Rattle.stripe_examiner.specs.declared.marking.CellMark.{CellMark}
 use Rattle.stripe_examiner.specs.declared.marking.CellMark.TheVariants.{Right, Given, Missing}
 use Rattle.stripe_examiner.specs.declared.search.Wanted.{Wanted}
 use Rattle.stripe_examiner.specs.Facts.{StripeFacts, is_damaged, IsGift, wanted_by}
-use Rattle.stripe_examiner.specs.Plan.{FixPlan, EntriesFit, seen_at, is_searched}
+use Rattle.repair_scope.specs.Plan.{FixPlan, EntriesFit, seen_at, is_searched}
 
 -- the mark of a column
 abbrev pub mark_in : List CellMark → ℕ → CellMark

@@ -1,16 +1,13 @@
--- Where the file of a record stood when a run began, by what its folder listed, and whether anything stands in its way.
-use Rattle.std.specs.Prelude.{ℕ, ◌&&◌, ◌||◌, not, is_some, List, [], ◌∷◌, bytes_eq, Bool, true, if◌then◌else◌, Option, None, Some}
-use Rattle.std.specs.List.{list_any}
-use Rattle.disk_model.specs.Tree.{is_directory_of, path_of}
+-- Where the files of records stood when a run began, by what their folders listed.
+use Rattle.std.specs.Prelude.{ℕ, List, [], length, map, get_or, true, Option, None, Some}
+use Rattle.disk_model.specs.Tree.{path_of}
 use Rattle.disk_model.specs.declared.meta.Meta.{Meta}
-use Rattle.array_scan.specs.Kept.{ListedFile}
+use Rattle.array_scan.specs.Kept.{ListedFile, each_column}
+use Rattle.file_table.specs.Table.{Record, TableValue, records_in}
+use Rattle.repair_scope.specs.Blocked.{found_in}
+use Rattle.stripe_reader.specs.Starts.{StartsValue}
 use Rattle.stripe_reader.specs.declared.starts.Start.{Start}
 use Rattle.stripe_reader.specs.declared.starts.Place.TheVariants.{Plain, Lost, Nowhere}
-
--- size and stamp of the file of a path, if it was listed
-abbrev pub found_in : List ListedFile → List ℕ → Option Meta
-found_in [] path = None
-found_in (file ∷ files) path = if bytes_eq file.0 path then Some file.1 else found_in files path
 
 -- the place of a record and the size of its file there, by what was listed under PATH and under PATH`.unrecoverable`
 abbrev pub start_by : Option Meta → Option Meta → Start
@@ -21,16 +18,9 @@ start_by None None = record { place = Nowhere; size = 0 }
 abbrev pub start_of : List ListedFile → List ℕ → Start
 start_of files path = start_by (found_in files path) (found_in files (path_of path true))
 
--- one of these files is a directory of the path, and the path is a directory of one of them
-abbrev pub is_inside_one : List ListedFile → List ℕ → Bool
-is_inside_one files path = list_any (λ (file : ListedFile). is_directory_of file.0 path) files
+-- where the files of the records of a column stand, and those of all columns
+abbrev pub column_starts : TableValue → List (List ListedFile) → ℕ → List Start
+column_starts table lists d = map (λ (kept : Record). start_of (get_or lists d []) kept.path) (records_in table d)
 
-abbrev pub holds_one : List ListedFile → List ℕ → Bool
-holds_one files path = list_any (λ (file : ListedFile). is_directory_of path file.0) files
-
--- A record is blocked where PATH is no file and a file stands in its way, or where PATH`.unrecoverable` is a directory
--- of a file.
-abbrev pub is_blocked : List ListedFile → List ℕ → Bool
-is_blocked files path =
-    (not (is_some (found_in files path)) && (is_inside_one files path || holds_one files path))
-    || holds_one files (path_of path true)
+abbrev pub starts_of : TableValue → List (List ListedFile) → StartsValue
+starts_of table lists = record { columns = each_column (column_starts table lists) (length table.columns) }

@@ -9,7 +9,7 @@ use Rattle.stripe_reader.specs.Slot.{kept}
 use Rattle.stripe_reader.specs.SlotValue.{SlotValue}
 use Rattle.stripe_reader.specs.Starts.{StartsValue}
 use Rattle.stripe_examiner.specs.Facts.{StripeFacts, slot_of}
-use Rattle.stripe_examiner.specs.Plan.{FixPlan}
+use Rattle.repair_scope.specs.Plan.{FixPlan}
 
 -- What a slot keeps of a cell is what stood in its place at first, or its reading failed; what was seen of the file's size and stamp
 -- may be later.

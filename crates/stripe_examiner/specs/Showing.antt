@@ -10,7 +10,7 @@ use Rattle.stripe_examiner.specs.declared.marking.CellMark.{CellMark}
 use Rattle.stripe_examiner.specs.declared.marking.CellMark.TheVariants.{Right, Given, Missing}
 use Rattle.stripe_examiner.specs.Facts.{StripeFacts, gift_of, damaged_at}
 use Rattle.stripe_examiner.specs.Marks.{mark_in, row_if}
-use Rattle.stripe_examiner.specs.Plan.{FixPlan, cell_at}
+use Rattle.repair_scope.specs.Plan.{FixPlan, cell_at}
 
 -- the block of a damaged cell, where it is known: the spare gave it, or the row is known
 abbrev pub known_by : Option (List ℕ) → Option Row → ℕ → Option (List ℕ)

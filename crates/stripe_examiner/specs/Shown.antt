@@ -13,7 +13,7 @@ use Rattle.stripe_examiner.specs.Findings.{all_level_io_events, cell_events}
 use Rattle.stripe_examiner.specs.Judging.{TellsWrong, flagged_events}
 use Rattle.stripe_examiner.specs.Known.{AreFacts}
 use Rattle.stripe_examiner.specs.Marks.{levels_read}
-use Rattle.stripe_examiner.specs.Plan.{FixPlan, EntriesFit, is_searched}
+use Rattle.repair_scope.specs.Plan.{FixPlan, EntriesFit, is_searched}
 use Rattle.stripe_examiner.specs.Room.{IsStripeRoomFor}
 use Rattle.stripe_examiner.specs.Showing.{ShowsFacts}
 

@@ -2,7 +2,7 @@
 use Rattle.std.specs.Prelude.{◌≡◌, ℕ, ◌<◌, List, length, All}
 use Rattle.stripe_reader.specs.WindowValue.{WindowValue, Fits}
 use Rattle.stripe_examiner.specs.declared.survey.Survey.{Survey}
-use Rattle.stripe_examiner.specs.Plan.{FixPlan, EntriesFit, plan_of}
+use Rattle.repair_scope.specs.Plan.{FixPlan, EntriesFit, plan_of}
 
 -- the plan that stripes are examined by
 abbrev pub plan_in : Survey → FixPlan

@@ -13,7 +13,7 @@ use Rattle.stripe_examiner.specs.Facts.{StripeFacts}
 use Rattle.stripe_examiner.specs.Known.{AreFacts}
 use Rattle.stripe_examiner.specs.Looking.{LevelsAreRead, numbers_of, facts_at}
 use Rattle.stripe_examiner.specs.Marks.{slots_at}
-use Rattle.stripe_examiner.specs.Plan.{FixPlan, EntriesFit}
+use Rattle.repair_scope.specs.Plan.{FixPlan, EntriesFit}
 use Rattle.stripe_examiner.specs.Room.{IsRoomFor, IsStripeRoomFor}
 use Rattle.stripe_examiner.specs.Shown.{ShowsStripe}
 use Rattle.stripe_examiner.specs.Spare.{SpareView}

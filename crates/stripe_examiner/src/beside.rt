@@ -7,16 +7,16 @@ ghost use Rattle.stripe_reader.specs.WindowValue.{Fits};
 ghost use Rattle.parity_writer.specs.LevelReading.{ReadsLevels};
 ghost use Rattle.stripe_examiner.specs.Examining.{ReadsTried};
 ghost use Rattle.stripe_examiner.specs.MarkedWindow.{ReadsRooms};
-ghost use Rattle.stripe_examiner.specs.Plan.{is_searched as is_searched_at};
+ghost use Rattle.repair_scope.specs.Plan.{is_searched as is_searched_at};
 ghost use Rattle.stripe_examiner.specs.Room.{AreRoomsFor, IsStripeRoomFor};
 ghost use Rattle.stripe_examiner.specs.Surveyed.{plan_in};
 
 use crate::room::StripeRoom;
 use crate::survey::Survey;
-use crate::trying::is_searched;
 use disk_model::{Folder, Vault};
 use file_table::Table;
 use parity_writer::{Levels, read_levels};
+use repair_scope::is_searched;
 use std::thread::{Threads, join_mut};
 use stripe_reader::{Starts, Window, read_window};
 

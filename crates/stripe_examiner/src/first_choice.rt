@@ -4,7 +4,7 @@ ghost use Rattle.stripe_examiner.specs.declared.room.StripeRoom.{StripeRoom};
 ghost use Rattle.stripe_examiner.specs.FirstChoice.{MakesFirst};
 ghost use Rattle.stripe_examiner.specs.Judged.{CanJudge};
 ghost use Rattle.stripe_examiner.specs.MarkedWindow.{number_at};
-ghost use Rattle.stripe_examiner.specs.Plan.{is_searched as is_searched_at};
+ghost use Rattle.repair_scope.specs.Plan.{is_searched as is_searched_at};
 ghost use Rattle.stripe_examiner.specs.Surveyed.{plan_in};
 
 use crate::finding::make_first;
@@ -12,7 +12,7 @@ use crate::knowing::{see_levels, wanted_blocks};
 use crate::room::{FirstChoice, StripeRoom};
 use crate::search::Wanted;
 use crate::survey::Survey;
-use crate::trying::is_searched;
+use repair_scope::is_searched;
 use stripe_reader::Window;
 
 // Which of the blocks are as long as a block of the array.

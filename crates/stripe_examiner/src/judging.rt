@@ -9,9 +9,9 @@ ghost use Rattle.stripe_examiner.specs.Sharing.{IsLeftOf};
 ghost use Rattle.stripe_examiner.specs.Surveyed.{plan_in};
 
 use crate::search::are_zeros;
-use crate::selecting::selects_level;
 use crate::survey::Survey;
 use parity_writer::{LevelRead, Levels};
+use repair_scope::selects_level;
 
 // Whether a level is short or not the sum of the row, by what is left of it less that sum, where the row is known.
 fn is_wrong(known: bool, levels: &Levels, r: u32, left: &[u8]) -> bool

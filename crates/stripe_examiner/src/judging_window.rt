@@ -4,7 +4,7 @@ ghost use Rattle.stripe_examiner.specs.declared.room.StripeRoom.{StripeRoom};
 ghost use Rattle.stripe_examiner.specs.FirstChoice.{HasFirstIn, JudgesRoom};
 ghost use Rattle.stripe_examiner.specs.Judged.{CanJudge, JudgesStripe, KeepsRead};
 ghost use Rattle.stripe_examiner.specs.MarkedWindow.{number_at};
-ghost use Rattle.stripe_examiner.specs.Plan.{is_searched as is_searched_at};
+ghost use Rattle.repair_scope.specs.Plan.{is_searched as is_searched_at};
 ghost use Rattle.stripe_examiner.specs.Room.{IsStripeRoomFor};
 ghost use Rattle.stripe_examiner.specs.Surveyed.{plan_in};
 
@@ -14,9 +14,8 @@ use crate::hashing::hash_together;
 use crate::judging::wrong_levels;
 use crate::knowing::{see_levels, wanted_blocks};
 use crate::room::StripeRoom;
-use crate::selecting::has_selected_level;
 use crate::survey::Survey;
-use crate::trying::{is_audit, is_searched};
+use repair_scope::{has_selected_level, is_audit, is_searched};
 use std::thread::{Threads, for_each_chunk_mut};
 use stripe_reader::Window;
 

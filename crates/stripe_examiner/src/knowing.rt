@@ -11,7 +11,7 @@ ghost use Rattle.stripe_examiner.specs.Restorable.{filled};
 ghost use Rattle.stripe_examiner.specs.Knowing.{CanPutFound, HaveCells, KeepsOtherColumns};
 ghost use Rattle.stripe_examiner.specs.MarkedCell.{ChangesSlot};
 ghost use Rattle.stripe_examiner.specs.Marks.{ChangesStripe, wanted_marked, is_marked_missing};
-ghost use Rattle.stripe_examiner.specs.Plan.{is_synced};
+ghost use Rattle.repair_scope.specs.Plan.{is_synced};
 ghost use Rattle.stripe_examiner.specs.Surveyed.{plan_in};
 
 use crate::marking::{CellMark, cell_hash, cell_length};

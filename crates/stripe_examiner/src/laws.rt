@@ -6,7 +6,7 @@ ghost use Rattle.stripe_examiner.specs.Alike.{AreReadAlike, SeeAlike};
 ghost use Rattle.stripe_examiner.specs.Facts.{StripeFacts};
 ghost use Rattle.stripe_examiner.specs.Known.{AreFacts};
 ghost use Rattle.stripe_examiner.specs.Looking.{facts_at};
-ghost use Rattle.stripe_examiner.specs.Plan.{FixPlan};
+ghost use Rattle.repair_scope.specs.Plan.{FixPlan};
 
 use cauchy::laws::one_solution;
 

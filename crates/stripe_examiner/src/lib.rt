@@ -12,13 +12,12 @@
 //! 4. What was found is put into the window (`putting.rt`).
 //!
 //! Then each stripe is told by its room (`telling/stripe.rt`). That what was read determines what is found is a law (`laws.rt`).
-//! What all this is for is said by `entry.rt` and `scope.rt`: where the files of the table's records stand (`places.rt`), and what of
-//! them is selected (`selecting.rt`).
+//! What all this is for is said by the crate `repair_scope`: what is selected, and what is known of the files of the table's records.
+//! `places.rt` makes the latter of what their folders list, and says where these files stand.
 #![tactic(auto)]
 
 mod beside;
 mod counts;
-mod entry;
 mod finding;
 mod first_choice;
 mod hashing;
@@ -32,23 +31,16 @@ mod places;
 mod putting;
 mod remainders;
 mod room;
-mod scope;
 mod search;
-mod selecting;
 mod spare;
 mod survey;
 mod surveying;
 mod telling;
-mod trying;
 
 pub use counts::Counts;
-pub use entry::{Entries, Entry};
 pub use marking::CellMark;
 pub use places::place_all;
 pub use room::{FirstChoice, Room, StripeRoom};
-pub use scope::{Mode, Scope};
-pub use selecting::{scope_of, selects_cell, stripes_to_look_at};
 pub use spare::{NoSpare, Spare};
 pub use surveying::examine_window;
 pub use telling::{tell_found, tell_opening, tell_stripe};
-pub use trying::is_searched;

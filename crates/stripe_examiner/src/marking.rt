@@ -5,20 +5,20 @@ ghost use Rattle.file_table.specs.Cells.{cell_seen};
 ghost use Rattle.file_table.specs.Table.{column_at, record_at};
 ghost use Rattle.parity_writer.specs.Sound.{real_length};
 ghost use Rattle.stripe_reader.specs.WindowValue.{slot_at};
-ghost use Rattle.stripe_examiner.specs.declared.entry.Entry.{Entry};
+ghost use Rattle.repair_scope.specs.declared.entry.Entry.{Entry};
 ghost use Rattle.stripe_examiner.specs.AskedCell.{AsksBlock, AsksCell, AsksMarked, is_marked_given};
 ghost use Rattle.stripe_examiner.specs.Facts.{agrees as agrees_with, hash_or_none};
 ghost use Rattle.stripe_examiner.specs.MarkedCell.{CanMarkCell, CanPut, ChangesSlot, ShowsAnswer};
 ghost use Rattle.stripe_examiner.specs.Marks.{CanExamine, IsMarked, MarksCells};
-ghost use Rattle.stripe_examiner.specs.Plan.{plan_of, is_searched as is_searched_by, seen_in};
+ghost use Rattle.repair_scope.specs.Plan.{plan_of, is_searched as is_searched_by, seen_in};
 ghost use Rattle.stripe_examiner.specs.Spare.{IsSpareFor, holds_block};
 ghost use Rattle.stripe_examiner.specs.Surveyed.{plan_in};
 
-use crate::scope::{Mode, Scope};
 use crate::spare::Spare;
 use crate::survey::Survey;
 use block_hash::{Digest16, digest};
 use file_table::{Cell, Mark, Shape, Table};
+use repair_scope::{Mode, Scope};
 use stripe_reader::Window;
 
 /// What became of the cell of a column.

@@ -1,7 +1,6 @@
 // What stripes are examined by.
-use crate::entry::Entries;
-use crate::scope::Scope;
 use file_table::Table;
+use repair_scope::{Entries, Scope};
 use stripe_reader::Starts;
 
 /// Stripes of a table that are examined in one window: for what, by what is known of the files, and by how many threads at most.

@@ -1,22 +1,21 @@
 // A window of stripes, examined.
 ghost use Rattle.std.specs.Prelude.{◌≡◌, length, map};
 ghost use Rattle.stripe_reader.specs.Held.{AreDisksOf};
-ghost use Rattle.stripe_examiner.specs.Plan.{plan_of};
+ghost use Rattle.repair_scope.specs.Plan.{plan_of};
 ghost use Rattle.stripe_examiner.specs.Spare.{IsSpareFor};
 ghost use Rattle.stripe_examiner.specs.Surveyed.{plan_in};
 ghost use Rattle.stripe_examiner.specs.WindowExamined.{CanExamineRooms, CanExamineWindow, ExaminesRooms, ExaminesWindow};
 
 use crate::beside::read_beside;
-use crate::entry::Entries;
 use crate::judging_window::judge_stripes;
 use crate::marking_window::mark_stripes;
 use crate::putting::put_stripes;
 use crate::room::{Room, StripeRoom};
-use crate::scope::Scope;
 use crate::spare::Spare;
 use crate::survey::Survey;
 use disk_model::{Folder, Vault};
 use file_table::Table;
+use repair_scope::{Entries, Scope};
 use std::thread::Threads;
 use stripe_reader::{Starts, Window};
 

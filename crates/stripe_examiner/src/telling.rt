@@ -5,7 +5,7 @@ ghost use Rattle.file_table.specs.Table.{column_at};
 ghost use Rattle.snap_report.specs.EventFits.{Fits as EventFits};
 ghost use Rattle.snap_report.specs.Told.{Told};
 ghost use Rattle.stripe_examiner.specs.Counts.{AreCounts};
-ghost use Rattle.stripe_examiner.specs.Plan.{EntriesFit, entry_in};
+ghost use Rattle.repair_scope.specs.Plan.{EntriesFit, entry_in};
 
 mod cells;
 mod levels;
@@ -13,12 +13,12 @@ mod opening;
 mod stripe;
 
 use crate::counts::Counts;
-use crate::entry::{Entries, Entry};
 pub use cells::{cell_finding, tell_lost, tell_unsynced};
 use disk_model::Sink;
 use file_table::Table;
 pub use levels::{tell_unread_levels, tell_wrong_levels};
 pub use opening::tell_opening;
+use repair_scope::{Entries, Entry};
 use snap_report::events::Event;
 use snap_report::{Lines, Report, tell};
 pub use stripe::tell_stripe;

@@ -4,7 +4,7 @@ ghost use Rattle.parity_writer.specs.WindowRow.{bytes_of};
 ghost use Rattle.stripe_reader.specs.WindowValue.{slot_at};
 ghost use Rattle.stripe_examiner.specs.Marks.{mark_in};
 ghost use Rattle.file_restorer.specs.Mending.{CanWrite, with_state};
-ghost use Rattle.stripe_examiner.specs.Plan.{EntriesFit, cell_at};
+ghost use Rattle.repair_scope.specs.Plan.{EntriesFit, cell_at};
 ghost use Rattle.snap_fix.specs.Handed.{CanExamineOne, CanMendIn, MendsIn, MendsNotIn, seen};
 ghost use Rattle.snap_fix.specs.RepairSteps.{column_outside, WritesBlockOf, WritesNotBlockOf, is_lost_by, is_repaired_by};
 ghost use Rattle.file_restorer.specs.State.{state_in};
@@ -15,9 +15,10 @@ use crate::plan::{Examined, Plan};
 use disk_model::{Failed, Folder, Sink};
 use file_restorer::{States, mend_cell};
 use file_table::{Cell, Table};
+use repair_scope::selects_cell;
 use snap_report::events::Event;
 use snap_report::{Lines, Report, tell};
-use stripe_examiner::{CellMark, selects_cell};
+use stripe_examiner::CellMark;
 use stripe_reader::{Found, Starts, Window};
 
 // The bytes of a cell, without the zeros behind them.

@@ -8,16 +8,14 @@ ghost use Rattle.snap_report.specs.Told.{Told};
 ghost use Rattle.stripe_examiner.specs.Counts.{AreCounts};
 ghost use Rattle.stripe_examiner.specs.Findings.{all_level_io_events, level_io_events};
 ghost use Rattle.stripe_examiner.specs.Judging.{flagged_event, flagged_events};
-ghost use Rattle.stripe_examiner.specs.Plan.{EntriesFit, plan_of};
+ghost use Rattle.repair_scope.specs.Plan.{EntriesFit, plan_of};
 
 use super::tell_found;
 use crate::counts::Counts;
-use crate::entry::Entries;
-use crate::scope::Scope;
-use crate::selecting::selects_level;
 use disk_model::Sink;
 use file_table::Table;
 use parity_writer::{LevelRead, Levels};
+use repair_scope::{Entries, Scope, selects_level};
 use snap_report::events::Event;
 use snap_report::{Lines, Report};
 

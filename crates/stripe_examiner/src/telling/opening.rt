@@ -6,16 +6,13 @@ ghost use Rattle.snap_report.specs.EventFits.{Fits as EventFits};
 ghost use Rattle.snap_report.specs.Told.{Told};
 ghost use Rattle.stripe_examiner.specs.Counts.{AreCounts};
 ghost use Rattle.stripe_examiner.specs.Findings.{changed_event, blocked_event, record_events, column_events, opening_events};
-ghost use Rattle.stripe_examiner.specs.Plan.{EntriesFit, plan_of, is_audit as is_audit_mode};
+ghost use Rattle.repair_scope.specs.Plan.{EntriesFit, plan_of, is_audit as is_audit_mode};
 
 use super::{entry_of, tell_found};
 use crate::counts::Counts;
-use crate::entry::{Entries, Entry};
-use crate::scope::{Mode, Scope};
-use crate::selecting::is_as_recorded;
-use crate::trying::is_audit;
 use disk_model::Sink;
 use file_table::Table;
+use repair_scope::{Entries, Entry, Mode, Scope, is_as_recorded, is_audit};
 use snap_report::events::Event;
 use snap_report::{Lines, Report};
 

@@ -6,18 +6,16 @@ ghost use Rattle.stripe_reader.specs.WindowValue.{WindowValue};
 ghost use Rattle.stripe_examiner.specs.Counts.{AreCounts};
 ghost use Rattle.stripe_examiner.specs.Facts.{StripeFacts};
 ghost use Rattle.stripe_examiner.specs.Findings.{stripe_events};
-ghost use Rattle.stripe_examiner.specs.Plan.{plan_of};
+ghost use Rattle.repair_scope.specs.Plan.{plan_of};
 ghost use Rattle.stripe_examiner.specs.Shown.{CanTell, ShowsStripe, found_at, noted_events, level_events_shown};
 
 use super::{tell_found, tell_lost, tell_unread_levels, tell_unsynced, tell_wrong_levels};
 use crate::counts::Counts;
-use crate::entry::Entries;
 use crate::knowing::see_levels;
 use crate::room::StripeRoom;
-use crate::scope::Scope;
-use crate::trying::is_searched;
 use disk_model::Sink;
 use file_table::Table;
+use repair_scope::{Entries, Scope, is_searched};
 use snap_report::events::Event;
 use snap_report::{Lines, Report};
 

@@ -1,11 +1,11 @@
 use Rattle.std.proofs.Common.{◌≡◌, map, sym, ap, ◌∙◌, subst}
 use Rattle.std.proofs.lemmas.List.{length-map}
 use Rattle.snap_config.specs.Setup.{setup_value}
-use Rattle.stripe_examiner.specs.declared.scope.Mode.{Mode}
+use Rattle.repair_scope.specs.declared.scope.Mode.{Mode}
 use Rattle.snap_fix.specs.Beginning.{BeginsNot}
 use Rattle.snap_fix.specs.ByMode.{AreOpenFor}
 use Rattle.snap_fix.specs.Course.{outside}
-use Rattle.stripe_examiner.specs.Plan.{names_of}
+use Rattle.repair_scope.specs.Plan.{names_of}
 use Rattle.snap_fix.proofs.ByModeLemmas.{checked, fix_caused, fix_leaves, fixed, leaves_all, nested, not_caused, not_checked, not_fixed}
 use Rattle.snap_fix.proofs.by_mode.repair.Goals as goal
 

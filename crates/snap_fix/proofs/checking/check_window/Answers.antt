@@ -1,7 +1,7 @@
 use Rattle.std.proofs.Common.{◌≡◌, ◌+◌, ◌-◌, ◌<◌, ℕ, List, length, map, take, drop, get_or, sym, ap, ◌∙◌, subst, arith}
 use Rattle.stripe_reader.specs.Columns.{ReadsWindow}
 use Rattle.stripe_examiner.specs.declared.room.StripeRoom.{StripeRoom}
-use Rattle.stripe_examiner.specs.Plan.{plan_of}
+use Rattle.repair_scope.specs.Plan.{plan_of}
 use Rattle.stripe_examiner.specs.Shown.{CanTell}
 use Rattle.snap_fix.specs.Checking.{AreShown}
 use Rattle.snap_fix.proofs.CheckLemmas.{as_many_shown, number_shown}

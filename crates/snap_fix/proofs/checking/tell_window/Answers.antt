@@ -2,7 +2,7 @@ use Rattle.std.proofs.Common.{◌<◌, length, refl, sym, ap, subst, arith}
 use Rattle.std.proofs.lemmas.List.{take_all}
 use Rattle.stripe_examiner.specs.Findings.{events_of}
 use Rattle.stripe_examiner.specs.Looking.{facts_at}
-use Rattle.stripe_examiner.specs.Plan.{plan_of}
+use Rattle.repair_scope.specs.Plan.{plan_of}
 use Rattle.stripe_examiner.specs.Shown.{ShowsStripe}
 use Rattle.stripe_examiner.proofs.TellingLemmas.{tells_as, tells_nothing, tells_then}
 use Rattle.snap_fix.proofs.CheckLemmas.{as_many_shown, events_more, number_shown}

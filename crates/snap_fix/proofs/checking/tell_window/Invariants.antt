@@ -2,7 +2,7 @@ use Rattle.std.proofs.Common.{List, take}
 use Rattle.stripe_reader.specs.WindowValue.{WindowValue}
 use Rattle.stripe_examiner.specs.Facts.{StripeFacts}
 use Rattle.stripe_examiner.specs.Findings.{events_of}
-use Rattle.stripe_examiner.specs.Plan.{plan_of}
+use Rattle.repair_scope.specs.Plan.{plan_of}
 use Rattle.stripe_examiner.proofs.TellingLemmas.{Tells}
 use Rattle.snap_fix.specs.Checking.{AreShown}
 use Rattle.snap_fix.proofs.checking.tell_window.Given as goal

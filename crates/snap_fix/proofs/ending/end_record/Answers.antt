@@ -1,5 +1,5 @@
 use Rattle.std.proofs.Common.{◌≡◌, ◌&&◌, Bool, not, refl, sym, ap, ◌∙◌}
-use Rattle.stripe_examiner.specs.declared.entry.Entry.{Entry}
+use Rattle.repair_scope.specs.declared.entry.Entry.{Entry}
 use Rattle.snap_fix.specs.Handed.{seen}
 use Rattle.snap_fix.proofs.AnswerLemmas.{on_err}
 use Rattle.snap_fix.proofs.EndingRecordLemmas.{can_finish, ends_done, ends_kept, ends_not}

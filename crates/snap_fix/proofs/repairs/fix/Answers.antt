@@ -1,6 +1,6 @@
 use Rattle.std.proofs.Common.{inr, map}
 use Rattle.snap_config.specs.Setup.{setup_value}
-use Rattle.stripe_examiner.specs.Plan.{names_of}
+use Rattle.repair_scope.specs.Plan.{names_of}
 use Rattle.snap_fix.proofs.AnswerLemmas.{if_err, if_ok}
 use Rattle.snap_fix.proofs.repairs.fix.Goals as goal
 

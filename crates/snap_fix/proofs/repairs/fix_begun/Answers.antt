@@ -7,8 +7,8 @@ use Rattle.snap_config.specs.declared.options.Selection.{Selection}
 use Rattle.snap_report.specs.Report.{ReportView}
 use Rattle.snap_report.specs.declared.answer.RunFault.{RunFault}
 use Rattle.snap_report.specs.declared.events.Event.{Event}
-use Rattle.stripe_examiner.specs.declared.scope.Mode.TheVariants.{Fix}
-use Rattle.stripe_examiner.specs.Plan.{FixPlan}
+use Rattle.repair_scope.specs.declared.scope.Mode.TheVariants.{Fix}
+use Rattle.repair_scope.specs.Plan.{FixPlan}
 use Rattle.file_restorer.specs.Mending.{StatesFit}
 use Rattle.file_restorer.specs.declared.state.FileState.{FileState}
 use Rattle.snap_fix.specs.declared.fixing.Totals.{Totals}

@@ -11,7 +11,7 @@ use Rattle.stripe_examiner.specs.declared.marking.CellMark.TheVariants.{Right}
 use Rattle.stripe_examiner.specs.AskedCell.{AsksCells, asks_for, holds_wanted, is_marked_given}
 use Rattle.stripe_examiner.specs.Facts.{wanted_by}
 use Rattle.stripe_examiner.specs.Marks.{IsMarked, mark_in}
-use Rattle.stripe_examiner.specs.Plan.{seen_at}
+use Rattle.repair_scope.specs.Plan.{seen_at}
 use Rattle.stripe_examiner.specs.Surveyed.{plan_in}
 use Rattle.stripe_examiner.proofs.AskingLemmas.{block_as, cells_more, holds_still}
 use Rattle.stripe_examiner.proofs.marking.mark_cells.Goals as goal

@@ -8,7 +8,7 @@ use Rattle.parity_writer.specs.WindowRow.{row_at}
 use Rattle.stripe_examiner.specs.declared.search.Wanted.{Wanted}
 use Rattle.stripe_examiner.specs.Marks.{is_marked_missing, mark_in, wanted_marked}
 use Rattle.stripe_examiner.specs.Restorable.{filled}
-use Rattle.stripe_examiner.specs.Plan.{seen_at, is_synced}
+use Rattle.repair_scope.specs.Plan.{seen_at, is_synced}
 use Rattle.stripe_examiner.specs.Surveyed.{plan_in}
 use Rattle.stripe_examiner.proofs.KnowLemmas.{wanted_lengths, wanted_within}
 use Rattle.stripe_examiner.proofs.MarkSteps.{puts_found, puts_nothing, searched_where_known}

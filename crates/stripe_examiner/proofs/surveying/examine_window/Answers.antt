@@ -3,7 +3,7 @@ use Rattle.std.specs.List.{All}
 use Rattle.std.specs.Vec.{with_items}
 use Rattle.std.proofs.lemmas.List.{with_items_is}
 use Rattle.stripe_examiner.specs.declared.room.StripeRoom.{StripeRoom}
-use Rattle.stripe_examiner.specs.Plan.{plan_of}
+use Rattle.repair_scope.specs.Plan.{plan_of}
 use Rattle.stripe_examiner.specs.Room.{IsStripeRoomFor}
 use Rattle.stripe_examiner.proofs.WindowShown.{room_after}
 use Rattle.stripe_examiner.proofs.surveying.examine_window.Goals as goal

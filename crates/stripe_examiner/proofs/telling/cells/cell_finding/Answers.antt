@@ -1,5 +1,5 @@
 use Rattle.std.proofs.Common.{sym, ◌∙◌}
-use Rattle.stripe_examiner.specs.Plan.{plan_of}
+use Rattle.repair_scope.specs.Plan.{plan_of}
 use Rattle.stripe_reader.specs.WindowValue.{slot_at}
 use Rattle.stripe_examiner.proofs.FindingLemmas.{found_in_cell}
 use Rattle.stripe_examiner.proofs.telling.cells.cell_finding.Goals as goal

@@ -1,7 +1,7 @@
 use Rattle.std.proofs.Common.{refl, arith}
 use Rattle.stripe_examiner.specs.Findings.{lost_events}
 use Rattle.stripe_examiner.specs.Marks.{mark_in, is_marked_missing}
-use Rattle.stripe_examiner.specs.Plan.{plan_of}
+use Rattle.repair_scope.specs.Plan.{plan_of}
 use Rattle.stripe_examiner.proofs.TellingLemmas.{tells_nothing, tells_more, told_to, counts_to}
 use Rattle.stripe_examiner.proofs.telling.cells.tell_lost.Goals as goal
 

@@ -1,6 +1,6 @@
 use Rattle.stripe_examiner.specs.Findings.{lost_events}
 use Rattle.stripe_examiner.specs.Marks.{mark_in, is_marked_missing}
-use Rattle.stripe_examiner.specs.Plan.{plan_of}
+use Rattle.repair_scope.specs.Plan.{plan_of}
 use Rattle.stripe_examiner.proofs.TellingLemmas.{Tells, events_to}
 use Rattle.stripe_examiner.proofs.telling.cells.tell_lost.Given as goal
 

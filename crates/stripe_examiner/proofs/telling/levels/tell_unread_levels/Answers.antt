@@ -2,7 +2,7 @@ use Rattle.std.proofs.Common.{sym, refl, ap, ◌∙◌, arith}
 use Rattle.std.specs.Prelude.{get_or, take}
 use Rattle.parity_writer.specs.LevelsValue.{no_level}
 use Rattle.stripe_examiner.specs.Findings.{level_io_events}
-use Rattle.stripe_examiner.specs.Plan.{plan_of}
+use Rattle.repair_scope.specs.Plan.{plan_of}
 use Rattle.stripe_examiner.proofs.StripeLemmas.{level_of_first, levels_as_many, levels_of_shape}
 use Rattle.stripe_examiner.proofs.TellingLemmas.{tells_nothing, tells_more, told_to, counts_to}
 use Rattle.stripe_examiner.proofs.telling.levels.tell_unread_levels.Goals as goal

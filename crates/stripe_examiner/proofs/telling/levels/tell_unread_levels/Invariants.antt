@@ -1,7 +1,7 @@
 use Rattle.std.specs.Prelude.{get_or, take}
 use Rattle.parity_writer.specs.LevelsValue.{no_level}
 use Rattle.stripe_examiner.specs.Findings.{level_io_events}
-use Rattle.stripe_examiner.specs.Plan.{plan_of}
+use Rattle.repair_scope.specs.Plan.{plan_of}
 use Rattle.stripe_examiner.proofs.TellingLemmas.{Tells, events_to}
 use Rattle.stripe_examiner.proofs.telling.levels.tell_unread_levels.Given as goal
 

@@ -1,5 +1,5 @@
 use Rattle.stripe_examiner.specs.Findings.{column_events}
-use Rattle.stripe_examiner.specs.Plan.{plan_of}
+use Rattle.repair_scope.specs.Plan.{plan_of}
 use Rattle.stripe_examiner.proofs.TellingLemmas.{Tells, events_to}
 use Rattle.stripe_examiner.proofs.telling.opening.tell_opening.Given as goal
 

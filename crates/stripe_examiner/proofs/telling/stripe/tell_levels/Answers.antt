@@ -2,7 +2,7 @@ use Rattle.std.proofs.Common.{refl, sym, ◌∙◌, subst}
 use Rattle.snap_report.proofs.ToldLemmas.{told_nothing, told_then}
 use Rattle.stripe_examiner.specs.declared.counts.Counts.{Counts}
 use Rattle.stripe_examiner.specs.Counts.{AreCounts}
-use Rattle.stripe_examiner.specs.Plan.{plan_of}
+use Rattle.repair_scope.specs.Plan.{plan_of}
 use Rattle.stripe_examiner.proofs.ShownEvents.{levels_none_shown, levels_shown_read}
 use Rattle.stripe_examiner.proofs.TellingLemmas.{told_as}
 use Rattle.stripe_examiner.proofs.telling.stripe.tell_levels.Goals as goal

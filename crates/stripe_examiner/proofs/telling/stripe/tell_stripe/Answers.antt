@@ -1,7 +1,7 @@
 use Rattle.std.proofs.Common.{sym, subst}
 use Rattle.snap_report.proofs.ToldLemmas.{told_then}
 use Rattle.stripe_examiner.specs.Counts.{AreCounts}
-use Rattle.stripe_examiner.specs.Plan.{plan_of}
+use Rattle.repair_scope.specs.Plan.{plan_of}
 use Rattle.stripe_examiner.proofs.ShownEvents.{events_told}
 use Rattle.stripe_examiner.proofs.TellingLemmas.{told_as}
 use Rattle.stripe_examiner.proofs.telling.stripe.tell_stripe.Goals as goal

@@ -1,0 +1,4 @@
+pub mod Blocked
+pub mod Selected
+pub mod Plan
+pub mod Listed

@@ -1,8 +1,0 @@
-use Rattle.std.proofs.Common.{◌≡◌, map}
-use Rattle.array_scan.specs.Kept.{each_column, lists_of}
-use Rattle.snap_config.specs.Setup.{setup_value}
-use Rattle.stripe_examiner.specs.Plan.{column_entries, names_of}
-use Rattle.stripe_examiner.proofs.places.entries_of.Given as goal
-
-abbrev pub invariant-loop-d : goal.invariant-loop-d
-invariant-loop-d l = map (λ column. column.items) l.columns.items ≡ each_column (column_entries l.selection (names_of (setup_value l.setup)) l.table (lists_of l.lists)) l.d
