@@ -1,176 +1,108 @@
--- Lanes of slots whose blocks are hashed: some of them, and then the rest.
-use Rattle.std.proofs.Common.{min, zero, suc, ◌≡◌, ◌≢◌, ℕ, ◌+◌, ◌*◌, ◌/◌, ◌%◌, ◌<◌, ◌≤◌, List, [], ◌∷◌, ◌++◌, length, map, take, drop, set, get_or, slice_index, Some, inl, inr, refl, sym, ap, ap₂, ◌∙◌, subst, arith}
+-- The slots of lanes by their numbers, and their digests.
+use Rattle.std.proofs.Common.{zero, suc, ◌≡◌, ◌⊎◌, ℕ, ◌+◌, ◌-◌, ◌*◌, ◌/◌, ◌%◌, ◌<◌, ◌≤◌, List, [], ◌∷◌, length, take, drop, set, get_or, slice_index, Option, None, true, false, inl, inr, sym, ap, ap₂, ◌∙◌, subst, arith}
 use Rattle.std.specs.Borrow.{Bor}
 use Rattle.std.specs.List.{All, AllZip}
+use Rattle.std.specs.Option.{is_some}
 use Rattle.std.proofs.lemmas.Bool.{cases_lt}
 use Rattle.std.proofs.lemmas.Bool.Decides.{eqb_tells}
-use Rattle.std.proofs.lemmas.List.{ext_get_or, get_or-map, get_or-take, get_or-drop, get_or-set_same, get_or-set_other, get_or_default, length-drop, length-map, length-set, length-take}
+use Rattle.std.proofs.lemmas.List.{get_or_default, get_or-drop, get_or-take, get_or-set_same, get_or-set_other, length-set, length-take}
 use Rattle.std.proofs.lemmas.List.Elements.{All-from_get_or}
-use Rattle.std.proofs.lemmas.Nat.{div_below, mod_below}
-use Rattle.block_hash.specs.Hash.{hash}
+use Rattle.std.proofs.lemmas.Nat.{div_below, div-mul-add, mod_below, mod-mul-add}
 use Rattle.block_hash.specs.declared.Digest16.{Digest16}
-use Rattle.block_hash.specs.declared.Kind.TheVariants.{Md5}
 use Rattle.file_table.specs.declared.shape.Shape.{Shape}
-use Rattle.stripe_reader.specs.Fetched.{IsUnhashedFront, hashed_front}
-use Rattle.stripe_reader.specs.HashedLanes.{HashesFront, HashesLanes, IsFullAt, IsNumber, MayHaveDigests, lane_in, numbered, with_digest}
-use Rattle.stripe_reader.specs.Hashing.{HasFullBlock, HasNoOtherDigest, MayHash, hashed, slot_in}
+use Rattle.stripe_reader.specs.Fetched.{IsUnhashedFront}
+use Rattle.stripe_reader.specs.HashedLanes.{AreDigests, AreSlotDigests, AreSomeDigests, IsFullAt, IsFullIn, IsNumber, digest_at, lane_in, numbered}
+use Rattle.stripe_reader.specs.Hashing.{HasFullBlock, IsUnhashed, hashed, slot_in}
 use Rattle.stripe_reader.specs.SlotValue.{SlotValue}
 use Rattle.stripe_reader.specs.WindowValue.{no_slot}
-use Rattle.stripe_reader.proofs.HashingLemmas.{given_may, may_hashed, may_then, none_other_stays, unhashed_none_other}
 
-module _ (shape : Shape) (count : ℕ) where
-  -- ---- one lane
-
-  pub unhashed_may : (slots : List SlotValue) → IsUnhashedFront shape.block_size count slots → MayHaveDigests shape count slots
-  unhashed_may slots were = record {
-    enough = were.enough;
-    each = λ i lt. subst (HasNoOtherDigest shape) (get_or-take count slots i no_slot lt) (unhashed_none_other shape _ (were.unhashed i no_slot (omega (arith, lt, were.enough, length-take count slots))));
-  }
-
-  pub may_all : (slots : List SlotValue) → MayHaveDigests shape count slots → All (HasNoOtherDigest shape) (take count slots)
-  may_all slots have = All-from_get_or (HasNoOtherDigest shape) (take count slots) no_slot (λ i lt.
-      let low : i < count = omega (arith, lt, length-take count slots) in
-      subst (HasNoOtherDigest shape) (sym (get_or-take count slots i no_slot low)) (have.each i low))
-
-  front_same : (slots : List SlotValue) → HashesFront shape count slots slots
-  front_same slots = record { as_many = refl; front = λ i low. inl refl; others = λ i high. refl }
-
-  front_then : (before mid after : List SlotValue) → HashesFront shape count before mid → HashesFront shape count mid after → HashesFront shape count before after
-  front_then before mid after one two = record {
-    as_many = two.as_many ∙ one.as_many;
-    front = λ i low. may_then shape (slot_in before i) (slot_in mid i) (slot_in after i) (one.front i low) (two.front i low);
-    others = λ i high. two.others i high ∙ one.others i high;
-  }
-
-  front_may : (before after : List SlotValue) → MayHaveDigests shape count before → HashesFront shape count before after → MayHaveDigests shape count after
-  front_may before after have some = record {
-    enough = omega (arith, have.enough, some.as_many);
-    each = λ i low. none_other_stays shape (slot_in before i) (slot_in after i) (have.each i low) (some.front i low);
-  }
-
-  -- one slot more
-  front_set : (before now : List SlotValue) (i : ℕ) (new : SlotValue) → i < count → i < length now → HashesFront shape count before now → MayHash shape (slot_in before i) new → HashesFront shape count before (set now i new)
-  front_set before now i new low within some may = record {
-    as_many = length-set now i new ∙ some.as_many;
-    front = λ j lt. elim (eqb_tells j i) [
-      | inl same ↦
-          subst (λ (n : ℕ). MayHash shape (slot_in before n) (slot_in (set now i new) n)) (sym same.1)
-          (subst (MayHash shape (slot_in before i)) (sym (get_or-set_same now i new no_slot within)) may)
-      | inr apart ↦ subst (MayHash shape (slot_in before j)) (sym (get_or-set_other now i j new no_slot apart.1)) (some.front j lt)
-    ];
-    others = λ j high. let apart : j ≢ i = omega (arith, low, high) in get_or-set_other now i j new no_slot apart ∙ some.others j high;
-  }
-
-  -- what is hashed again
-  front_hashed : (before after : List SlotValue) → MayHaveDigests shape count before → HashesFront shape count before after → hashed_front shape count after ≡ hashed_front shape count before
-  front_hashed before after have some =
-      let h = hashed shape in
-      ap₂ (λ (front back : List SlotValue). front ++ back)
-      (ext_get_or no_slot (map h (take count after)) (map h (take count before))
-      (length-map (take count after) h ∙ length-take count after ∙ ap (λ (n : ℕ). min count n) some.as_many ∙ sym (length-map (take count before) h ∙ length-take count before))
-      (λ i lt.
-      let low : i < count = omega (arith, lt, length-map (take count after) h, length-take count after) in
-      let here : i < length (take count after) = omega (arith, lt, length-map (take count after) h) in
-      let there : i < length (take count before) = omega (arith, here, length-take count after, length-take count before, some.as_many) in
-      get_or-map h (take count after) i no_slot no_slot here ∙ ap h (get_or-take count after i no_slot low)
-      ∙ may_hashed shape (slot_in before i) (slot_in after i) (some.front i low)
-      ∙ sym (get_or-map h (take count before) i no_slot no_slot there ∙ ap h (get_or-take count before i no_slot low))))
-      (ext_get_or no_slot (drop count after) (drop count before) (omega (arith, length-drop count after, length-drop count before, some.as_many))
-      (λ i lt. get_or-drop count after i no_slot ∙ some.others (count + i) (omega arith) ∙ sym (get_or-drop count before i no_slot)))
-
-  -- ---- lanes
-
-  pub lanes_same : (lanes : List (List SlotValue)) → HashesLanes shape count lanes lanes
-  lanes_same lanes = record { as_many = refl; each = λ k. front_same (lane_in lanes k) }
-
-  pub lanes_then : (before mid after : List (List SlotValue)) → HashesLanes shape count before mid → HashesLanes shape count mid after → HashesLanes shape count before after
-  lanes_then before mid after one two = record {
-    as_many = two.as_many ∙ one.as_many;
-    each = λ k. front_then (lane_in before k) (lane_in mid k) (lane_in after k) (one.each k) (two.each k);
-  }
-
-  pub unhashed_lanes : (lanes : List (List SlotValue)) → All (IsUnhashedFront shape.block_size count) lanes → All (MayHaveDigests shape count) lanes
-  unhashed_lanes lanes were = λ k d lt. unhashed_may (get_or lanes k d) (were k d lt)
-
-  pub lanes_may : (before after : List (List SlotValue)) → All (MayHaveDigests shape count) before → HashesLanes shape count before after → All (MayHaveDigests shape count) after
-  lanes_may before after have some = λ k d lt.
-      let within : k < length before = omega (arith, lt, some.as_many) in
-      subst (MayHaveDigests shape count) (sym (get_or_default after k d [] lt)) (front_may (lane_in before k) (lane_in after k) (have k [] within) (some.each k))
-
-  lanes_set : (before now : List (List SlotValue)) (k : ℕ) (lane : List SlotValue) → k < length now → HashesLanes shape count before now → HashesFront shape count (lane_in before k) lane → HashesLanes shape count before (set now k lane)
-  lanes_set before now k lane within some front = record {
-    as_many = length-set now k lane ∙ some.as_many;
-    each = λ j. elim (eqb_tells j k) [
-      | inl same ↦
-          subst (λ (n : ℕ). HashesFront shape count (lane_in before n) (lane_in (set now k lane) n)) (sym same.1)
-          (subst (HashesFront shape count (lane_in before k)) (sym (get_or-set_same now k lane [] within)) front)
-      | inr apart ↦ subst (HashesFront shape count (lane_in before j)) (sym (get_or-set_other now k j lane [] apart.1)) (some.each j)
-    ];
-  }
-
-  pub lanes_hashed : (before after : List (List SlotValue)) → All (MayHaveDigests shape count) before → HashesLanes shape count before after → map (hashed_front shape count) after ≡ map (hashed_front shape count) before
-  lanes_hashed before after have some =
-      let h = hashed_front shape count in
-      ext_get_or [] (map h after) (map h before) (length-map after h ∙ some.as_many ∙ sym (length-map before h))
-      (λ k lt.
-      let here : k < length after = omega (arith, lt, length-map after h) in
-      let there : k < length before = omega (arith, here, some.as_many) in
-      get_or-map h after k [] [] here ∙ front_hashed (lane_in before k) (lane_in after k) (have k [] there) (some.each k) ∙ sym (get_or-map h before k [] [] there))
-
+module _ (shape : Shape) (count : ℕ) (lanes : List (List SlotValue)) (were : All (IsUnhashedFront shape.block_size count) lanes) where
   -- ---- the slots of numbers
 
-  pub number_is : (lanes : List (List SlotValue)) (at : ℕ) → All (MayHaveDigests shape count) lanes → at < length lanes * count → IsNumber count lanes at
-  number_is lanes at have lt =
+  pub number_is : (at : ℕ) → at < length lanes * count → IsNumber count lanes at
+  number_is at lt =
       let some : 0 < count = some_count count (length lanes) at lt in
       let lane : at / count < length lanes = div_below at count (length lanes) some lt in
       let front : at % count < count = mod_below at count some in
-      let room = (have (at / count) [] lane).enough in
+      let room = (were (at / count) [] lane).enough in
       record { within = lt; lane = lane; front = front; slot = omega (arith, front, room) }
     where
       some_count : (count many at : ℕ) → at < many * count → 0 < count
       some_count zero many at lt = absurd (omega arith)
       some_count (suc count) many at lt = omega arith
 
-  pub number_stays : (before after : List (List SlotValue)) (at : ℕ) → HashesLanes shape count before after → IsNumber count before at → IsNumber count after at
-  number_stays before after at some number = record {
-    within = subst (λ (n : ℕ). at < n * count) (sym some.as_many) number.within;
-    lane = omega (arith, number.lane, some.as_many);
-    front = number.front;
-    slot = omega (arith, number.slot, (some.each (at / count)).as_many);
-  }
-
-  block_size_at : (lanes : List (List SlotValue)) (at : ℕ) → All (MayHaveDigests shape count) lanes → IsNumber count lanes at → length (numbered lanes count at).block ≡ shape.block_size
-  block_size_at lanes at have number = ((have (at / count) [] number.lane).each (at % count) number.front).block
+  pub unhashed_at : (at : ℕ) → IsNumber count lanes at → IsUnhashed shape.block_size (numbered lanes count at)
+  unhashed_at at number =
+      let lane = get_or lanes (at / count) [] in
+      let front = were (at / count) [] number.lane in
+      subst (IsUnhashed shape.block_size) (get_or-take count lane (at % count) no_slot number.front)
+      (front.unhashed (at % count) no_slot (omega (arith, number.front, front.enough, length-take count lane)))
 
   -- blocks that were lent for some of them have their size
-  pub block_size_all : (lanes : List (List SlotValue)) (eight : List ℕ) (blocks : List (Bor (List ℕ))) → All (MayHaveDigests shape count) lanes → All (IsFullAt shape.block_size count lanes) eight → length blocks ≡ length eight
+  pub block_size_all : (eight : List ℕ) (blocks : List (Bor (List ℕ))) → All (IsFullAt shape.block_size count lanes) eight → length blocks ≡ length eight
       → ((j : ℕ) (none : Bor (List ℕ)) → j < length blocks → (get_or blocks j none).now ≡ (numbered lanes count (get_or eight j 0)).block)
       → All (λ (block : Bor (List ℕ)). length block.now ≡ shape.block_size) blocks
-  block_size_all lanes eight blocks have full as_many are = λ j none lt.
-      ap length (are j none lt) ∙ block_size_at lanes (get_or eight j 0) have (full j 0 (omega (arith, lt, as_many))).number
+  block_size_all eight blocks full as_many are = λ j none lt.
+      ap length (are j none lt) ∙ (unhashed_at (get_or eight j 0) (full j 0 (omega (arith, lt, as_many))).number).block
 
-  -- one of them is given its digest
-  pub one_given : (before now : List (List SlotValue)) (at : ℕ) (digest : Digest16) → shape.kind ≡ Md5 → All (MayHaveDigests shape count) before → IsFullAt shape.block_size count before at
-      → digest.0 ≡ hash Md5 shape.seed (numbered before count at).block → HashesLanes shape count before now → HashesLanes shape count before (with_digest now count at digest)
-  one_given before now at digest kind have full is some =
-      let k = at / count in
-      let i = at % count in
-      let number = number_stays before now at some full.number in
-      let new : SlotValue = record (numbered now count at) { digest = Some digest } in
-      let may : MayHash shape (numbered before count at) new =
-      given_may shape (numbered before count at) (numbered now count at) digest kind (block_size_at before at have full.number) full.full ((some.each k).front i full.number.front) is in
-      lanes_set before now k (set (lane_in now k) i new) number.lane some (front_set (lane_in before k) (lane_in now k) i new full.number.front number.slot (some.each k) may)
+  pub full_at : (from end at : ℕ) (slot : SlotValue) → from ≤ at → at < end → IsNumber count lanes at → slot ≡ numbered lanes count at → HasFullBlock shape.block_size slot
+      → IsFullIn shape.block_size count lanes from end at
+  full_at from end at slot later before number is full =
+      record { is = record { number = number; full = subst (HasFullBlock shape.block_size) is full }; later = later; before = before }
 
-  pub full_at : (lanes : List (List SlotValue)) (at : ℕ) (slot : SlotValue) → IsNumber count lanes at → slot ≡ numbered lanes count at → HasFullBlock shape.block_size slot → IsFullAt shape.block_size count lanes at
-  full_at lanes at slot number is full = record { number = number; full = subst (HasFullBlock shape.block_size) is full }
+-- ---- digests, one of which is made
 
--- the number of a full block, from one on
-pub record IsNext (shape : Shape) (count : ℕ) (lanes : List (List SlotValue)) (from at : ℕ) : Type 0 where
-  pub full : IsFullAt shape.block_size count lanes at
-  pub later : from ≤ at
-  pub few : at < 18446744073709551615
+module _ (shape : Shape) (count : ℕ) (lanes : List (List SlotValue)) (start : ℕ) (digests : List (Option Digest16)) (i : ℕ) (new : Option Digest16)
+    (within : i < length digests) (is : new ≡ digest_at shape count lanes (start + i)) where
+  pub some_set : AreSomeDigests shape count lanes start digests → AreSomeDigests shape count lanes start (set digests i new)
+  some_set some k other lt = elim (eqb_tells k i) [
+    | inl same ↦
+        subst (λ (n : ℕ). (get_or (set digests i new) n other ≡ None) ⊎ (get_or (set digests i new) n other ≡ digest_at shape count lanes (start + n))) (sym same.1)
+        (inr (get_or-set_same digests i new other within ∙ is))
+    | inr apart ↦
+        subst (λ (it : Option Digest16). (it ≡ None) ⊎ (it ≡ digest_at shape count lanes (start + k))) (sym (get_or-set_other digests i k new other apart.1))
+        (some k other (omega (arith, lt, length-set digests i new)))
+  ]
 
--- up to eight numbers that were found, and one more
+  pub made_set : ((k : ℕ) (other : Option Digest16) → k < i → get_or digests k other ≡ digest_at shape count lanes (start + k))
+      → (k : ℕ) (other : Option Digest16) → k < i + 1 → get_or (set digests i new) k other ≡ digest_at shape count lanes (start + k)
+  made_set made k other lt = elim (eqb_tells k i) [
+    | inl same ↦
+        subst (λ (n : ℕ). get_or (set digests i new) n other ≡ digest_at shape count lanes (start + n)) (sym same.1)
+        (get_or-set_same digests i new other within ∙ is)
+    | inr apart ↦ get_or-set_other digests i k new other apart.1 ∙ made k other (omega (arith, lt, apart.1))
+  ]
+
+-- one that was made before
+pub made_before : (shape : Shape) (count : ℕ) (lanes : List (List SlotValue)) (start : ℕ) (digests : List (Option Digest16)) (i : ℕ) → i < length digests → AreSomeDigests shape count lanes start digests
+    → is_some (get_or digests i None) ≡ true → ((k : ℕ) (other : Option Digest16) → k < i → get_or digests k other ≡ digest_at shape count lanes (start + k))
+    → (k : ℕ) (other : Option Digest16) → k < i + 1 → get_or digests k other ≡ digest_at shape count lanes (start + k)
+made_before shape count lanes start digests i within some there made k other lt = elim (eqb_tells k i) [
+  | inl same ↦
+      subst (λ (n : ℕ). get_or digests n other ≡ digest_at shape count lanes (start + n)) (sym same.1)
+      (elim (some i other within) [
+        | inl none ↦
+            let gone : false ≡ true = subst (λ (it : Option Digest16). is_some it ≡ true) (get_or_default digests i None other within ∙ none) there in
+            absurd cc
+        | inr is ↦ is
+      ])
+  | inr apart ↦ made k other (omega (arith, lt, apart.1))
+]
+
+-- the digests of the front of a lane
+pub front_digests : (shape : Shape) (count : ℕ) (lanes : List (List SlotValue)) (digests : List (Option Digest16)) (k : ℕ) (slots : List SlotValue) → slots ≡ lane_in lanes k
+    → AreDigests shape count lanes 0 digests → k * count + count ≤ length digests → AreSlotDigests shape slots (take (k * count + count - k * count) (drop (k * count) digests))
+front_digests shape count lanes digests k slots is are within i other lt =
+    let low : i < k * count + count - k * count = omega (arith, lt, length-take (k * count + count - k * count) (drop (k * count) digests)) in
+    let below : i < count = omega (arith, low) in
+    let lane : lane_in lanes ((k * count + i) / count) ≡ slots = ap (lane_in lanes) (div-mul-add k count i below) ∙ sym is in
+    let slot : numbered lanes count (k * count + i) ≡ slot_in slots i = ap₂ slot_in lane (mod-mul-add k count i below) in
+    let place : 0 + (k * count + i) ≡ k * count + i = omega arith in
+    get_or-take (k * count + count - k * count) (drop (k * count) digests) i other low ∙ get_or-drop (k * count) digests i other
+    ∙ are (k * count + i) other (omega (arith, below, within)) ∙ ap (λ (it : SlotValue). (hashed shape it).digest) (ap (numbered lanes count) place ∙ slot)
+
+-- ---- up to eight numbers that were found, and one more
+
 module _ (P : ℕ → Type 0) where
   pub more_found : (found at : ℕ) (eight numbers : List ℕ) → P at → ((k : ℕ) → k < 8 → 0 < found → P (slice_index eight k))
       → ((k : ℕ) → k < found → slice_index numbers k ≡ slice_index eight k) → ((k : ℕ) → found ≤ k → k < 8 → slice_index numbers k ≡ at)

@@ -1,8 +1,8 @@
--- The digests of the blocks of several lanes, of each of which the first so many slots were read.
-use Rattle.std.specs.Prelude.{◌≡◌, ℕ, ◌*◌, ◌/◌, ◌%◌, ◌<◌, ◌≤◌, List, [], length, slice_index_or, slice_set, Some}
+-- The digests of the slots of several lanes, of each of which the first so many slots were read.
+use Rattle.std.specs.Prelude.{◌≡◌, ◌⊎◌, ℕ, ◌+◌, ◌*◌, ◌/◌, ◌%◌, ◌<◌, ◌≤◌, List, [], length, Option, None, slice_index_or}
 use Rattle.block_hash.specs.declared.Digest16.{Digest16}
 use Rattle.file_table.specs.declared.shape.Shape.{Shape}
-use Rattle.stripe_reader.specs.Hashing.{HasFullBlock, HasNoOtherDigest, MayHash, slot_in}
+use Rattle.stripe_reader.specs.Hashing.{HasFullBlock, hashed, slot_in}
 use Rattle.stripe_reader.specs.SlotValue.{SlotValue}
 
 -- the lane of a number; and the slot of a number, where the first so many of each lane are counted, lane after lane
@@ -24,24 +24,27 @@ pub record IsFullAt (block_size count : ℕ) (lanes : List (List SlotValue)) (at
   pub number : IsNumber count lanes at
   pub full : HasFullBlock block_size (numbered lanes count at)
 
--- the slot of a number is given a digest
-abbrev pub with_digest : List (List SlotValue) → ℕ → ℕ → Digest16 → List (List SlotValue)
-with_digest lanes count at digest =
-    slice_set lanes (at / count)
-    (slice_set (lane_in lanes (at / count)) (at % count) (record (numbered lanes count at) { digest = Some digest }))
+-- one of the numbers from one on and before another, whose slot has a full block
+pub record IsFullIn (block_size count : ℕ) (lanes : List (List SlotValue)) (from end at : ℕ) : Type 0 where
+  pub is : IsFullAt block_size count lanes at
+  pub later : from ≤ at
+  pub before : at < end
 
--- the first so many slots of a lane were read, and have no digest or the one that their cells have
-pub record MayHaveDigests (shape : Shape) (count : ℕ) (slots : List SlotValue) : Type 0 where
-  pub enough : count ≤ length slots
-  pub each : (i : ℕ) → i < count → HasNoOtherDigest shape (slot_in slots i)
+-- the digest that the slot of a number has once it is hashed
+abbrev pub digest_at : Shape → ℕ → List (List SlotValue) → ℕ → Option Digest16
+digest_at shape count lanes at = (hashed shape (numbered lanes count at)).digest
 
--- some of the first so many slots of a lane have their digests now, and all others are as they were
-pub record HashesFront (shape : Shape) (count : ℕ) (before after : List SlotValue) : Type 0 where
-  pub as_many : length after ≡ length before
-  pub front : (i : ℕ) → i < count → MayHash shape (slot_in before i) (slot_in after i)
-  pub others : (i : ℕ) → count ≤ i → slot_in after i ≡ slot_in before i
+-- these are the digests of the slots from a number on
+abbrev pub AreDigests : Shape → ℕ → List (List SlotValue) → ℕ → List (Option Digest16) → Type 0
+AreDigests shape count lanes start digests = (k : ℕ) (other : Option Digest16) → k < length digests →
+    slice_index_or digests k other ≡ digest_at shape count lanes (start + k)
 
--- the same of lanes
-pub record HashesLanes (shape : Shape) (count : ℕ) (before after : List (List SlotValue)) : Type 0 where
-  pub as_many : length after ≡ length before
-  pub each : (k : ℕ) → HashesFront shape count (lane_in before k) (lane_in after k)
+-- some of the digests were made, and for the others there is none yet
+abbrev pub AreSomeDigests : Shape → ℕ → List (List SlotValue) → ℕ → List (Option Digest16) → Type 0
+AreSomeDigests shape count lanes start digests = (k : ℕ) (other : Option Digest16) → k < length digests →
+    (slice_index_or digests k other ≡ None) ⊎ (slice_index_or digests k other ≡ digest_at shape count lanes (start + k))
+
+-- these are the digests of slots
+abbrev pub AreSlotDigests : Shape → List SlotValue → List (Option Digest16) → Type 0
+AreSlotDigests shape slots digests = (i : ℕ) (other : Option Digest16) → i < length digests →
+    slice_index_or digests i other ≡ (hashed shape (slot_in slots i)).digest

@@ -1,5 +1,5 @@
 -- The digests of blocks, which are given to their slots after all blocks of a column were read.
-use Rattle.std.specs.Prelude.{◌≡◌, ◌⊎◌, ℕ, ◌≤◌, List, length, take, Option, None, Some, slice_index_or}
+use Rattle.std.specs.Prelude.{◌≡◌, ℕ, ◌≤◌, List, length, take, Option, None, Some, slice_index_or}
 use Rattle.block_hash.specs.Hash.{hash}
 use Rattle.block_hash.specs.declared.Digest16.{Digest16}
 use Rattle.file_table.specs.declared.shape.Shape.{Shape}
@@ -25,16 +25,6 @@ pub record IsUnhashed (block_size : ℕ) (slot : SlotValue) : Type 0 where
   pub digest : slot.digest ≡ None
   pub got : slot.cell.got ≤ block_size
   pub block : length slot.block ≡ block_size
-
--- a slot that a cell was read into, and that has no digest or the one that its cell has
-pub record HasNoOtherDigest (shape : Shape) (slot : SlotValue) : Type 0 where
-  pub digest : (slot.digest ≡ None) ⊎ (slot ≡ hashed shape slot)
-  pub got : slot.cell.got ≤ shape.block_size
-  pub block : length slot.block ≡ shape.block_size
-
--- a slot is as it was, or has its digest
-abbrev pub MayHash : Shape → SlotValue → SlotValue → Type 0
-MayHash shape before after = (after ≡ before) ⊎ (after ≡ hashed shape before)
 
 -- the slot of a number
 abbrev pub slot_in : List SlotValue → ℕ → SlotValue

@@ -1,11 +1,10 @@
-// The blocks of lanes, hashed after the cells of all of them were read.
-ghost use Rattle.std.specs.Prelude.{◌≡◌, ℕ, ◌<◌, ◌≤◌, All, IfSome, length, map, slice_index, slice_index_or};
+// The digests of slots, which are numbered over all lanes, made after the cells of all lanes were read.
+ghost use Rattle.std.specs.Prelude.{◌≡◌, ℕ, ◌+◌, ◌*◌, ◌<◌, ◌≤◌, All, IfSome, length, slice_index, slice_index_or};
 ghost use Rattle.block_hash.specs.Hash.{hash};
 ghost use Rattle.block_hash.specs.declared.Digest16.{Digest16};
 ghost use Rattle.block_hash.specs.declared.Kind.TheVariants.{Md5};
-ghost use Rattle.stripe_reader.specs.Fetched.{IsUnhashedFront, hashed_front};
-ghost use Rattle.stripe_reader.specs.HashedLanes.{HashesLanes, IsFullAt, IsNumber, MayHaveDigests, numbered, with_digest};
-ghost use Rattle.stripe_reader.specs.Hashing.{HasNoOtherDigest, hashed};
+ghost use Rattle.stripe_reader.specs.Fetched.{IsUnhashedFront};
+ghost use Rattle.stripe_reader.specs.HashedLanes.{AreDigests, AreSomeDigests, IsFullAt, IsFullIn, IsNumber, numbered};
 
 use crate::slot::{Lane, Slot};
 use block_hash::{Digest16, Kind};
@@ -20,15 +19,19 @@ fn slot_of(lanes: &[Lane], count: usize, at: usize) -> &Slot
     lanes[at / count].at(at % count)
 }
 
-// The numbers of up to eight slots with full blocks, from one on. Where there are fewer, the last one stands for the
-// rest. One alone is hashed as soon by itself.
-fn next_eight(shape: Shape, count: usize, lanes: &[Lane], from: usize) -> Option<[usize; 8]>
-    requires { All (MayHaveDigests shape count) lanes.now }
-    ensures full { IfSome result (All (IsFullAt shape.block_size count lanes.now)) }
-    ensures later { IfSome result (λ eight. from ≤ slice_index eight 7) }
-    ensures few { IfSome result (λ eight. slice_index eight 7 < 18446744073709551615) }
+// The numbers of up to eight slots with full blocks, from one on and before an end. Where there are fewer, the last one
+// stands for the rest. One alone is hashed as soon by itself.
+fn next_eight(
+    shape: Shape,
+    count: usize,
+    lanes: &[Lane],
+    from: usize,
+    end: usize,
+) -> Option<[usize; 8]>
+    requires lanes { All (IsUnhashedFront shape.block_size count) lanes.now }
+    requires end { end ≤ length lanes.now * count }
+    ensures { IfSome result (All (IsFullIn shape.block_size count lanes.now from end)) }
 {
-    let end = lanes.len().saturating_mul(count);
     let mut eight = [0; 8];
     let mut found = 0;
     for at in from..end {
@@ -62,7 +65,7 @@ fn filled(eight: &[usize; 8], found: usize, at: usize) -> [usize; 8]
 // The MD5 of the blocks of eight slots.
 fn digests_of(shape: Shape, count: usize, lanes: &[Lane], eight: &[usize; 8]) -> [Digest16; 8]
     requires most { shape.block_size ≤ 4194304 }
-    requires lanes { All (MayHaveDigests shape count) lanes.now }
+    requires lanes { All (IsUnhashedFront shape.block_size count) lanes.now }
     requires full { All (IsFullAt shape.block_size count lanes.now) eight.now }
     ensures { (k : ℕ) (digest : Digest16) → k < 8 →
         (slice_index_or result k digest).0 ≡ hash Md5 shape.seed (numbered lanes.now count (slice_index eight.now k)).block }
@@ -75,94 +78,92 @@ fn digests_of(shape: Shape, count: usize, lanes: &[Lane], eight: &[usize; 8]) ->
     digest_eight(&shape.seed, &bytes)
 }
 
-// Gives the slot of a number its digest.
-fn give_digest(lanes: &mut [Lane], count: usize, at: usize, digest: Digest16)
-    requires { IsNumber count lanes.old at }
-    ensures { lanes.new ≡ with_digest lanes.old count at digest }
-{
-    let lane = &mut lanes[at / count];
-    let slot = &mut lane.slots[at % count];
-    slot.give_digest(digest);
-}
-
-// Gives eight slots with full blocks their digests.
-fn hash_eight(shape: Shape, count: usize, lanes: &mut [Lane], eight: &[usize; 8])
+// Makes the digests of eight slots with full blocks, each into the place of its number.
+fn hash_eight(
+    shape: Shape,
+    count: usize,
+    lanes: &[Lane],
+    eight: &[usize; 8],
+    start: usize,
+    digests: &mut [Option<Digest16>],
+)
     requires kind { shape.kind ≡ Md5 }
     requires most { shape.block_size ≤ 4194304 }
-    requires lanes { All (MayHaveDigests shape count) lanes.old }
-    requires full { All (IsFullAt shape.block_size count lanes.old) eight.now }
-    ensures { HashesLanes shape count lanes.old lanes.new }
+    requires lanes { All (IsUnhashedFront shape.block_size count) lanes.now }
+    requires full { All (IsFullIn shape.block_size count lanes.now start (start + length digests.old)) eight.now }
+    requires some { AreSomeDigests shape count lanes.now start digests.old }
+    ensures { AreSomeDigests shape count lanes.now start digests.new }
 {
-    let digests = digests_of(shape, count, lanes, eight);
+    let made = digests_of(shape, count, lanes, eight);
     for k in 0..8 {
-        give_digest(lanes, count, eight[k], digests[k]);
+        digests[eight[k] - start] = Some(made[k]);
     }
 }
 
-// Hashes full blocks by MD5, as long as there are more.
-fn hash_full(shape: Shape, count: usize, lanes: &mut [Lane])
+// Makes the digests of full blocks by MD5, as long as there are more.
+fn hash_full(
+    shape: Shape,
+    count: usize,
+    lanes: &[Lane],
+    start: usize,
+    digests: &mut [Option<Digest16>],
+)
     requires kind { shape.kind ≡ Md5 }
     requires most { shape.block_size ≤ 4194304 }
-    requires lanes { All (MayHaveDigests shape count) lanes.old }
-    ensures { HashesLanes shape count lanes.old lanes.new }
+    requires lanes { All (IsUnhashedFront shape.block_size count) lanes.now }
+    requires within { start + length digests.old ≤ length lanes.now * count }
+    requires room { length lanes.now * count < 18446744073709551616 }
+    requires some { AreSomeDigests shape count lanes.now start digests.old }
+    ensures { AreSomeDigests shape count lanes.now start digests.new }
 {
-    let mut from = 0;
-    while let Some(eight) = next_eight(shape, count, lanes, from) {
-        hash_eight(shape, count, lanes, &eight);
+    let end = start + digests.len();
+    let mut from = start;
+    while let Some(eight) = next_eight(shape, count, lanes, from, end) {
+        hash_eight(shape, count, lanes, &eight, start, digests);
         from = eight[7] + 1;
     }
 }
 
-// Hashes eight blocks at a time, over all lanes, where the kind has such a way.
-fn hash_together(shape: Shape, count: usize, lanes: &mut [Lane])
+// Makes those that are left, one by one.
+fn hash_rest(
+    shape: Shape,
+    count: usize,
+    lanes: &[Lane],
+    start: usize,
+    digests: &mut [Option<Digest16>],
+)
     requires most { shape.block_size ≤ 4194304 }
-    requires lanes { All (MayHaveDigests shape count) lanes.old }
-    ensures { HashesLanes shape count lanes.old lanes.new }
+    requires lanes { All (IsUnhashedFront shape.block_size count) lanes.now }
+    requires within { start + length digests.old ≤ length lanes.now * count }
+    requires room { length lanes.now * count < 18446744073709551616 }
+    requires some { AreSomeDigests shape count lanes.now start digests.old }
+    ensures { AreDigests shape count lanes.now start digests.new }
 {
+    for k in 0..digests.len() {
+        if digests[k].is_none() {
+            digests[k] = slot_of(lanes, count, start + k).digest(shape);
+        }
+    }
+}
+
+/// Makes the digests of the slots from a number on: of full blocks by MD5 eight at a time, and of the rest one by one.
+pub(crate) fn hash_slots(
+    shape: Shape,
+    count: usize,
+    lanes: &[Lane],
+    start: usize,
+    digests: &mut [Option<Digest16>],
+)
+    requires most { shape.block_size ≤ 4194304 }
+    requires lanes { All (IsUnhashedFront shape.block_size count) lanes.now }
+    requires within { start + length digests.old ≤ length lanes.now * count }
+    requires room { length lanes.now * count < 18446744073709551616 }
+    ensures { AreDigests shape count lanes.now start digests.new }
+{
+    digests.fill(None);
     match shape.kind {
-        Kind::Md5 => hash_full(shape, count, lanes),
+        Kind::Md5 => hash_full(shape, count, lanes, start, digests),
         Kind::Sha256 => {}
     }
-}
-
-// Hashes the blocks that have no digest yet, one by one.
-fn hash_slots(shape: Shape, slots: &mut [Slot])
-    requires most { shape.block_size ≤ 4194304 }
-    requires none_other { All (HasNoOtherDigest shape) slots.old }
-    ensures { slots.new ≡ map (hashed shape) slots.old }
-{
-    for i in 0..slots.len() {
-        slots[i].hash(shape);
-    }
-}
-
-// The same of the first slots of a lane.
-fn hash_front(shape: Shape, count: usize, slots: &mut [Slot])
-    requires most { shape.block_size ≤ 4194304 }
-    requires slots { MayHaveDigests shape count slots.old }
-    ensures { slots.new ≡ hashed_front shape count slots.old }
-{
-    hash_slots(shape, &mut slots[..count]);
-}
-
-// The same of each lane.
-fn hash_rest(shape: Shape, count: usize, lanes: &mut [Lane])
-    requires most { shape.block_size ≤ 4194304 }
-    requires lanes { All (MayHaveDigests shape count) lanes.old }
-    ensures { lanes.new ≡ map (hashed_front shape count) lanes.old }
-{
-    for k in 0..lanes.len() {
-        let lane = &mut lanes[k];
-        hash_front(shape, count, lane.slots.as_mut_slice());
-    }
-}
-
-/// Hashes the blocks in the first slots of lanes: full ones by MD5 eight at a time, and the rest one by one.
-pub(crate) fn hash_lanes(shape: Shape, count: usize, lanes: &mut [Lane])
-    requires most { shape.block_size ≤ 4194304 }
-    requires unhashed { All (IsUnhashedFront shape.block_size count) lanes.old }
-    ensures { lanes.new ≡ map (hashed_front shape count) lanes.old }
-{
-    hash_together(shape, count, lanes);
-    hash_rest(shape, count, lanes);
+    hash_rest(shape, count, lanes, start, digests);
 }

@@ -3,9 +3,10 @@
 //! Start at `read_window` in `readers.rt`: it is `fetch_window` and then `hash_window` (`hashers.rt`). A `Window`
 //! (`window.rt`) has a lane for each column, a lane has a slot for each stripe, and a slot keeps what was read of one
 //! cell, with its digest (`slot.rt`). So the columns of a window are split as the folders are, by `split_at_mut`, and
-//! one column is read by one thread, stripe after stripe (`reading.rt`). Full blocks are hashed eight at a time, over all
-//! lanes that a thread has (`hashing.rt`). What is asked of a folder depends on where its files stood when the run began
-//! (`Starts`, `starts.rt`).
+//! one column is read by one thread, stripe after stripe (`reading.rt`). To be hashed, the slots of all lanes are
+//! numbered, lane after lane, and threads have even shares of the numbers; full blocks are hashed eight at a time
+//! (`hashing.rt`). The current thread starts all others (`parts.rt`). What is asked of a folder depends on where its
+//! files stood when the run began (`Starts`, `starts.rt`).
 //! Its definitions: what is asked for a cell and what is read of it (`specs/Reading.antt`), by which calls
 //! (`specs/FolderCalls.antt`), what a slot keeps of it (`specs/Slot.antt`), and what a window then holds, column by
 //! column (`specs/Column.antt`, `specs/Columns.antt`) and stripe by stripe (`specs/Readings.antt`), and before it is

@@ -1,7 +1,7 @@
 // What is kept of one cell, and of one column.
 ghost use Rattle.std.specs.Prelude.{◌≡◌, ◌<◌, ◌≤◌, ◌↔◌, length, take, IsTrue, Some};
 ghost use Rattle.disk_model.specs.Bytes.{resized};
-ghost use Rattle.stripe_reader.specs.Hashing.{HasFullBlock, HasNoOtherDigest, hashed};
+ghost use Rattle.stripe_reader.specs.Hashing.{HasFullBlock, hashed};
 ghost use Rattle.stripe_reader.specs.Slot.{slot_given, slot_unhashed, slot_without};
 
 use block_hash::{Digest16, digest};
@@ -107,23 +107,25 @@ impl Slot {
         self.cell.found == Found::Bytes && self.cell.got == block_size
     }
 
-    // Gives the block its digest.
-    pub(crate) fn give_digest(&mut self, digest: Digest16)
-        ensures { self.new ≡ record self.old { digest = Some digest } }
+    // Gives the block its digest, where it has one.
+    pub(crate) fn give_digest(&mut self, digest: Option<Digest16>)
+        ensures { self.new ≡ record self.old { digest = digest } }
     {
-        self.digest = Some(digest);
+        self.digest = digest;
     }
 
-    // Hashes the block at its real length, where the whole block was found and has no digest yet.
-    pub(crate) fn hash(&mut self, shape: Shape)
+    // The digest of the block at its real length, where the whole block was found.
+    pub(crate) fn digest(&self, shape: Shape) -> Option<Digest16>
         requires most { shape.block_size ≤ 4194304 }
-        requires none_other { HasNoOtherDigest shape self.old }
-        ensures { self.new ≡ hashed shape self.old }
+        requires got { self.now.cell.got ≤ shape.block_size }
+        requires block { length self.now.block ≡ shape.block_size }
+        ensures { result ≡ (hashed shape self.now).digest }
     {
-        if self.cell.found == Found::Bytes && self.digest.is_none() {
-            let bytes = &self.block[..self.cell.got as usize];
-            self.digest = Some(digest(shape.kind, &shape.seed, bytes));
+        if self.cell.found != Found::Bytes {
+            return None;
         }
+        let bytes = &self.block[..self.cell.got as usize];
+        Some(digest(shape.kind, &shape.seed, bytes))
     }
 
     // Keeps these bytes of the block, which were not read of its file.

@@ -27,12 +27,14 @@ pub fn stripe_count(disks: u32, block_size: u32) -> u32
     (WINDOW_BYTES / stripe).clamp(1, u64::from(MOST_STRIPES)) as u32
 }
 
-/// What was read of some stripes, in buffers that are taken once: a lane for each column.
+/// What was read of some stripes, in buffers that are taken once: a lane for each column, and room for a digest of each
+/// slot, which are made before they are given to their slots.
 #[derive(Drop)]
 pub struct Window {
     pub(crate) room: u32,
     block_size: u32,
     pub(crate) lanes: Vec<Lane>,
+    pub(crate) digests: Vec<Option<Digest16>>,
     pub(crate) count: u32,
 }
 
@@ -65,10 +67,12 @@ impl Window {
         for _ in 0..disks {
             lanes.push(Lane::make(alloc, stripes, block_size)?)?;
         }
+        let slots = disks as usize * stripes as usize;
         Ok(Window {
             room: stripes,
             block_size,
             lanes,
+            digests: vec![in alloc; None; slots]?,
             count: 0,
         })
     }
@@ -92,6 +96,13 @@ impl Window {
         ensures { result ≡ self.now.room }
     {
         self.room
+    }
+
+    /// How long its blocks are.
+    pub fn block_size(&self) -> u32
+        ensures { result ≡ self.now.block_size }
+    {
+        self.block_size
     }
 
     /// How many stripes were read last.

@@ -32,12 +32,12 @@ loop-k-preserved c =
 
 pub digest_eight-requires-clause-same_length : goal.digest_eight-requires-clause-same_length
 digest_eight-requires-clause-same_length c =
-    let size = block_size_all c.args.shape c.args.count c.args.lanes.now c.args.eight.now c.loop-k.bytes c.requires.lanes c.requires.full (omega (arith, c.loop-k.invariant.long)) (λ j none lt. c.loop-k.invariant.values j none (omega (arith, lt, c.loop-k.invariant.long))) in
+    let size = block_size_all c.args.shape c.args.count c.args.lanes.now c.requires.lanes c.args.eight.now c.loop-k.bytes c.requires.full (omega (arith, c.loop-k.invariant.long)) (λ j none lt. c.loop-k.invariant.values j none (omega (arith, lt, c.loop-k.invariant.long))) in
     λ j none below. size j none below ∙ sym (ap length (get_or-map (λ (b : Bor (List ℕ)). b.now) c.loop-k.bytes 0 none [] (omega (arith, c.loop-k.invariant.long))) ∙ size 0 none (omega (arith, c.loop-k.invariant.long)))
 
 pub digest_eight-requires-clause-short : goal.digest_eight-requires-clause-short
 digest_eight-requires-clause-short c =
-    let size = block_size_all c.args.shape c.args.count c.args.lanes.now c.args.eight.now c.loop-k.bytes c.requires.lanes c.requires.full (omega (arith, c.loop-k.invariant.long)) (λ j none lt. c.loop-k.invariant.values j none (omega (arith, lt, c.loop-k.invariant.long))) in
+    let size = block_size_all c.args.shape c.args.count c.args.lanes.now c.requires.lanes c.args.eight.now c.loop-k.bytes c.requires.full (omega (arith, c.loop-k.invariant.long)) (λ j none lt. c.loop-k.invariant.values j none (omega (arith, lt, c.loop-k.invariant.long))) in
     λ j none below. omega (arith, size j none below, c.requires.most)
 
 pub returns : goal.returns

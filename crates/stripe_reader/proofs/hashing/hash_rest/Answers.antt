@@ -1,13 +1,36 @@
-use Rattle.std.proofs.Common.{◌≡◌, [], length, ap, ◌∙◌, arith}
-use Rattle.std.proofs.lemmas.List.{with_items_is}
-use Rattle.stripe_reader.specs.Fetched.{hashed_front}
-use Rattle.stripe_reader.proofs.FrontLemmas.{maps_more}
+use Rattle.std.proofs.Common.{◌+◌, ◌<◌, ◌∙◌, ap, arith, length}
+use Rattle.stripe_reader.specs.Hashing.{hashed}
+use Rattle.stripe_reader.proofs.LaneLemmas.{made_before, made_set, number_is, some_set, unhashed_at}
 use Rattle.stripe_reader.proofs.hashing.hash_rest.Goals as goal
+use Rattle.stripe_reader.proofs.hashing.hash_rest.Goals.{then-is_none, else-is_none}
+
+pub digest-requires-clause-block : goal.digest-requires-clause-block
+digest-requires-clause-block c =
+    let at = c.args.start + c.loop-k.k in
+    let number = number_is c.args.shape c.args.count c.args.lanes.now c.requires.lanes at (omega arith) in
+    ap (λ it. length it.block) c.slot_of.ensures ∙ (unhashed_at c.args.shape c.args.count c.args.lanes.now c.requires.lanes at number).block
 
 pub loop-k-preserved : goal.loop-k-preserved
 loop-k-preserved c =
-    let slots = c.hash_front.new.slots in
-    let long : length slots ≡ c.lane.inside.slots.len = c.hash_front.auto.slots ∙ c.as_mut_slice.ensures.len in
-    rw (with_items_is c.lane.inside.slots slots long)
-    (maps_more (hashed_front c.args.shape c.args.count) [] c.args.lanes.now c.loop-k.lanes c.loop-k.k c.index-lanes-k.result slots (omega (arith, c.loop-k.invariant.as_many)) c.loop-k.invariant
-    (c.hash_front.ensures ∙ ap (hashed_front c.args.shape c.args.count) (c.as_mut_slice.ensures.value ∙ c.lane.view_is)))
+    let shape = c.args.shape in
+    let count = c.args.count in
+    let lanes = c.args.lanes.now in
+    let start = c.args.start in
+    let digests = c.loop-k.digests in
+    let k = c.loop-k.k in
+    let within : k < length digests = omega (arith, c.loop-k-test.true, c.loop-k.auto.digests) in
+    elim c.if-is_none.branch [
+      | then-is_none w ↦
+          let is = w.digest.ensures ∙ ap (λ it. (hashed shape it).digest) w.slot_of.ensures in
+          rw w.digests-is
+          (record {
+            some = some_set shape count lanes start digests k w.digest.result within is c.loop-k.invariant.some;
+            made = made_set shape count lanes start digests k w.digest.result within is c.loop-k.invariant.made;
+          })
+      | else-is_none w ↦
+          rw w.digests-is
+          (record {
+            some = c.loop-k.invariant.some;
+            made = made_before shape count lanes start digests k within c.loop-k.invariant.some w.if-is_none.ensures c.loop-k.invariant.made;
+          })
+    ]
