@@ -10,6 +10,7 @@ mod ReadingLemmas
 mod LookingLemmas
 mod MarkLemmas
 mod OverLemmas
+mod HashedLemmas
 mod PassingLemmas
 mod SavingLemmas
 mod EndLemmas

@@ -1,6 +1,7 @@
 -- The memory of a scrub.
 use Rattle.std.specs.Prelude.{◌≡◌, ℕ, ◌*◌, ◌<◌, ◌≤◌, length, All}
 use Rattle.file_table.specs.Table.{TableValue}
+use Rattle.stripe_reader.specs.Fetched.{hashed_window}
 use Rattle.stripe_reader.specs.Starts.{recorded_starts}
 use Rattle.stripe_reader.specs.WindowValue.{Fits}
 use Rattle.snap_scrub.specs.declared.room.Check.{Check}
@@ -41,9 +42,9 @@ pub record IsRoomFor (table : TableValue) (room : Room) : Type 0 where
   pub far_sums : room.far.room ≤ length room.check.sums.items
   pub piece : length room.piece.items ≡ piece_size
 
--- the far window was used, and the check, and nothing else
+-- the near window was hashed, the far one was used, and the check, and nothing else
 pub record UsesRoom (table : TableValue) (old new : Room) : Type 0 where
-  pub rest : new ≡ record old { far = new.far; check = new.check }
+  pub rest : new ≡ record old { near = hashed_window table.shape old.near; far = new.far; check = new.check }
   pub check : UsesCheck table old.check new.check
 
 -- there is room to begin so many stripes with, and to go on with those that the near window has no room for

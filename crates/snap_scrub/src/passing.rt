@@ -1,6 +1,6 @@
 // The stripes of a scrub, window after window.
 ghost use Rattle.std.specs.Prelude.{◌≡◌, length, map};
-ghost use Rattle.stripe_reader.specs.Columns.{ReadsWindow};
+ghost use Rattle.stripe_reader.specs.Fetched.{FetchesWindow, IsUnhashedWindow};
 ghost use Rattle.stripe_reader.specs.Starts.{recorded_starts};
 ghost use Rattle.snap_scrub.specs.Looking.{LooksOver, scene};
 ghost use Rattle.snap_scrub.specs.Room.{IsEnoughFor, IsWorkFor};
@@ -13,10 +13,10 @@ use file_table::Table;
 use snap_report::{Lines, Report};
 use std::mem::swap;
 use std::thread::Threads;
-use stripe_reader::read_window;
+use stripe_reader::fetch_window;
 
-// Reads the first window into the near room.
-fn read_first<R: Threads + Sync, F: Folder>(
+// Fetches the first window into the near room.
+fn fetch_first<R: Threads + Sync, F: Folder>(
     rt: &R,
     table: &Table,
     work: &mut Work,
@@ -27,26 +27,18 @@ fn read_first<R: Threads + Sync, F: Folder>(
     requires folders { length folders.old ≡ length table.now.columns }
     ensures ready { IsReady table.now work.new 0 }
     ensures rest { work.new ≡ record work.old { room = record work.old.room { near = work.new.room.near } } }
-    ensures read { ReadsWindow table.now (recorded_starts table.now)
+    ensures fetched { FetchesWindow table.now (recorded_starts table.now)
         (stripes_near work.new 0) work.old.room.near work.new.room.near
         (map F.view folders.old) (map F.view folders.new) }
 {
     let room = &mut work.room;
     let count = work.stripes.len().min(room.near.room() as usize);
     let stripes = &work.stripes[..count];
-    read_window(
-        rt,
-        folders,
-        table,
-        &room.starts,
-        stripes,
-        work.readers,
-        &mut room.near,
-    );
+    fetch_window(rt, folders, table, &room.starts, stripes, &mut room.near);
 }
 
-// Looks at the stripes of the near window, which stands after so many, and meanwhile reads the next ones into the far
-// window.
+// Hashes and looks at the stripes of the near window, which stands after so many, and meanwhile fetches the next ones
+// into the far window.
 fn turn_window<R: Threads + Sync, F: Folder, V: Vault, W: Sink>(
     rt: &R,
     table: &Table,
@@ -58,10 +50,11 @@ fn turn_window<R: Threads + Sync, F: Folder, V: Vault, W: Sink>(
     reports: &mut Vec<Box<dyn Report>>,
 ) -> u64
     requires ready { IsReady table.now work.old done }
+    requires unhashed { IsUnhashedWindow work.old.room.near }
     requires folders { length folders.old ≡ length table.now.columns }
     requires levels { (V.view vault.old).levels ≡ table.now.shape.levels }
     ensures work { Turns table.now work.old work.new }
-    ensures read { ReadsWindow table.now (recorded_starts table.now) (stripes_next work.old done)
+    ensures fetched { FetchesWindow table.now (recorded_starts table.now) (stripes_next work.old done)
         work.old.room.far work.new.room.far (map F.view folders.old) (map F.view folders.new) }
     ensures looks { LooksNear W.view standing stands table.now work.old work.new done result
         (scene (V.view vault.old) lines.old reports.old.items) (scene (V.view vault.new) lines.new reports.new.items) }
@@ -87,7 +80,7 @@ fn turn_window<R: Threads + Sync, F: Folder, V: Vault, W: Sink>(
     )
 }
 
-// The window that was read is the next to be looked at.
+// The window that was fetched is the next to be looked at.
 fn swap_windows(work: &mut Work)
     ensures { work.new ≡ record work.old {
       room = record work.old.room {
@@ -100,8 +93,8 @@ fn swap_windows(work: &mut Work)
     swap(&mut room.near, &mut room.far);
 }
 
-/// Looks at all stripes of a scrub: a window of them is read, and then each is looked at, while
-/// the next window is read.
+/// Looks at all stripes of a scrub: a window of them is fetched, and then its blocks are hashed and each stripe is
+/// looked at, while the next window is fetched.
 pub(crate) fn look_over<R: Threads + Sync, F: Folder, V: Vault, W: Sink>(
     rt: &R,
     table: &Table,
@@ -120,7 +113,7 @@ pub(crate) fn look_over<R: Threads + Sync, F: Folder, V: Vault, W: Sink>(
         (map F.view folders.old) (map F.view folders.new)
         (scene (V.view vault.old) lines.old reports.old.items) (scene (V.view vault.new) lines.new reports.new.items) }
 {
-    read_first(rt, table, work, folders);
+    fetch_first(rt, table, work, folders);
     let mut findings = 0u64;
     let mut done = 0;
     while done < work.stripes.len() {

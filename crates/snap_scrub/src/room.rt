@@ -45,9 +45,9 @@ pub(crate) struct Check {
 #[derive(Drop)]
 pub(crate) struct Room {
     pub starts: Starts,
-    /// The window that is looked at.
+    /// The window that is hashed and looked at.
     pub near: Window,
-    /// The window that is read meanwhile.
+    /// The window that is fetched meanwhile.
     pub far: Window,
     pub check: Check,
     /// A piece of the table's spelling.

@@ -1,7 +1,7 @@
-// One window is looked at while the next one is read.
+// One window is hashed and looked at while the next one is fetched.
 ghost use Rattle.std.specs.Prelude.{◌≡◌, length, map, take};
 ghost use Rattle.std.specs.Thread.{IsSend, IsSync};
-ghost use Rattle.stripe_reader.specs.Columns.{ReadsWindow};
+ghost use Rattle.stripe_reader.specs.Fetched.{FetchesWindow};
 ghost use Rattle.stripe_reader.specs.Held.{CanRead};
 ghost use Rattle.snap_scrub.specs.Looking.{LooksInto, scene};
 ghost use Rattle.snap_scrub.specs.Room.{UsesRoom};
@@ -9,15 +9,15 @@ ghost use Rattle.snap_scrub.specs.Windows.{CanLook, UsesAndLooks};
 
 use crate::room::Room;
 use crate::verdict::Verdict;
-use crate::windows::{Batch, look_window};
+use crate::windows::look_window;
 use disk_model::{Folder, Sink, Vault};
 use file_table::Table;
 use snap_report::{Lines, Report};
 use std::thread::{Threads, join_mut};
-use stripe_reader::read_window;
+use stripe_reader::fetch_window;
 
-/// One round of a scrub: the stripes that are looked at, those that are read ahead meanwhile, and how many threads each side has
-/// at most.
+/// One round of a scrub: the stripes that are looked at, those that are fetched ahead meanwhile, and how many threads
+/// hash and sum at most.
 #[derive(Clone, Copy)]
 pub(crate) struct Round<'a> {
     pub table: &'a Table,
@@ -26,7 +26,7 @@ pub(crate) struct Round<'a> {
     pub threads: u32,
 }
 
-/// Looks at the stripes of the near window, and meanwhile reads the stripes ahead into the far one.
+/// Hashes and looks at the stripes of the near window, and meanwhile fetches the stripes ahead into the far one.
 pub(crate) fn turn<R: Threads + Sync, F: Folder, V: Vault, W: Sink>(
     rt: &R,
     round: &Round<'_>,
@@ -41,33 +41,25 @@ pub(crate) fn turn<R: Threads + Sync, F: Folder, V: Vault, W: Sink>(
     requires far { CanRead round.now.table.now room.old.starts round.now.ahead.now room.old.far (length folders.old) }
     requires levels { (V.view vault.old).levels ≡ round.now.table.now.shape.levels }
     ensures room { UsesRoom round.now.table.now room.old room.new }
-    ensures read { ReadsWindow round.now.table.now room.old.starts round.now.ahead.now room.old.far room.new.far
+    ensures fetched { FetchesWindow round.now.table.now room.old.starts round.now.ahead.now room.old.far room.new.far
         (map F.view folders.old) (map F.view folders.new) }
-    ensures looks { LooksInto W.view standing stands round.now.table.now round.now.stripes.now room.old.near
+    ensures looks { LooksInto W.view standing stands round.now.table.now round.now.stripes.now room.new.near
         (length round.now.stripes.now) (take (length round.now.stripes.now) verdicts.new) result
         (scene (V.view vault.old) lines.old reports.old.items) (scene (V.view vault.new) lines.new reports.new.items) }
 {
-    let (table, ahead, threads) = (round.table, round.ahead, round.threads);
-    let (starts, stripes, window) = (&room.starts, round.stripes, &room.near);
-    let (far, check) = (&mut room.far, &mut room.check);
-    let mut reading = ||
+    let (table, starts, ahead) = (round.table, &room.starts, round.ahead);
+    let (near, far, check) = (&mut room.near, &mut room.far, &mut room.check);
+    let mut fetching = ||
         requires { IsSync R.row × IsSend F.row × CanRead table.now starts.now ahead.now far.now (length folders.now) }
-    { read_window(rt, folders, table, starts, ahead, threads, far) };
+    { fetch_window(rt, folders, table, starts, ahead, far) };
     let mut looking = || -> u64
-        requires { IsSync R.row × CanLook table.now stripes.now window.now check.now verdicts.now ×
-            ((V.view vault.now).levels ≡ table.now.shape.levels) }
-        ensures { UsesAndLooks W.view standing stands table.entry.now stripes.entry.now window.entry.now
-            check.entry.now check.exit.now verdicts.exit.now result
+        requires { IsSync R.row × CanLook round.now.table.now round.now.stripes.now near.now check.now verdicts.now ×
+            ((V.view vault.now).levels ≡ round.now.table.now.shape.levels) }
+        ensures { UsesAndLooks W.view standing stands round.entry.now.table.now round.entry.now.stripes.now
+            near.entry.now near.exit.now check.entry.now check.exit.now verdicts.exit.now result
             (scene (V.view vault.entry.now) lines.entry.now reports.entry.now.items)
             (scene (V.view vault.exit.now) lines.exit.now reports.exit.now.items) }
-    {
-        let batch = Batch {
-            table,
-            stripes,
-            window,
-        };
-        look_window(rt, &batch, threads, check, vault, lines, reports, verdicts)
-    };
-    let ((), findings) = join_mut(rt, &mut reading, &mut looking);
+    { look_window(rt, round, near, check, vault, lines, reports, verdicts) };
+    let ((), findings) = join_mut(rt, &mut fetching, &mut looking);
     findings
 }

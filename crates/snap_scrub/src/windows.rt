@@ -1,5 +1,6 @@
 // The stripes of a window, which was read for them.
 ghost use Rattle.std.specs.Prelude.{◌≡◌, ℕ, ◌<◌, length, take};
+ghost use Rattle.stripe_reader.specs.Fetched.{IsUnhashedWindow, hashed_window};
 ghost use Rattle.stripe_reader.specs.Held.{HoldsStripes};
 ghost use Rattle.snap_scrub.specs.Looking.{LooksInto, scene};
 ghost use Rattle.snap_scrub.specs.Room.{IsCheckFor, KeepsCheck, UsesCheck};
@@ -10,12 +11,13 @@ use crate::found::verdict;
 use crate::looking::look_at;
 use crate::room::Check;
 use crate::summing::sum_stripes;
+use crate::turning::Round;
 use crate::verdict::Verdict;
 use disk_model::{Sink, Vault};
 use file_table::Table;
 use snap_report::{Lines, Report};
 use std::thread::Threads;
-use stripe_reader::Window;
+use stripe_reader::{Window, hash_window};
 
 /// Stripes of a table that were read into a window: their numbers, and the window that holds them.
 #[derive(Clone, Copy)]
@@ -54,26 +56,44 @@ fn look_into<V: Vault, W: Sink>(
     findings
 }
 
-/// Makes the sums of the stripes of a window, by so many threads at most, looks at these stripes, keeps the verdict on each, and
-/// counts the findings.
+// Hashes the blocks of a window that was fetched.
+fn hash_near<R: Threads + Sync>(rt: &R, round: &Round<'_>, window: &mut Window)
+    requires holds { HoldsStripes round.now.table.now round.now.stripes.now window.old }
+    requires unhashed { IsUnhashedWindow window.old }
+    ensures hashed { window.new ≡ hashed_window round.now.table.now.shape window.old }
+    ensures holds { HoldsStripes round.now.table.now round.now.stripes.now window.new }
+{
+    hash_window(rt, round.table.shape(), round.threads, window);
+}
+
+/// Hashes the blocks of a window that was fetched, makes the sums of its stripes, looks at these stripes, keeps the
+/// verdict on each, and counts the findings.
 pub(crate) fn look_window<R: Threads + Sync, V: Vault, W: Sink>(
     rt: &R,
-    batch: &Batch<'_>,
-    threads: u32,
+    round: &Round<'_>,
+    window: &mut Window,
     check: &mut Check,
     vault: &mut V,
     lines: &mut Lines<'_, W>,
     reports: &mut Vec<Box<dyn Report>>,
     verdicts: &mut [Verdict],
 ) -> u64
-    requires look { CanLook batch.now.table.now batch.now.stripes.now batch.now.window.now check.old verdicts.old }
-    requires levels { (V.view vault.old).levels ≡ batch.now.table.now.shape.levels }
-    ensures check { UsesCheck batch.now.table.now check.old check.new }
-    ensures looks { LooksInto W.view standing stands batch.now.table.now batch.now.stripes.now batch.now.window.now
-        (length batch.now.stripes.now) (take (length batch.now.stripes.now) verdicts.new) result
+    requires look { CanLook round.now.table.now round.now.stripes.now window.old check.old verdicts.old }
+    requires levels { (V.view vault.old).levels ≡ round.now.table.now.shape.levels }
+    ensures window { window.new ≡ hashed_window round.now.table.now.shape window.old }
+    ensures check { UsesCheck round.now.table.now check.old check.new }
+    ensures looks { LooksInto W.view standing stands round.now.table.now round.now.stripes.now window.new
+        (length round.now.stripes.now) (take (length round.now.stripes.now) verdicts.new) result
         (scene (V.view vault.old) lines.old reports.old.items) (scene (V.view vault.new) lines.new reports.new.items) }
 {
-    let levels = batch.table.shape().levels;
-    sum_stripes(rt, batch.window, levels, threads, check.sums.as_mut_slice());
-    look_into(batch, check, verdicts, vault, lines, reports)
+    hash_near(rt, round, window);
+    let levels = round.table.shape().levels;
+    let sums = check.sums.as_mut_slice();
+    sum_stripes(rt, window, levels, round.threads, sums);
+    let batch = Batch {
+        table: round.table,
+        stripes: round.stripes,
+        window,
+    };
+    look_into(&batch, check, verdicts, vault, lines, reports)
 }

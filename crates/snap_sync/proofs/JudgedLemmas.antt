@@ -31,7 +31,7 @@ use Rattle.snap_sync.specs.Course.{Outside, IsSyncWindow, Breaks, outside, windo
 use Rattle.stripe_findings.specs.Findings.{events_of}
 use Rattle.stripe_findings.specs.Reading.{StripeReading, AreRead, stripes_of, reading_at, readings_in, is_verified}
 use Rattle.snap_sync.specs.Reading.{ReadsFirst}
-use Rattle.snap_sync.specs.Run.{all_of, count_after, stripes_near, stripes_next, readings_near, choice_near, AreCounts, IsReady, Judges, ReadsFar, KeepsWork, HasSynced}
+use Rattle.snap_sync.specs.Run.{all_of, count_after, stripes_near, stripes_next, readings_near, AreCounts, IsReady, KeepsWork, HasSynced}
 use Rattle.snap_sync.specs.Schedule.{window_count, windows_end}
 use Rattle.snap_sync.specs.Work.{IsUnderway, more_findings}
 use Rattle.snap_sync.proofs.ClosedLemmas.{AreApart, apart-from_distinct, is_verified-closed, events_of-closed, verified_in-closed, closed-append}
@@ -44,7 +44,7 @@ use Rattle.snap_sync.proofs.PendingLemmas.{none_within}
 use Rattle.stripe_findings.proofs.ReadLemmas.{are_read_by, window_are_read, stripes_of_window, length_of_window, length_after}
 use Rattle.snap_sync.proofs.StandLemmas.{IsStopped, IsWritten}
 use Rattle.snap_sync.proofs.UnderwayLemmas.{ComesNext, underway_written, underway_stopped_writing, writing_broke}
-use Rattle.snap_sync.proofs.WorkLemmas.{judged_ready, few_of, room_few, some_stripes, stripes_same, window_few, window_same, window_within, window_some, swapped_of, turned_is, near_is, turn_ready}
+use Rattle.snap_sync.proofs.WorkLemmas.{Judges, ReadsFar, choice_near, judged_ready, few_of, room_few, some_stripes, stripes_same, window_few, window_same, window_within, window_some, swapped_of, turned_is, near_is, turn_ready}
 use Rattle.snap_sync.proofs.NextLemmas.{distinct_of, reads_more}
 use Rattle.snap_sync.proofs.RunLemmas.{IsSetting, broke_in, told_by, breaks_with}
 
@@ -59,6 +59,19 @@ map_verified now start xs (y ∷ ys) apart =
 
 findings_then : (a b c d : ℕ) → c ≡ more_findings 0 a → d ≡ more_findings 0 b → more_findings c d ≡ more_findings 0 (a + b)
 findings_then a b c d c_is d_is = omega (arith, c_is, d_is)
+
+-- ---- what a turn asks of the vault and the folders
+
+module _ {W R : Type 0} {view : W → SinkView} {standing : R → ReportView} {stands : R → List Event → Type 0} {plan : SyncPlan} {progress : Progress} {work : Work} {old mid : Outside W R}
+    (so_far : HasSynced view standing stands plan progress work old mid) (setting : IsSetting plan old) where
+  pub levels_now : mid.vault.levels ≡ work.table.shape.levels
+  levels_now =
+      so_far.vault.calls.goes_on.levels ∙ setting.for.levels
+      ∙ sym (ap (λ (table : TableValue). table.shape.levels) so_far.table ∙ ap (λ it. it.levels) ((differs-closed plan.now plan.start so_far.readings).shape))
+
+  pub folders_now : length mid.folders ≡ length work.table.columns
+  folders_now =
+      so_far.reads.read.folders ∙ setting.lent ∙ sym (ap (λ (table : TableValue). length table.columns) so_far.table ∙ (differs-closed plan.now plan.start so_far.readings).columns)
 
 -- ---- after a window was judged
 
@@ -215,16 +228,6 @@ module _ {W R : Type 0} {view : W → SinkView} {standing : R → ReportView} {s
             ∙ ap (λ (n : ℕ). take n (pending_stripes plan.start.infos)) length_judged;
         none_within = λ j some small. none_within plan judged.room.near.room (length xs) j some (omega (arith, small, many, count_is));
       }
-
-  -- what the window's writing and reading ask
-  pub levels_judged : IsSetting plan old → mid.vault.levels ≡ judged.table.shape.levels
-  levels_judged setting =
-      window.so_far.vault.calls.goes_on.levels ∙ setting.for.levels
-      ∙ sym (ap (λ (table : TableValue). table.shape.levels) judged_table ∙ ap (λ it. it.levels) ((differs-closed plan.now plan.start judged_so_far).shape))
-
-  pub folders_judged : IsSetting plan old → length mid.folders ≡ length judged.table.columns
-  folders_judged setting =
-      window.so_far.reads.read.folders ∙ setting.lent ∙ sym (ap (λ (table : TableValue). length table.columns) judged_table ∙ (differs-closed plan.now plan.start judged_so_far).columns)
 
   -- the same after it was turned
   pub turned_table : {turned : Work} → ReadsFar judged turned → turned.table ≡ closed plan.now plan.start judged_so_far

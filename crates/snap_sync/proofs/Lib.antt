@@ -20,6 +20,7 @@ pub mod UnderwayLemmas
 pub mod BeginLemmas
 pub mod SliceLemmas
 pub mod WorkLemmas
+mod FetchedLemmas
 pub mod NextLemmas
 pub mod RunLemmas
 pub mod JudgedLemmas

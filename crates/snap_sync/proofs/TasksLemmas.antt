@@ -113,3 +113,21 @@ module _ (now : ℕ) (start : TableValue) (xs : List StripeReading) where
     folders = reads.folders;
     each = λ d within. reads_column-closed starts d stripes _ (folder_at olds d) (folder_at news d) (reads.each d within);
   }
+
+  -- and what was read by the laid out one, was read by the table in hand
+  reads_column-by_closed : (starts : StartsValue) (d : ℕ) (stripes : List ℕ) (slots : List SlotValue) (old new : FolderView)
+      → ReadsColumn start.shape (tasks_at start starts d stripes) slots old new → ReadsColumn (closed now start xs).shape (tasks_at (closed now start xs) starts d stripes) slots old new
+  reads_column-by_closed starts d stripes slots old new reads =
+      subst (λ (shape : Shape). ReadsColumn shape (tasks_at after starts d stripes) slots old new) (sym (differs-closed now start xs).shape)
+      (subst (λ (tasks : List Task). ReadsColumn start.shape tasks slots old new) (sym (tasks_at-closed starts d stripes)) reads)
+
+  pub reads_window-by_closed : (starts : StartsValue) (stripes : List ℕ) (before filled : WindowValue) (olds news : List FolderView)
+      → ReadsWindow start starts stripes before filled olds news → ReadsWindow (closed now start xs) starts stripes before filled olds news
+  reads_window-by_closed starts stripes before filled olds news reads = record {
+    room = reads.room;
+    block_size = reads.block_size;
+    lanes = reads.lanes;
+    count = reads.count;
+    folders = reads.folders;
+    each = λ d within. reads_column-by_closed starts d stripes _ (folder_at olds d) (folder_at news d) (reads.each d within);
+  }

@@ -1,5 +1,5 @@
 -- What a sync works with, from window to window.
-use Rattle.std.proofs.Common.{◌≡◌, Vec, Global, Bool, not, ℕ, ◌+◌, ◌*◌, ◌<◌, ◌≤◌, List, length, take, drop, max, min, All, Option, None, Some, IfSome, refl, sym, ap, ap₂, ◌∙◌, subst, arith}
+use Rattle.std.proofs.Common.{◌≡◌, Vec, Global, Bool, not, ℕ, ◌+◌, ◌*◌, ◌<◌, ◌≤◌, List, length, map, take, drop, max, min, All, Option, None, Some, IfSome, refl, sym, ap, ap₂, ◌∙◌, subst, arith}
 use Rattle.std.specs.List.{range_with_len}
 use Rattle.std.proofs.lemmas.List.Elements.{All-from_get_or, All-filter}
 use Rattle.std.proofs.lemmas.List.Filters.{length-filter_both}
@@ -8,14 +8,15 @@ use Rattle.array_scan.specs.Layout.{pending_stripes, is_pending}
 use Rattle.disk_model.specs.Folder.{FolderView}
 use Rattle.file_table.specs.Table.{TableValue, info_at}
 use Rattle.file_table.specs.Valid.{most_blocks}
+use Rattle.parity_writer.specs.Chosen.{Choice}
 use Rattle.stripe_reader.specs.Columns.{ReadsWindow}
 use Rattle.file_table.specs.declared.shape.Shape.{Shape}
-use Rattle.stripe_reader.specs.WindowValue.{WindowValue, stripe_count}
+use Rattle.stripe_reader.specs.WindowValue.{WindowValue, Fits, stripe_count}
 use Rattle.snap_sync.specs.declared.beginning.Work.{Work}
 use Rattle.snap_sync.specs.declared.room.Room.{Room}
 use Rattle.snap_sync.specs.Closing.{closed}
-use Rattle.stripe_findings.specs.Reading.{StripeReading, readings_in}
-use Rattle.snap_sync.specs.Run.{all_of, count_after, stripes_next, readings_near, IsWork, IsReady, Judges, ReadsFar, KeepsWork}
+use Rattle.stripe_findings.specs.Reading.{StripeReading, readings_in, is_verified}
+use Rattle.snap_sync.specs.Run.{all_of, count_after, stripes_near, stripes_next, readings_near, IsWork, IsReady, KeepsWork}
 use Rattle.snap_sync.specs.Schedule.{window_count}
 use Rattle.snap_sync.specs.Work.{IsRoomFor}
 use Rattle.snap_sync.proofs.StaysLemmas.{differs-closed}
@@ -79,6 +80,17 @@ few_of now start table readings count room is few within =
 
 -- ---- a window was judged
 
+-- which stripes of the near window are chosen
+abbrev pub choice_near : Work → ℕ → Choice
+choice_near work done = record { stripes = stripes_near work done; chosen = take work.room.near.count work.room.chosen.items }
+
+-- the verified stripes of a window that was hashed are chosen, and closed in the table in hand
+pub record Judges (now : ℕ) (old new : Work) (done : ℕ) : Type 0 where
+  pub table : new.table ≡ closed now old.table (readings_near old done)
+  pub chosen : take old.room.near.count new.room.chosen.items ≡ map (is_verified old.table) (readings_near old done)
+  pub as_many : length new.room.chosen.items ≡ length old.room.chosen.items
+  pub rest : new ≡ record old { table = new.table; room = record old.room { chosen = new.room.chosen } }
+
 room_closed : (now : ℕ) (table : TableValue) (pending : ℕ) (readings : List StripeReading) (room : Room) → IsRoomFor table pending room → IsRoomFor (closed now table readings) pending room
 room_closed now table pending readings room is =
     let width = (differs-closed now table readings).columns in
@@ -122,6 +134,12 @@ judged_ready every now work judged done ready judges =
     })
 
 -- ---- the next window was read
+
+-- and it stands in the far room, with its digests
+pub record ReadsFar (old new : Work) : Type 0 where
+  pub sums : length new.room.sums.items ≡ length old.room.sums.items
+  pub fits : Fits old.table new.room.far
+  pub rest : new ≡ record old { room = record old.room { sums = new.room.sums; far = new.room.far } }
 
 pub turned_work : (work turned : Work) → IsWork work → ReadsFar work turned → turned.room.far.room ≡ work.room.far.room → IsWork turned
 turned_work work turned is far as_much =

@@ -1,5 +1,5 @@
 -- A sync that goes from window to window: which stripes stand in the near window, what it is ready for, and what a window changes.
-use Rattle.std.specs.Prelude.{◌≡◌, ℕ, ◌+◌, ◌^◌, ◌<◌, ◌≤◌, ◌&&◌, ◌==◌, ◌++◌, not, List, length, map, take, drop, All, Bool, Option, Result, IfSome, OnOk, OnErr}
+use Rattle.std.specs.Prelude.{◌≡◌, ℕ, ◌+◌, ◌^◌, ◌<◌, ◌≤◌, ◌&&◌, ◌==◌, ◌++◌, not, List, length, take, drop, All, Bool, Option, Result, IfSome, OnOk, OnErr}
 use Rattle.array_scan.specs.Layout.{pending_stripes}
 use Rattle.content_file.specs.Save.{HasSaved, HasNoDraft, piecewise_calls}
 use Rattle.content_file.specs.Spelling.{spelling}
@@ -9,11 +9,11 @@ use Rattle.disk_model.specs.Vault.{VaultView, SomeCalls, ChangesBy, Holds, copie
 use Rattle.disk_model.specs.declared.fault.Failed.{Failed}
 use Rattle.file_table.specs.Table.{TableValue}
 use Rattle.parity_writer.specs.Calls.{sync_calls}
-use Rattle.parity_writer.specs.Chosen.{Choice}
 use Rattle.parity_writer.specs.Keeps.{SameParities}
 use Rattle.snap_report.specs.Report.{ReportView}
 use Rattle.snap_report.specs.Told.{Told}
 use Rattle.snap_report.specs.declared.events.Event.{Event}
+use Rattle.stripe_reader.specs.Fetched.{hashed_window}
 use Rattle.stripe_reader.specs.WindowValue.{Fits}
 use Rattle.snap_sync.specs.declared.beginning.Work.{Work}
 use Rattle.snap_sync.specs.declared.judging.Counts.{Counts}
@@ -23,7 +23,7 @@ use Rattle.snap_sync.specs.Calls.{SyncPlan, piece_size}
 use Rattle.snap_sync.specs.Closing.{closed, verified_in}
 use Rattle.snap_sync.specs.Course.{Outside, window_room}
 use Rattle.stripe_findings.specs.Findings.{events_of}
-use Rattle.stripe_findings.specs.Reading.{StripeReading, readings_in, is_verified}
+use Rattle.stripe_findings.specs.Reading.{StripeReading, readings_in}
 use Rattle.snap_sync.specs.Reading.{ReadsFirst}
 use Rattle.snap_sync.specs.Schedule.{window_count, windows_end, is_checkpoint}
 use Rattle.snap_sync.specs.Work.{IsRoomFor, IsUnderway, VaultBroke, MaySettle, more_findings}
@@ -63,33 +63,29 @@ pub record IsBegun (saves : Option ℕ) (work : Work) : Type 0 where
   pub pending : work.pending.items ≡ pending_stripes work.table.infos
   pub every : IfSome saves (λ every. 0 < every)
 
--- ready for the window after so many stripes: it was read into the near room
+-- ready for the window after so many stripes: it was fetched into the near room
 pub record IsReady (every : Option ℕ) (work : Work) (done : ℕ) : Type 0 where
   pub is_work : IsWork work
   pub within : done ≤ all_of work
   pub near : work.room.near.count ≡ count_after every work done
-
--- which stripes of the near window are chosen
-abbrev pub choice_near : Work → ℕ → Choice
-choice_near work done = record { stripes = stripes_near work done; chosen = take work.room.near.count work.room.chosen.items }
 
 -- so many stripes are verified, and so many findings were told
 pub record AreCounts (table : TableValue) (readings : List StripeReading) (counts : Counts) : Type 0 where
   pub synced : counts.synced ≡ verified_in table readings
   pub findings : counts.findings ≡ more_findings 0 (length (events_of table readings))
 
--- A window was judged: its verified stripes are chosen, and closed in the table in hand.
-pub record Judges (now : ℕ) (old new : Work) (done : ℕ) : Type 0 where
-  pub table : new.table ≡ closed now old.table (readings_near old done)
-  pub chosen : take old.room.near.count new.room.chosen.items ≡ map (is_verified old.table) (readings_near old done)
-  pub as_many : length new.room.chosen.items ≡ length old.room.chosen.items
-  pub rest : new ≡ record old { table = new.table; room = record old.room { chosen = new.room.chosen } }
+-- work whose near window has its digests
+abbrev pub near_hashed : Work → Work
+near_hashed work = record work { room = record work.room { near = hashed_window work.table.shape work.room.near } }
 
--- the next window was read into the far room
-pub record ReadsFar (old new : Work) : Type 0 where
+-- the near window was hashed, stripes of it were chosen, and the next one was fetched into the far room
+pub record Turns (old new : Work) : Type 0 where
+  pub chosen : length new.room.chosen.items ≡ length old.room.chosen.items
   pub sums : length new.room.sums.items ≡ length old.room.sums.items
   pub fits : Fits old.table new.room.far
-  pub rest : new ≡ record old { room = record old.room { sums = new.room.sums; far = new.room.far } }
+  pub rest : new ≡ record (near_hashed old) {
+    room = record (near_hashed old).room { chosen = new.room.chosen; sums = new.room.sums; far = new.room.far };
+  }
 
 -- a piece was written to drafts, and all else stays
 pub record KeepsWork (old new : Work) : Type 0 where

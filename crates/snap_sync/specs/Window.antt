@@ -1,13 +1,24 @@
--- What the parts of a sync ask of a window, and what its writing leaves.
-use Rattle.std.specs.Prelude.{◌≡◌, ℕ, ◌*◌, length, Result, OnOk}
+-- What the parts of a sync ask of a window, and what its judging and writing leave.
+use Rattle.std.specs.Prelude.{◌≡◌, ℕ, ◌*◌, ◌≤◌, List, length, map, Bool, Result, IfOk, OnOk}
 use Rattle.disk_model.specs.Ran.{Ran}
+use Rattle.disk_model.specs.Sink.{SinkView}
 use Rattle.disk_model.specs.Vault.{VaultView, SomeCalls, ChangesBy, Reads, state_of}
 use Rattle.disk_model.specs.declared.fault.Failed.{Failed}
 use Rattle.file_table.specs.Table.{TableValue}
 use Rattle.parity_writer.specs.Chosen.{Choice, IsChosen, rows_with, window_calls}
 use Rattle.parity_writer.specs.Parity.{Rows, HoldsRows, WritesBlocks}
+use Rattle.snap_report.specs.Report.{ReportView}
+use Rattle.snap_report.specs.Told.{Told}
+use Rattle.snap_report.specs.declared.events.Event.{Event}
+use Rattle.snap_report.specs.declared.pages.Lines.{Lines}
+use Rattle.stripe_findings.specs.Findings.{events_of}
+use Rattle.stripe_findings.specs.Reading.{is_verified, readings_in}
+use Rattle.stripe_reader.specs.Fetched.{IsUnhashedWindow, hashed_window}
+use Rattle.stripe_reader.specs.Held.{HoldsStripes}
 use Rattle.stripe_reader.specs.WindowValue.{WindowValue, Fits}
+use Rattle.snap_sync.specs.declared.judging.Counts.{Counts}
 use Rattle.snap_sync.specs.declared.turning.Judged.{Judged}
+use Rattle.snap_sync.specs.Run.{AreCounts}
 
 -- which stripes of a judged window are chosen
 abbrev pub choice_of : Judged → Choice
@@ -29,3 +40,31 @@ pub record WritesWindow {T : Type 0} (window : WindowValue) (choice : Choice) (r
   pub changes : ChangesBy (WritesBlocks window.block_size (IsChosen choice)) old new
   pub written : OnOk result ((rows : Rows) → Reads (HoldsRows old.levels window.block_size rows) old
       → Reads (HoldsRows old.levels window.block_size (rows_with window choice window.count rows)) new)
+
+-- what a window is judged and written with: the vault, the lines, and those who are told
+pub record Scene (W R : Type 0) : Type 1 where
+  pub vault : VaultView
+  pub lines : Lines W
+  pub reports : List R
+
+abbrev pub scene : {W R : Type 0} → VaultView → Lines W → List R → Scene W R
+scene vault lines reports = record { vault = vault; lines = lines; reports = reports }
+
+-- stripes of a window of a table that was fetched can be judged and written to a vault, with room for so many choices, and with so many
+-- bytes for their sums
+pub record CanSync (table : TableValue) (stripes : List ℕ) (window : WindowValue) (choices sums : ℕ) (vault : VaultView) : Type 0 where
+  pub holds : HoldsStripes table stripes window
+  pub unhashed : IsUnhashedWindow window
+  pub chosen : window.count ≤ choices
+  pub room : sums ≡ 6 * table.shape.block_size
+  pub levels : vault.levels ≡ table.shape.levels
+
+-- A window was hashed: just what is found in its stripes was told, and those that are verified are chosen and were written.
+pub record SyncsWindow {W R : Type 0} (view : W → SinkView) (standing : R → ReportView) (stands : R → List Event → Type 0)
+    (table : TableValue) (stripes : List ℕ) (before after : WindowValue) (chosen : List Bool) (result : Result Counts Failed)
+    (old new : Scene W R) : Type 0 where
+  pub hashed : after ≡ hashed_window table.shape before
+  pub chosen_are : chosen ≡ map (is_verified table) (readings_in stripes after)
+  pub told : Told view standing stands table.columns (events_of table (readings_in stripes after)) old.lines new.lines old.reports new.reports
+  pub counts : IfOk result (AreCounts table (readings_in stripes after))
+  pub writes : WritesWindow after (record { stripes = stripes; chosen = chosen }) result old.vault new.vault

@@ -1,7 +1,6 @@
-// A window that was read: what is found in it, and which of its stripes are verified and closed.
+// A window that was hashed: what is found in it, and which of its stripes are verified.
 ghost use Rattle.std.specs.Prelude.{◌≡◌, ◌<◌, ◌+◌, ◌^◌, ◌==◌, if◌then◌else◌, length, map};
 ghost use Rattle.snap_report.specs.Told.{Told};
-ghost use Rattle.snap_sync.specs.Closing.{closed};
 ghost use Rattle.stripe_findings.specs.Findings.{events_of};
 ghost use Rattle.stripe_findings.specs.Reading.{readings_in, is_verified};
 ghost use Rattle.snap_sync.specs.Run.{AreCounts};
@@ -11,7 +10,7 @@ ghost use Rattle.snap_sync.specs.Work.{more_findings};
 mod closing;
 mod telling;
 
-use closing::close_chosen;
+pub(crate) use closing::close_chosen;
 use disk_model::Sink;
 use file_table::Table;
 use snap_report::{Lines, Report};
@@ -45,8 +44,8 @@ impl Counts {
     }
 }
 
-// Tells what is found in the stripes of a window, and chooses those in which nothing is.
-fn look_over<W: Sink>(
+/// Tells what is found in the stripes of a window, and chooses those in which nothing is: they are verified.
+pub(crate) fn look_over<W: Sink>(
     table: &Table,
     stripes: &[u32],
     window: &Window,
@@ -71,30 +70,5 @@ fn look_over<W: Sink>(
         chosen[i as usize] = found == 0;
         counts = counts.with(found);
     }
-    counts
-}
-
-/// Tells what is found in the stripes of a window, chooses those that are verified, and closes these in the table in
-/// hand, with their hashes.
-pub(crate) fn judge<W: Sink>(
-    table: &mut Table,
-    stripes: &[u32],
-    window: &Window,
-    chosen: &mut [bool],
-    now: u64,
-    lines: &mut Lines<'_, W>,
-    reports: &mut Vec<Box<dyn Report>>,
-) -> Counts
-    requires holds { HoldsStripes table.old stripes.now window.now }
-    requires chosen { length chosen.old ≡ length stripes.now }
-    ensures chosen { chosen.new ≡ map (is_verified table.old) (readings_in stripes.now window.now) }
-    ensures table { table.new ≡ closed now table.old (readings_in stripes.now window.now) }
-    ensures told { Told W.view standing stands table.old.columns
-        (events_of table.old (readings_in stripes.now window.now))
-        lines.old lines.new reports.old.items reports.new.items }
-    ensures counts { AreCounts table.old (readings_in stripes.now window.now) result }
-{
-    let counts = look_over(table, stripes, window, chosen, lines, reports);
-    close_chosen(table, stripes, window, chosen, now);
     counts
 }

@@ -14,9 +14,9 @@ const PIECE: usize = 65_536;
 #[derive(Drop)]
 pub(crate) struct Room {
     pub starts: Starts,
-    /// The window that is judged and written.
+    /// The window that is hashed, judged and written.
     pub near: Window,
-    /// The window that is read meanwhile.
+    /// The window that is fetched meanwhile.
     pub far: Window,
     /// Of each stripe of the near window, whether it is verified.
     pub chosen: Vec<bool>,

@@ -1,16 +1,18 @@
-// One window is written while the next one is read.
-ghost use Rattle.std.specs.Prelude.{◌≡◌, length, map};
+// One window is hashed, judged and written while the next one is fetched.
+ghost use Rattle.std.specs.Prelude.{◌≡◌, length, map, take};
 ghost use Rattle.std.specs.Thread.{IsSend, IsSync};
-ghost use Rattle.stripe_reader.specs.Columns.{ReadsWindow};
-ghost use Rattle.stripe_reader.specs.Held.{CanRead};
+ghost use Rattle.stripe_reader.specs.Fetched.{FetchesWindow, IsUnhashedWindow, hashed_window};
+ghost use Rattle.stripe_reader.specs.Held.{CanRead, HoldsStripes};
 ghost use Rattle.stripe_reader.specs.WindowValue.{Fits};
-ghost use Rattle.snap_sync.specs.Window.{CanWrite, WritesWindow, choice_of};
+ghost use Rattle.snap_sync.specs.Window.{CanSync, CanWrite, SyncsWindow, WritesWindow, choice_of, scene};
 
-use disk_model::{Failed, Folder, Vault};
+use crate::judging::{Counts, look_over};
+use disk_model::{Failed, Folder, Sink, Vault};
 use file_table::Table;
 use parity_writer::write_window;
+use snap_report::{Lines, Report};
 use std::thread::{Threads, join_mut};
-use stripe_reader::{Starts, Window, read_window};
+use stripe_reader::{Starts, Window, fetch_window, hash_window};
 
 /// A window that was judged: its stripes, and which of them are chosen.
 #[derive(Clone, Copy)]
@@ -20,13 +22,15 @@ pub(crate) struct Judged<'w, 's, 'c> {
     pub chosen: &'c [bool],
 }
 
-/// Stripes that are read ahead: of a table, by where its files stood, and by so many readers at most.
+/// Stripes of a table: those that were fetched last, and those that are fetched ahead, by where the table's files stood.
 #[derive(Clone, Copy)]
-pub(crate) struct Ahead<'t, 'p, 's> {
+pub(crate) struct Round<'t, 'p, 's> {
     pub table: &'t Table,
     pub starts: &'p Starts,
     pub stripes: &'s [u32],
-    pub readers: u32,
+    pub ahead: &'s [u32],
+    /// How many threads hash at most.
+    pub threads: u32,
 }
 
 // Writes the chosen stripes of a window of a table to parity.
@@ -44,31 +48,84 @@ fn write_chosen<V: Vault>(
     write_window(vault, near.window, near.stripes, near.chosen, sums)
 }
 
-/// Writes the chosen stripes of a window to parity, and meanwhile reads the stripes ahead into another.
-pub(crate) fn turn<R: Threads + Sync, F: Folder, V: Vault>(
+// Hashes the blocks of a window that was fetched.
+fn hash_near<R: Threads + Sync>(rt: &R, round: &Round<'_, '_, '_>, window: &mut Window)
+    requires holds { HoldsStripes round.now.table.now round.now.stripes.now window.old }
+    requires unhashed { IsUnhashedWindow window.old }
+    ensures hashed { window.new ≡ hashed_window round.now.table.now.shape window.old }
+    ensures holds { HoldsStripes round.now.table.now round.now.stripes.now window.new }
+{
+    hash_window(rt, round.table.shape(), round.threads, window);
+}
+
+// Hashes a window that was fetched, tells what is found in its stripes, and writes those to parity in which nothing is.
+fn sync_window<R: Threads + Sync, V: Vault, W: Sink>(
     rt: &R,
-    near: &Judged<'_, '_, '_>,
-    sums: &mut [u8],
+    round: &Round<'_, '_, '_>,
+    window: &mut Window,
     vault: &mut V,
-    ahead: &Ahead<'_, '_, '_>,
-    folders: &mut [F],
+    lines: &mut Lines<'_, W>,
+    reports: &mut Vec<Box<dyn Report>>,
+    chosen: &mut [bool],
+    sums: &mut [u8],
+) -> Result<Counts, Failed>
+    requires { CanSync round.now.table.now round.now.stripes.now window.old (length chosen.old) (length sums.old)
+        (V.view vault.old) }
+    ensures { SyncsWindow W.view standing stands round.now.table.now round.now.stripes.now window.old window.new
+        (take window.old.count chosen.new) result
+        (scene (V.view vault.old) lines.old reports.old.items) (scene (V.view vault.new) lines.new reports.new.items) }
+{
+    let (table, stripes) = (round.table, round.stripes);
+    let count = window.count() as usize;
+    hash_near(rt, round, window);
+    let counts = look_over(table, stripes, window, &mut chosen[..count], lines, reports);
+    let judged = Judged {
+        window,
+        stripes,
+        chosen: &chosen[..count],
+    };
+    match write_chosen(vault, table, &judged, sums) {
+        Ok(()) => Ok(counts),
+        Err(fault) => Err(fault),
+    }
+}
+
+/// Hashes, judges and writes the stripes of the near window, and meanwhile fetches the stripes ahead into the far one. All
+/// that reports stays in this thread.
+pub(crate) fn turn<R: Threads + Sync, F: Folder, V: Vault, W: Sink>(
+    rt: &R,
+    round: &Round<'_, '_, '_>,
+    near: &mut Window,
     far: &mut Window,
-) -> Result<(), Failed>
-    requires near { CanWrite ahead.now.table.now near.now (length sums.old) (V.view vault.old) }
-    requires far { CanRead ahead.now.table.now ahead.now.starts.now ahead.now.stripes.now far.old (length folders.old) }
-    ensures writes { WritesWindow near.now.window.now (choice_of near.now) result (V.view vault.old) (V.view vault.new) }
-    ensures fits { Fits ahead.now.table.now far.new }
-    ensures read { ReadsWindow ahead.now.table.now ahead.now.starts.now ahead.now.stripes.now far.old far.new
+    folders: &mut [F],
+    vault: &mut V,
+    lines: &mut Lines<'_, W>,
+    reports: &mut Vec<Box<dyn Report>>,
+    chosen: &mut [bool],
+    sums: &mut [u8],
+) -> Result<Counts, Failed>
+    requires near { CanSync round.now.table.now round.now.stripes.now near.old (length chosen.old) (length sums.old)
+        (V.view vault.old) }
+    requires far { CanRead round.now.table.now round.now.starts.now round.now.ahead.now far.old (length folders.old) }
+    ensures near { SyncsWindow W.view standing stands round.now.table.now round.now.stripes.now near.old near.new
+        (take near.old.count chosen.new) result
+        (scene (V.view vault.old) lines.old reports.old.items) (scene (V.view vault.new) lines.new reports.new.items) }
+    ensures fits { Fits round.now.table.now far.new }
+    ensures fetched { FetchesWindow round.now.table.now round.now.starts.now round.now.ahead.now far.old far.new
         (map F.view folders.old) (map F.view folders.new) }
 {
-    let (table, starts, stripes) = (ahead.table, ahead.starts, ahead.stripes);
-    let mut writing = || -> Result<(), Failed>
-        requires { CanWrite table.now near.now (length sums.now) (V.view vault.now) }
-    { write_chosen(vault, table, near, sums) };
-    let mut reading = ||
-        requires { IsSync R.row × IsSend F.row ×
-            CanRead table.now starts.now stripes.now far.now (length folders.now) }
-    { read_window(rt, folders, table, starts, stripes, ahead.readers, far) };
-    let (written, ()) = join_mut(rt, &mut writing, &mut reading);
-    written
+    let (table, starts, ahead) = (round.table, round.starts, round.ahead);
+    let mut fetching = ||
+        requires { IsSync R.row × IsSend F.row × CanRead table.now starts.now ahead.now far.now (length folders.now) }
+    { fetch_window(rt, folders, table, starts, ahead, far) };
+    let mut syncing = || -> Result<Counts, Failed>
+        requires { IsSync R.row × CanSync round.now.table.now round.now.stripes.now near.now (length chosen.now)
+            (length sums.now) (V.view vault.now) }
+        ensures { SyncsWindow W.view standing stands round.entry.now.table.now round.entry.now.stripes.now
+            near.entry.now near.exit.now (take near.entry.now.count chosen.exit.now) result
+            (scene (V.view vault.entry.now) lines.entry.now reports.entry.now.items)
+            (scene (V.view vault.exit.now) lines.exit.now reports.exit.now.items) }
+    { sync_window(rt, round, near, vault, lines, reports, chosen, sums) };
+    let ((), synced) = join_mut(rt, &mut fetching, &mut syncing);
+    synced
 }

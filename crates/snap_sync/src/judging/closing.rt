@@ -55,7 +55,7 @@ fn close_stripe(table: &mut Table, stripes: &[u32], window: &Window, i: u32, now
 }
 
 /// Closes the chosen stripes of a window.
-pub(super) fn close_chosen(
+pub(crate) fn close_chosen(
     table: &mut Table,
     stripes: &[u32],
     window: &Window,

@@ -16,5 +16,5 @@ returns-clause-looks g c =
     let same = c.deref_mut.ensures.value in
     let long : length new ≡ n = c.turn.auto.verdicts ∙ length_cut lent done n (omega (arith, ap length same, n_is, ready.within, ready.is_work.verdicts)) in
     let whole = written_length work.verdicts.items new lent done n same long (omega (arith, n_is, ready.within, ready.is_work.verdicts)) in
-    near_looks _ _ _ c.args.table.now work _ done c.turn.result n _ lent new _ _ ready (near_slice work done c.count.result c.deref.result.now c.count.ensures c.deref.ensures.value) n_is same long
+    near_looks _ _ _ c.args.table.now work _ done c.turn.result n _ _ lent new _ _ ready (near_slice work done c.count.result c.deref.result.now c.count.ensures c.deref.ensures.value) (ap (λ room. room.near) c.turn.ensures.room.rest) n_is same long
     (with_items_is work.verdicts (take done lent ++ (new ++ drop n (drop done lent))) (whole ∙ sym work.verdicts.ok.0)) c.turn.ensures.looks
