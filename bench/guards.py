@@ -8,6 +8,7 @@ import os
 import shutil
 import stat
 import subprocess
+import tempfile
 import time
 
 from tracing import Tamper, traced
@@ -147,16 +148,18 @@ def modes(array):
 
 
 def draft_mode(array):
-    """A draft that a full disk cut off is open to nobody else."""
+    """A draft is open to nobody else from its beginning: a run is killed before it puts the draft in the place of the content file."""
     os.umask(0o022)
-    subprocess.run(["mount", "-t", "tmpfs", "-o", "size=4k,mode=700", "tmpfs", array.at("c")], check=True)
-    array.put("d1/new", b"n" * 400_000)
-    status = array.run("sync --force-empty")[0]
-    wrong = None if status == 3 else f"status {status}"
-    if wrong is None and os.path.exists(array.at("c/content.tmp")):
-        wrong = mode(array, "c/content.tmp", 0o600)
-    subprocess.run(["umount", array.at("c")], check=True)
-    return wrong
+    words = [array.program, "sync", "-c", array.at("conf")]
+    with tempfile.TemporaryDirectory() as said:
+        array.put("d1/new", b"new")
+        writing = [call for call in traced(words, Tamper(), said).calls if call.writes]
+        number = number_of(writing, array.at("c/content.tmp"), ("rename", "renameat", "renameat2"))
+        array.put("d1/new", b"other")
+        traced(words, Tamper("kill", number), said)
+    if not os.path.exists(array.at("c/content.tmp")):
+        return "it left no draft"
+    return mode(array, "c/content.tmp", 0o600) or ends(array, "sync", 0)
 
 
 def content_mode(array):
@@ -204,29 +207,27 @@ def hard_link_to_parity(array):
     os.link(array.at("par/p"), array.at("c/other"))
 
 
+def number_of(calls, path, names):
+    """The number of the first of these calls on a path, counted from one, and zero where there is none."""
+    return next((at for at, call in enumerate(calls, 1) if call.name in names and os.path.normpath(call.path) == path), 0)
+
+
 def vanishing(name, is_folder):
     """A file, or a folder, that goes after its folder was read and before it is looked at or entered: the sync goes on without it."""
     def scene(array):
-        aside = array.room + "-said"
-        os.makedirs(aside, exist_ok=True)
         path = array.at(name)
         os.makedirs(os.path.dirname(path), exist_ok=True)
         array.put(name, b"goes")
         gone = os.path.dirname(path) if is_folder else path
-        words = [array.program, "check", "-c", array.at("conf")]
-        calls = traced(words, Tamper(), aside).calls
-        number = 0
-        for at, call in enumerate(calls, 1):
-            looks = ("open", "openat") if is_folder else ("stat", "lstat", "newfstatat", "statx")
-            # An entry is looked at beside the handle of its folder, and so by its last name alone.
-            if call.name in looks and call.path in (gone, os.path.basename(gone)):
-                number = at
-                break
-        if number == 0:
-            return "it is not looked at"
-        words[1] = "sync"
-        done = traced(words, Tamper("fail", number, errno.ENOENT), aside)
-        if done.hit is None or done.hit.path not in (gone, os.path.basename(gone)):
+        looks = ("open", "openat") if is_folder else ("stat", "lstat", "newfstatat", "statx")
+        with tempfile.TemporaryDirectory() as said:
+            words = [array.program, "check", "-c", array.at("conf")]
+            number = number_of(traced(words, Tamper(), said).calls, gone, looks)
+            if number == 0:
+                return "it is not looked at"
+            words[1] = "sync"
+            done = traced(words, Tamper("fail", number, errno.ENOENT), said)
+        if done.hit is None or os.path.normpath(done.hit.path) != gone:
             return "the call was not hit"
         if (done.status, done.err) != (0, ""):
             return f"status {done.status}, {done.err!r}"
