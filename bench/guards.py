@@ -3,12 +3,12 @@ file, modes, files that go while a folder is listed, and a level of several file
 
 Each scene gets an array that was synced, and gives what is wrong, if anything is.
 """
-import errno
 import os
 import shutil
 import stat
 import subprocess
 import tempfile
+import threading
 import time
 
 from tracing import Tamper, traced
@@ -95,6 +95,23 @@ def refused_leaves_log(array):
     wrong = wrong or ends(array, f"fix -l {array.at('outside/log')}", 3, TAKEN)
     waiting.goes_on()
     return wrong or holds(array, "outside/log", b"kept\n")
+
+
+def refused_keeps_log(array):
+    """A log stays as it is where words, configuration or the names in it are refused, and is emptied by a run that has no line for it."""
+    log = array.at("outside/log")
+    array.put("outside/log", b"kept\n")
+    for command, status in ((f"sync --audit-only -l {log}", 2), (f"check -d none -l {log}", 2), (f"exercise 3 -l {log}", 0)):
+        got = array.run(command)[0]
+        wrong = None if got == status else f"{command}: status {got}"
+        wrong = wrong or holds(array, "outside/log", b"kept\n")
+        if wrong is not None:
+            return wrong
+    wrong = ends(array, f"check -l {log}", 0) or holds(array, "outside/log", b"")
+    array.put("outside/log", b"kept\n")
+    written_anew(array, ("blocksize 1", "blocksize none"))
+    got = array.run(f"check -l {log}")[0]
+    return wrong or (None if got == 2 else f"status {got}") or holds(array, "outside/log", b"kept\n")
 
 
 def killed_frees(array):
@@ -220,22 +237,43 @@ def vanishing(name, is_folder):
         array.put(name, b"goes")
         gone = os.path.dirname(path) if is_folder else path
         looks = ("open", "openat") if is_folder else ("stat", "lstat", "newfstatat", "statx")
+
+        def vanish(call):
+            if call.name not in looks or os.path.normpath(call.path) != gone or not os.path.exists(gone):
+                return False
+            if is_folder:
+                shutil.rmtree(gone)
+            else:
+                os.remove(gone)
+            return True
+
         with tempfile.TemporaryDirectory() as said:
-            words = [array.program, "check", "-c", array.at("conf")]
-            number = number_of(traced(words, Tamper(), said).calls, gone, looks)
-            if number == 0:
-                return "it is not looked at"
-            words[1] = "sync"
-            done = traced(words, Tamper("fail", number, errno.ENOENT), said)
-        if done.hit is None or os.path.normpath(done.hit.path) != gone:
-            return "the call was not hit"
-        if (done.status, done.err) != (0, ""):
+            done = traced([array.program, "sync", "-c", array.at("conf")], Tamper(act=vanish), said)
+        if done.hit is None or (done.status, done.err) != (0, ""):
             return f"status {done.status}, {done.err!r}"
-        status, out, _ = array.run("list")
-        if status != 0 or f"d1:{name.removeprefix('d1/')}" in out:
-            return f"{name} is listed"
-        return ends(array, "sync", 0) or ends(array, "check", 0)
+        return ends(array, "check", 0) or changed(array, array.whole, ("c/content",))
     return scene
+
+
+def pipe_swapped_in(array):
+    """A pipe takes the place of a file after that was looked at: the check waits for its other end, and then says what it found."""
+    path = array.at("d1/a")
+
+    def swap(call):
+        if call.name not in ("open", "openat") or os.path.normpath(call.path) != path or os.path.exists(array.at("outside/a")):
+            return False
+        os.rename(path, array.at("outside/a"))
+        os.mkfifo(path)
+        threading.Thread(target=lambda: open(path, "wb").close(), daemon=True).start()
+        return True
+
+    with tempfile.TemporaryDirectory() as said:
+        done = traced([array.program, "check", "-c", array.at("conf")], Tamper(act=swap), said)
+    if done.hit is None or done.status not in (1, 3):
+        return f"status {done.status}, {done.err!r}, {done.out[:200]!r}"
+    os.remove(path)
+    os.rename(array.at("outside/a"), path)
+    return ends(array, "check", 0) or changed(array, array.whole)
 
 
 def split_level_lost(array):
@@ -285,6 +323,7 @@ SCENES = [
     ("a second check beside a check", beside("check", ("check", "check -a", *READERS), False)),
     ("a run that writes beside a check", beside("check", WRITERS, True)),
     ("the log of a run that is refused", refused_leaves_log),
+    ("the log of a run that has no line for it, or is refused before", refused_keeps_log),
     ("a run that is killed, and the next one", killed_frees),
     ("a configuration that comes through a pipe", piped),
     ("modes of what is made", modes),
@@ -293,6 +332,7 @@ SCENES = [
     *SAME_FILES,
     ("a file that goes while its folder is listed", vanishing("d1/goes", False)),
     ("a folder that goes while the one above it is listed", vanishing("d1/going/goes", True)),
+    ("a pipe that takes the place of a file during a check", pipe_swapped_in),
     ("a level of two files that is lost as a whole", split_level_lost),
     ("the first of two files of a level", split_level_in_part),
 ]
