@@ -174,4 +174,5 @@ def main():
                     print_rows(kind, Room(kind, room, library), found)
 
 
-main()
+if __name__ == "__main__":
+    main()

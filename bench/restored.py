@@ -88,4 +88,5 @@ def main():
                 arrays.row(name, tool, wall, spent, memory // 1024)
 
 
-main()
+if __name__ == "__main__":
+    main()
