@@ -2,13 +2,15 @@
 //!
 //! Start at `main`. It locks the configuration (`locking.rt`), and makes the reports, a tally and the log that the words
 //! name. It hands `run` the objects of `disk_host`, by way of `progress`, which shows on the terminal how far the run has
-//! come (`terminal.rt`). Behind the lines of the run it prints why something failed (`causes.rt`), and how a command is
-//! called where the words were refused (`synopsis.rt`).
+//! come (`terminal.rt`). Once the run has ended, what it wrote is handed to the disks (`syncing.rt`). Behind the lines of
+//! the run it prints why something failed (`causes.rt`), and how a command is called where the words were refused
+//! (`synopsis.rt`).
 //! Proved: it is safe and ends. What a command does is the contract of `run`.
 #![tactic(auto)]
 
 mod causes;
 mod locking;
+mod syncing;
 mod synopsis;
 mod terminal;
 #[cfg(test)]
@@ -29,6 +31,7 @@ use std::random::RandomSource;
 use std::rt::{Env, Files};
 use std::time::{Clock, SystemTime, UNIX_EPOCH};
 use std::{env, io};
+use syncing::sync_folders;
 use synopsis::print_synopsis;
 use terminal::open_terminal;
 
@@ -97,8 +100,10 @@ fn main(rt: HostRuntime) -> ExitCode {
         return ends(&mut err, Unready::Memory);
     }
     if let Some(name) = &ready.log {
-        let sink = LogSink::open(&rt, name.as_str(), &mut failures);
-        let Ok(log) = Box::new(alloc, LogReport::new(sink)) else {
+        let Ok(name) = name.copy() else {
+            return ends(&mut err, Unready::Memory);
+        };
+        let Ok(log) = Box::new(alloc, LogReport::new(LogSink::new(rt, name))) else {
             return ends(&mut err, Unready::Memory);
         };
         if reports.push(log).is_err() {
@@ -106,12 +111,12 @@ fn main(rt: HostRuntime) -> ExitCode {
         }
     }
     let meter = Meter::new(alloc, rt, open_terminal(&rt, &rt.stderr()));
-    let mut opener = MeteredOpener::new(rt, DiskOpener::new(alloc, rt), &meter);
+    let mut opener = MeteredOpener::new(rt, DiskOpener::with_log(alloc, rt, ready.log), &meter);
     let mut out = ClearingSink::new(StreamSink::new(rt.stdout()), &meter);
     let mut err = ClearingSink::new(err, &meter);
     let words = ready.words.as_slice();
     let now = seconds_since_1970(&rt);
-    let ended = run(
+    let mut ended = run(
         &rt,
         alloc,
         words,
@@ -123,14 +128,15 @@ fn main(rt: HostRuntime) -> ExitCode {
         ready.seed,
     );
     meter.clear();
+    let status = sync_folders(&mut err, &mut ended.folders, ended.status);
     out.get_ref().note(&mut failures, "standard output");
     print_causes(&mut err, opener.get_ref(), &ended, &failures);
     print_synopsis(alloc, words, &mut err);
-    ExitCode::from(ended.status)
+    ExitCode::from(status)
 }
 
-// Opens the streams that are held, reads words and seed, and locks the configuration that the words name. The log is opened
-// after that, and so emptied, before anything else is read.
+// Opens the streams that are held, reads words and seed, and locks the configuration that the words name. The log is emptied
+// later, by what opens the disks.
 fn get_ready(rt: &HostRuntime) -> Result<Ready, Unready> {
     let Ok(streams) = open_streams(rt) else {
         return Err(Unready::NoStreams);
