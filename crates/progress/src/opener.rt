@@ -11,7 +11,6 @@ use std::fs;
 use std::io::Write;
 use std::os::unix::fs::FileExt;
 use std::rt::Files;
-use std::thread::Threads;
 use std::time::Clock;
 
 /// Opens what a configuration names, by name. A meter is told of each call on it.
@@ -62,7 +61,7 @@ fn metered_all<'a, F: Drop, C, T>(
 
 impl<'a, R, C, T> Opener for MeteredOpener<'a, R, C, T>
 where
-    R: Files + AllocGlobal + Threads + Clone + Drop + Send + Sync,
+    R: Files + AllocGlobal + Clone + Drop + Send,
     R::File: FileExt + Send,
     C: Clock + Sync,
     T: Write + Drop + Send,
