@@ -75,14 +75,16 @@ def row(*cells):
     print(f"| {' | '.join(f'{cell:.2f}' if isinstance(cell, float) else str(cell) for cell in cells)} |", flush=True)
 
 
-def measured(command):
+def measured(command, wanted=None):
     """Wall time, processor time and the most memory in KiB of one run, by a process of its own that waits for it, and what it printed. A
-    command that finds something ends with 1, so any status is taken."""
+    command that finds something ends with 1, so any status is taken where none is wanted."""
     script = ("import resource, subprocess, sys, time; start = time.monotonic(); "
-              "said = subprocess.run(sys.argv[1:], stdout=subprocess.PIPE, stderr=subprocess.STDOUT).stdout; "
-              "wall = time.monotonic() - start; used = resource.getrusage(resource.RUSAGE_CHILDREN); sys.stdout.buffer.write(said); "
-              "print(); print(wall, used.ru_utime + used.ru_stime, used.ru_maxrss)")
+              "done = subprocess.run(sys.argv[1:], stdout=subprocess.PIPE, stderr=subprocess.STDOUT); "
+              "wall = time.monotonic() - start; used = resource.getrusage(resource.RUSAGE_CHILDREN); sys.stdout.buffer.write(done.stdout); "
+              "print(); print(wall, used.ru_utime + used.ru_stime, used.ru_maxrss, done.returncode)")
     said = subprocess.run([sys.executable, "-c", script, *command], stdout=subprocess.PIPE, check=True).stdout.decode(errors="replace")
     text, _, figures = said.rstrip().rpartition("\n")
-    wall, spent, memory = figures.split()
+    wall, spent, memory, status = figures.split()
+    if wanted is not None and int(status) != wanted:
+        sys.exit(f"{text}\n{' '.join(command)}: status {status}")
     return float(wall), float(spent), int(memory), text

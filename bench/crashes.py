@@ -7,6 +7,7 @@ The built program of this repository where none is given; ten minutes, all proce
 
 Each array is small and random: one to four disks, one to three levels, one to three content copies. Over it come a first sync, a sync
 of changes, a scrub, a list and a status, and then a scrub, a check and a fix of damage that can be mended. Each is run once as it is.
+Behind the end of each all that it wrote has to be synced, and a power cut there may take nothing.
 Then, from the same start each time, it is killed before its first call that writes, before its second one, and so on; and its first call
 on a file fails, with EIO and then with ENOSPC, its second one, and so on. Each kill is made twice. The second time it is a power cut:
 what was written and not fsynced is there, is undone, or is other bytes. What is left is compared with what is wanted, and so is what the
@@ -33,8 +34,9 @@ import time
 
 TOP = os.path.dirname(os.path.dirname(os.path.abspath(__file__)))
 sys.path.insert(0, os.path.join(TOP, "bench"))
-from crash_array import BLOCK, LOST, Array, put, read, read_content  # noqa: E402
+from crash_array import BLOCK, LOST, Array, read_content  # noqa: E402
 from crash_scrub import wrong_scrub  # noqa: E402
+from power_cuts import loose_at_end, power_cut  # noqa: E402
 from tracing import Tamper, traced  # noqa: E402
 
 ERRORS = {errno.EIO: "EIO", errno.ENOSPC: "ENOSPC"}
@@ -43,6 +45,7 @@ CAUSE = re.compile(r"snapraid: (?:[a-z ]+ '[^\n]*': [^\n]*|parity file '[^\n]*' 
 # A level that a check, a scrub or a fix read and that is gone. It stands behind the lines of a run that nothing is in the way of, too.
 MISSING = re.compile(r"snapraid: parity file '[^\n]*' was not there: [^\n]*\n")
 OPENING = "configuration or opening failed"
+UNSAFE = "what was written may not have reached its disk"
 VAULT = "parity or content failed"
 ALWAYS = ("output failed", "/dev/null cannot be opened", "the system gave no random bytes")
 
@@ -99,7 +102,7 @@ class Case:
             found.add(VAULT)
         disk = re.match(re.escape(room) + r"/(d[0-9])(/|$)", name)
         if disk is not None:
-            found.add(f"disk '{disk[1]}' failed")
+            found |= {f"disk '{disk[1]}' failed", UNSAFE}
         return found
 
     def told(self, outcome):
@@ -231,6 +234,17 @@ class Case:
             wrong = self.changed() or (None if again.out == self.plain.out else f"it prints {again.out!r}")
         return wrong and f"then {wrong}"
 
+    def cut_behind_the_end(self):
+        """What is wrong with what a power cut leaves behind the end of the run: all that it says has to be there."""
+        self.array.bring_back()
+        outcome = self.run(Tamper())
+        loose = loose_at_end(outcome.calls)
+        if loose:
+            return f"{self.command}: at its end {loose[0]} is not synced"
+        power_cut(self.array, outcome.calls)
+        wrong = self.left(outcome)
+        return wrong and f"{self.command}: a power cut behind its end: {wrong}"
+
     def attempt(self, tamper, cut):
         self.array.bring_back()
         outcome = self.run(tamper)
@@ -256,51 +270,6 @@ class State:
             return None
         return [[(path, size, stamp, [position for position, _ in blocks]) for path, size, stamp, blocks in records]
                 for records in self.content.columns], self.content.synced
-
-
-def power_cut(array, calls):
-    """What was written since the last sync of its file becomes what a power cut may leave: new, old or other bytes, in any part of it. A
-    rename whose folder was not synced is done or not, and a draft holds anything."""
-    rnd, loose, renames, drafts = array.rnd, {}, {}, set()
-    for call in calls:
-        if call.result is None or call.result < 0:
-            continue
-        if call.name == "pwrite64":
-            loose.setdefault(call.path, []).append((call.args[3], call.args[3] + call.result))
-        elif call.name == "write" and call.path.endswith(".tmp"):
-            drafts.add(call.path)
-        elif call.name in ("fsync", "fdatasync"):
-            loose.pop(call.path, None)
-            drafts.discard(call.path)
-            renames = {to: over for to, over in renames.items() if os.path.dirname(to) != call.path}
-        elif call.name.startswith("rename") and call.to in array.copies:
-            renames[call.to] = call.over
-    for path in drafts:
-        if os.path.exists(path):
-            rnd.choice([os.remove, lambda it: put(it, rnd.randbytes(rnd.randrange(500)), 10**9)])(path)
-    for to, over in renames.items():
-        if rnd.random() < 0.5:
-            os.replace(to, f"{to}.tmp")
-            if over is not None:
-                put(to, over, 10**9)
-    for path, ranges in loose.items():
-        if os.path.isfile(path):
-            scramble(array, path, ranges)
-
-
-def scramble(array, path, ranges):
-    rnd, data = array.rnd, bytearray(read(path))
-    stamp = os.stat(path).st_mtime_ns
-    old = read(array.aside + path[len(array.room):]) or b""
-    for first, end in ranges:
-        end = min(end, len(data))
-        at = first + rnd.randrange(max(1, end - first))
-        kind = rnd.randrange(3)
-        if kind == 1:
-            data[at:end] = old[at:end].ljust(end - at, b"\0")
-        elif kind == 2:
-            data[at:end] = rnd.randbytes(max(0, end - at))
-    put(path, bytes(data), stamp)
 
 
 def cases(array, case_of):
@@ -340,6 +309,8 @@ def play(array, seed, some, end, tell):
         if wrong is not None:
             tell("", f"seed {seed}: {case.command}, with nothing in its way: {wrong}")
             return
+        wrong = case.cut_behind_the_end()
+        tell("power cut", f"seed {seed}: {wrong}" if wrong else "")
         for tamper, cut in tries_of(case, some, array.rnd):
             if time.time() > end:
                 return

@@ -57,4 +57,5 @@ def main():
             shutil.rmtree(kept)
 
 
-main()
+if __name__ == "__main__":
+    main()

@@ -2,17 +2,19 @@
 """Runs over arrays in whose way something stands that only a real file system has: links, pipes, folders that can't be written, full disks,
 files that are gone.
 
-usage: bench/obstacles.py [PROGRAM]     the built program of this repository where nothing is given
+usage: bench/obstacles.py [PROGRAM [WORD]]     the built program of this repository where nothing is given; the cases whose names hold the word
 Each case damages an array that was synced, runs a fix, and compares its status, what it printed on standard error, and all files with
 what is wanted: nothing that was whole may change, and nothing outside the array. Then the obstacle goes, and another fix has to bring
 all files back. Of another command status and standard error are compared, and once the obstacle is gone a sync and a check have to end
-with 0. It runs in a name space of its own, where it may mount small file systems.
+with 0. The scenes of guards.py follow. It runs in a name space of its own, where it may mount small file systems.
 """
 import os
 import shutil
 import subprocess
 import sys
 import tempfile
+
+from guards import SCENES
 
 TOP = os.path.dirname(os.path.dirname(os.path.abspath(__file__)))
 CONFIG = """parity {room}/par/p
@@ -334,21 +336,29 @@ def try_other(array, case):
     return None
 
 
+def try_scene(array, case):
+    """The same for a scene, which says itself what is wrong."""
+    return case[1](array)
+
+
 def main():
     if "HADLIXU_OBSTACLES" not in os.environ:
         os.environ["HADLIXU_OBSTACLES"] = "1"
         os.execvp("unshare", ["unshare", "--map-root-user", "--mount", sys.executable, os.path.abspath(__file__), *sys.argv[1:]])
     program = os.path.abspath(sys.argv[1]) if len(sys.argv) > 1 else os.path.join(TOP, "crates", "snapraid", "out", "snapraid")
-    wrong = 0
-    for case in CASES + OTHERS:
+    only = sys.argv[2] if len(sys.argv) > 2 else ""
+    tries = [(try_case, CASES), (try_other, OTHERS), (try_scene, SCENES)]
+    wrong, count = 0, 0
+    for play, case in ((play, case) for play, cases in tries for case in cases):
+        if only not in case[0]:
+            continue
         with tempfile.TemporaryDirectory() as room:
-            array = Array(room, program)
-            said = (try_case if case in CASES else try_other)(array, case)
+            said = play(Array(os.path.join(room, "array"), program), case)
             for folder in ("d1", "par", "c"):
-                subprocess.run(["umount", array.at(folder)], stderr=subprocess.DEVNULL, check=False)
-        wrong += said is not None
+                subprocess.run(["umount", os.path.join(room, "array", folder)], stderr=subprocess.DEVNULL, check=False)
+        wrong, count = wrong + (said is not None), count + 1
         print(f"{case[0]}: {'as wanted' if said is None else said}", flush=True)
-    print(f"{len(CASES) + len(OTHERS)} cases, {wrong} of them otherwise than is wanted")
+    print(f"{count} cases, {wrong} of them otherwise than is wanted")
     sys.exit(1 if wrong else 0)
 
 

@@ -44,10 +44,12 @@ class Call:
 
 @dataclass
 class Tamper:
-    """What is done to a run: the call of this number is its last, or fails. Kills count calls that write, failures all calls."""
+    """What is done to a run: the call of this number is its last, or fails. Kills count calls that write, failures all calls. Just before
+    each call `act` is told of it, and may do something to the files; it says whether it did."""
     kind: str = ""
     number: int = 0
     error: int = 0
+    act: object = None
 
 
 @dataclass
@@ -177,6 +179,8 @@ class Tracer:
             return
         self.calls.append(call)
         self.pending[pid] = call
+        if self.tamper.act is not None and self.tamper.act(call):
+            self.hit = call
         for kind, counts in (("kill", call.writes), ("fail", True)):
             self.counts[kind] += counts
             if counts and self.tamper.kind == kind and self.counts[kind] == self.tamper.number:

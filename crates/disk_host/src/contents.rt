@@ -1,5 +1,5 @@
 // A content copy of the system, with its draft.
-ghost use Rattle.std.specs.Prelude.{◌≡◌, ◌≤◌, length, IfOk};
+ghost use Rattle.std.specs.Prelude.{◌≡◌, ◌≤◌, length, IfOk, OnOk, OnErr};
 ghost use Rattle.disk_host.specs.Drafts.{state_of};
 ghost use Rattle.disk_model.specs.declared.draft.Draft.{Draft};
 
@@ -37,6 +37,14 @@ where
 
     pub fn name(&self) -> &str {
         self.name.as_str()
+    }
+
+    /// Begins an empty draft.
+    pub fn begin_draft(&mut self, rt: &R) -> io::Result<()>
+        ensures ok { OnOk result (state_of self.new.draft.stage ≡ Draft.Open) }
+        ensures err { OnErr result (state_of self.new.draft.stage ≡ Draft.Absent) }
+    {
+        self.draft.begin(rt, self.name.as_str())
     }
 
     /// Opens it anew. `None` where there is no file.

@@ -3,12 +3,16 @@ ghost use Rattle.std.specs.Prelude.{◌≡◌, ◌++◌, IfOk, OnOk, OnErr};
 ghost use Rattle.disk_host.specs.Drafts.{state_of};
 ghost use Rattle.disk_model.specs.declared.draft.Draft.{Draft};
 
-use crate::files::{is_regular, sync_folder_of};
+use crate::files::{PRIVATE, is_regular, sync_folder_of};
 use disk_model::Text;
-use std::fs::{OpenFile, OpenOptions};
+use std::fs::{OpenFile, OpenOptions, Permissions};
 use std::io::{ErrorKind, Write};
+use std::os::unix::fs::{MetadataExt, OpenOptionsExt, PermissionsExt};
 use std::rt::Files;
 use std::{fs, io, mem};
+
+// Who may read, write and run a file: its owner, its group and all others.
+const ALL: u32 = 0o777;
 
 /// How far a draft has come.
 #[derive(Drop)]
@@ -39,13 +43,13 @@ impl<R: Files> DraftFile<R> {
         self.name.as_str()
     }
 
-    /// Makes an empty file in place of an older one.
-    pub fn begin(&mut self, rt: &R) -> io::Result<()>
+    /// Makes an empty file in place of an older one, with the mode of the file that it is to replace.
+    pub fn begin(&mut self, rt: &R, over: &str) -> io::Result<()>
         ensures ok { OnOk result (state_of self.new.stage ≡ Draft.Open) }
         ensures err { OnErr result (state_of self.new.stage ≡ Draft.Absent) }
     {
         self.stage = Stage::Absent;
-        self.stage = Stage::Open(new_file(rt, self.name.as_str())?);
+        self.stage = Stage::Open(new_file(rt, self.name.as_str(), over)?);
         Ok(())
     }
 
@@ -100,14 +104,28 @@ impl<R: Files> DraftFile<R> {
 }
 
 // An empty file, in place of an older one.
-fn new_file<R: Files>(rt: &R, name: &str) -> io::Result<R::File> {
+fn new_file<R: Files>(rt: &R, name: &str, over: &str) -> io::Result<R::File> {
     if is_regular(fs::symlink_metadata(rt, name))? {
         fs::remove_file(rt, name)?;
     }
-    OpenOptions::new()
+    let file = OpenOptions::new()
         .write(true)
         .create_new(true)
-        .open(rt, name)
+        .mode(PRIVATE)
+        .open(rt, name)?;
+    take_mode(rt, &file, over);
+    Ok(file)
+}
+
+// Gives a new file the mode of the one that it is to replace. Where there is none it stays its owner's alone, and so it
+// does where the system keeps no modes.
+fn take_mode<R: Files>(rt: &R, file: &R::File, over: &str) {
+    if let Ok(seen) = fs::metadata(rt, over) {
+        let mode = seen.mode() & ALL;
+        if seen.is_file() && mode != PRIVATE {
+            let _ = file.set_permissions(Permissions::from_mode(mode));
+        }
+    }
 }
 
 fn appended<F: Write + Drop>(stage: Stage<F>, bytes: &[u8]) -> io::Result<Stage<F>>

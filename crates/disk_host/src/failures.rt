@@ -30,6 +30,8 @@ pub enum Request {
     Sync,
     /// The parity file of this number: to read it, or to look for it where there is content.
     FindParity(u32),
+    /// To work on a file or folder that is another one too.
+    Use,
 }
 
 impl Request {
@@ -47,12 +49,32 @@ impl Request {
             Request::Rename => "rename",
             Request::Sync => "sync",
             Request::FindParity(_) => "find",
+            Request::Use => "use",
         }
     }
 
     /// Whether it only reads a file, so that a run mostly goes on after it failed.
     pub fn is_reading(self) -> bool {
         matches!(self, Request::Look | Request::Read)
+    }
+}
+
+// How two names clash.
+#[derive(Clone, Copy)]
+pub(crate) enum Clash {
+    SameFile,
+    SameFolder,
+    Inside,
+}
+
+impl Clash {
+    // What stands between the two names, and what behind them.
+    fn words(self) -> (&'static str, &'static str) {
+        match self {
+            Clash::SameFile => (" and ", " are the same file"),
+            Clash::SameFolder => (" and ", " are the same folder"),
+            Clash::Inside => (" is inside of ", ""),
+        }
     }
 }
 
@@ -103,7 +125,7 @@ impl Failures {
         answer: &io::Result<T>,
     ) {
         if let Some(error) = failure_of(answer) {
-            if let Ok(name) = name_of(self.alloc, dir, path, lost) {
+            if let Ok(name) = name_of(self.alloc, dir, path.as_str(), lost) {
                 let _ = self.keep(request, name, error);
             }
         }
@@ -121,11 +143,26 @@ impl Failures {
             .retain(|failure| failure.request != Request::FindParity(file));
     }
 
+    // Keeps that two names may not be used together.
+    pub(crate) fn note_clash(&mut self, clash: Clash, name: &str, other: &str) {
+        let _ = self.keep_clash(clash, name, other);
+    }
+
+    fn keep_clash(&mut self, clash: Clash, name: &str, other: &str) -> Result<(), AllocError> {
+        let (between, behind) = clash.words();
+        let why = format!(in self.alloc; "'{name}'{between}'{other}'{behind}")?;
+        self.push(Request::Use, String::from_str(self.alloc, name)?, why)
+    }
+
     fn keep(&mut self, request: Request, name: String, error: io::Error) -> Result<(), AllocError> {
         if self.has(request, name.as_str()) {
             return Ok(());
         }
         let why = words_of(self.alloc, error)?;
+        self.push(request, name, why)
+    }
+
+    fn push(&mut self, request: Request, name: String, why: String) -> Result<(), AllocError> {
         if self.kept.len() >= MANY {
             self.kept.pop();
         }

@@ -3,9 +3,12 @@ ghost use Rattle.std.specs.Prelude.{◌≤◌, length, IfOk};
 
 use std::fs::{File, Metadata, OpenFile, OpenOptions};
 use std::io::ErrorKind;
-use std::os::unix::fs::FileExt;
+use std::os::unix::fs::{FileExt, OpenOptionsExt};
 use std::rt::Files;
 use std::{fs, io};
+
+// A file that is made is its owner's alone: the parity of one disk, or what a fix restores, is the data itself.
+pub(crate) const PRIVATE: u32 = 0o600;
 
 // The file of this name, `None` where there is none. Anything but a regular file is a failure.
 pub(crate) fn open_regular<R: Files>(rt: &R, name: &str) -> io::Result<Option<R::File>> {
@@ -23,6 +26,7 @@ pub(crate) fn open_or_make<R: Files>(rt: &R, name: &str) -> io::Result<R::File> 
         .read(true)
         .write(true)
         .create_new(!is_there)
+        .mode(PRIVATE)
         .open(rt, name)
 }
 
@@ -70,7 +74,12 @@ pub(crate) fn write_whole<F: FileExt + OpenFile>(
 
 // After it, the name of a file that was made or renamed stays.
 pub(crate) fn sync_folder_of<R: Files>(rt: &R, name: &str) -> io::Result<()> {
-    File::open(rt, folder_of(name))?.sync_all()
+    sync_folder(rt, folder_of(name))
+}
+
+// After it, all names in a folder stay.
+pub(crate) fn sync_folder<R: Files>(rt: &R, folder: &str) -> io::Result<()> {
+    File::open(rt, folder)?.sync_all()
 }
 
 // The folder in which a name stands.

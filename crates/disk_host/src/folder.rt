@@ -1,5 +1,6 @@
 // A data folder of the system.
-ghost use Rattle.std.specs.Prelude.{◌≡◌, ◌≤◌, length, IfOk, IfSome};
+ghost use Rattle.std.specs.Prelude.{◌≡◌, ◌≤◌, length, IfOk, IfSome, OnOk, OnErr};
+ghost use Rattle.disk_model.specs.Cause.{Rose, AtMostOnce};
 ghost use Rattle.disk_model.specs.Stamp.{IsStamp};
 ghost use Rattle.disk_model.specs.Folder.{quiet_folder, quiet_folder-is_folder};
 
@@ -11,12 +12,13 @@ use crate::kept::{Access, KeptFile, close_unless_seen, kept_open};
 use crate::listing::listing;
 use crate::places::{meta_of, place_of};
 use crate::stamps::{keeps_stamps, set_stamp_of};
+use crate::unsynced::Unsynced;
 use disk_model::{Failed, FileFault, FileInfo, Folder, ListFault, Meta, Path, Stamp, Text};
 use std::alloc::Global;
 use std::fs::OpenFile;
-use std::io;
 use std::os::unix::fs::FileExt;
 use std::rt::Files;
+use std::{io, mem};
 
 /// The folder of the system that is named by a DIR. One of its files is kept open to be read, and one to be written.
 #[derive(Drop)]
@@ -26,6 +28,7 @@ pub struct DiskFolder<R: Files> {
     keeps_stamps: bool,
     read: Option<KeptFile<R::File>>,
     written: Option<KeptFile<R::File>>,
+    unsynced: Unsynced,
     faults: u64,
     failures: Failures,
 }
@@ -43,6 +46,7 @@ impl<R: Files> DiskFolder<R> {
             keeps_stamps,
             read: None,
             written: None,
+            unsynced: Unsynced::none(alloc),
             faults: 0,
             failures: Failures::none(alloc),
         }
@@ -56,6 +60,23 @@ impl<R: Files> DiskFolder<R> {
     }
 }
 
+impl<R: Files + AllocGlobal> DiskFolder<R> {
+    /// Hands to the disk whatever was done through this folder since the last time: each file that was made or written,
+    /// by the name that it has now, and each folder in which a name was made or changed. Where one of them fails, the
+    /// others are still handed over. What failed is not tried again, since the system forgets that it did.
+    pub fn sync_written(&mut self) -> Result<(), Failed>
+        ensures later { self.old.faults ≤ self.new.faults }
+        ensures kept { OnOk result (self.new.faults ≡ self.old.faults) }
+        ensures cause { OnErr result (Rose self.old.faults self.new.faults) }
+        ensures once { OnErr result (AtMostOnce self.old.faults self.new.faults) }
+        ensures stamps { self.new.keeps_stamps ≡ self.old.keeps_stamps }
+    {
+        let written = mem::replace(&mut self.unsynced, Unsynced::none(self.rt.alloc()));
+        let answer = written.sync(&self.rt, self.dir.as_str(), &mut self.failures);
+        counted(&mut self.faults, answer)
+    }
+}
+
 impl<R: Files + AllocGlobal> DiskFolder<R>
 where
     R::File: FileExt,
@@ -66,7 +87,7 @@ where
         ensures keeps { self.new.keeps_stamps ≡ self.old.keeps_stamps }
         ensures stamp { IfOk result (λ found. IfSome found (λ meta. IsStamp meta.stamp)) }
     {
-        let found = place_of(&self.rt, self.dir.as_str(), path, lost);
+        let found = place_of(&self.rt, self.dir.as_str(), path.as_str(), lost);
         close_unless_seen(&mut self.read, path, lost, &found);
         close_unless_seen(&mut self.written, path, lost, &found);
         match found? {
@@ -99,7 +120,10 @@ where
     {
         let dir = self.dir.as_str();
         match kept_open(&mut self.written, &self.rt, dir, path, Access::Write)? {
-            Some(file) => Ok(Some(write_whole(file, at, bytes)?)),
+            Some(file) => {
+                self.unsynced.note_file(self.rt.alloc(), path)?;
+                Ok(Some(write_whole(file, at, bytes)?))
+            }
             None => Ok(None),
         }
     }
@@ -110,7 +134,10 @@ where
     {
         let dir = self.dir.as_str();
         match kept_open(&mut self.written, &self.rt, dir, path, Access::Write)? {
-            Some(file) => Ok(Some(file.set_len(size)?)),
+            Some(file) => {
+                self.unsynced.note_file(self.rt.alloc(), path)?;
+                Ok(Some(file.set_len(size)?))
+            }
             None => Ok(None),
         }
     }
@@ -123,11 +150,12 @@ where
     {
         let dir = self.dir.as_str();
         if !self.keeps_stamps {
-            let found = place_of(&self.rt, dir, path, false)?;
+            let found = place_of(&self.rt, dir, path.as_str(), false)?;
             return Ok(found.map(|_| false));
         }
         match kept_open(&mut self.written, &self.rt, dir, path, Access::Write)? {
             Some(file) => {
+                self.unsynced.note_file(self.rt.alloc(), path)?;
                 set_stamp_of(file, stamp)?;
                 Ok(Some(true))
             }
@@ -142,7 +170,7 @@ where
     {
         self.read = None;
         self.written = None;
-        rename_file(&self.rt, self.dir.as_str(), path, lost)
+        rename_file(&self.rt, self.dir.as_str(), path, lost, &mut self.unsynced)
     }
 }
 
@@ -186,7 +214,7 @@ where
     }
 
     fn make(&mut self, path: &Path) -> Result<(), Failed> {
-        let answer = make_file(&self.rt, self.dir.as_str(), path);
+        let answer = make_file(&self.rt, self.dir.as_str(), path, &mut self.unsynced);
         self.failures
             .note_file(Request::Make, self.dir.as_str(), path, false, &answer);
         counted(&mut self.faults, answer)

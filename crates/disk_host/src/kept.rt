@@ -78,7 +78,7 @@ fn open_file<R: Files + AllocGlobal>(
     access: Access,
 ) -> io::Result<Option<KeptFile<R::File>>> {
     let lost = access.lost();
-    let Some(Place { name, seen }) = place_of(rt, dir, path, lost)? else {
+    let Some(Place { name, seen }) = place_of(rt, dir, path.as_str(), lost)? else {
         return Ok(None);
     };
     let path = path_copy(path)?;

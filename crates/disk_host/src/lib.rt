@@ -1,13 +1,15 @@
 //! The outside over files, folders and streams of the system: what `disk_model` asks for, each in a few lines.
 //!
-//! Start at `opener.rt`: `DiskOpener` gives each `DiskFolder` and the `DiskVault`. Under the folder stand
-//! `listing.rt`, `order.rt`, `places.rt`, `kept.rt` and `changing.rt`, under the vault `parity.rt`,
+//! Start at `opener.rt`: `DiskOpener` gives each `DiskFolder` and the `DiskVault`, once `apart.rt` found that their names are
+//! of different files. Under the folder stand
+//! `listing.rt`, `order.rt`, `places.rt`, `kept.rt`, `changing.rt` and `unsynced.rt`, under the vault `parity.rt`,
 //! `contents.rt` and `drafts.rt`. `sink.rt` and `log.rt` are where text goes.
 //! Proved: they meet their traits, and count each call that fails; what a folder lists is in order,
 //! whatever the system gave. They tell nothing of what files hold, since no contract can; the crate
 //! `disk_host_tests` runs them over real files.
 #![tactic(auto)]
 
+mod apart;
 mod changing;
 mod contents;
 mod drafts;
@@ -24,6 +26,7 @@ mod parity;
 mod places;
 mod sink;
 mod stamps;
+mod unsynced;
 mod vault;
 
 pub use failures::{Failure, Failures, Request};

@@ -4,10 +4,10 @@ ghost use Rattle.disk_model.specs.Tree.{IsListing, listed};
 ghost use Rattle.disk_host.specs.Listing.{HasStamp};
 
 use crate::order::is_listing;
-use crate::places::meta_of;
+use crate::places::{is_same_file, meta_of};
 use disk_model::{FileInfo, Path, PathFault};
 use std::alloc::Global;
-use std::fs::DirEntry;
+use std::fs::{DirEntry, Metadata};
 use std::io::ErrorKind;
 use std::rt::Files;
 use std::{fs, io};
@@ -15,16 +15,19 @@ use std::{fs, io};
 // The longest path of a file.
 const LONGEST: usize = 4096;
 
-// What was found so far, and the folders that are still to be gone through, by their paths.
+// What was found so far, the folders that are still to be gone through, by their paths, and whether any of what was
+// found was gone when it was come to.
 #[derive(Drop)]
 struct Walk {
     files: Vec<FileInfo>,
     folders: Vec<String>,
+    has_missed: bool,
     ghost stamps: { All HasStamp files.items },
 }
 
-// All regular files, in the order of their paths. It is a failure where what the system gave in the course of it
-// is not the listing of one tree. `at` is the folder that it came to.
+// All regular files, in the order of their paths. What vanishes meanwhile is passed over, as if it had been gone before.
+// It is a failure where what the system gave in the course of it is not the listing of one tree. `at` is the folder
+// that it came to.
 pub(crate) fn listing<R: Files + AllocGlobal + Clone + Drop>(
     rt: &R,
     alloc: Global,
@@ -36,9 +39,16 @@ pub(crate) fn listing<R: Files + AllocGlobal + Clone + Drop>(
     let mut walk = Walk {
         files: Vec::new(alloc),
         folders: Vec::new(alloc),
+        has_missed: false,
     };
     walk.folders.push(String::new(alloc))?;
+    *at = String::from_str(alloc, dir)?;
+    let top = fs::metadata(rt, dir)?;
     walk.go(rt, alloc, dir, at)?;
+    if walk.has_missed {
+        *at = String::from_str(alloc, dir)?;
+        require_same(&top, &fs::metadata(rt, dir)?)?;
+    }
     walk.sort()?;
     if is_listing(&walk.files) {
         Ok(walk.files)
@@ -61,9 +71,19 @@ impl Walk {
                 return Ok(());
             };
             *at = below(alloc, dir, folder.as_str())?;
-            self.go_through(rt, alloc, at.as_str(), folder.as_str())?;
+            let gone_through = self.go_through(rt, alloc, at.as_str(), folder.as_str());
+            if folder.is_empty() || !self.misses(&gone_through) {
+                gone_through?;
+            }
         }
         Err(io::Error::from(ErrorKind::TimedOut))
+    }
+
+    // Whether something was gone when it was come to.
+    fn misses<T>(&mut self, answer: &io::Result<T>) -> bool {
+        let is_gone = matches!(answer, Err(error) if error.kind() == ErrorKind::NotFound);
+        self.has_missed = self.has_missed || is_gone;
+        is_gone
     }
 
     // The entries of one folder, which has this name for the system.
@@ -91,7 +111,11 @@ impl Walk {
         if path.len() > LONGEST {
             return Ok(());
         }
-        let seen = entry.metadata()?;
+        let seen = entry.metadata();
+        if self.misses(&seen) {
+            return Ok(());
+        }
+        let seen = seen?;
         if seen.is_dir() {
             self.folders.push(path)?;
         } else if seen.is_file() {
@@ -111,16 +135,24 @@ impl Walk {
     }
 }
 
+// Whatever vanishes with its disk was not removed: then another folder is in the place of the data folder, or none.
+fn require_same(top: &Metadata, now: &Metadata) -> io::Result<()> {
+    if is_same_file(top, now) {
+        return Ok(());
+    }
+    Err(io::Error::new(ErrorKind::NotFound, "another folder took its place"))
+}
+
 // The name of a folder for the system.
-fn below(alloc: Global, dir: &str, folder: &str) -> io::Result<String> {
+pub(crate) fn below(alloc: Global, dir: &str, folder: &str) -> io::Result<String> {
     if folder.is_empty() {
         return Ok(String::from_str(alloc, dir)?);
     }
     Ok(format!(in alloc; "{dir}/{folder}")?)
 }
 
-// The name of what stands in a folder, of the data folder's own files without it.
-fn joined(alloc: Global, folder: &str, name: &str) -> io::Result<String> {
+// The path of what stands in a folder, of the data folder's own files without it.
+pub(crate) fn joined(alloc: Global, folder: &str, name: &str) -> io::Result<String> {
     if folder.is_empty() {
         return Ok(String::from_str(alloc, name)?);
     }

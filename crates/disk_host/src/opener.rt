@@ -3,10 +3,12 @@ ghost use Rattle.std.specs.Prelude.{◌≡◌, ◌<◌, ◌^◌, length, vec_len
 ghost use Rattle.disk_host.specs.Drafts.{state_of};
 ghost use Rattle.disk_model.specs.declared.draft.Draft.{Draft};
 
+use crate::apart::are_apart;
 use crate::contents::ContentFile;
 use crate::failures::{Failure, Failures, Request};
 use crate::faults::{is_memory, raise};
 use crate::folder::DiskFolder;
+use crate::log::empty_log;
 use crate::parity::ParityFile;
 use crate::vault::DiskVault;
 use disk_model::{NoMemory, OpenFault, Opened, Opener, Places, Text};
@@ -22,10 +24,12 @@ const LONGEST: u64 = 1_048_577;
 // More names than a vault can number.
 const MANY: usize = 1 << 32;
 
-/// Opens what a configuration names, by name.
+/// Opens what a configuration names, by name. It is a failure where two of the names are those of one file, or where one
+/// data folder is another one or inside of it.
 #[derive(Drop)]
 pub struct DiskOpener<R> {
     rt: R,
+    log: Option<Text>,
     faults: u64,
     failures: Failures,
 }
@@ -34,8 +38,17 @@ impl<R: Files> DiskOpener<R> {
     pub fn new(alloc: Global, rt: R) -> DiskOpener<R>
         ensures { result.faults ≡ 0 }
     {
+        DiskOpener::with_log(alloc, rt, None)
+    }
+
+    /// One of a run that may write a log. The log has to be another file than all that are opened. Once that is known it
+    /// is emptied, or made. Where that fails, `failures` tells it, and what is to be written to the log fails.
+    pub fn with_log(alloc: Global, rt: R, log: Option<Text>) -> DiskOpener<R>
+        ensures { result.faults ≡ 0 }
+    {
         DiskOpener {
             rt,
+            log,
             faults: 0,
             failures: Failures::none(alloc),
         }
@@ -111,6 +124,23 @@ where
     Ok(DiskVault::new(alloc, rt.clone()?, parities, contents))
 }
 
+// Whether the names are of different files. Once they are, the log is emptied.
+fn may_open<R: Files>(
+    alloc: Global,
+    rt: &R,
+    places: &Places,
+    log: Option<&Text>,
+    failures: &mut Failures,
+) -> Result<bool, NoMemory> {
+    let are_apart = are_apart(alloc, rt, places, log, failures)?;
+    if are_apart {
+        if let Some(log) = log {
+            empty_log(rt, log.as_str(), failures);
+        }
+    }
+    Ok(are_apart)
+}
+
 impl<R: Files + AllocGlobal + Clone + Drop + Send> Opener for DiskOpener<R>
 where
     R::File: FileExt + Send,
@@ -147,6 +177,15 @@ where
         places: &Places,
     ) -> Result<Opened<DiskFolder<R>, DiskVault<R>>, OpenFault> {
         if places.parities.len() >= MANY || places.contents.len() >= MANY {
+            raise(&mut self.faults);
+            return Err(OpenFault::Failed);
+        }
+        let log = self.log.as_ref();
+        let may_open = may_open(alloc, &self.rt, places, log, &mut self.failures);
+        if may_open.is_err() {
+            return Err(OpenFault::Memory);
+        }
+        if !may_open.unwrap_or(false) {
             raise(&mut self.faults);
             return Err(OpenFault::Failed);
         }

@@ -3,7 +3,7 @@ ghost use Rattle.std.specs.Fs.{metadata_len};
 ghost use Rattle.std.specs.Prelude.{◌≡◌, IfOk};
 ghost use Rattle.disk_model.specs.Stamp.{IsStamp};
 
-use disk_model::{Meta, Path, Stamp};
+use disk_model::{Meta, Stamp};
 use std::alloc::Global;
 use std::fs::Metadata;
 use std::io::ErrorKind;
@@ -28,11 +28,11 @@ pub struct Place {
 pub(crate) fn place_of<R: Files + AllocGlobal>(
     rt: &R,
     dir: &str,
-    path: &Path,
+    path: &str,
     lost: bool,
 ) -> io::Result<Option<Place>> {
     let name = name_of(rt.alloc(), dir, path, lost)?;
-    if goes_through_folders(rt, dir, path.as_str())? {
+    if goes_through_folders(rt, dir, path)? {
         if let Some(seen) = look_at(rt, name.as_str())? {
             if seen.is_file() {
                 return Ok(Some(Place { name, seen }));
@@ -44,8 +44,7 @@ pub(crate) fn place_of<R: Files + AllocGlobal>(
 }
 
 // The name of PATH, or of PATH`.unrecoverable`, for the system.
-pub(crate) fn name_of(alloc: Global, dir: &str, path: &Path, lost: bool) -> io::Result<String> {
-    let path = path.as_str();
+pub(crate) fn name_of(alloc: Global, dir: &str, path: &str, lost: bool) -> io::Result<String> {
     let suffix = if lost { LOST } else { "" };
     Ok(format!(in alloc; "{dir}/{path}{suffix}")?)
 }

@@ -216,7 +216,7 @@ where
     }
 
     fn draft_begin(&mut self, copy: u32) -> Result<(), Failed> {
-        let answer = self.contents[copy as usize].draft.begin(&self.rt);
+        let answer = self.contents[copy as usize].begin_draft(&self.rt);
         self.failures.note(
             Request::Make,
             self.contents[copy as usize].draft.name(),

@@ -7,7 +7,7 @@ use crate::system::{Host, Plan};
 use crate::vault::{copy_step, level_step, vault_faults};
 use crate::words::place_of;
 use disk_host::{DiskFolder, DiskOpener, DiskVault};
-use disk_model::{Opened, Opener, Places};
+use disk_model::{OpenFault, Opened, Opener, Places, Text};
 use std::alloc::Global;
 
 #[derive(Drop)]
@@ -53,9 +53,9 @@ pub fn part_of(verb: &str) -> Option<Part> {
 }
 
 impl Array {
-    pub fn open(rt: HostRuntime, plan: Plan, places: &Places) -> Option<Array> {
+    pub fn open(rt: HostRuntime, plan: Plan, places: &Places, log: Option<Text>) -> Option<Array> {
         let system = Host::new(rt, plan).ok()?;
-        let mut opener = DiskOpener::new(rt.alloc(), system.clone().ok()?);
+        let mut opener = DiskOpener::with_log(rt.alloc(), system.clone().ok()?, log);
         let Opened { folders, vault } = opener.open(rt.alloc(), places).ok()?;
         Some(Array {
             system,
@@ -78,6 +78,24 @@ impl Array {
             Part::Calls => Some(Answer::Number(self.system.made() as u64)),
             Part::Stopped => Some(is_done(self.system.is_stopped())),
         }
+    }
+}
+
+/// Whether these may not be opened, and the causes are those that a word stands for.
+pub fn is_refused(
+    rt: HostRuntime,
+    plan: Plan,
+    places: &Places,
+    log: Option<Text>,
+    causes: &str,
+) -> Option<Answer> {
+    let mut opener = DiskOpener::with_log(rt.alloc(), Host::new(rt, plan).ok()?, log);
+    match opener.open(rt.alloc(), places) {
+        Err(OpenFault::Failed) if opener.faults() == 1 => {
+            are_causes(rt.alloc(), opener.failures(), causes)
+        }
+        Err(OpenFault::Memory) => Some(Answer::OutOfMemory),
+        _ => Some(Answer::Differs),
     }
 }
 

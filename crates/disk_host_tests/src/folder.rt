@@ -1,9 +1,9 @@
-// Steps of a data folder: `list PATH SIZE ..`, `faults`, `causes TEXT`, or something that is done with a file. A verb that ends with
+// Steps of a data folder: `list PATH SIZE ..`, `faults`, `causes TEXT`, `sync`, or something that is done with a file. A verb that ends with
 // `-lost` is of PATH`.unrecoverable`.
 ghost use Rattle.std.specs.Prelude.{IfSome};
 ghost use Rattle.disk_model.specs.Stamp.{IsStamp};
 
-use crate::answer::{Answer, file_done, file_fault, is_done};
+use crate::answer::{Answer, done, file_done, file_fault, is_done};
 use crate::causes::are_causes;
 use crate::system::Host;
 use crate::words::{first_of, number_of, place_of, text_of};
@@ -35,6 +35,7 @@ pub fn folder_step(alloc: Global, folder: &mut DiskFolder<Host>, step: &str) -> 
         "faults" => Some(Answer::Number(folder.faults())),
         "causes" => are_causes(alloc, folder.failures(), rest),
         "list" => Some(listed(alloc, folder, rest)),
+        "sync" => Some(done(folder.sync_written())),
         _ => file_step(alloc, folder, verb, rest),
     }
 }

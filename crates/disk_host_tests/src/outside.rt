@@ -2,8 +2,8 @@
 use crate::answer::Answer;
 use crate::system::Host;
 use crate::words::first_of;
-use disk_host::{DiskOpener, Failures, LogSink, StreamSink};
-use disk_model::{OpenFault, Opener, Sink};
+use disk_host::{DiskOpener, LogSink, StreamSink};
+use disk_model::{OpenFault, Opener, Sink, Text};
 use std::alloc::Global;
 use std::fs;
 
@@ -29,8 +29,8 @@ pub fn sink_step(rt: HostRuntime, step: &str) -> Option<Answer> {
         "stream" => Some(faults_of(&mut StreamSink::new(fs::create(&rt, name).ok()?))),
         "closed" => Some(faults_of(&mut StreamSink::new(fs::open(&rt, name).ok()?))),
         "log" => {
-            let mut failures = Failures::none(rt.alloc());
-            Some(faults_of(&mut LogSink::open(&rt, name, &mut failures)))
+            let name = Text::new(rt.alloc(), name).ok()?;
+            Some(faults_of(&mut LogSink::new(rt, name)))
         }
         _ => None,
     }

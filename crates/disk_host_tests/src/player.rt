@@ -1,6 +1,6 @@
 // Steps of a scene, made one after another.
 use crate::answer::{Answer, done};
-use crate::array::{Array, part_of};
+use crate::array::{Array, is_refused, part_of};
 use crate::outside::sink_step;
 use crate::scene::Scene;
 use crate::system::{Plan, call_of};
@@ -15,6 +15,7 @@ pub struct Player {
     scene: Option<Scene>,
     plan: Plan,
     places: Places,
+    log: Option<Text>,
     array: Option<Array>,
 }
 
@@ -24,10 +25,12 @@ enum Act {
     Dir,
     Parity,
     Content,
+    Log,
     Wants,
     Fails,
     Short,
     Open,
+    Refused,
     Here,
     Sink,
 }
@@ -38,10 +41,12 @@ fn act_of(verb: &str) -> Option<Act> {
         "dir" => Some(Act::Dir),
         "parity" => Some(Act::Parity),
         "content" => Some(Act::Content),
+        "log" => Some(Act::Log),
         "wants" => Some(Act::Wants),
         "fails" => Some(Act::Fails),
         "short" => Some(Act::Short),
         "open" => Some(Act::Open),
+        "refused" => Some(Act::Refused),
         "here" => Some(Act::Here),
         "sink" => Some(Act::Sink),
         _ => None,
@@ -55,6 +60,7 @@ impl Player {
             scene: None,
             plan: Plan::all_pass(rt.alloc()),
             places: no_places(rt),
+            log: None,
             array: None,
         }
     }
@@ -82,10 +88,12 @@ impl Player {
             Act::Dir => named(self.rt, &mut self.places.dirs, rest),
             Act::Parity => named(self.rt, &mut self.places.parities, rest),
             Act::Content => named(self.rt, &mut self.places.contents, rest),
+            Act::Log => self.name_log(rest),
             Act::Wants => self.want(rest),
             Act::Fails => self.fail(rest),
             Act::Short => self.shorten(),
             Act::Open => self.open(),
+            Act::Refused => self.is_refused(rest),
             Act::Here => self.here(rest),
             Act::Sink => sink_step(self.rt, rest),
         }
@@ -95,6 +103,7 @@ impl Player {
     fn begin(&mut self, name: &str) -> Option<Answer> {
         self.plan = Plan::all_pass(self.rt.alloc());
         self.places = no_places(self.rt);
+        self.log = None;
         self.array = None;
         if let Some(scene) = self.scene.take() {
             scene.leave().ok()?;
@@ -123,10 +132,22 @@ impl Player {
         Some(Answer::Done)
     }
 
+    fn name_log(&mut self, name: &str) -> Option<Answer> {
+        self.log = Some(Text::new(self.rt.alloc(), name).ok()?);
+        Some(Answer::Done)
+    }
+
+    // The log is named for one opening.
     fn open(&mut self) -> Option<Answer> {
         let plan = mem::replace(&mut self.plan, Plan::all_pass(self.rt.alloc()));
-        self.array = Some(Array::open(self.rt, plan, &self.places)?);
+        let log = self.log.take();
+        self.array = Some(Array::open(self.rt, plan, &self.places, log)?);
         Some(Answer::Done)
+    }
+
+    fn is_refused(&mut self, causes: &str) -> Option<Answer> {
+        let plan = mem::replace(&mut self.plan, Plan::all_pass(self.rt.alloc()));
+        is_refused(self.rt, plan, &self.places, self.log.take(), causes)
     }
 
     fn here(&self, step: &str) -> Option<Answer> {

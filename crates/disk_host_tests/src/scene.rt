@@ -1,7 +1,8 @@
 // A folder that this process alone has, in which the steps of a scene are made.
 use crate::answer::{Answer, done, is_done};
 use crate::words::{first_of, number_of, text_of};
-use std::os::unix::fs::symlink;
+use std::fs::Permissions;
+use std::os::unix::fs::{MetadataExt, PermissionsExt, symlink};
 use std::{env, fs, io, process};
 
 #[derive(Drop)]
@@ -19,6 +20,9 @@ enum Act {
     Move,
     Remove,
     Holds,
+    Twin,
+    Mode,
+    Chmod,
 }
 
 impl Scene {
@@ -51,6 +55,9 @@ impl Scene {
             Act::Remove => Some(done(fs::remove_dir_all(rt, name))),
             Act::Link => Some(done(symlink(rt, name, rest))),
             Act::Move => Some(done(fs::rename(rt, name, rest))),
+            Act::Twin => Some(done(fs::hard_link(rt, name, rest))),
+            Act::Mode => self.has_mode(name, rest),
+            Act::Chmod => self.set_mode(name, rest),
             Act::Put => self.put(name, rest),
             Act::Fill => self.fill(name, rest),
             Act::Holds => self.holds(name, rest),
@@ -66,6 +73,20 @@ impl Scene {
         let (size, _) = number_of(size)?;
         let bytes = vec![in self.rt.alloc(); b'#'; usize::try_from(size).ok()?].ok()?;
         Some(done(fs::write(&self.rt, name, bytes)))
+    }
+
+    // Who may read, write and run it, in octal.
+    fn has_mode(&self, name: &str, mode: &str) -> Option<Answer> {
+        let mode = u32::from_str_radix(mode, 8).ok()?;
+        match fs::metadata(&self.rt, name) {
+            Ok(seen) => Some(is_done(seen.mode() & 0o777 == mode)),
+            Err(_) => Some(Answer::Missing),
+        }
+    }
+
+    fn set_mode(&self, name: &str, mode: &str) -> Option<Answer> {
+        let mode = u32::from_str_radix(mode, 8).ok()?;
+        Some(done(fs::set_permissions(&self.rt, name, Permissions::from_mode(mode))))
     }
 
     fn holds(&self, name: &str, word: &str) -> Option<Answer> {
@@ -86,6 +107,9 @@ fn act_of(verb: &str) -> Option<Act> {
         "move" => Some(Act::Move),
         "remove" => Some(Act::Remove),
         "holds" => Some(Act::Holds),
+        "twin" => Some(Act::Twin),
+        "mode" => Some(Act::Mode),
+        "chmod" => Some(Act::Chmod),
         _ => None,
     }
 }

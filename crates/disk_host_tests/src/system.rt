@@ -2,7 +2,7 @@
 ghost use Rattle.std.specs.Prelude.{◌≤◌};
 
 use std::alloc::{AllocError, Allocator, Global};
-use std::fs::{FileTimes, Metadata, OpenFile, OpenOptions};
+use std::fs::{FileTimes, Metadata, OpenFile, OpenOptions, Permissions};
 use std::io;
 use std::io::{ErrorKind, Read, Seek, SeekFrom, Write};
 use std::os::unix::fs::FileExt;
@@ -89,11 +89,25 @@ pub const SYSTEM_HAS_NO_MEMORY: &str = "system-has-no-memory";
 
 const ENOMEM: i32 = 12;
 
+// Ends the name of a file that is gone once it is looked at.
+const VANISHES: &str = "/vanishes";
+
+// Ends the name of a folder that is gone once it is entered.
+const GONE: &str = "/gone/";
+
+// Ends the name of a folder that may not be entered.
+const CLOSED: &str = "/closed/";
+
+/// A DIR in whose place another folder is once anything was gone.
+pub const SWAPPED: &str = "swapped";
+
 #[derive(Drop)]
 struct Watch {
     plan: Plan,
     made: AtomicUsize,
     is_ready: AtomicBool,
+    // whether anything was gone
+    has_vanished: AtomicBool,
 }
 
 impl Watch {
@@ -125,6 +139,12 @@ impl Watch {
         let is_ready = self.is_ready.load(Ordering::SeqCst);
         self.is_ready.store(!is_ready, Ordering::SeqCst);
         is_ready || !self.plan.short
+    }
+
+    // Something is gone.
+    fn vanish(&self) -> io::Error {
+        self.has_vanished.store(true, Ordering::SeqCst);
+        io::Error::from(ErrorKind::NotFound)
     }
 
     // How many of these bytes are moved at once.
@@ -161,6 +181,7 @@ impl<R: AllocGlobal + Drop> System<R> {
             plan,
             made: AtomicUsize::new(0),
             is_ready: AtomicBool::new(false),
+            has_vanished: AtomicBool::new(false),
         };
         let watch = Arc::new(rt.alloc(), watch)?;
         Ok(System { rt, watch })
@@ -216,6 +237,12 @@ impl<R: Files + AllocGlobal> Files for System<R> {
     }
 
     fn open_dir(&self, path: &str) -> io::Result<Self::Dir> {
+        if path.ends_with(GONE) {
+            return Err(self.watch.vanish());
+        }
+        if path.ends_with(CLOSED) {
+            return Err(io::Error::from(ErrorKind::PermissionDenied));
+        }
         self.rt.open_dir(path)
     }
 
@@ -223,10 +250,16 @@ impl<R: Files + AllocGlobal> Files for System<R> {
         if path == UNSTAMPED || path == WHOLE_SECONDS {
             return Ok(Metadata::of_dir());
         }
+        if path == SWAPPED && self.watch.has_vanished.load(Ordering::SeqCst) {
+            return self.rt.metadata(WHOLE_SECONDS);
+        }
         self.rt.metadata(inside(path))
     }
 
     fn symlink_metadata(&self, path: &str) -> io::Result<Metadata> {
+        if path.ends_with(VANISHES) {
+            return Err(self.watch.vanish());
+        }
         self.rt.symlink_metadata(inside(path))
     }
 
@@ -247,6 +280,11 @@ impl<R: Files + AllocGlobal> Files for System<R> {
     fn create_dir(&self, path: &str) -> io::Result<()> {
         self.watch.take(Call::Folder, path)?;
         self.rt.create_dir(path)
+    }
+
+    fn create_dir_with_mode(&self, path: &str, mode: u32) -> io::Result<()> {
+        self.watch.take(Call::Folder, path)?;
+        self.rt.create_dir_with_mode(path, mode)
     }
 
     fn remove_dir(&self, _path: &str) -> io::Result<()> {
@@ -298,6 +336,10 @@ impl<F: OpenFile> OpenFile for SystemFile<F> {
 
     fn sync_data(&self) -> io::Result<()> {
         Err(io::Error::from(ErrorKind::Unsupported))
+    }
+
+    fn set_permissions(&self, permissions: Permissions) -> io::Result<()> {
+        self.file.set_permissions(permissions)
     }
 
     fn set_times(&self, times: FileTimes) -> io::Result<()> {

@@ -30,6 +30,13 @@ impl<'a, F, C, T> MeteredFolder<'a, F, C, T> {
     {
         &self.folder
     }
+
+    /// The folder under it. What is asked of it there no meter is told.
+    pub fn get_mut(&mut self) -> &mut F
+        ensures { result.now ≡ self.old.folder }
+    {
+        &mut self.folder
+    }
 }
 
 impl<'a, F: Folder, C: Clock + Sync, T: Write + Drop + Send> Folder for MeteredFolder<'a, F, C, T> {

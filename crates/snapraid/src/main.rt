@@ -1,13 +1,16 @@
 //! The program: the words, files and streams of the system, handed to `snap_top::run`.
 //!
-//! Start at `main`. It makes the reports, a tally and the log that the words name, and hands `run` the objects of
-//! `disk_host`, by way of `progress`, which shows on the terminal how far the run has come (`terminal.rt`). Behind the
-//! lines of the run it prints why something failed (`causes.rt`), and how a command is called where the words were refused
+//! Start at `main`. It locks the configuration (`locking.rt`), and makes the reports, a tally and the log that the words
+//! name. It hands `run` the objects of `disk_host`, by way of `progress`, which shows on the terminal how far the run has
+//! come (`terminal.rt`). Once the run has ended, what it wrote is handed to the disks (`syncing.rt`). Behind the lines of
+//! the run it prints why something failed (`causes.rt`), and how a command is called where the words were refused
 //! (`synopsis.rt`).
 //! Proved: it is safe and ends. What a command does is the contract of `run`.
 #![tactic(auto)]
 
 mod causes;
+mod locking;
+mod syncing;
 mod synopsis;
 mod terminal;
 #[cfg(test)]
@@ -16,25 +19,29 @@ mod tests;
 use causes::print_causes;
 use disk_host::{DiskOpener, Failures, LogSink, StreamSink};
 use disk_model::{NoMemory, Sink, Text};
+use locking::{Hold, lock_configuration, print_refusal};
 use progress::{ClearingSink, Meter, MeteredOpener};
 use snap_config::log_name;
 use snap_report::{LogReport, Report, TallyReport};
 use snap_top::run;
-use std::fs::OpenOptions;
+use std::fs::{File, OpenOptions};
 use std::io::ErrorKind;
 use std::process::ExitCode;
 use std::random::RandomSource;
 use std::rt::{Env, Files};
 use std::time::{Clock, SystemTime, UNIX_EPOCH};
 use std::{env, io};
+use syncing::sync_folders;
 use synopsis::print_synopsis;
 use terminal::open_terminal;
 
 // Why the program ends before its run.
-#[derive(Clone, Copy, Debug, PartialEq, Eq)]
+#[derive(Drop)]
 enum Unready {
     NoStreams,
     NoRandomBytes,
+    // Another run has locked the configuration of this name.
+    Locked(Text),
     Memory,
 }
 
@@ -47,17 +54,20 @@ impl From<NoMemory> for Unready {
 }
 
 impl Unready {
-    fn line(self) -> &'static str {
-        match self {
+    // Says it on standard error, where that can be written.
+    fn print<W: Sink>(&self, err: &mut W) {
+        let line = match self {
             Unready::NoStreams => "snapraid: /dev/null cannot be opened\n",
             Unready::NoRandomBytes => "snapraid: the system gave no random bytes\n",
+            Unready::Locked(conf) => return print_refusal(err, conf.as_str()),
             Unready::Memory => "snapraid: out of memory\n",
-        }
+        };
+        let _ = err.write(line.as_bytes());
     }
 
-    fn status(self) -> u8 {
+    fn status(&self) -> u8 {
         match self {
-            Unready::NoStreams | Unready::NoRandomBytes => 3,
+            Unready::NoStreams | Unready::NoRandomBytes | Unready::Locked(_) => 3,
             Unready::Memory => 4,
         }
     }
@@ -65,9 +75,10 @@ impl Unready {
 
 // What a run is given besides the objects that it works on.
 #[derive(Drop)]
-struct Ready<R: Files> {
-    // Held for the whole run.
-    streams: [R::File; 3],
+struct Ready {
+    // Both are held for the whole run.
+    streams: [File; 3],
+    hold: Hold,
     seed: [u8; 16],
     words: Vec<String>,
     log: Option<Text>,
@@ -89,8 +100,10 @@ fn main(rt: HostRuntime) -> ExitCode {
         return ends(&mut err, Unready::Memory);
     }
     if let Some(name) = &ready.log {
-        let sink = LogSink::open(&rt, name.as_str(), &mut failures);
-        let Ok(log) = Box::new(alloc, LogReport::new(sink)) else {
+        let Ok(name) = name.copy() else {
+            return ends(&mut err, Unready::Memory);
+        };
+        let Ok(log) = Box::new(alloc, LogReport::new(LogSink::new(rt, name))) else {
             return ends(&mut err, Unready::Memory);
         };
         if reports.push(log).is_err() {
@@ -98,12 +111,12 @@ fn main(rt: HostRuntime) -> ExitCode {
         }
     }
     let meter = Meter::new(alloc, rt, open_terminal(&rt, &rt.stderr()));
-    let mut opener = MeteredOpener::new(rt, DiskOpener::new(alloc, rt), &meter);
+    let mut opener = MeteredOpener::new(rt, DiskOpener::with_log(alloc, rt, ready.log), &meter);
     let mut out = ClearingSink::new(StreamSink::new(rt.stdout()), &meter);
     let mut err = ClearingSink::new(err, &meter);
     let words = ready.words.as_slice();
     let now = seconds_since_1970(&rt);
-    let ended = run(
+    let mut ended = run(
         &rt,
         alloc,
         words,
@@ -115,15 +128,16 @@ fn main(rt: HostRuntime) -> ExitCode {
         ready.seed,
     );
     meter.clear();
+    let status = sync_folders(&mut err, &mut ended.folders, ended.status);
     out.get_ref().note(&mut failures, "standard output");
     print_causes(&mut err, opener.get_ref(), &ended, &failures);
     print_synopsis(alloc, words, &mut err);
-    ExitCode::from(ended.status)
+    ExitCode::from(status)
 }
 
-// Opens the streams that are held, and reads words and seed. The log that the words name is opened after that, and so
-// emptied, before anything else is read.
-fn get_ready<R: Files + Env + RandomSource + AllocGlobal>(rt: &R) -> Result<Ready<R>, Unready> {
+// Opens the streams that are held, reads words and seed, and locks the configuration that the words name. The log is emptied
+// later, by what opens the disks.
+fn get_ready(rt: &HostRuntime) -> Result<Ready, Unready> {
     let Ok(streams) = open_streams(rt) else {
         return Err(Unready::NoStreams);
     };
@@ -133,17 +147,22 @@ fn get_ready<R: Files + Env + RandomSource + AllocGlobal>(rt: &R) -> Result<Read
     }
     let words = words(rt)?;
     let log = log_name(rt.alloc(), words.as_slice())?;
+    let hold = match lock_configuration(rt, words.as_slice())? {
+        Hold::Refused(conf) => return Err(Unready::Locked(conf)),
+        hold => hold,
+    };
     Ok(Ready {
         streams,
+        hold,
         seed,
         words,
         log,
     })
 }
 
-// Ends before the run, with one line where that can be written.
+// Ends before the run, and says why.
 fn ends<W: Sink>(err: &mut W, why: Unready) -> ExitCode {
-    let _ = err.write(why.line().as_bytes());
+    why.print(err);
     ExitCode::from(why.status())
 }
 
