@@ -1,5 +1,5 @@
 -- The chosen stripes of a window, written one after another.
-use Rattle.std.proofs.Common.{◌≡◌, ℕ, ◌+◌, ◌<◌, get_or, false, true, length, IsTrue, refl, sym, ◌∙◌, subst, List}
+use Rattle.std.proofs.Common.{◌≡◌, ℕ, ◌+◌, ◌<◌, false, true, length, IsTrue, refl, sym, ◌∙◌, subst, List}
 use Rattle.disk_model.specs.Ran.{RanAll, RanUpTo, log_of}
 use Rattle.disk_model.specs.Vault.{VaultView, VaultCall, SomeCalls, ChangesBy, DraftsStay, Reads, state_of}
 use Rattle.disk_model.proofs.RanLemmas.{ran_none, ran_all_more, ran_all_fails}

@@ -1,6 +1,5 @@
 -- The sums of a row, block after block.
-use Rattle.std.proofs.Common.{◌≡◌, set, inl, inr, ℕ, zero, suc, ◌+◌, ◌*◌, ◌/◌, ◌<◌, ◌≤◌, List, [], ◌∷◌, ◌++◌, length, take, drop, get_or, refl, sym, ◌∙◌, ap, ap₂, subst, arith, length-append, zero-add}
-use Rattle.std.specs.Prelude.{slice_range}
+use Rattle.std.proofs.Common.{◌≡◌, set, inl, inr, ℕ, zero, suc, ◌+◌, ◌<◌, ◌≤◌, List, [], ◌∷◌, ◌++◌, length, take, drop, get_or, refl, sym, ◌∙◌, ap, ap₂, subst, arith, length-append, zero-add}
 use Rattle.std.specs.Borrow.{Bor}
 use Rattle.std.specs.Int.Bits.{bit_xor}
 use Rattle.std.proofs.lemmas.Bool.{cases_lt}
@@ -8,7 +7,7 @@ use Rattle.std.proofs.lemmas.List.{map-append, take_more_set, get_or_append_left
 use Rattle.std.proofs.lemmas.List.FromFn.{fill_by_all, length-map-range_with_len, get_or-map-range_with_len}
 use Rattle.std.proofs.Math.Seq.{get_or-append_seam}
 use Rattle.cauchy.specs.Field.{sum_below, product}
-use Rattle.cauchy.specs.Levels.{blocks_of, HoldsLevel}
+use Rattle.cauchy.specs.Levels.{blocks_of}
 use Rattle.cauchy.specs.Matrix.{entry_of, byte_of, parity_byte, parity_of}
 
 -- a level of a row, byte by byte
@@ -121,14 +120,3 @@ blocks_more blocks d block row here within so_far is =
     ∙ ap (λ (front : List (List ℕ)). front ++ block.now ∷ []) so_far
     ∙ ap (λ (b : List ℕ). take d row ++ b ∷ []) is
     ∙ sym (take_more row d [] within)
-
--- ---- the levels of a row, one after another, where there is room for six
-
-pub room_for_six : (sums : List ℕ) (size : ℕ) → length sums ≡ 6 * size → length sums / 6 ≡ size
-room_for_six sums size room = omega (arith, room)
-
--- the part of a level
-pub level_in : (sums new : List ℕ) (size level : ℕ) (row : List (List ℕ)) → length sums ≡ 6 * size → HoldsLevel size row level new
-    → slice_range new (level * (length sums / 6)) (level * (length sums / 6) + length sums / 6) ≡ parity_of level size row
-level_in sums new size level row room holds =
-    subst (λ (n : ℕ). slice_range new (level * n) (level * n + n) ≡ parity_of level size row) (sym (room_for_six sums size room)) holds

@@ -4,7 +4,8 @@
 //! 2. `sum_row` is a level of a stripe that was read into a window, and `sum_levels` all of its levels at once, where
 //!    each byte is read once; `write_window` writes the levels of the chosen stripes of one, by just these calls, and
 //!    keeps all other bytes. Then parity holds their rows, with zeros in what was added besides (`ran`, `changes`,
-//!    `written`, `elsewhere`).
+//!    `written`, `elsewhere`). `sum_window` makes the sums of all stripes of a window side by side, and `write_sums`
+//!    writes those of the chosen ones by the same calls (`summing.rt`).
 //! 3. After `settle` a stop leaves parity as it reads (`settled`).
 //! 4. `read_levels` reads each level's block of a stripe by one call, and keeps what came (`read`).
 //!

@@ -14,7 +14,7 @@ use crate::sums::sum_levels;
 use disk_model::{Failed, Vault};
 use stripe_reader::Window;
 
-/// Writes each level of the stripe of a number, of which the sums were made. Only the clauses look at the window.
+/// Writes each level of the stripe of a number, of which the sums were made.
 pub(crate) fn write_levels<V: Vault>(
     vault: &mut V,
     window: &Window,
@@ -37,7 +37,7 @@ pub(crate) fn write_levels<V: Vault>(
         (HasSums (V.view vault.old).levels window.now.block_size (slice_index stripes.now i) (row_at window.now i)
         (V.view vault.old).files) (V.view vault.new)) }
 {
-    let size = sums.len() / 6;
+    let size = window.block_size() as usize;
     let at = u64::from(stripes[i as usize]) * size as u64;
     for level in 0..vault.levels() {
         let start = level as usize * size;

@@ -1,4 +1,5 @@
 use Rattle.std.proofs.Common.{◌≡◌, ◌<◌, ◌+◌, ℕ, List, ◌*◌, ◌∙◌, ap, ap₂, get_or, length, subst, sym, arith}
+use Rattle.std.specs.Prelude.{slice_range}
 use Rattle.cauchy.specs.Matrix.{parity_of as level_of}
 use Rattle.disk_model.specs.Bytes.{put}
 use Rattle.disk_model.specs.Files.{parity_of, TearsParity}
@@ -12,7 +13,7 @@ use Rattle.parity_writer.specs.WindowRow.{row_at}
 use Rattle.parity_writer.proofs.KeepsLemmas.{writes_nothing, writes_then, other_level}
 use Rattle.parity_writer.proofs.Keeping.{keeping_start, keeping_more}
 use Rattle.parity_writer.proofs.LevelsLemmas.{mapped_start, mapped_reads}
-use Rattle.parity_writer.proofs.SumLemmas.{length-level, level_in, room_for_six}
+use Rattle.parity_writer.proofs.SumLemmas.{length-level}
 use Rattle.parity_writer.proofs.WriteLemmas.{one_went_well, one_failed}
 use Rattle.parity_writer.proofs.writing.write_levels.Goals as goal
 
@@ -24,9 +25,9 @@ loop-level-preserved g c =
     let size = c.args.window.now.block_size in
     let stripe = get_or c.args.stripes.now c.args.i 0 in
     let row = row_at c.args.window.now c.args.i in
-    let at = ap₂ (λ (m : ℕ) (n : ℕ). m * n) c.from.ensures (room_for_six c.args.sums.now size c.requires.room) in
+    let at = ap₂ (λ (m : ℕ) (n : ℕ). m * n) c.from.ensures c.block_size-size.ensures in
     let below : c.loop-level.level < (g.V.Vault.view c.args.vault.now).levels = omega (arith, c.loop-level-test.true, c.levels-level-end.ensures) in
-    let sums = level_in c.args.sums.now c.args.sums.now size c.loop-level.level row c.requires.room (c.requires.sums c.loop-level.level below) in
+    let sums = subst (λ (n : ℕ). slice_range c.args.sums.now (c.loop-level.level * n) (c.loop-level.level * n + n) ≡ level_of c.loop-level.level size row) (sym c.block_size-size.ensures) (c.requires.sums c.loop-level.level below) in
     let long = ap length sums ∙ length-level c.loop-level.level size row in
     record {
       keeping = keeping_more (WritesBlock size stripe) _ _ _ _ (writes_then size stripe c.loop-level.level _ _ at long) c.loop-level.invariant.keeping (one_call _ _ _ c.parity_write.ensures.call.goes_on) c.parity_write.ensures.changes c.parity_write.ensures.drafts;
@@ -45,9 +46,9 @@ returns-in_err-parity_write-clause-changes g c =
     let size = c.args.window.now.block_size in
     let stripe = get_or c.args.stripes.now c.args.i 0 in
     let row = row_at c.args.window.now c.args.i in
-    let at = ap₂ (λ (m : ℕ) (n : ℕ). m * n) c.from.ensures (room_for_six c.args.sums.now size c.requires.room) in
+    let at = ap₂ (λ (m : ℕ) (n : ℕ). m * n) c.from.ensures c.block_size-size.ensures in
     let below : c.loop-level.level < (g.V.Vault.view c.args.vault.now).levels = omega (arith, c.loop-level-test.true, c.levels-level-end.ensures) in
-    let sums = level_in c.args.sums.now c.args.sums.now size c.loop-level.level row c.requires.room (c.requires.sums c.loop-level.level below) in
+    let sums = subst (λ (n : ℕ). slice_range c.args.sums.now (c.loop-level.level * n) (c.loop-level.level * n + n) ≡ level_of c.loop-level.level size row) (sym c.block_size-size.ensures) (c.requires.sums c.loop-level.level below) in
     let long = ap length sums ∙ length-level c.loop-level.level size row in
     (keeping_more (WritesBlock size stripe) _ _ _ _ (writes_then size stripe c.loop-level.level _ _ at long) c.loop-level.invariant.keeping (one_call _ _ _ c.parity_write.ensures.call.goes_on) c.parity_write.ensures.changes c.parity_write.ensures.drafts).changes
 
@@ -59,9 +60,9 @@ returns-in_err-parity_write-clause-ran g c =
     let old = g.V.Vault.view c.args.vault.now in
     let mid = g.V.Vault.view c.loop-level.vault in
     let new = g.V.Vault.view c.parity_write.new.self in
-    let at = ap₂ (λ (m : ℕ) (n : ℕ). m * n) c.from.ensures (room_for_six c.args.sums.now size c.requires.room) in
+    let at = ap₂ (λ (m : ℕ) (n : ℕ). m * n) c.from.ensures c.block_size-size.ensures in
     let below : c.loop-level.level < (g.V.Vault.view c.args.vault.now).levels = omega (arith, c.loop-level-test.true, c.levels-level-end.ensures) in
-    let sums = level_in c.args.sums.now c.args.sums.now size c.loop-level.level row c.requires.room (c.requires.sums c.loop-level.level below) in
+    let sums = subst (λ (n : ℕ). slice_range c.args.sums.now (c.loop-level.level * n) (c.loop-level.level * n + n) ≡ level_of c.loop-level.level size row) (sym c.block_size-size.ensures) (c.requires.sums c.loop-level.level below) in
     let within : c.loop-level.level < old.levels = omega (arith, c.loop-level-test.true, c.levels-level-end.ensures) in
     ran_exit _ (sum_calls old.levels size stripe row) c.from_residual.result (state_of old) (state_of new) c.from_residual.ensures.1
     (ran_each_fails (sum_call size stripe row) c.loop-level.level old.levels (log_of (state_of old)) (log_of (state_of mid)) (log_of (state_of new)) within c.loop-level.invariant.ran

@@ -2,7 +2,7 @@ use Rattle.std.proofs.Common.{◌<◌, length, arith, ◌∙◌}
 use Rattle.disk_model.specs.Vault.{state_of}
 use Rattle.disk_model.proofs.RanLemmas.{ran_exit}
 use Rattle.parity_writer.specs.Chosen.{Choice, window_calls}
-use Rattle.parity_writer.proofs.ChosenWrites.{WroteOne, failed_at, kept_more, wrote_none, wrote_one}
+use Rattle.parity_writer.proofs.ChosenWrites.{failed_at, kept_more, wrote_none, wrote_one}
 use Rattle.parity_writer.proofs.writing.write_window.Goals as goal
 
 pub loop-i-preserved-then-not-chosen-i : goal.loop-i-preserved-then-not-chosen-i
