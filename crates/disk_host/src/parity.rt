@@ -45,7 +45,7 @@ where
         self.file.is_some()
     }
 
-    /// Whether it was not there when it was looked for, though a write may have made it since.
+    /// Whether it was not there when it was looked for, though a write of a block may have made it since.
     pub fn was_missing(&self) -> bool {
         self.was_missing
     }
@@ -76,9 +76,14 @@ where
         }
     }
 
-    /// Writes all bytes, with zeros before them where the file was shorter. No bytes past its end extend it too.
+    /// Writes all bytes, with zeros before them where the file was shorter. No bytes past its end extend it too. A write of
+    /// no bytes at its start makes a file that was not there on purpose, as of a level that is lost as a whole.
     pub fn write(&mut self, rt: &R, at: u64, bytes: &[u8]) -> io::Result<()> {
-        write_whole(self.open_to_write(rt)?, at, bytes)
+        write_whole(self.open_to_write(rt)?, at, bytes)?;
+        if at == 0 && bytes.is_empty() {
+            self.was_missing = false;
+        }
+        Ok(())
     }
 
     /// Cuts the file, or extends it with zeros.
