@@ -1,6 +1,7 @@
 mod FinishPartsLemmas
 pub mod ReadLemmas
 pub mod CheckLemmas
+pub mod CheckWindowLemmas
 pub mod RestorableLemmas
 pub mod BeginningLemmas
 pub mod CourseLemmas

@@ -5,14 +5,13 @@ use Rattle.disk_model.specs.Sink.{SinkView}
 use Rattle.file_table.specs.Table.{TableValue}
 use Rattle.snap_report.specs.Report.{ReportView}
 use Rattle.snap_report.specs.declared.events.Event.{Event}
-use Rattle.stripe_reader.specs.Columns.{ReadsWindow}
 use Rattle.stripe_reader.specs.Starts.{StartsFit}
 use Rattle.stripe_reader.specs.WindowValue.{WindowValue}
 use Rattle.snap_fix.specs.declared.beginning.Work.{Work}
 use Rattle.stripe_examiner.specs.declared.counts.Counts.{Counts}
 use Rattle.stripe_examiner.specs.declared.room.StripeRoom.{StripeRoom}
 use Rattle.stripe_examiner.specs.Facts.{StripeFacts}
-use Rattle.stripe_examiner.specs.Looking.{AreRead, LooksAt, LooksInto, Scene, facts_at, numbers_of}
+use Rattle.stripe_examiner.specs.Looking.{AreRead, LooksAt, Scene, facts_at, numbers_of}
 use Rattle.repair_scope.specs.Plan.{FixPlan, EntriesFit, plan_of}
 use Rattle.stripe_examiner.specs.Room.{IsRoomFor}
 use Rattle.stripe_examiner.specs.Shown.{ShowsStripe}
@@ -38,13 +37,6 @@ pub record AreShown (plan : FixPlan) (stripes : List StripeFacts) (numbers : Lis
   pub numbers_are : numbers_of stripes ≡ numbers
   pub each : (k : ℕ) (other : StripeRoom) → k < length stripes
       → ShowsStripe plan (facts_at stripes k) k window (slice_index_or rooms k other)
-
--- Some stripes of the work were read into the window and looked at.
-pub record ChecksWindow {W R : Type 0} (view : W → SinkView) (standing : R → ReportView) (stands : R → List Event → Type 0)
-    (table : TableValue) (work : Work) (stripes : List ℕ) (counts : Counts) (olds news : List FolderView) (old new : Scene W R) : Type 0 where
-  pub window : WindowValue
-  pub read : ReadsWindow table work.starts stripes work.room.window window olds news
-  pub looks : LooksInto view standing stands (plan_for table work) stripes window counts old new
 
 -- The stripes of the work were read and looked at.
 pub record ChecksStripes {W R : Type 0} (view : W → SinkView) (standing : R → ReportView) (stands : R → List Event → Type 0)

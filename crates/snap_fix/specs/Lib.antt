@@ -2,6 +2,7 @@ pub mod Again
 pub mod Beginning
 pub mod Reads
 pub mod Checking
+pub mod CheckWindows
 pub mod Mended
 pub mod BrokenStripe
 pub mod StripeOrder

@@ -1,25 +1,33 @@
-// The stripes of a check, window by window.
-ghost use Rattle.std.specs.Prelude.{◌≡◌, ℕ, ◌+◌, ◌<◌, ◌≤◌, List, length, map, take, drop, get_or, slice_index_or};
+// The stripes of a check, window by window: one is looked at while the next one is fetched.
+ghost use Rattle.std.specs.Prelude.{◌≡◌, ℕ, ◌<◌, ◌≤◌, List, length, map, take, min, get_or, slice_index_or};
+ghost use Rattle.std.specs.Thread.{IsSend, IsSync};
 ghost use Rattle.snap_report.specs.Told.{Told};
-ghost use Rattle.snap_fix.specs.Checking.{AreShown, IsWorkFor, KeepsWork, ChecksStripes, ChecksWindow};
+ghost use Rattle.snap_fix.specs.Checking.{AreShown, IsWorkFor, KeepsWork, ChecksStripes, plan_for};
+ghost use Rattle.snap_fix.specs.CheckWindows.{IsReady, UsesRoom, stripes_near, stripes_next};
+ghost use Rattle.snap_fix.specs.Handed.{seen};
 ghost use Rattle.stripe_examiner.specs.declared.room.StripeRoom.{StripeRoom};
 ghost use Rattle.stripe_examiner.specs.Counts.{AreCounts};
 ghost use Rattle.stripe_examiner.specs.Facts.{StripeFacts};
 ghost use Rattle.stripe_examiner.specs.Findings.{events_of};
-ghost use Rattle.stripe_examiner.specs.Looking.{scene};
+ghost use Rattle.stripe_examiner.specs.Looking.{LooksInto, scene};
 ghost use Rattle.repair_scope.specs.Plan.{plan_of};
 ghost use Rattle.stripe_examiner.specs.Shown.{CanTell};
 ghost use Rattle.stripe_examiner.specs.Spare.{IsSpareFor};
-ghost use Rattle.stripe_reader.specs.WindowValue.{WindowValue};
+ghost use Rattle.stripe_examiner.specs.WindowExamined.{CanExamineFetched, ExaminesFetched};
+ghost use Rattle.stripe_reader.specs.Fetched.{FetchesWindow, hashed_window};
+ghost use Rattle.stripe_reader.specs.Held.{CanRead};
+ghost use Rattle.stripe_reader.specs.WindowValue.{Fits, WindowValue};
 
 use crate::beginning::Work;
-use crate::plan::Task;
+use crate::plan::{Plan, Stretch, Task};
 use disk_model::{Folder, Sink, Vault};
 use file_table::Table;
 use repair_scope::{Entries, Scope};
 use snap_report::{Lines, Report};
-use std::thread::Threads;
-use stripe_examiner::{Counts, Spare, StripeRoom, examine_window, tell_stripe};
+use std::mem::swap;
+use std::thread::{Threads, join_mut};
+use stripe_examiner::{Counts, Room, Spare, StripeRoom, examine_fetched, tell_stripe};
+use stripe_reader::{Starts, Window, fetch_window};
 
 // Tells what is found in the stripes of a window that was examined, one stripe after another.
 fn tell_window<W: Sink>(
@@ -50,57 +58,159 @@ fn tell_window<W: Sink>(
     counts
 }
 
-// So many stripes of a run after some, the table that it goes by, and by how many readers at most.
-#[derive(Clone, Copy)]
-struct Section<'a> {
-    table: &'a Table,
-    first: usize,
-    count: usize,
+// Examines stripes that were fetched into the window of a room, and meanwhile fetches the stripes ahead into the far window.
+fn turn<R: Threads + Sync, F: Folder, V: Vault, P: Spare>(
+    rt: &R,
+    stretch: &Stretch<'_, '_>,
     readers: u32,
+    starts: &Starts,
+    ahead: &[u32],
+    room: &mut Room,
+    far: &mut Window,
+    folders: &mut [F],
+    vault: &mut V,
+    spare: &mut P,
+)
+    requires near { CanExamineFetched (seen stretch.now.plan) stretch.now.stripes.now room.old }
+    requires far { CanRead stretch.now.plan.table.now starts.now ahead.now far.old (length folders.old) }
+    requires levels { (V.view vault.old).levels ≡ stretch.now.plan.table.now.shape.levels }
+    requires spare { IsSpareFor stretch.now.plan.table.now.shape (P.holding spare.old) }
+    ensures far { Fits stretch.now.plan.table.now far.new }
+    ensures fetched { FetchesWindow stretch.now.plan.table.now starts.now ahead.now far.old far.new
+        (map F.view folders.old) (map F.view folders.new) }
+    ensures examined { ExaminesFetched (seen stretch.now.plan) stretch.now.stripes.now room.old room.new
+        (V.view vault.old) (V.view vault.new) (P.holding spare.old) (P.holding spare.new) }
+{
+    let (plan, stripes) = (stretch.plan, stretch.stripes);
+    let (scope, table, entries) = (plan.scope, plan.table, plan.entries);
+    let mut fetching = ||
+        requires { IsSync R.row × IsSend F.row × CanRead table.now starts.now ahead.now far.now (length folders.now) }
+    { fetch_window(rt, folders, table, starts, ahead, far) };
+    let mut examining = ||
+        requires { IsSync R.row × CanExamineFetched (plan_of scope table.now entries.now) stripes.now room.now ×
+            ((V.view vault.now).levels ≡ table.now.shape.levels) × IsSpareFor table.now.shape (P.holding spare.now) }
+    {
+        examine_fetched(
+            rt, scope, table, entries, stripes, readers, room, vault, spare,
+        )
+    };
+    join_mut(rt, &mut fetching, &mut examining);
 }
 
-// Examines some stripes of a run, and tells what is found in them.
-fn check_window<R: Threads + Sync, F: Folder, V: Vault, P: Spare, W: Sink>(
+// Looks at stripes that were fetched into the window of a room: they are examined, while the stripes ahead are fetched into the far
+// window, and then what is found in them is told.
+fn look_at<R: Threads + Sync, F: Folder, V: Vault, P: Spare, W: Sink>(
     rt: &R,
-    next: &Section<'_>,
-    work: &mut Work,
+    stretch: &Stretch<'_, '_>,
+    readers: u32,
+    starts: &Starts,
+    ahead: &[u32],
+    room: &mut Room,
+    far: &mut Window,
     folders: &mut [F],
     vault: &mut V,
     spare: &mut P,
     lines: &mut Lines<'_, W>,
     reports: &mut Vec<Box<dyn Report>>,
 ) -> Counts
-    requires work { IsWorkFor next.now.table.now work.old }
-    requires next { (next.now.first + next.now.count ≤ length work.old.stripes.items) ×
-        (next.now.count ≤ work.old.room.window.room) }
-    requires folders { length folders.old ≡ length next.now.table.now.columns }
-    requires levels { (V.view vault.old).levels ≡ next.now.table.now.shape.levels }
-    requires spare { IsSpareFor next.now.table.now.shape (P.holding spare.old) }
-    ensures work { KeepsWork next.now.table.now work.old work.new ×
-        (work.new.room.window.room ≡ work.old.room.window.room) }
-    ensures checks { ChecksWindow W.view standing stands
-        next.now.table.now work.old (take next.now.count (drop next.now.first work.old.stripes.items)) result
-        (map F.view folders.old) (map F.view folders.new)
+    requires near { CanExamineFetched (seen stretch.now.plan) stretch.now.stripes.now room.old }
+    requires far { CanRead stretch.now.plan.table.now starts.now ahead.now far.old (length folders.old) }
+    requires levels { (V.view vault.old).levels ≡ stretch.now.plan.table.now.shape.levels }
+    requires spare { IsSpareFor stretch.now.plan.table.now.shape (P.holding spare.old) }
+    ensures room { UsesRoom stretch.now.plan.table.now room.old room.new }
+    ensures far { Fits stretch.now.plan.table.now far.new }
+    ensures fetched { FetchesWindow stretch.now.plan.table.now starts.now ahead.now far.old far.new
+        (map F.view folders.old) (map F.view folders.new) }
+    ensures looks { LooksInto W.view standing stands (seen stretch.now.plan) stretch.now.stripes.now
+        (hashed_window stretch.now.plan.table.now.shape room.old.window) result
         (scene (V.view vault.old) (P.holding spare.old) lines.old reports.old.items)
         (scene (V.view vault.new) (P.holding spare.new) lines.new reports.new.items) }
 {
-    let (table, scope, readers) = (next.table, work.scope, next.readers);
-    let stripes = &work.stripes[next.first..next.first + next.count];
-    let entries = &work.entries;
-    let starts = &work.starts;
-    let room = &mut work.room;
-    examine_window(
-        rt, scope, table, entries, starts, stripes, readers, room, folders, vault, spare,
+    turn(
+        rt, stretch, readers, starts, ahead, room, far, folders, vault, spare,
     );
-    let rooms = &room.stripes;
+    let (plan, stripes, rooms) = (stretch.plan, stretch.stripes, &room.stripes);
+    let (scope, table, entries) = (plan.scope, plan.table, plan.entries);
     tell_window(scope, table, entries, stripes, rooms, lines, reports)
 }
 
-/// Looks at all stripes that a run is for: a window of them is examined, and then what is found in each is told.
+// Fetches the first window.
+fn fetch_first<R: Threads + Sync, F: Folder>(
+    rt: &R,
+    table: &Table,
+    work: &mut Work,
+    folders: &mut [F],
+)
+    requires work { IsWorkFor table.now work.old }
+    requires folders { length folders.old ≡ length table.now.columns }
+    ensures rest { work.new ≡ record work.old { room = record work.old.room { window = work.new.room.window } } }
+    ensures fetched { FetchesWindow table.now work.old.starts (take (min (length work.old.stripes.items) work.old.room.window.room) work.old.stripes.items)
+        work.old.room.window work.new.room.window (map F.view folders.old) (map F.view folders.new) }
+{
+    let room = &mut work.room;
+    let count = work.stripes.len().min(room.window.room() as usize);
+    let stripes = &work.stripes[..count];
+    fetch_window(rt, folders, table, &work.starts, stripes, &mut room.window);
+}
+
+// Looks at the stripes of the window that was fetched, which stands after so many, and meanwhile fetches the next ones.
+fn check_window<R: Threads + Sync, F: Folder, V: Vault, P: Spare, W: Sink>(
+    rt: &R,
+    task: &Task<'_>,
+    work: &mut Work,
+    far: &mut Window,
+    done: usize,
+    folders: &mut [F],
+    vault: &mut V,
+    spare: &mut P,
+    lines: &mut Lines<'_, W>,
+    reports: &mut Vec<Box<dyn Report>>,
+) -> Counts
+    requires ready { IsReady task.now.table.now work.old far.old done }
+    requires folders { length folders.old ≡ length task.now.table.now.columns }
+    requires levels { (V.view vault.old).levels ≡ task.now.table.now.shape.levels }
+    requires spare { IsSpareFor task.now.table.now.shape (P.holding spare.old) }
+    ensures rest { work.new ≡ record work.old { room = work.new.room } }
+    ensures room { UsesRoom task.now.table.now work.old.room work.new.room }
+    ensures far { Fits task.now.table.now far.new }
+    ensures fetched { FetchesWindow task.now.table.now work.old.starts (stripes_next work.old far.old done) far.old far.new
+        (map F.view folders.old) (map F.view folders.new) }
+    ensures looks { LooksInto W.view standing stands (plan_for task.now.table.now work.old) (stripes_near work.old done)
+        (hashed_window task.now.table.now.shape work.old.room.window) result
+        (scene (V.view vault.old) (P.holding spare.old) lines.old reports.old.items)
+        (scene (V.view vault.new) (P.holding spare.new) lines.new reports.new.items) }
+{
+    let next = done + work.room.window.count() as usize;
+    let more = (work.stripes.len() - next).min(far.room() as usize);
+    let plan = Plan {
+        scope: work.scope,
+        table: task.table,
+        entries: &work.entries,
+    };
+    let stripes = &work.stripes[done..next];
+    let stretch = Stretch { plan, stripes };
+    let ahead = &work.stripes[next..next + more];
+    let (readers, starts, room) = (task.readers, &work.starts, &mut work.room);
+    look_at(
+        rt, &stretch, readers, starts, ahead, room, far, folders, vault, spare, lines, reports,
+    )
+}
+
+// The window that was fetched is the next to be looked at.
+fn swap_windows(work: &mut Work, far: &mut Window)
+    ensures near { work.new ≡ record work.old { room = record work.old.room { window = far.old } } }
+    ensures far { far.new ≡ work.old.room.window }
+{
+    swap(&mut work.room.window, far);
+}
+
+/// Looks at all stripes that a run is for: a window of them is fetched, and then each is examined and what is found is told, while
+/// the next window is fetched.
 pub(crate) fn check_stripes<R: Threads + Sync, F: Folder, V: Vault, P: Spare, W: Sink>(
     rt: &R,
     task: &Task<'_>,
     work: &mut Work,
+    far: &mut Window,
     folders: &mut [F],
     vault: &mut V,
     spare: &mut P,
@@ -108,6 +218,7 @@ pub(crate) fn check_stripes<R: Threads + Sync, F: Folder, V: Vault, P: Spare, W:
     reports: &mut Vec<Box<dyn Report>>,
 ) -> Counts
     requires work { IsWorkFor task.now.table.now work.old }
+    requires far { Fits task.now.table.now far.old × (far.old.room ≡ work.old.room.window.room) }
     requires folders { length folders.old ≡ length task.now.table.now.columns }
     requires levels { (V.view vault.old).levels ≡ task.now.table.now.shape.levels }
     requires spare { IsSpareFor task.now.table.now.shape (P.holding spare.old) }
@@ -117,19 +228,17 @@ pub(crate) fn check_stripes<R: Threads + Sync, F: Folder, V: Vault, P: Spare, W:
         (scene (V.view vault.old) (P.holding spare.old) lines.old reports.old.items)
         (scene (V.view vault.new) (P.holding spare.new) lines.new reports.new.items) }
 {
+    fetch_first(rt, task.table, work, folders);
     let mut counts = Counts::NONE;
     let mut done = 0;
     while done < work.stripes.len() {
-        let count = (work.stripes.len() - done).min(work.room.window.room() as usize);
-        let next = Section {
-            table: task.table,
-            first: done,
-            count,
-            readers: task.readers,
-        };
-        let more = check_window(rt, &next, work, folders, vault, spare, lines, reports);
+        let count = work.room.window.count();
+        let more = check_window(
+            rt, task, work, far, done, folders, vault, spare, lines, reports,
+        );
         counts = counts.and(more);
-        done += count;
+        done += count as usize;
+        swap_windows(work, far);
     }
     counts
 }

@@ -13,6 +13,7 @@ use snap_report::{Lines, Report, RunFault};
 use std::alloc::Global;
 use std::thread::Threads;
 use stripe_examiner::{Spare, tell_opening};
+use stripe_reader::Window;
 
 /// How a check or a fix ended. Each number stays at the greatest u64.
 #[derive(Clone, Copy, Debug, PartialEq, Eq)]
@@ -50,8 +51,14 @@ pub(crate) fn check<R: Threads + Sync, F: Folder, V: Vault, P: Spare, W: Sink>(
 {
     let (selection, setup, table) = (task.selection, task.setup, task.table);
     let mut work = begin(alloc, task.mode, selection, setup, folders, table)?;
+    let (most, block_size) = (work.room.window.room(), table.shape().block_size);
+    let Ok(mut far) = Window::make(alloc, table.disks(), most, block_size) else {
+        return Err(RunFault::Memory);
+    };
     let opening = tell_opening(work.scope, table, &work.entries, lines, reports);
-    let stripes = check_stripes(rt, task, &mut work, folders, vault, spare, lines, reports);
+    let stripes = check_stripes(
+        rt, task, &mut work, &mut far, folders, vault, spare, lines, reports,
+    );
     let counts = opening.and(stripes);
     lines.end_check(counts.found);
     Ok(FixEnd {

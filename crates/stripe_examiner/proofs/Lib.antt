@@ -5,6 +5,7 @@ pub mod ReadSteps
 pub mod MarkSteps
 pub mod JudgedLemmas
 pub mod WindowShown
+pub mod FrontLemmas
 pub mod FactsAlike
 pub mod FindLemmas
 pub mod FirstLemmas

@@ -128,7 +128,7 @@ facts_from plan read final k [] rooms = []
 facts_from plan read final k (n ∷ numbers) [] = []
 facts_from plan read final k (n ∷ numbers) (own ∷ rooms) = facts_of plan read final n k own ∷ facts_from plan read final (k + 1) numbers rooms
 
-some_room : (rooms : List StripeRoom) (k : ℕ) → k < length rooms → StripeRoom
+pub some_room : (rooms : List StripeRoom) (k : ℕ) → k < length rooms → StripeRoom
 some_room [] k below = absurd (omega (arith, below))
 some_room (own ∷ rooms) zero below = own
 some_room (own ∷ rooms) (suc k) below = some_room rooms k (omega (arith, below))

@@ -2,6 +2,7 @@
 ghost use Rattle.std.specs.Prelude.{◌≡◌, ◌<◌, ◌≤◌, All, length, map, true};
 ghost use Rattle.std.specs.Thread.{IsSend, IsSync};
 ghost use Rattle.stripe_reader.specs.Columns.{ReadsWindow};
+ghost use Rattle.stripe_reader.specs.Fetched.{IsUnhashedWindow, hashed_window};
 ghost use Rattle.stripe_reader.specs.Held.{AreDisksOf, CanRead};
 ghost use Rattle.stripe_reader.specs.WindowValue.{Fits};
 ghost use Rattle.parity_writer.specs.LevelReading.{ReadsLevels};
@@ -18,7 +19,7 @@ use file_table::Table;
 use parity_writer::{Levels, read_levels};
 use repair_scope::is_searched;
 use std::thread::{Threads, join_mut};
-use stripe_reader::{Starts, Window, read_window};
+use stripe_reader::{Starts, Window, hash_window, read_window};
 
 // Reads the levels of a stripe of a table.
 fn read_all<V: Vault>(table: &Table, stripe: u32, vault: &mut V, levels: &mut Levels)
@@ -75,22 +76,23 @@ fn readers_of_use(columns: u32, most: u32) -> u32 {
 pub(crate) fn read_beside<R: Threads + Sync, F: Folder, V: Vault>(
     rt: &R,
     survey: &Survey<'_>,
+    starts: &Starts,
     folders: &mut [F],
     window: &mut Window,
     vault: &mut V,
     rooms: &mut [StripeRoom],
 )
-    requires can { CanRead survey.now.table.now survey.now.starts.now survey.now.stripes.now
+    requires can { CanRead survey.now.table.now starts.now survey.now.stripes.now
         window.old (length folders.old) }
     requires disks { AreDisksOf survey.now.table.now (length folders.old) (V.view vault.old) }
     requires rooms { AreRoomsFor survey.now.table.now (length survey.now.stripes.now) rooms.old }
     ensures window { Fits survey.now.table.now window.new }
-    ensures cells { ReadsWindow survey.now.table.now survey.now.starts.now survey.now.stripes.now
+    ensures cells { ReadsWindow survey.now.table.now starts.now survey.now.stripes.now
         window.old window.new (map F.view folders.old) (map F.view folders.new) }
     ensures levels { ReadsRooms (plan_in survey.now) survey.now.stripes.now rooms.new
         (V.view vault.old) (V.view vault.new) }
 {
-    let (table, starts, stripes) = (survey.table, survey.starts, survey.stripes);
+    let (table, stripes) = (survey.table, survey.stripes);
     let readers = readers_of_use(table.disks(), survey.threads);
     let mut cells = ||
         requires { IsSync R.row × IsSend F.row ×
@@ -101,5 +103,40 @@ pub(crate) fn read_beside<R: Threads + Sync, F: Folder, V: Vault>(
             ((V.view vault.now).levels ≡ survey.now.table.now.shape.levels) ×
             AreRoomsFor survey.now.table.now (length survey.now.stripes.now) rooms.now }
     { read_levels_of(survey, vault, rooms) };
-    join_mut(rt, &mut cells, &mut levels);
+    // This thread goes on with the cells: it starts their readers.
+    join_mut(rt, &mut levels, &mut cells);
+}
+
+/// Hashes the cells that were fetched into a window, and meanwhile reads the levels of its stripes, where a recovery of their blocks
+/// is tried.
+pub(crate) fn hash_beside<R: Threads + Sync, V: Vault>(
+    rt: &R,
+    survey: &Survey<'_>,
+    window: &mut Window,
+    vault: &mut V,
+    rooms: &mut [StripeRoom],
+)
+    requires within { All (λ stripe. stripe < length survey.now.table.now.infos) survey.now.stripes.now }
+    requires size { window.old.block_size ≡ survey.now.table.now.shape.block_size }
+    requires unhashed { IsUnhashedWindow window.old }
+    requires levels { (V.view vault.old).levels ≡ survey.now.table.now.shape.levels }
+    requires rooms { AreRoomsFor survey.now.table.now (length survey.now.stripes.now) rooms.old }
+    ensures window { window.new ≡ hashed_window survey.now.table.now.shape window.old }
+    ensures levels { ReadsRooms (plan_in survey.now) survey.now.stripes.now rooms.new
+        (V.view vault.old) (V.view vault.new) }
+{
+    let shape = &survey.table.shape();
+    let threads = readers_of_use(survey.table.disks(), survey.threads);
+    let mut hashes = ||
+        requires { IsSync R.row × (window.now.block_size ≡ shape.now.block_size) × (shape.now.block_size ≤ 4194304) ×
+            IsUnhashedWindow window.now }
+        ensures { window.exit.now ≡ hashed_window shape.entry.now window.entry.now }
+    { hash_window(rt, *shape, threads, window) };
+    let mut levels = ||
+        requires { All (λ stripe. stripe < length survey.now.table.now.infos) survey.now.stripes.now ×
+            ((V.view vault.now).levels ≡ survey.now.table.now.shape.levels) ×
+            AreRoomsFor survey.now.table.now (length survey.now.stripes.now) rooms.now }
+    { read_levels_of(survey, vault, rooms) };
+    // This thread goes on with the hashes: it starts those that help it.
+    join_mut(rt, &mut levels, &mut hashes);
 }

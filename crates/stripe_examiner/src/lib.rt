@@ -42,5 +42,5 @@ pub use marking::CellMark;
 pub use places::place_all;
 pub use room::{FirstChoice, Room, StripeRoom};
 pub use spare::{NoSpare, Spare};
-pub use surveying::examine_window;
+pub use surveying::{examine_fetched, examine_window};
 pub use telling::{tell_found, tell_opening, tell_stripe};

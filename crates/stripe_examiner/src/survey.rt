@@ -1,7 +1,6 @@
 // What stripes are examined by.
 use file_table::Table;
 use repair_scope::{Entries, Scope};
-use stripe_reader::Starts;
 
 /// Stripes of a table that are examined in one window: for what, by what is known of the files, and by how many threads at most.
 #[derive(Clone, Copy)]
@@ -9,7 +8,6 @@ pub struct Survey<'a> {
     pub scope: Scope,
     pub table: &'a Table,
     pub entries: &'a Entries,
-    pub starts: &'a Starts,
     /// The numbers of the stripes.
     pub stripes: &'a [u32],
     pub threads: u32,

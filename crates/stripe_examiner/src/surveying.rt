@@ -1,12 +1,16 @@
 // A window of stripes, examined.
-ghost use Rattle.std.specs.Prelude.{◌≡◌, length, map};
+ghost use Rattle.std.specs.Prelude.{◌≡◌, ◌<◌, ℕ, length, map, slice_index_or, true};
 ghost use Rattle.stripe_reader.specs.Held.{AreDisksOf};
-ghost use Rattle.repair_scope.specs.Plan.{plan_of};
+ghost use Rattle.repair_scope.specs.Plan.{plan_of, is_searched};
+ghost use Rattle.stripe_examiner.specs.declared.room.StripeRoom.{StripeRoom};
+ghost use Rattle.stripe_examiner.specs.MarkedWindow.{number_at};
+ghost use Rattle.stripe_examiner.specs.Room.{AreRoomsFor};
 ghost use Rattle.stripe_examiner.specs.Spare.{IsSpareFor};
-ghost use Rattle.stripe_examiner.specs.Surveyed.{plan_in};
-ghost use Rattle.stripe_examiner.specs.WindowExamined.{CanExamineRooms, CanExamineWindow, ExaminesRooms, ExaminesWindow};
+ghost use Rattle.stripe_examiner.specs.Surveyed.{CanMark, plan_in};
+ghost use Rattle.stripe_examiner.specs.WindowExamined.{CanExamineFetched, CanExamineFetchedRooms, CanExamineRooms, CanExamineWindow};
+ghost use Rattle.stripe_examiner.specs.WindowExamined.{ExaminesFetched, ExaminesFetchedRooms, ExaminesRead, ExaminesRooms, ExaminesWindow};
 
-use crate::beside::read_beside;
+use crate::beside::{hash_beside, read_beside};
 use crate::judging_window::judge_stripes;
 use crate::marking_window::mark_stripes;
 use crate::putting::put_stripes;
@@ -19,10 +23,38 @@ use repair_scope::{Entries, Scope};
 use std::thread::Threads;
 use stripe_reader::{Starts, Window};
 
-// The same, with as many rooms as there are stripes, or more.
+// Examines stripes whose cells and levels were read: the spare is asked for what is damaged, and then each is judged.
+fn examine_read<R: Threads + Sync, P: Spare>(
+    rt: &R,
+    survey: &Survey<'_>,
+    window: &mut Window,
+    block: &mut [u8],
+    spare: &mut P,
+    rooms: &mut [StripeRoom],
+)
+    requires can { CanMark (plan_in survey.now) survey.now.stripes.now window.old }
+    requires block { length block.old ≡ survey.now.table.now.shape.block_size }
+    requires spare { IsSpareFor survey.now.table.now.shape (P.holding spare.old) }
+    requires rooms { AreRoomsFor survey.now.table.now (length survey.now.stripes.now) rooms.old }
+    requires counts { (k : ℕ) (other : StripeRoom) → k < length survey.now.stripes.now →
+        is_searched (plan_in survey.now) (number_at survey.now.stripes.now k) ≡ true →
+        (slice_index_or rooms.old k other).levels.count ≡ survey.now.table.now.shape.levels }
+    ensures block { length block.new ≡ length block.old }
+    ensures examined { ExaminesRead (plan_in survey.now) survey.now.stripes.now window.old window.new
+        rooms.old rooms.new (P.holding spare.old) (P.holding spare.new) }
+{
+    // A table has at most six levels.
+    let _shape = survey.table.shape();
+    mark_stripes(survey, window, spare, block, rooms);
+    judge_stripes(rt, survey, window, rooms);
+    put_stripes(survey, window, rooms);
+}
+
+// Reads stripes and examines them, with as many rooms as there are stripes, or more.
 fn examine_rooms<R: Threads + Sync, F: Folder, V: Vault, P: Spare>(
     rt: &R,
     survey: &Survey<'_>,
+    starts: &Starts,
     window: &mut Window,
     block: &mut [u8],
     folders: &mut [F],
@@ -30,24 +62,44 @@ fn examine_rooms<R: Threads + Sync, F: Folder, V: Vault, P: Spare>(
     spare: &mut P,
     all: &mut [StripeRoom],
 )
-    requires can { CanExamineRooms (plan_in survey.now) survey.now.starts.now survey.now.stripes.now
+    requires can { CanExamineRooms (plan_in survey.now) starts.now survey.now.stripes.now
         window.old (length folders.old) all.old }
     requires block { length block.old ≡ survey.now.table.now.shape.block_size }
     requires disks { AreDisksOf survey.now.table.now (length folders.old) (V.view vault.old) }
     requires spare { IsSpareFor survey.now.table.now.shape (P.holding spare.old) }
     ensures count { length all.new ≡ length all.old }
     ensures block { length block.new ≡ length block.old }
-    ensures examined { ExaminesRooms (plan_in survey.now) survey.now.starts.now survey.now.stripes.now
+    ensures examined { ExaminesRooms (plan_in survey.now) starts.now survey.now.stripes.now
         window.old window.new all.new (map F.view folders.old) (map F.view folders.new)
         (V.view vault.old) (V.view vault.new) (P.holding spare.old) (P.holding spare.new) }
 {
-    // A table has at most six levels.
-    let _shape = survey.table.shape();
     let rooms = &mut all[..survey.stripes.len()];
-    read_beside(rt, survey, folders, window, vault, rooms);
-    mark_stripes(survey, window, spare, block, rooms);
-    judge_stripes(rt, survey, window, rooms);
-    put_stripes(survey, window, rooms);
+    read_beside(rt, survey, starts, folders, window, vault, rooms);
+    examine_read(rt, survey, window, block, spare, rooms);
+}
+
+// The same of stripes whose cells were fetched.
+fn examine_fetched_rooms<R: Threads + Sync, V: Vault, P: Spare>(
+    rt: &R,
+    survey: &Survey<'_>,
+    window: &mut Window,
+    block: &mut [u8],
+    vault: &mut V,
+    spare: &mut P,
+    all: &mut [StripeRoom],
+)
+    requires can { CanExamineFetchedRooms (plan_in survey.now) survey.now.stripes.now window.old all.old }
+    requires block { length block.old ≡ survey.now.table.now.shape.block_size }
+    requires levels { (V.view vault.old).levels ≡ survey.now.table.now.shape.levels }
+    requires spare { IsSpareFor survey.now.table.now.shape (P.holding spare.old) }
+    ensures count { length all.new ≡ length all.old }
+    ensures block { length block.new ≡ length block.old }
+    ensures examined { ExaminesFetchedRooms (plan_in survey.now) survey.now.stripes.now window.old window.new all.new
+        (V.view vault.old) (V.view vault.new) (P.holding spare.old) (P.holding spare.new) }
+{
+    let rooms = &mut all[..survey.stripes.len()];
+    hash_beside(rt, survey, window, vault, rooms);
+    examine_read(rt, survey, window, block, spare, rooms);
 }
 
 /// Reads these stripes into the window, and their levels where a recovery of their blocks is tried, asks the spare for what is
@@ -78,10 +130,42 @@ pub fn examine_window<R: Threads + Sync, F: Folder, V: Vault, P: Spare>(
         scope,
         table,
         entries,
-        starts,
         stripes,
         threads: readers,
     };
     let (window, block, rooms) = (&mut room.window, &mut room.block, &mut room.stripes);
-    examine_rooms(rt, &survey, window, block, folders, vault, spare, rooms);
+    examine_rooms(
+        rt, &survey, starts, window, block, folders, vault, spare, rooms,
+    );
+}
+
+/// Examines stripes whose cells were fetched into the window: hashes these and meanwhile reads the levels of the stripes where a
+/// recovery of their blocks is tried, asks the spare for what is damaged, and judges each of them, by at most so many threads. The
+/// room of each stripe shows then what is found in it, and the window has its row, where that is known.
+pub fn examine_fetched<R: Threads + Sync, V: Vault, P: Spare>(
+    rt: &R,
+    scope: Scope,
+    table: &Table,
+    entries: &Entries,
+    stripes: &[u32],
+    readers: u32,
+    room: &mut Room,
+    vault: &mut V,
+    spare: &mut P,
+)
+    requires can { CanExamineFetched (plan_of scope table.now entries.now) stripes.now room.old }
+    requires levels { (V.view vault.old).levels ≡ table.now.shape.levels }
+    requires spare { IsSpareFor table.now.shape (P.holding spare.old) }
+    ensures { ExaminesFetched (plan_of scope table.now entries.now) stripes.now room.old room.new
+        (V.view vault.old) (V.view vault.new) (P.holding spare.old) (P.holding spare.new) }
+{
+    let survey = Survey {
+        scope,
+        table,
+        entries,
+        stripes,
+        threads: readers,
+    };
+    let (window, block, rooms) = (&mut room.window, &mut room.block, &mut room.stripes);
+    examine_fetched_rooms(rt, &survey, window, block, vault, spare, rooms);
 }

@@ -17,7 +17,9 @@ use crate::marking::CellMark;
 use block_hash::Digest16;
 use disk_model::Sink;
 use file_table::{Cell, Table};
-use repair_scope::{Entries, Entry, Scope, has_selected_cell, is_as_recorded, is_audit, is_synced, selects_cell};
+use repair_scope::{
+    Entries, Entry, Scope, has_selected_cell, is_as_recorded, is_audit, is_synced, selects_cell,
+};
 use snap_report::events::Event;
 use snap_report::{Lines, Report};
 use stripe_reader::{CellRead, Found, Window};

@@ -6,6 +6,7 @@ use Rattle.snap_report.proofs.ToldLemmas.{told_then}
 use Rattle.snap_fix.specs.Checking.{plan_for}
 use Rattle.stripe_examiner.specs.Findings.{opening_events, events_of}
 use Rattle.snap_fix.proofs.AuditedLemmas.{audit_finds_nothing, capped}
+use Rattle.snap_fix.proofs.BeginningLemmas.{all_listed}
 use Rattle.snap_fix.proofs.CourseLemmas.{entries_begun, work_begun, read_begun}
 use Rattle.snap_fix.proofs.checks.check.Goals as goal
 
@@ -14,6 +15,11 @@ tell_opening-opening-requires g c = entries_begun _ _ _ _ _ _ _ c.in_ok-work.ens
 
 pub check_stripes-stripes-requires-clause-work : goal.check_stripes-stripes-requires-clause-work
 check_stripes-stripes-requires-clause-work g c κs within = work_begun _ _ _ _ _ _ _ c.in_ok-work.ensures.begun
+
+pub returns-in_default-clause-failed : goal.returns-in_default-clause-failed
+returns-in_default-clause-failed g c =
+    let begun = c.in_ok-work.ensures.begun in
+    (all_listed _ _ _ begun.as_many begun.listed, refl, refl, refl, refl)
 
 pub returns-clause-checks : goal.returns-clause-checks
 returns-clause-checks g c =
