@@ -66,12 +66,6 @@ fn read_levels_of<V: Vault>(survey: &Survey<'_>, vault: &mut V, rooms: &mut [Str
     }
 }
 
-// How many readers are of use, of at most so many: no more than give each the fewest columns.
-fn readers_of_use(columns: u32, most: u32) -> u32 {
-    let each = columns.div_ceil(most.max(1)).max(1);
-    columns.div_ceil(each)
-}
-
 /// Reads the stripes of all columns into a window, and meanwhile their levels, where a recovery of their blocks is tried.
 pub(crate) fn read_beside<R: Threads + Sync, F: Folder, V: Vault>(
     rt: &R,
@@ -92,12 +86,11 @@ pub(crate) fn read_beside<R: Threads + Sync, F: Folder, V: Vault>(
     ensures levels { ReadsRooms (plan_in survey.now) survey.now.stripes.now rooms.new
         (V.view vault.old) (V.view vault.new) }
 {
-    let (table, stripes) = (survey.table, survey.stripes);
-    let readers = readers_of_use(table.disks(), survey.threads);
+    let (table, stripes, threads) = (survey.table, survey.stripes, survey.threads);
     let mut cells = ||
         requires { IsSync R.row × IsSend F.row ×
             CanRead table.now starts.now stripes.now window.now (length folders.now) }
-    { read_window(rt, folders, table, starts, stripes, readers, window) };
+    { read_window(rt, folders, table, starts, stripes, threads, window) };
     let mut levels = ||
         requires { All (λ stripe. stripe < length survey.now.table.now.infos) survey.now.stripes.now ×
             ((V.view vault.now).levels ≡ survey.now.table.now.shape.levels) ×
@@ -126,7 +119,7 @@ pub(crate) fn hash_beside<R: Threads + Sync, V: Vault>(
         (V.view vault.old) (V.view vault.new) }
 {
     let shape = &survey.table.shape();
-    let threads = readers_of_use(survey.table.disks(), survey.threads);
+    let threads = survey.threads;
     let mut hashes = ||
         requires { IsSync R.row × (window.now.block_size ≡ shape.now.block_size) × (shape.now.block_size ≤ 4194304) ×
             IsUnhashedWindow window.now }

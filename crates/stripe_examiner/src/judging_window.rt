@@ -16,8 +16,8 @@ use crate::knowing::{see_levels, wanted_blocks};
 use crate::room::StripeRoom;
 use crate::survey::Survey;
 use repair_scope::{has_selected_level, is_audit, is_searched};
-use std::thread::{Threads, for_each_chunk_mut};
-use stripe_reader::Window;
+use std::thread::Threads;
+use stripe_reader::{Window, for_each_chunk_mut};
 
 // Judges a stripe whose levels were read. No sums are needed where nothing is missing and no level is selected.
 fn judge_searched(survey: &Survey<'_>, stripe: u32, i: u32, window: &Window, own: &mut StripeRoom)
