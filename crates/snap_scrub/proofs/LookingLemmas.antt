@@ -15,7 +15,7 @@ use Rattle.stripe_findings.specs.Findings.{stripe_events}
 use Rattle.stripe_findings.specs.Reading.{StripeReading, is_verified, reading_at}
 use Rattle.stripe_findings.proofs.FindingLemmas.{verified_where_nothing}
 use Rattle.stripe_reader.specs.WindowValue.{WindowValue}
-use Rattle.snap_scrub.specs.declared.room.Sums.{Sums}
+use Rattle.parity_writer.specs.declared.summing.Sums.{Sums}
 use Rattle.snap_scrub.specs.declared.verdict.Verdict.{Verdict}
 use Rattle.snap_scrub.specs.declared.verdict.Found.{Found}
 use Rattle.snap_scrub.specs.Findings.{level_events, scrub_events, events_of}

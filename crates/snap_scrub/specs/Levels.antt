@@ -1,7 +1,6 @@
 -- What is found in the levels of a stripe, by what is kept of them.
-use Rattle.std.specs.Prelude.{◌<◌, ℕ, List, [], ◌∷◌, bytes_eq, if◌then◌else◌}
+use Rattle.std.specs.Prelude.{ℕ, List, [], ◌∷◌, bytes_eq, if◌then◌else◌}
 use Rattle.std.specs.List.{range_with_len, flat_map}
-use Rattle.cauchy.specs.Levels.{HoldsLevel}
 use Rattle.cauchy.specs.Matrix.{parity_of as level_of}
 use Rattle.parity_writer.specs.LevelsValue.{LevelsValue, level_at}
 use Rattle.parity_writer.specs.Parity.{Row}
@@ -22,7 +21,3 @@ kept_events_at block_size stripe row levels r = kept_event block_size stripe r r
 -- of the first so many levels, in order
 abbrev pub kept_events : ℕ → ℕ → Row → LevelsValue → ℕ → List Event
 kept_events block_size stripe row levels count = flat_map (kept_events_at block_size stripe row levels) (range_with_len 0 count)
-
--- blocks, one after another, that are the first so many levels of a row
-abbrev pub HoldSums : ℕ → Row → ℕ → List ℕ → Type 0
-HoldSums block_size row count sums = (r : ℕ) → r < count → HoldsLevel block_size row r sums

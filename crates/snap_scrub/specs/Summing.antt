@@ -4,14 +4,8 @@ use Rattle.file_table.specs.Table.{TableValue}
 use Rattle.parity_writer.specs.WindowRow.{row_at}
 use Rattle.stripe_reader.specs.WindowValue.{WindowValue}
 use Rattle.snap_scrub.specs.declared.room.Check.{Check}
-use Rattle.snap_scrub.specs.declared.room.Sums.{Sums}
-use Rattle.snap_scrub.specs.Levels.{HoldSums}
-use Rattle.snap_scrub.specs.Room.{HaveSize}
-
--- room for six blocks has the first levels of the stripe of a number of a window, where there is one
-pub record AreSums (window : WindowValue) (k levels : ℕ) (sums : Sums) : Type 0 where
-  pub size : HaveSize window.block_size sums
-  pub hold : k < window.count → HoldSums window.block_size (row_at window k) levels sums.blocks.items
+use Rattle.parity_writer.specs.declared.summing.Sums.{Sums}
+use Rattle.parity_writer.specs.Summing.{HoldSums}
 
 -- the sums of the stripe of a number of a window stand in its place
 pub record HasSums (table : TableValue) (window : WindowValue) (check : Check) (i : ℕ) : Type 0 where

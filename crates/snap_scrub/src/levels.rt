@@ -7,7 +7,8 @@ ghost use Rattle.parity_writer.specs.LevelsValue.{level_at};
 ghost use Rattle.parity_writer.specs.Parity.{Row};
 ghost use Rattle.snap_report.specs.EventFits.{Fits as EventFits};
 ghost use Rattle.snap_report.specs.Told.{Told};
-ghost use Rattle.snap_scrub.specs.Levels.{HoldSums, kept_event, kept_events_at, kept_events};
+ghost use Rattle.parity_writer.specs.Summing.{HoldSums};
+ghost use Rattle.snap_scrub.specs.Levels.{kept_event, kept_events_at, kept_events};
 ghost use Rattle.snap_scrub.specs.Looking.{AreFound};
 
 use crate::found::{both, nothing, one};

@@ -22,7 +22,6 @@ mod passing;
 mod planning;
 mod room;
 mod scrubbing;
-mod summing;
 mod turning;
 mod verdict;
 mod windows;

@@ -1,7 +1,7 @@
 // A stripe of a window that was read: what is found in it.
 ghost use Rattle.std.specs.Prelude.{◌≡◌, ◌<◌, length, slice_index_or};
 ghost use Rattle.parity_writer.specs.LevelReading.{ReadsLevels};
-ghost use Rattle.snap_scrub.specs.declared.room.Sums.{Sums};
+ghost use Rattle.parity_writer.specs.declared.summing.Sums.{Sums};
 ghost use Rattle.stripe_reader.specs.Held.{HoldsStripes};
 ghost use Rattle.snap_scrub.specs.Looking.{LooksAtOne, scene};
 ghost use Rattle.snap_scrub.specs.Room.{IsCheckFor, KeepsCheck};
@@ -9,12 +9,12 @@ ghost use Rattle.snap_scrub.specs.Summing.{HasSums};
 
 use crate::cells::tell_cells;
 use crate::levels::tell_levels;
-use crate::room::{Check, Sums};
+use crate::room::Check;
 use crate::verdict::Found;
 use crate::windows::Batch;
 use disk_model::{Sink, Vault};
 use file_table::Table;
-use parity_writer::{Levels, read_levels};
+use parity_writer::{Levels, Sums, read_levels};
 use snap_report::{Lines, Report};
 
 // Reads the levels of a stripe of a table.

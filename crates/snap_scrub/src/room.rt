@@ -1,36 +1,15 @@
 // The memory of a scrub.
-ghost use Rattle.std.specs.Prelude.{◌≡◌, All, IfOk, length};
-ghost use Rattle.snap_scrub.specs.Room.{HaveSize, IsRoomFor, IsEnoughFor};
+ghost use Rattle.std.specs.Prelude.{IfOk};
+ghost use Rattle.snap_scrub.specs.Room.{IsRoomFor, IsEnoughFor};
 
 use disk_model::NoMemory;
 use file_table::Table;
-use parity_writer::Levels;
+use parity_writer::{Levels, Sums, make_sums};
 use std::alloc::Global;
 use stripe_reader::{Starts, Window, stripe_count};
 
 // How many bytes are written to a draft at once.
 const PIECE: usize = 65_536;
-
-/// Room for the sums of a stripe.
-#[derive(Drop)]
-pub(crate) struct Sums {
-    /// Six blocks, one after another.
-    pub blocks: Vec<u8>,
-}
-
-// Room for the sums of so many stripes.
-fn make_sums(alloc: Global, stripes: u32, block_size: u32) -> Result<Vec<Sums>, NoMemory>
-    ensures count { IfOk result (λ sums. length sums.items ≡ stripes) }
-    ensures each { IfOk result (λ sums. All (HaveSize block_size) sums.items) }
-{
-    let mut sums = Vec::with_capacity(alloc, stripes as usize)?;
-    for _ in 0..stripes {
-        sums.push(Sums {
-            blocks: vec![in alloc; 0u8; 6 * block_size as usize]?,
-        })?;
-    }
-    Ok(sums)
-}
 
 /// What the levels of a window's stripes are compared in.
 #[derive(Drop)]

@@ -10,11 +10,11 @@ ghost use Rattle.snap_scrub.specs.Windows.{CanLook};
 use crate::found::verdict;
 use crate::looking::look_at;
 use crate::room::Check;
-use crate::summing::sum_stripes;
 use crate::turning::Round;
 use crate::verdict::Verdict;
 use disk_model::{Sink, Vault};
 use file_table::Table;
+use parity_writer::sum_window;
 use snap_report::{Lines, Report};
 use std::thread::Threads;
 use stripe_reader::{Window, hash_window};
@@ -89,7 +89,7 @@ pub(crate) fn look_window<R: Threads + Sync, V: Vault, W: Sink>(
     hash_near(rt, round, window);
     let levels = round.table.shape().levels;
     let sums = check.sums.as_mut_slice();
-    sum_stripes(rt, window, levels, round.threads, sums);
+    sum_window(rt, window, levels, round.threads, sums);
     let batch = Batch {
         table: round.table,
         stripes: round.stripes,

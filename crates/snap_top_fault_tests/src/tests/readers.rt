@@ -158,13 +158,13 @@ fn two_disks_are_read_at_once(rt: HostRuntime) -> Result<(), Fail> {
     Ok(())
 }
 
-// One reader reads the second disk after the first one, which waited for that in vain.
+// A reader reads the disks that it owns side by side, too.
 #[test]
-fn one_reader_reads_two_disks_in_turn(rt: HostRuntime) -> Result<(), Fail> {
+fn one_reader_reads_two_disks_at_once(rt: HostRuntime) -> Result<(), Fail> {
     let first = vault(rt.alloc(), EMPTY)?;
     let done = "sync: 1 stripes synced, 0 pending\n";
     let words = ["snapraid", "sync", "-c", "FILE", "--readers", "1"];
-    let found = sees_readings(&rt, rt.alloc(), &words, 3, first, done, 1)?;
+    let found = sees_readings(&rt, rt.alloc(), &words, 3, first, done, 2)?;
     assert!(rt; found.is_some());
     Ok(())
 }

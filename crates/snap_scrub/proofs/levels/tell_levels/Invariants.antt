@@ -1,7 +1,8 @@
 use Rattle.std.proofs.Common.{◌≤◌}
 use Rattle.parity_writer.specs.Parity.{Row}
 use Rattle.snap_report.specs.Told.{Told}
-use Rattle.snap_scrub.specs.Levels.{HoldSums, kept_events}
+use Rattle.parity_writer.specs.Summing.{HoldSums}
+use Rattle.snap_scrub.specs.Levels.{kept_events}
 use Rattle.snap_scrub.specs.Looking.{AreFound}
 use Rattle.snap_scrub.proofs.levels.tell_levels.Given as goal
 

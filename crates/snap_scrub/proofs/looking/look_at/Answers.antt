@@ -1,12 +1,13 @@
 use Rattle.std.specs.Prelude.{slice_index_or}
-use Rattle.snap_scrub.specs.declared.room.Sums.{Sums}
+use Rattle.parity_writer.specs.declared.summing.Sums.{Sums}
 use Rattle.std.proofs.Common.{ℕ, ◌≡◌, ◌*◌, ◌++◌, length, [], List, get_or, refl, sym, ap, ◌∙◌, subst, arith}
 use Rattle.parity_writer.specs.WindowRow.{row_at}
 use Rattle.snap_report.proofs.ToldLemmas.{told_then}
 use Rattle.snap_report.specs.declared.events.Event.{Event}
 use Rattle.stripe_findings.specs.Findings.{stripe_events}
 use Rattle.stripe_findings.specs.Reading.{reading_at}
-use Rattle.snap_scrub.specs.Levels.{HoldSums, kept_events}
+use Rattle.parity_writer.specs.Summing.{HoldSums}
+use Rattle.snap_scrub.specs.Levels.{kept_events}
 use Rattle.snap_scrub.specs.Reading.{ScrubReading}
 use Rattle.snap_scrub.proofs.FoundLemmas.{found_as}
 use Rattle.snap_scrub.proofs.LevelLemmas.{levels_say, row_of_window}

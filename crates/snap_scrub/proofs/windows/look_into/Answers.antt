@@ -1,8 +1,8 @@
 use Rattle.std.proofs.Common.{◌≡◌, ◌+◌, ◌<◌, List, get_or, length, set, take, refl, ap, ◌∙◌, subst, sym, arith}
 use Rattle.std.proofs.lemmas.List.{length-set, take_more_set}
 use Rattle.parity_writer.specs.WindowRow.{row_at}
-use Rattle.snap_scrub.specs.declared.room.Sums.{Sums}
-use Rattle.snap_scrub.specs.Levels.{HoldSums}
+use Rattle.parity_writer.specs.declared.summing.Sums.{Sums}
+use Rattle.parity_writer.specs.Summing.{HoldSums}
 use Rattle.snap_scrub.proofs.LookingLemmas.{into_none, into_more}
 use Rattle.snap_scrub.proofs.windows.look_into.Goals as goal
 

@@ -1,6 +1,6 @@
 use Rattle.std.proofs.Common.{rules, ℕ, All, ap, subst, arith}
 use Rattle.file_table.specs.declared.shape.Shape.{Shape}
-use Rattle.snap_scrub.specs.Room.{HaveSize}
+use Rattle.parity_writer.specs.Summing.{HaveSize}
 use Rattle.snap_scrub.proofs.room.Room.make.Goals as goal
 
 pub returns-clause-room : goal.returns-clause-room
