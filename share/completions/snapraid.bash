@@ -80,4 +80,4 @@ _snapraid() {
     fi
 }
 
-complete -F _snapraid snapraid
+complete -F _snapraid snapraid hadlixu
