@@ -83,11 +83,24 @@ class Adopted:
             raise Wrong(f"{words} says {said[-600:]} and not {last}")
 
     def killed_sync(self, rnd):
-        """A sync that saves after each few stripes, and is killed at some moment."""
+        """A sync that saves after each two stripes, and is killed after some of these. How many stripes it saved is returned. The real
+        tool then finds nothing wrong, and restores a file."""
+        saves, last = rnd.randint(1, 6), os.stat(f"{self.array.room}/new0").st_ino
         with subprocess.Popen(self.words("sync", "--save-every", "2"), stdout=subprocess.DEVNULL, stderr=subprocess.DEVNULL) as sync:
-            time.sleep(rnd.random() * 0.3)
+            while saves and sync.poll() is None:
+                number = os.stat(f"{self.array.room}/new0").st_ino
+                saves, last = saves - (number != last), number
+                time.sleep(0.001)
             sync.kill()
         self.array.must("check")
+        folder = rnd.choice(self.array.folders)
+        files = tree(folder)
+        for path in rnd.sample(sorted(files), min(1, len(files))):
+            os.remove(os.path.join(folder, path))
+            self.array.must("fix", "-m")
+        same(f"what the real tool restored in {folder}", tree(folder), files)
+        said = subprocess.run(self.words("status"), capture_output=True, check=False).stdout.decode()
+        return int(re.search("^synced ([0-9]+)$", said, re.MULTILINE).group(1))
 
     def held(self):
         """The stripes that hold a block, by the content file of this program, which is read as docs/FORMATS.md says."""
@@ -134,9 +147,7 @@ def one_run(room, program, real, seed):
     same("the two copies", *bytes_of([f"{room}/new0", f"{room}/new1"]))
     adopt(array, 1)
     now = Adopted(array, program, before)
-    killed = rnd.random() < 0.5
-    if killed:
-        now.killed_sync(rnd)
+    saved = now.killed_sync(rnd) if rnd.random() < 0.5 else None
     now.run(0, " 0 pending", "sync")
     now.compare_parity()
     now.run(0, "check: 0 findings", "check")
@@ -146,7 +157,7 @@ def one_run(room, program, real, seed):
     array.must("check")
     same("files", [tree(folder) for folder in array.folders], trees)
     same("old content files", bytes_of(array.contents()), contents)
-    return f"{array.levels} levels, {len(array.folders)} disks, {len(now.held())} stripes{', killed' if killed else ''}"
+    return f"{array.levels} levels, {len(array.folders)} disks, {len(now.held())} stripes{'' if saved is None else f', killed when {saved} were saved'}"
 
 
 def main(words):

@@ -5,8 +5,9 @@ import os
 import time
 
 from configuration import LEVELS, MOST_KIB, Refused
-from disks import LONGEST_PATH, exclusion, regular_length
+from disks import exclusion, regular_length
 from old_content import old_content
+from snapraid_array import LONGEST_RECORD, is_record_path
 
 MOST_BLOCKS, MOST_FILES, MOST_COLUMNS, DAY = 67_108_864, 16_777_216, 251, 86_400
 AGAIN = "Run 'sync' of the old program again"
@@ -77,7 +78,7 @@ def check_names(content, reasons):
     for column in content.columns:
         wrong, folders = [], set()
         for record in column.records:
-            if not is_record_path(record.path):
+            if not can_be_recorded(record.path):
                 wrong.append(record.path)
             folder = os.path.dirname(record.path)
             while folder and folder not in folders:
@@ -87,17 +88,15 @@ def check_names(content, reasons):
         column.records.sort(key=lambda record: record.path)
         wrong += [one.path for one, next_one in zip(column.records, column.records[1:]) if one.path == next_one.path]
         reasons.each([column.name.encode() + b":" + path for path in wrong], "this name cannot be recorded: a path is UTF-8 of at "
-                     f"most {LONGEST_PATH} bytes, and no part of it ends in .unrecoverable")
+                     f"most {LONGEST_RECORD} bytes, and no part of it ends in .unrecoverable")
 
 
-def is_record_path(path):
+def can_be_recorded(path):
     try:
         path.decode()
     except UnicodeDecodeError:
         return False
-    parts = path.split(b"/")
-    return (len(path) <= LONGEST_PATH and not any(part in (b"", b".", b"..") for part in parts)
-            and b"\0" not in path and b".unrecoverable/" not in path + b"/")
+    return is_record_path(path) and not {b"", b".", b".."} & set(path.split(b"/")) and b"\0" not in path
 
 
 def has_to_say(new, line, reasons):

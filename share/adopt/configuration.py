@@ -2,6 +2,8 @@
 import os
 import re
 
+from snapraid_array import is_record_path, pattern, shown
+
 MOST_KIB = 4096
 LEVELS = ["parity", "2-parity", "3-parity", "4-parity", "5-parity", "6-parity"]
 NAME = re.compile(r"[A-Za-z0-9_.-]{1,64}")
@@ -24,15 +26,9 @@ class Reasons:
     def each(self, names, text):
         """A line for each of these names, or for the first of them."""
         for name in names[:MOST_TOLD]:
-            self.add(f"{printed(name)}: {text}")
+            self.add(f"{shown(name)}: {text}")
         if len(names) > MOST_TOLD:
             self.add(f"{len(names) - MOST_TOLD} more: {text}")
-
-
-def printed(name):
-    """A name with escapes for what is no plain text."""
-    text = name.decode("utf-8", "backslashreplace") if isinstance(name, bytes) else name
-    return re.sub(r"[\0-\x1f\x7f]", lambda found: f"\\x{ord(found.group()):02x}", text)
 
 
 # Configurations
@@ -139,21 +135,19 @@ def check_configuration(new):
         raise Refused(f"{new.name}: blocksize is 1 to {MOST_KIB}")
 
 
-def rule(where, pattern):
-    """What a pattern matches, of a path with a slash before it."""
-    inside = pattern[1:-1]
-    if pattern in ("", "/") or re.search(r"\[|\*\*|//", pattern) or ("/" in inside and not pattern.startswith("/")):
+def rule(where, text):
+    """What a pattern matches, from the front of a path."""
+    if text in ("", "/") or re.search(r"\[|\*\*|//", text) or ("/" in text[1:-1] and not text.startswith("/")):
         raise Refused(f"{where}: bad pattern")
-    text = "".join({"*": "[^/]*", "?": "[^/]"}.get(letter, re.escape(letter)) for letter in pattern)
-    before = "" if pattern.startswith("/") else ".*/"
-    return re.compile(before + text + (".+" if pattern.endswith("/") else ""), re.DOTALL)
+    return re.compile(pattern(text), re.DOTALL)
 
 
-def keeps(new, text):
-    """Whether the rules keep a path, which has a slash before it."""
-    if text.endswith(".unrecoverable") or ".unrecoverable/" in text or not new.hidden_too and "/." in text:
+def keeps(new, path):
+    """Whether a sync keeps a file, as far as its path says."""
+    if not is_record_path(path) or not new.hidden_too and (path.startswith(b".") or b"/." in path):
         return False
-    for includes, pattern in new.rules:
-        if pattern.fullmatch(text):
+    text = path.decode()
+    for includes, matches in new.rules:
+        if matches.match(text):
             return includes
     return not new.rules or not new.rules[-1][0]

@@ -6,7 +6,6 @@ from concurrent.futures import ThreadPoolExecutor
 from configuration import keeps
 
 SECOND = 1_000_000_000
-LONGEST_PATH = 4082
 
 
 class Found:
@@ -26,7 +25,7 @@ def walked(new, directory):
             for entry in entries:
                 path = os.path.join(below, entry.name)
                 try:
-                    text = "/" + path.decode()
+                    path.decode()
                 except UnicodeDecodeError:
                     found.no_names.append(path)
                     continue
@@ -34,7 +33,7 @@ def walked(new, directory):
                     pending.append(path)
                     if entry.stat(follow_symlinks=False).st_dev != device:
                         found.mounts.append(path)
-                elif entry.is_file(follow_symlinks=False) and len(path) <= LONGEST_PATH and keeps(new, text):
+                elif entry.is_file(follow_symlinks=False) and keeps(new, path):
                     if os.path.join(root, path) not in own:
                         seen = entry.stat(follow_symlinks=False)
                         found.files[path] = seen.st_size, seen.st_mtime_ns

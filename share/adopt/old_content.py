@@ -49,7 +49,7 @@ class Content:
         self.block, self.length, self.hash_size = 0, 0, 16
         self.columns, self.levels, self.parts_used = [], 0, []
         self.unsynced, self.deleted, self.bad, self.oldest = 0, 0, 0, None
-        self.occupied = bytearray()
+        self.occupied = None
 
     def read(self, data):
         readers = {ord(letter): reader for letter, reader in {
@@ -60,7 +60,7 @@ class Content:
         at, end = len(HEADERS[0]), len(data) - 5
         while at < end:
             at = readers[data[at]](data, at + 1)
-        if at != end:
+        if at != end or self.occupied is None:
             raise ValueError
 
     def read_block_size(self, data, at):
