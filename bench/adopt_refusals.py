@@ -186,7 +186,7 @@ TRIALS = {
     "an empty copy": changed_array(lambda a: os.truncate(a.contents()[0], 0), "is empty"),
     "a damaged byte": changed_array(lambda a: all_copies(a, lambda name: other_byte(name, 40)), "it is damaged"),
     "a cut content file": changed_array(lambda a: all_copies(a, lambda name: os.truncate(name, 60)), "it is damaged"),
-    "an older content file": changed_array(lambda a: all_copies(a, lambda name: other_byte(name, 7, 3)), "not written by SnapRAID 11 or 12"),
+    "an older content file": changed_array(lambda a: all_copies(a, lambda name: other_byte(name, 7, 3)), "by SnapRAID 11 or 12"),
     "no content file": changed_array(lambda a: all_copies(a, lambda name: other_byte(name, 0)), "no content file of SnapRAID"),
     "a scrub of long ago": changed_array(lambda a: None, "Run 'scrub -p full'", "--scrubbed-within", "0", cure=["--compare"]),
     "rot behind the scrub": changed_array(lambda a: other_byte(file_of(a, 2), 1500), "parity is not the sum", "--compare"),
