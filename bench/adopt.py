@@ -157,7 +157,8 @@ def one_run(room, program, real, seed):
     array.must("check")
     same("files", [tree(folder) for folder in array.folders], trees)
     same("old content files", bytes_of(array.contents()), contents)
-    return f"{array.levels} levels, {len(array.folders)} disks, {len(now.held())} stripes{'' if saved is None else f', killed when {saved} were saved'}"
+    killed = "" if saved is None else f", killed when {saved} were saved"
+    return f"{array.levels} levels, {len(array.folders)} disks, {len(now.held())} stripes{killed}"
 
 
 def main(words):

@@ -3,6 +3,7 @@ import fcntl
 import os
 import random
 import resource
+import struct
 import subprocess
 import sys
 
@@ -31,12 +32,14 @@ def other_byte(name, at, flipped=1):
     os.utime(name, ns=(stamp, stamp))
 
 
-def small(room, real):
+def small(room, real, kib=1):
     """Three disks with a few files each, two levels, synced and scrubbed by the real tool."""
     array = OldArray(room, random.Random(1), real, levels=2, disks=3)
+    array.kib = kib
+    array.configure()
     for folder in array.folders:
         for number in range(3):
-            write(f"{folder}/part/file{number}", array.rnd.randbytes(array.kib * 1024 * (number + 1)))
+            write(f"{folder}/part/file{number}", array.rnd.randbytes(1024 * (number + 1)))
     array.must("sync")
     array.must("scrub", "-p", "full")
     return array
@@ -177,6 +180,46 @@ def full_disk(array):
     tried(array, 3, "File too large", limit=100)
 
 
+def large_blocks(array):
+    """An array whose blocks are larger than those of this program."""
+    os.mkdir(f"{array.room}/large")
+    large = small(f"{array.room}/large", array.real, kib=8192)
+    large.kept, large.kib = set(), 4096
+    ready(large)
+    tried(large, 1, "blocks of 8388608 bytes are not those of this program")
+
+
+def no_nanoseconds(array):
+    """Times that were recorded without nanoseconds are those of the disks."""
+    seconds, nanos = divmod(STAMP, 1_000_000_000)
+    value, recorded = nanos + 1, bytearray()
+    while value > 0x7F:
+        recorded.append(value & 0x7F)
+        value >>= 7
+    recorded.append(value | 0x80)
+    with open(array.contents()[0], "rb") as file:
+        data = file.read()[:-4]
+    if data.count(recorded) != 9:
+        raise AssertionError("other times than those of the nine files were recorded")
+    data = data.replace(recorded, b"\x80")
+    for name in array.contents():
+        write(name, data + plain_crc(data).to_bytes(4, "little"))
+    tried(array, 0, "9 files unchanged, 0 changed, 0 gone and 0 new")
+    with open(f"{array.room}/new0", "rb") as file:
+        if file.read().count(struct.pack("<qI", seconds, nanos)) != 9:
+            raise AssertionError("the times of the disks were not taken")
+
+
+def plain_crc(data):
+    """CRC-32C, bit by bit."""
+    state = 0xFFFFFFFF
+    for byte in data:
+        state ^= byte
+        for _ in range(8):
+            state = state >> 1 ^ (0x82F63B78 if state & 1 else 0)
+    return state ^ 0xFFFFFFFF
+
+
 TRIALS = {
     "blocks that are not synced": changed_array(unsynced, "blocks are not synced"),
     "deleted blocks": changed_array(lambda a: (os.remove(file_of(a, 2)), a.run("sync", "-B", "1")), "deleted ones are in the parity"),
@@ -186,7 +229,7 @@ TRIALS = {
     "an empty copy": changed_array(lambda a: os.truncate(a.contents()[0], 0), "is empty"),
     "a damaged byte": changed_array(lambda a: all_copies(a, lambda name: other_byte(name, 40)), "it is damaged"),
     "a cut content file": changed_array(lambda a: all_copies(a, lambda name: os.truncate(name, 60)), "it is damaged"),
-    "an older content file": changed_array(lambda a: all_copies(a, lambda name: other_byte(name, 7, 3)), "not written by SnapRAID 11 or 12"),
+    "an older content file": changed_array(lambda a: all_copies(a, lambda name: other_byte(name, 7, 3)), "by SnapRAID 11 or 12"),
     "no content file": changed_array(lambda a: all_copies(a, lambda name: other_byte(name, 0)), "no content file of SnapRAID"),
     "a scrub of long ago": changed_array(lambda a: None, "Run 'scrub -p full'", "--scrubbed-within", "0", cure=["--compare"]),
     "rot behind the scrub": changed_array(lambda a: other_byte(file_of(a, 2), 1500), "parity is not the sum", "--compare"),
@@ -213,6 +256,8 @@ TRIALS = {
     "a keyword that is none": changed_array(lambda a: ready(a, ["what ever"]), "unknown keyword"),
     "hard links": hard_links,
     "content files among the data": content_among_data,
+    "blocks that are too large": large_blocks,
+    "times without nanoseconds": no_nanoseconds,
     "a run of the old program": held,
     "wrong words": words,
     "no configuration": missing,
@@ -232,4 +277,4 @@ def refuse_all(room, real):
             trial(array)
         except AssertionError as wrong:
             raise AssertionError(f"{name}, in {folder}: {wrong}") from wrong
-        print(f"refused: {name}", flush=True)
+        print(f"as it has to be: {name}", flush=True)

@@ -106,7 +106,7 @@ def has_to_say(new, line, reasons):
 
 def check_parity(old, new, content, reasons):
     """The new configuration names the parity files of the old one, and they are long enough."""
-    if new.kib * 1024 != content.block:
+    if content.block != new.kib * 1024 and content.block <= MOST_KIB * 1024:
         has_to_say(new, f"blocksize {content.block // 1024}", reasons)
     if len(old.levels) != content.levels:
         reasons.add(f"{old.name} has {len(old.levels)} levels, and its content {content.levels}. {AGAIN}")
