@@ -313,6 +313,8 @@ SAME_FILES = [
                                                                prepare=hard_link_to_parity, names=("par/p", "c/other"))),
     ("a log that is a parity file", one_file(words="-l ROOM/par/../par/p", names=("par/p", "par/../par/p"))),
     ("a log that is the content file", one_file(words="-l ROOM/par/../c/content", names=("c/content", "par/../c/content"))),
+    ("a log that is the configuration", one_file(words="-l ROOM/c/../conf", names=("conf", "c/../conf"))),
+    ("a content file that is the configuration", one_file(("ROOM/c/content\n", "ROOM/c/content\ncontent ROOM/conf\n"), names=("conf", "conf"))),
     ("a data folder inside of another one", one_file(("data d2 ROOM/d2/", "data d2 ROOM/d1/s/"), names=("d1", "d1/s"))),
     ("two data folders that are the same", one_file(("data d2 ROOM/d2/", "data d2 ROOM/c/../d1/"), names=("d1", "c/../d1"))),
 ]

@@ -62,4 +62,4 @@ complete -c snapraid -n '__snapraid_may scrub' -s o -l older-than -x -d 'leave o
 complete -c snapraid -n '__snapraid_may sync' -s Z -l force-zero -d 'accept files that have become empty'
 complete -c snapraid -n '__snapraid_may sync' -s E -l force-empty -d 'accept disks that lost all files'
 complete -c snapraid -n '__snapraid_may sync' -l save-every -x -d 'save after so many stripes'
-complete -c snapraid -n '__snapraid_may sync scrub check fix' -l readers -x -a '1 2 3 4 6 8 12 16' -d 'how many disks are read at once'
+complete -c snapraid -n '__snapraid_may sync scrub check fix' -l readers -x -a '1 2 3 4 6 8 12 16' -d 'how many threads hash blocks'
