@@ -33,17 +33,21 @@ struct Named<'a> {
     spot: Spot<'a>,
 }
 
-/// Whether all parity files, copies, their drafts and the log are different files, and no data folder is another one or
-/// inside of it. If not, `failures` says which. What cannot be looked at is left to the call that needs it.
+/// Whether the configuration, all parity files, copies, their drafts and the log are different files, and no data folder is
+/// another one or inside of it. If not, `failures` says which. What cannot be looked at is left to the call that needs it.
 pub(crate) fn are_apart<R: Files>(
     alloc: Global,
     rt: &R,
     places: &Places,
+    config: Option<&Text>,
     log: Option<&Text>,
     failures: &mut Failures,
 ) -> Result<bool, NoMemory> {
     let drafts = draft_names(alloc, places.contents.as_slice())?;
     let mut files = Vec::new(alloc);
+    if let Some(config) = config {
+        name_one(rt, config, &mut files)?;
+    }
     name_all(rt, places.parities.as_slice(), &mut files)?;
     name_all(rt, places.contents.as_slice(), &mut files)?;
     name_all(rt, drafts.as_slice(), &mut files)?;

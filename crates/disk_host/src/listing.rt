@@ -15,6 +15,9 @@ use std::{fs, io};
 // The longest path of a file.
 const LONGEST: usize = 4096;
 
+// How often a folder is looked through again for what vanished in it.
+const LOOKS: u32 = 4;
+
 // What was found so far, the folders that are still to be gone through, by their paths, and whether any of what was
 // found was gone when it was come to.
 #[derive(Drop)]
@@ -94,26 +97,30 @@ impl Walk {
         name: &str,
         folder: &str,
     ) -> io::Result<()> {
+        let mut misses_some = false;
         for entry in fs::read_dir(rt, name)? {
-            self.take(alloc, folder, &entry?)?;
+            misses_some = self.take(alloc, folder, &entry?)? || misses_some;
+        }
+        if misses_some {
+            require_gone(rt, name)?;
         }
         Ok(())
     }
 
-    // A file is kept, a folder is gone through later, and all else is passed over.
+    // A file is kept, a folder is gone through later, and all else is passed over. Answers whether it is gone.
     fn take<R: Files>(
         &mut self,
         alloc: Global,
         folder: &str,
         entry: &DirEntry<R>,
-    ) -> io::Result<()> {
+    ) -> io::Result<bool> {
         let path = joined(alloc, folder, entry.file_name())?;
         if path.len() > LONGEST {
-            return Ok(());
+            return Ok(false);
         }
         let seen = entry.metadata();
         if self.misses(&seen) {
-            return Ok(());
+            return Ok(true);
         }
         let seen = seen?;
         if seen.is_dir() {
@@ -125,7 +132,7 @@ impl Walk {
                 meta: meta_of(&seen)?,
             })?;
         }
-        Ok(())
+        Ok(false)
     }
 
     fn sort(&mut self) -> io::Result<()> {
@@ -133,6 +140,29 @@ impl Walk {
             .sort_by(|a, b| a.path.as_str().cmp(b.path.as_str()))?;
         Ok(())
     }
+}
+
+// Whether each entry of a folder is there when it is come to.
+fn has_all<R: Files + AllocGlobal + Clone + Drop>(rt: &R, name: &str) -> io::Result<bool> {
+    for entry in fs::read_dir(rt, name)? {
+        match entry?.metadata() {
+            Ok(_) => {}
+            Err(error) if error.kind() == ErrorKind::NotFound => return Ok(false),
+            Err(error) => return Err(error),
+        }
+    }
+    Ok(true)
+}
+
+// What was removed is listed no more. A name that stays in its folder and is never there is one that a damaged file system
+// cannot look at: to pass over it would be to take its file for deleted.
+fn require_gone<R: Files + AllocGlobal + Clone + Drop>(rt: &R, name: &str) -> io::Result<()> {
+    for _ in 0..LOOKS {
+        if has_all(rt, name)? {
+            return Ok(());
+        }
+    }
+    Err(io::Error::new(ErrorKind::InvalidData, "a name in it cannot be looked at"))
 }
 
 // Whatever vanishes with its disk was not removed: then another folder is in the place of the data folder, or none.

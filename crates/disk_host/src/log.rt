@@ -91,9 +91,10 @@ fn is_something<R: Files>(rt: &R, name: &str) -> io::Result<bool> {
 }
 
 // Empties the log before the run has a line for it. A pipe or a device is left until then: it has nothing to be emptied
-// of, and its other end would see it end.
+// of, and its other end would see it end. A folder is no log.
 pub(crate) fn empty_log<R: Files>(rt: &R, name: &str, failures: &mut Failures) {
     let emptied = match fs::metadata(rt, name) {
+        Ok(seen) if seen.is_dir() => Err(io::Error::from(ErrorKind::IsADirectory)),
         Ok(seen) if !seen.is_file() => Ok(()),
         _ => empty_file(rt, name).map(|_file| ()),
     };

@@ -24,11 +24,13 @@ const LONGEST: u64 = 1_048_577;
 // More names than a vault can number.
 const MANY: usize = 1 << 32;
 
-/// Opens what a configuration names, by name. It is a failure where two of the names are those of one file, or where one
-/// data folder is another one or inside of it.
+/// Opens what a configuration names, by name. It is a failure where two of the names are those of one file, the
+/// configuration among them, or where one data folder is another one or inside of it.
 #[derive(Drop)]
 pub struct DiskOpener<R> {
     rt: R,
+    // the configuration that was read last
+    config: Option<Text>,
     log: Option<Text>,
     faults: u64,
     failures: Failures,
@@ -41,13 +43,14 @@ impl<R: Files> DiskOpener<R> {
         DiskOpener::with_log(alloc, rt, None)
     }
 
-    /// One of a run that may write a log. The log has to be another file than all that are opened. Once that is known it
+    /// One of a run that may write a log. The log has to be another file than the configuration and all that are opened. Once that is known it
     /// is emptied, or made. Where that fails, `failures` tells it, and what is to be written to the log fails.
     pub fn with_log(alloc: Global, rt: R, log: Option<Text>) -> DiskOpener<R>
         ensures { result.faults ≡ 0 }
     {
         DiskOpener {
             rt,
+            config: None,
             log,
             faults: 0,
             failures: Failures::none(alloc),
@@ -129,10 +132,11 @@ fn may_open<R: Files>(
     alloc: Global,
     rt: &R,
     places: &Places,
+    config: Option<&Text>,
     log: Option<&Text>,
     failures: &mut Failures,
 ) -> Result<bool, NoMemory> {
-    let are_apart = are_apart(alloc, rt, places, log, failures)?;
+    let are_apart = are_apart(alloc, rt, places, config, log, failures)?;
     if are_apart {
         if let Some(log) = log {
             empty_log(rt, log.as_str(), failures);
@@ -158,6 +162,10 @@ where
     }
 
     fn config(&mut self, alloc: Global, name: &str) -> Result<Vec<u8>, OpenFault> {
+        let Ok(own) = Text::new(alloc, name) else {
+            return Err(OpenFault::Memory);
+        };
+        self.config = Some(own);
         let mut bytes = Vec::new(alloc);
         let answer = read_start(&self.rt, name, &mut bytes);
         self.failures.note(Request::Read, name, &answer);
@@ -180,8 +188,8 @@ where
             raise(&mut self.faults);
             return Err(OpenFault::Failed);
         }
-        let log = self.log.as_ref();
-        let may_open = may_open(alloc, &self.rt, places, log, &mut self.failures);
+        let (config, log) = (self.config.as_ref(), self.log.as_ref());
+        let may_open = may_open(alloc, &self.rt, places, config, log, &mut self.failures);
         if may_open.is_err() {
             return Err(OpenFault::Memory);
         }

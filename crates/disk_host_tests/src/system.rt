@@ -89,8 +89,11 @@ pub const SYSTEM_HAS_NO_MEMORY: &str = "system-has-no-memory";
 
 const ENOMEM: i32 = 12;
 
-// Ends the name of a file that is gone once it is looked at.
+// Ends the name of a file that is removed just before it is looked at.
 const VANISHES: &str = "/vanishes";
+
+// Ends the name of a file that is listed, and is never there.
+const STUCK: &str = "/stuck";
 
 // Ends the name of a folder that is gone once it is entered.
 const GONE: &str = "/gone/";
@@ -258,6 +261,10 @@ impl<R: Files + AllocGlobal> Files for System<R> {
 
     fn symlink_metadata(&self, path: &str) -> io::Result<Metadata> {
         if path.ends_with(VANISHES) {
+            let _ = self.rt.remove_file(path);
+            return Err(self.watch.vanish());
+        }
+        if path.ends_with(STUCK) {
             return Err(self.watch.vanish());
         }
         self.rt.symlink_metadata(inside(path))

@@ -67,7 +67,7 @@ impl<'a, W: Sink> Causes<'a, W> {
                 Piece::Text(" '"),
                 Piece::Printed(failure.name.as_str()),
                 Piece::Text("': "),
-                Piece::Text(failure.why.as_str()),
+                Piece::Printed(failure.why.as_str()),
                 Piece::Text("\n"),
             ]),
         }

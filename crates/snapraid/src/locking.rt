@@ -2,7 +2,7 @@
 use disk_model::{NoMemory, Sink, Text};
 use snap_config::{Command, Options, WordsFault, read_words};
 use snap_report::{Lines, Piece};
-use std::fs::{File, TryLockError};
+use std::fs::{File, OpenOptions, TryLockError};
 use std::{fs, io};
 
 /// What a run holds of its configuration, to its end.
@@ -63,11 +63,15 @@ fn lock_file(rt: &HostRuntime, name: &str, beside: Beside) -> Result<File, TryLo
     Ok(file)
 }
 
+// It is opened to be written too, where that may be: file systems over a network lock no other file for one alone.
 fn open_regular(rt: &HostRuntime, name: &str) -> io::Result<File> {
     if !fs::metadata(rt, name)?.is_file() {
         return Err(io::Error::from(io::ErrorKind::Unsupported));
     }
-    File::open(rt, name)
+    match OpenOptions::new().read(true).write(true).open(rt, name) {
+        Ok(file) => Ok(file),
+        Err(_) => File::open(rt, name),
+    }
 }
 
 /// Says that another run has the configuration of this name.
