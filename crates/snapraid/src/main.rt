@@ -128,7 +128,8 @@ fn main(rt: HostRuntime) -> ExitCode {
         ready.seed,
     );
     meter.clear();
-    let status = sync_folders(&mut err, &mut ended.folders, ended.status);
+    let status = ended.status;
+    let status = sync_folders(&mut err, &mut ended.folders, status);
     out.get_ref().note(&mut failures, "standard output");
     print_causes(&mut err, opener.get_ref(), &ended, &failures);
     print_synopsis(alloc, words, &mut err);
