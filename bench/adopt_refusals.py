@@ -142,7 +142,7 @@ def hard_links(array):
     os.link(file_of(array), f"{array.folders[0]}/part/second [name]")
     again(array)
     tried(array, 1, "the old program has it as a hard link")
-    tried(array, 1, "\nexclude /part/second ?name]\n", "--suggest")
+    tried(array, 1, "exclude /part/second ?name]\n", "--suggest")
     ready(array, ["exclude /part/second ?name]"])
     tried(array, 0, "9 files unchanged, 0 changed, 0 gone and 0 new")
 

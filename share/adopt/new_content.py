@@ -56,7 +56,7 @@ def write_copies(names, content):
                 os.fsync(file.fileno())
         for name in names:
             sync_folder(os.path.dirname(name) or ".")
-    except OSError:
+    except BaseException:
         for name in made:
             os.unlink(name)
         raise

@@ -104,8 +104,8 @@ class Configuration:
 
 def pattern(text):
     """The regular expression of a pattern, from the front of a path."""
-    middle = text.strip("/").replace("?", "\0").replace("*", "\1")
-    middle = re.escape(middle).replace("\0", "[^/]").replace("\1", "[^/]*")
+    wild = {"?": "[^/]", "*": "[^/]*"}
+    middle = "".join(wild.get(letter) or re.escape(letter) for letter in text.strip("/"))
     front = "" if text.startswith("/") else "(?:.*/)?"
     end = "/" if text.endswith("/") else r"\Z"
     return front + middle + end
