@@ -32,7 +32,7 @@ import time
 TOP = os.path.dirname(os.path.dirname(os.path.abspath(__file__)))
 sys.path.insert(0, os.path.join(TOP, "bench"))
 from crash_array import Array, FixedArray, put, read  # noqa: E402
-from crashes import ALWAYS, OPENING, VAULT, Case, State, cases, gather  # noqa: E402
+from crashes import ALWAYS, OPENING, UNSAFE, VAULT, Case, State, cases, gather  # noqa: E402
 from tracing import Call, Outcome, Tamper  # noqa: E402
 
 MEMORY = "snapraid: out of memory\n"
@@ -138,7 +138,7 @@ class Refused(Case):
         return "a sync ends with 4 after it wrote parity" if self.command == "sync" and self.written else None
 
     def causes(self, call):
-        return {OPENING, VAULT, *ALWAYS, *(f"disk 'd{disk + 1}' failed" for disk in range(self.array.disks))}
+        return {OPENING, UNSAFE, VAULT, *ALWAYS, *(f"disk 'd{disk + 1}' failed" for disk in range(self.array.disks))}
 
 
 def refuse_each(case, name, end, tell):
