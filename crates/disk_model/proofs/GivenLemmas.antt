@@ -1,7 +1,8 @@
 -- What is known of a vault that was given as it was held.
 use Rattle.std.proofs.Common.{◌≡◌, true, IsTrue, inl, inr, ⊎_elim, sym, ◌∙◌, subst, arith, refl}
 use Rattle.disk_model.specs.Files.{Files}
-use Rattle.disk_model.specs.Opener.{SameImages, SameVault}
+use Rattle.disk_model.specs.Moments.{SameImages}
+use Rattle.disk_model.specs.Opener.{SameVault}
 use Rattle.disk_model.specs.Vault.{VaultView, VaultState, state_of, ChangesBy}
 
 -- its state, where that is told

@@ -15,5 +15,6 @@ pub mod SteadyLemmas
 pub mod StoppedLemmas
 pub mod TreeLemmas
 pub mod UnsyncedLemmas
+pub mod UntouchedLemmas
 pub mod VaultLemmas
 pub mod WorkedExamples

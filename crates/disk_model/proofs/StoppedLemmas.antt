@@ -39,7 +39,7 @@ stays_or step old new name done (inl same) = ap (λ (t : Tree). file_of t name) 
 stays_or step old new name done (inr made) = done made
 
 -- what a call does not write stays
-stays_alone : (keeps : Bool) (call : FolderCall) (old new : Tree) (name : List ℕ) → LeavesAlone name call → StopMayDo keeps call old new → file_of new name ≡ file_of old name
+stays_alone : (keeps : Stamp → Bool) (call : FolderCall) (old new : Tree) (name : List ℕ) → LeavesAlone name call → StopMayDo keeps call old new → file_of new name ≡ file_of old name
 stays_alone keeps ListFiles old new name alone step = ap (λ (t : Tree). file_of t name) step.1
 stays_alone keeps (Look path lost) old new name alone step = ap (λ (t : Tree). file_of t name) step.1
 stays_alone keeps (ReadAt path lost at n) old new name alone step = ap (λ (t : Tree). file_of t name) step.1
@@ -49,7 +49,7 @@ stays_alone keeps (WriteAt path at bytes) old new name alone step = changes_othe
 stays_alone keeps (SetSize path size) old new name alone step = stays_or (Does keeps (SetSize (path_of path step.0) size)) old new name
     (changes_other (path_of path step.0) (Resizes size) old new name (turned _ _ (alone step.0))) step.1
 stays_alone keeps (SetStamp path stamp) old new name alone step = stays_or (Does keeps (SetStamp (path_of path step.0) stamp)) old new name
-    (changes_other (path_of path step.0) (Stamps keeps stamp) old new name (turned _ _ (alone step.0))) step.1
+    (changes_other (path_of path step.0) (Stamps (keeps stamp) stamp) old new name (turned _ _ (alone step.0))) step.1
 stays_alone keeps (Rename path lost) old new name alone step = stays_or (Does keeps (Rename path lost)) old new name
     (λ done. ap (λ (t : Tree). file_of t name) done ∙ moved_other (file_of old (path_of path (not lost))) (path_of path (not lost)) (path_of path lost) old name (turned _ _ (alone (not lost))) (turned _ _ (alone lost))) step.1
 
@@ -64,11 +64,11 @@ found_here (SetStamp path stamp) = ap (λ (p : List ℕ). SetStamp p stamp) (own
 found_here (Rename path lost) = refl
 
 -- so of a call that was answered
-pub name_stays : (keeps : Bool) (call : FolderCall) (old new : Tree) (name : List ℕ) → LeavesAlone name call → MayDo keeps call old new → file_of new name ≡ file_of old name
+pub name_stays : (keeps : Stamp → Bool) (call : FolderCall) (old new : Tree) (name : List ℕ) → LeavesAlone name call → MayDo keeps call old new → file_of new name ≡ file_of old name
 name_stays keeps call old new name alone may = stays_alone keeps call old new name alone (false, subst (λ (c : FolderCall). MayDo keeps c old new) (sym (found_here call)) may)
 
 -- a file that no call names stays
-pub unnamed_stays : (keeps : Bool) (calls : List FolderDone) (old new : Tree) (name : List ℕ) → EachCall (LeavesAlone name) calls → MayBeLeft keeps calls old new → file_of new name ≡ file_of old name
+pub unnamed_stays : (keeps : Stamp → Bool) (calls : List FolderDone) (old new : Tree) (name : List ℕ) → EachCall (LeavesAlone name) calls → MayBeLeft keeps calls old new → file_of new name ≡ file_of old name
 unnamed_stays keeps [] old new name each left = ap (λ (t : Tree). file_of t name) left
 unnamed_stays keeps (done ∷ calls) old new name each left =
     unnamed_stays keeps calls left.0 new name (All-tail (λ (d : FolderDone). LeavesAlone name d.call) done calls each) left.3
@@ -92,7 +92,7 @@ Outcome path back call file new = (lost : Bool) × (after : File) × IsPlace pat
 same_file : (path : List ℕ) (call : FolderCall) (file : File) → KeepsBy path call file file
 same_file path call file i below untouched = (below, refl)
 
-module _ (path : List ℕ) (back keeps : Bool) (old new : Tree) (file : File) (lost : Bool) (place : IsPlace path back lost file old) where
+module _ (path : List ℕ) (back : Bool) (keeps : Stamp → Bool) (old new : Tree) (file : File) (lost : Bool) (place : IsPlace path back lost file old) where
   -- the names stay
   place_stays : ((name : Bool) → file_of new (path_of path name) ≡ file_of old (path_of path name)) → IsPlace path back lost file new
   place_stays same = record {
@@ -135,7 +135,7 @@ own_change path back old new file false false step place change =
       },
       inr to.1,
     )
-own_change path back old new file true false step place change = (file, place_same path back false old new file true place (change.none (place.alone refl)), inl refl)
+own_change path back old new file true false step place change = (file, place_same path back (λ stamp. false) old new file true place (change.none (place.alone refl)), inl refl)
 own_change path back old new file false true step place change = (
   file,
   record {
@@ -161,12 +161,12 @@ resize_keeps path size file after is i below untouched =
       ap (λ (bytes : List ℕ). slice_index bytes i) is ∙ (stretched_by_resized file.bytes size).same i below under (untouched refl),
     )
 
-stamp_keeps : (path : List ℕ) (keeps : Bool) (stamp : Stamp) (file after : File) → Stamps keeps stamp file after → KeepsBy path (SetStamp path stamp) file after
-stamp_keeps path keeps stamp file after is i below untouched = (subst (λ (f : File). i < length f.bytes) (sym is) below, ap (λ (f : File). slice_index f.bytes i) is)
+stamp_keeps : (path : List ℕ) (is_kept : Bool) (stamp : Stamp) (file after : File) → Stamps is_kept stamp file after → KeepsBy path (SetStamp path stamp) file after
+stamp_keeps path is_kept stamp file after is i below untouched = (subst (λ (f : File). i < length f.bytes) (sym is) below, ap (λ (f : File). slice_index f.bytes i) is)
 
 -- ---- one call on PATH itself
 
-module _ (path : List ℕ) (back keeps : Bool) (old new : Tree) (file : File) (lost : Bool) (place : IsPlace path back lost file old) where
+module _ (path : List ℕ) (back : Bool) (keeps : Stamp → Bool) (old new : Tree) (file : File) (lost : Bool) (place : IsPlace path back lost file old) where
   own_write : (at : ℕ) (bytes : List ℕ) → StopMayDo keeps (WriteAt path at bytes) old new → Outcome path back (WriteAt path at bytes) file new
   own_write at bytes step =
       let to = own_change path back old new file lost step.0 (WritesPart at (length bytes)) place step.1 in
@@ -184,11 +184,11 @@ module _ (path : List ℕ) (back keeps : Bool) (old new : Tree) (file : File) (l
   own_stamp : (stamp : Stamp) → StopMayDo keeps (SetStamp path stamp) old new → Outcome path back (SetStamp path stamp) file new
   own_stamp stamp step = by step.1
     where
-      by : (new ≡ old) ⊎ ChangesFile (path_of path step.0) (Stamps keeps stamp) old new → Outcome path back (SetStamp path stamp) file new
+      by : (new ≡ old) ⊎ ChangesFile (path_of path step.0) (Stamps (keeps stamp) stamp) old new → Outcome path back (SetStamp path stamp) file new
       by (inl same) = still path back keeps old new file lost place (SetStamp path stamp) same
       by (inr change) =
-          let to = own_change path back old new file lost step.0 (Stamps keeps stamp) place change in
-          (lost, to.0, to.1, kept_or path (SetStamp path stamp) file to.0 (Stamps keeps stamp) (stamp_keeps path keeps stamp file to.0) to.2)
+          let to = own_change path back old new file lost step.0 (Stamps (keeps stamp) stamp) place change in
+          (lost, to.0, to.1, kept_or path (SetStamp path stamp) file to.0 (Stamps (keeps stamp) stamp) (stamp_keeps path (keeps stamp) stamp file to.0) to.2)
 
 -- PATH's file was put under its other name
 moves : (path : List ℕ) (back : Bool) (old new : Tree) (file : File) (to : Bool) → (to ≡ false → IsTrue back) → IsPlace path back (not to) file old → new ≡ renamed (path_of path (not to)) (path_of path to) old
@@ -220,7 +220,7 @@ moves path back old new file false may place is =
       same_file path (Rename path false) file,
     )
 
-own_rename : (path : List ℕ) (back keeps : Bool) (old new : Tree) (file : File) (lost : Bool) → IsPlace path back lost file old → (to : Bool) → (to ≡ false → IsTrue back) → StopMayDo keeps (Rename path to) old new
+own_rename : (path : List ℕ) (back : Bool) (keeps : Stamp → Bool) (old new : Tree) (file : File) (lost : Bool) → IsPlace path back lost file old → (to : Bool) → (to ≡ false → IsTrue back) → StopMayDo keeps (Rename path to) old new
     → Outcome path back (Rename path to) file new
 own_rename path back keeps old new file lost place to may step = by step.1
   where
@@ -250,10 +250,10 @@ own_rename path back keeps old new file lost place to may step = by step.1
 
 -- ---- one call of any PATH
 
-abbrev Goes : List ℕ → Bool → Bool → Tree → Tree → File → FolderCall → Type 0
+abbrev Goes : List ℕ → Bool → (Stamp → Bool) → Tree → Tree → File → FolderCall → Type 0
 Goes path back keeps old new file call = KeepsPlace path back call → StopMayDo keeps call old new → Outcome path back call file new
 
-one_step : (path : List ℕ) (back keeps : Bool) (call : FolderCall) (old new : Tree) (file : File) (lost : Bool) → IsPlace path back lost file old → IsOwnOrApart path call → Goes path back keeps old new file call
+one_step : (path : List ℕ) (back : Bool) (keeps : Stamp → Bool) (call : FolderCall) (old new : Tree) (file : File) (lost : Bool) → IsPlace path back lost file old → IsOwnOrApart path call → Goes path back keeps old new file call
 one_step path back keeps ListFiles old new file lost place own may step = still path back keeps old new file lost place ListFiles step.1
 one_step path back keeps (Look other name) old new file lost place own may step = still path back keeps old new file lost place (Look other name) step.1
 one_step path back keeps (ReadAt other name at n) old new file lost place own may step = still path back keeps old new file lost place (ReadAt other name at n) step.1
@@ -274,7 +274,7 @@ one_step path back keeps (Rename other to) old new file lost place (inr apart) m
 
 -- ---- all calls
 
-steps : (path : List ℕ) (back keeps : Bool) (calls : List FolderDone) (old new : Tree) (file : File) (lost : Bool) → IsPlace path back lost file old
+steps : (path : List ℕ) (back : Bool) (keeps : Stamp → Bool) (calls : List FolderDone) (old new : Tree) (file : File) (lost : Bool) → IsPlace path back lost file old
     → EachCall (IsOwnOrApart path) calls → EachCall (KeepsPlace path back) calls → MayBeLeft keeps calls old new → StandsKept path calls file new
 steps path back keeps [] old new file lost place own may left = record {
   lost = lost;
@@ -302,13 +302,13 @@ steps path back keeps (done ∷ calls) old new file lost place own may left =
     }
 
 -- PATH's file, where no other is made, and none is renamed back over it
-pub place_kept : (keeps : Bool) (path : List ℕ) (calls : List FolderDone) (old new : Tree) (file : File)
+pub place_kept : (keeps : Stamp → Bool) (path : List ℕ) (calls : List FolderDone) (old new : Tree) (file : File)
     → file_of old (path_of path false) ≡ Some file → EachCall (IsOwnOrApart path) calls → EachCall (KeepsPlace path false) calls → MayBeLeft keeps calls old new → StandsKept path calls file new
 place_kept keeps path calls old new file there own may left =
     steps path false keeps calls old new file false (record { there = there; alone = λ is. never is; alone_back = λ back is. never back }) own may left
 
 -- the lost file of a PATH that isn't there
-pub lost_kept : (keeps : Bool) (path : List ℕ) (calls : List FolderDone) (old new : Tree) (file : File)
+pub lost_kept : (keeps : Stamp → Bool) (path : List ℕ) (calls : List FolderDone) (old new : Tree) (file : File)
     → file_of old (path_of path true) ≡ Some file → file_of old (path_of path false) ≡ None → EachCall (IsOwnOrApart path) calls → EachCall (KeepsPlace path true) calls → MayBeLeft keeps calls old new
     → StandsKept path calls file new
 lost_kept keeps path calls old new file there free own may left =

@@ -3,7 +3,6 @@ use Rattle.std.specs.Prelude.{◌≡◌, ◌↔◌, ℕ, ◌≤◌, List, [], �
 use Rattle.disk_model.specs.Cause.{Rose, Grows}
 use Rattle.disk_model.specs.Files.{Files}
 use Rattle.disk_model.specs.Folder.{FolderView, quiet_folder}
-use Rattle.disk_model.specs.Moments.{Images}
 use Rattle.disk_model.specs.Vault.{VaultView, IsSettled}
 use Rattle.disk_model.specs.declared.draft.Draft.TheVariants.{Absent}
 use Rattle.disk_model.specs.declared.fault.OpenFault.{OpenFault}
@@ -70,12 +69,6 @@ pub record SameVault (is_told : Bool) (held other : VaultView) : Type 0 where
   pub tells_images : IsTrue is_told → other.images.told ≡ held.images.told
   pub moment : IsTrue is_told → other.images.moment ≡ held.images.moment
   pub since : IsTrue is_told → (t : ℕ) (files : Files) → other.images.since t files ↔ held.images.since t files
-
--- a stop leaves the same of both
-pub record SameImages (held other : Images) : Type 0 where
-  pub told : other.told ≡ held.told
-  pub moment : other.moment ≡ held.moment
-  pub since : (t : ℕ) (files : Files) → other.since t files ↔ held.since t files
 
 -- the vault is given as it was held, with nothing unsynced and no draft
 pub record VaultIsGiven (is_told : Bool) (parities contents : ℕ) (held given : VaultView) : Type 0 where

@@ -3,6 +3,7 @@ use Rattle.std.specs.Prelude.{◌≡◌, ◌≢◌, ◌⊎◌, ℕ, ◌+◌, ◌
 use Rattle.disk_model.specs.Folder.{FolderView, FolderCall, FolderDone, ListFiles, Look, ReadAt, Make, WriteAt, SetSize, SetStamp, Rename, IsFolder, IsFolderReading}
 use Rattle.disk_model.specs.Tree.{Tree, File, file_of, path_of, IsTree}
 use Rattle.disk_model.specs.Writing.{MayDo, IsFolderWrite}
+use Rattle.disk_model.specs.declared.meta.Stamp.{Stamp}
 
 -- a call that changes a file finds it under PATH, or under PATH`.unrecoverable` where a rename was not done
 abbrev pub found_under : Bool → FolderCall → FolderCall
@@ -16,11 +17,11 @@ found_under lost (SetStamp path stamp) = SetStamp (path_of path lost) stamp
 found_under lost (Rename path other) = Rename path other
 
 -- a part of a write, or of any other call all or nothing, with the file under either name
-abbrev pub StopMayDo : Bool → FolderCall → Tree → Tree → Type 0
+abbrev pub StopMayDo : (Stamp → Bool) → FolderCall → Tree → Tree → Type 0
 StopMayDo keeps call old new = (lost : Bool) × MayDo keeps (found_under lost call) old new
 
 -- Any bytes in each range that was written, and each other call done or not, in the order of the calls; what is left is a tree.
-abbrev pub MayBeLeft : Bool → List FolderDone → Tree → Tree → Type 0
+abbrev pub MayBeLeft : (Stamp → Bool) → List FolderDone → Tree → Tree → Type 0
 MayBeLeft keeps [] old new = new ≡ old
 MayBeLeft keeps (done ∷ calls) old new = (mid : Tree) × IsTree mid × StopMayDo keeps done.call old mid × MayBeLeft keeps calls mid new
 

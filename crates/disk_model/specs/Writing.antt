@@ -27,9 +27,9 @@ pub record WritesPart (at n : ℕ) (before after : File) : Type 0 where
 abbrev pub Resizes : ℕ → File → File → Type 0
 Resizes size before after = after.bytes ≡ resized before.bytes size
 
--- it has this stamp, where stamps are kept
+-- it has this stamp, where that is kept
 abbrev pub Stamps : Bool → Stamp → File → File → Type 0
-Stamps keeps stamp before after = after ≡ record before { stamp = (if keeps then stamp else before.stamp) }
+Stamps is_kept stamp before after = after ≡ record before { stamp = (if is_kept then stamp else before.stamp) }
 
 -- with a file under the path where there was none
 abbrev pub or_added : Option File → List ℕ → File → Tree → Tree
@@ -53,19 +53,19 @@ renamed from to tree = moved (file_of tree from) from to tree
 abbrev pub OrNot : (Tree → Tree → Type 0) → Tree → Tree → Type 0
 OrNot step old new = (new ≡ old) ⊎ step old new
 
--- what a call does to the files that answers no fault, in a folder that keeps stamps or doesn't
-abbrev pub Does : Bool → FolderCall → Tree → Tree → Type 0
+-- what a call does to the files that answers no fault, in a folder that keeps these stamps
+abbrev pub Does : (Stamp → Bool) → FolderCall → Tree → Tree → Type 0
 Does keeps ListFiles old new = new ≡ old
 Does keeps (Look path lost) old new = new ≡ old
 Does keeps (ReadAt path lost at n) old new = new ≡ old
 Does keeps (Make path) old new = (stamp : Stamp) × (new ≡ made path stamp old)
 Does keeps (WriteAt path at bytes) old new = ChangesFile path (Writes at bytes) old new
 Does keeps (SetSize path size) old new = ChangesFile path (Resizes size) old new
-Does keeps (SetStamp path stamp) old new = ChangesFile path (Stamps keeps stamp) old new
+Does keeps (SetStamp path stamp) old new = ChangesFile path (Stamps (keeps stamp) stamp) old new
 Does keeps (Rename path lost) old new = new ≡ renamed (path_of path (not lost)) (path_of path lost) old
 
 -- what a call may do to them that answers `Failed`: a part of a write, and of any other call all or nothing
-abbrev pub MayDo : Bool → FolderCall → Tree → Tree → Type 0
+abbrev pub MayDo : (Stamp → Bool) → FolderCall → Tree → Tree → Type 0
 MayDo keeps ListFiles old new = new ≡ old
 MayDo keeps (Look path lost) old new = new ≡ old
 MayDo keeps (ReadAt path lost at n) old new = new ≡ old
@@ -78,5 +78,5 @@ MayDo keeps (Rename path lost) old new = OrNot (Does keeps (Rename path lost)) o
 -- a call that writes
 pub record IsFolderWrite (call : FolderCall) (answer : Answer) (old new : FolderView) : Type 0 where
   pub called : IsFolderCall call answer old new
-  pub does : is_failure answer ≡ false → TreeBy (Does old.keeps_stamps call) old new
-  pub may : IsTrue (is_failure answer) → TreeBy (MayDo old.keeps_stamps call) old new
+  pub does : is_failure answer ≡ false → TreeBy (Does old.keeps call) old new
+  pub may : IsTrue (is_failure answer) → TreeBy (MayDo old.keeps call) old new

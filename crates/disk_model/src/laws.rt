@@ -41,25 +41,26 @@ pub fn an_opened_vault_is_settled()
     ensures settled { (files : Files) (told : Bool) (faults : ℕ) → IsSettled (by_calls (opened_with files) [] told faults) }
 {}
 
-/// A folder that keeps no stamps changes nothing where one is set.
-pub fn no_stamp_is_set_where_none_is_kept()
-    ensures { (path : List ℕ) (stamp : Stamp) (old new : Tree) → Does false (SetStamp path stamp) old new → new ≡ old }
+/// A folder that doesn't keep a stamp changes nothing where it is set.
+pub fn no_stamp_is_set_that_is_not_kept()
+    ensures { (keeps : Stamp → Bool) (path : List ℕ) (stamp : Stamp) (old new : Tree) → keeps stamp ≡ false →
+        Does keeps (SetStamp path stamp) old new → new ≡ old }
 {}
 
 /// Wherever a run that writes a folder is stopped, a file that none of its calls names stays.
 pub fn a_file_that_no_call_names_stays()
-    ensures { (keeps : Bool) (calls : List FolderDone) (old new : Tree) (name : List ℕ) →
+    ensures { (keeps : Stamp → Bool) (calls : List FolderDone) (old new : Tree) (name : List ℕ) →
         EachCall (LeavesAlone name) calls → MayBeLeft keeps calls old new → file_of new name ≡ file_of old name }
 {}
 
 /// Wherever a run that writes a folder is stopped, PATH's file stands under one of its names with each byte that no
 /// call touched: a file at PATH that isn't replaced, and the lost file of a PATH that isn't there.
 pub fn bytes_that_no_call_touches_stay()
-    ensures place { (keeps : Bool) (path : List ℕ) (calls : List FolderDone) (old new : Tree) (file : File) →
+    ensures place { (keeps : Stamp → Bool) (path : List ℕ) (calls : List FolderDone) (old new : Tree) (file : File) →
         file_of old (path_of path false) ≡ Some file →
         EachCall (IsOwnOrApart path) calls → EachCall (KeepsPlace path false) calls →
         MayBeLeft keeps calls old new → StandsKept path calls file new }
-    ensures lost { (keeps : Bool) (path : List ℕ) (calls : List FolderDone) (old new : Tree) (file : File) →
+    ensures lost { (keeps : Stamp → Bool) (path : List ℕ) (calls : List FolderDone) (old new : Tree) (file : File) →
         file_of old (path_of path true) ≡ Some file → file_of old (path_of path false) ≡ None →
         EachCall (IsOwnOrApart path) calls → EachCall (KeepsPlace path true) calls →
         MayBeLeft keeps calls old new → StandsKept path calls file new }
@@ -71,11 +72,11 @@ pub fn bytes_that_no_call_touches_stay()
 /// stop may leave is a tree, and a later stop may leave it too.
 pub fn a_folder_stands_among_what_a_stop_may_leave()
     ensures answered { (calls : List FolderDone) (old new : FolderView) → IsTrue old.tells →
-        AreAnswered calls old new → MayBeLeft old.keeps_stamps calls old.tree new.tree }
-    ensures tree { (keeps : Bool) (calls : List FolderDone) (old new : Tree) →
+        AreAnswered calls old new → MayBeLeft old.keeps calls old.tree new.tree }
+    ensures tree { (keeps : Stamp → Bool) (calls : List FolderDone) (old new : Tree) →
         IsTree old → MayBeLeft keeps calls old new → IsTree new }
-    ensures then { (keeps : Bool) (first more : List FolderDone) (old mid new : Tree) →
+    ensures then { (keeps : Stamp → Bool) (first more : List FolderDone) (old mid new : Tree) →
         MayBeLeft keeps first old mid → MayBeLeft keeps more mid new → MayBeLeft keeps (first ++ more) old new }
-    ensures later { (keeps : Bool) (first more : List FolderDone) (old new : Tree) →
+    ensures later { (keeps : Stamp → Bool) (first more : List FolderDone) (old new : Tree) →
         IsTree old → MayBeLeft keeps first old new → MayBeLeft keeps (first ++ more) old new }
 {}

@@ -5,13 +5,16 @@ ghost use Rattle.disk_model.specs.Answer.{size_answer};
 ghost use Rattle.disk_model.specs.Bytes.{put, resized, read_from};
 ghost use Rattle.disk_model.specs.Files.{parity_of, content_of, TearsParity, StretchesParity, MayPublish, Stays};
 ghost use Rattle.disk_model.specs.Vault.{VaultView, ParityLen, ParityRead, ParityWrite, ParitySetLen, ParitySync, ContentSize, ContentRead, DraftBegin, DraftAppend, DraftSeal, Publish};
-ghost use Rattle.disk_model.specs.Vault.{copies_of, draft_of, staged_of, is_sealed, IsCall, IsReading, ChangesBy, Reads, Holds, DraftIs, DraftsStay, IsWellFormed};
+ghost use Rattle.disk_model.specs.Vault.{copies_of, draft_of, staged_of, is_sealed, IsCall, IsReading, IsUntouched, ChangesBy, Reads, Holds, DraftIs, DraftsStay, IsWellFormed};
 
-use crate::{Answer, Draft, Failed};
+use crate::{Ahead, Answer, Draft, Failed};
 
 /// Parity files, numbered by level, and content copies. A call answers `Failed` only where `faults` rose in it.
 /// Where a vault tells what a stop may leave, `changes` says it of each moment within the call and of its end.
 pub trait Vault: Send {
+    /// What reads parity ahead, a part of it in each.
+    type Ahead: Ahead;
+
     ghost view: { Self → VaultView };
 
     ghost well_formed: { (vault : Self) → IsWellFormed (view vault) };
@@ -38,6 +41,19 @@ pub trait Vault: Send {
         ensures call { IsReading (ParityRead level at (length out.old)) Answer.Bytes result (view self.old) (view self.new) }
         ensures bound { IfOk result (λ n. n ≤ length out.new) }
         ensures found { IsTrue (view self.old).tells → IfOk result (λ n. take n out.new ≡ read_from (parity_of (view self.old).files level) at (length out.old)) };
+
+    /// Says which bytes of a level are read next, for what reads them ahead. No call answers otherwise for it.
+    fn plan_ahead(&mut self, level: u32, at: u64, len: usize)
+        requires { level < (view self.old).levels }
+        ensures { IsUntouched (view self.old) (view self.new) };
+
+    /// Hands out what reads ahead, so that each may read in a thread of its own; `None` where nothing does.
+    fn take_ahead(&mut self) -> Option<Vec<Self::Ahead>>
+        ensures { IsUntouched (view self.old) (view self.new) };
+
+    /// Takes back what reads ahead.
+    fn put_ahead(&mut self, ahead: Vec<Self::Ahead>)
+        ensures { IsUntouched (view self.old) (view self.new) };
 
     /// Writes all bytes, with zeros before them where the file was shorter.
     fn parity_write(&mut self, level: u32, at: u64, bytes: &[u8]) -> Result<(), Failed>

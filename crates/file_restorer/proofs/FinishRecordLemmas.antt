@@ -130,11 +130,11 @@ module _ (table : TableValue) (d i : ℕ) (listed : Option Meta) (starts : Start
 
     -- it was finished
     pub is_finished : (finish : Finish) (new : FolderView)
-        → FinishesBy (finish_of meta listed start state folder.keeps_stamps) finish (IsFinishCall state.lost listed start state path meta)
+        → FinishesBy (finish_of meta listed start state folder.keeps) finish (IsFinishCall state.lost listed start state path meta)
         (finish_calls state.lost listed start state path meta) meta start state path folder new
         → FinishesRecord table d i listed finish starts states folder starts states new
     is_finished finish new by =
-        let it = there (λ p m s t. FinishesBy (finish_of m listed s t folder.keeps_stamps) finish (IsFinishCall t.lost listed s t p m) (finish_calls t.lost listed s t p m) m s t p folder new) by in
+        let it = there (λ p m s t. FinishesBy (finish_of m listed s t folder.keeps) finish (IsFinishCall t.lost listed s t p m) (finish_calls t.lost listed s t p m) m s t p folder new) by in
         record {
           is = inl it.is;
           starts_fit = can.starts_fit;
@@ -143,9 +143,9 @@ module _ (table : TableValue) (d i : ℕ) (listed : Option Meta) (starts : Start
           other_states = λ k j other. refl;
           makes = subst (λ (missing : Bool). StepMakes (IsFinishCall state_there.lost listed start_there state_there path_there meta_there)
               (finish_calls state_there.lost listed start_there state_there path_there meta_there) missing folder new)
-              (sym (ap was_gone it.is ∙ none_gone meta_there listed start_there state_there folder.keeps_stamps)) it.makes;
+              (sym (ap was_gone it.is ∙ none_gone meta_there listed start_there state_there folder.keeps)) it.makes;
           holds = it.holds;
-          whole = λ told kept. stands_whole path_there listed meta_there start_there state_there folder.tree new.tree (can.fits told) folder.keeps_stamps finish kept it.is (it.holds told);
+          whole = λ told kept. stands_whole path_there listed meta_there start_there state_there folder.tree new.tree (can.fits told) folder.keeps finish kept it.is (it.holds told);
           others = it.others;
           wrote = λ there_is. it.wrote;
         }
@@ -157,7 +157,7 @@ module _ (table : TableValue) (d i : ℕ) (listed : Option Meta) (starts : Start
         let finds = subst (λ (f : FileFault). BreaksBy f (IsFinishCall state.lost listed start state path meta) folder new) missing broke in
         let not_told : IsTrue folder.tells → ⊥ = λ told. let clash : true ≡ false = sym told ∙ finds.untold in cc in
         record {
-          is = inr (refl, finds.untold, there (λ p m s t. finish_of m listed s t folder.keeps_stamps ≢ Kept) (not_kept path listed meta start state folder.keeps_stamps finds.last.0 finds.last.1));
+          is = inr (refl, finds.untold, there (λ p m s t. finish_of m listed s t folder.keeps ≢ Kept) (not_kept path listed meta start state folder.keeps finds.last.0 finds.last.1));
           starts_fit = can.starts_fit;
           states_fit = can.states_fit;
           other_starts = λ k j other. refl;

@@ -212,14 +212,14 @@ or_left false b none = refl
 -- nothing is left to be done
 pub whole_kept : (path : List ℕ) (listed : Option Meta) (meta : Meta) (start : Start) (state : FileState) (changed : Bool) (old new : FolderView) → IsFit path listed meta start state old new
     → changed ≡ is_changed meta start state → (changed || not (same_stamp meta.stamp listed)) ≡ false
-    → FinishesBy (whole_finish meta listed start state old.keeps_stamps) Kept (IsWholeCall listed start state path meta) (whole_calls listed start state path meta) meta start state path old new
+    → FinishesBy (whole_finish meta listed start state old.keeps) Kept (IsWholeCall listed start state path meta) (whole_calls listed start state path meta) meta start state path old new
 whole_kept path listed meta start state changed old new fit changed_is none =
     let same = not (same_stamp meta.stamp listed) in
     let needless : (is_changed meta start state || same) ≡ false = ap (λ (b : Bool). b || same) (sym changed_is) ∙ none in
     let stays = fit.stays (or_left (is_changed meta start state) same needless) in
     let calls = put_calls start.place state.touched path ++ size_calls state.size meta.size path in
     record {
-      is = sym (ap (λ (b : Bool). cond b (stamped_finish (is_changed meta start state) old.keeps_stamps) Kept) needless);
+      is = sym (ap (λ (b : Bool). cond b (stamped_finish (is_changed meta start state) old.keeps) Kept) needless);
       makes = subst (λ (b : Bool). StepMakes (IsWholeCall listed start state path meta) (calls ++ (if b then SetStamp path meta.stamp ∷ [] else [])) false old new) (sym needless)
           (subst (λ (its : List FolderCall). StepMakes (IsWholeCall listed start state path meta) its false old new) (sym (append-nil calls)) fit.makes);
       holds = λ told. same_names path old.tree new.tree (stays told);
@@ -231,13 +231,13 @@ whole_kept path listed meta start state changed old new fit changed_is none =
 -- its stamp is set, where stamps are kept
 pub whole_stamped : (path : List ℕ) (listed : Option Meta) (meta : Meta) (start : Start) (state : FileState) (changed stamped : Bool) (finish : Finish) (old mid new : FolderView) → IsFolder new
     → IsFit path listed meta start state old mid → changed ≡ is_changed meta start state → (changed || not (same_stamp meta.stamp listed)) ≡ true
-    → IsFolderWrite (SetStamp path meta.stamp) (answers.Kept stamped) mid new → stamped ≡ mid.keeps_stamps → finish ≡ stamped_finish changed stamped
-    → FinishesBy (whole_finish meta listed start state old.keeps_stamps) finish (IsWholeCall listed start state path meta) (whole_calls listed start state path meta) meta start state path old new
+    → IsFolderWrite (SetStamp path meta.stamp) (answers.Kept stamped) mid new → stamped ≡ mid.keeps → finish ≡ stamped_finish changed stamped
+    → FinishesBy (whole_finish meta listed start state old.keeps) finish (IsWholeCall listed start state path meta) (whole_calls listed start state path meta) meta start state path old new
 whole_stamped path listed meta start state changed stamped finish old mid new formed fit changed_is needed wrote stamped_is finish_is =
     let change = is_changed meta start state in
-    let keeps = old.keeps_stamps in
+    let keeps = old.keeps in
     let same = not (same_stamp meta.stamp listed) in
-    let kept : mid.keeps_stamps ≡ keeps = fit.makes.goes_on.keeps_stamps in
+    let kept : mid.keeps ≡ keeps = fit.makes.goes_on.keeps in
     let due : is_stamped meta listed start state ≡ true = stamp_due listed meta start state changed changed_is needed in
     let Whole = IsWholeCall listed start state path meta in
     let is : finish ≡ stamped_finish change keeps = finish_is ∙ ap₂ stamped_finish changed_is (stamped_is ∙ kept) in
@@ -297,10 +297,10 @@ lost_not_renamed fault path start state old new formed placed standing wrote mis
 -- ---- a file with or without one
 
 pub file_finished : (result : Result Finish FileFault) (lost : Bool) (path : List ℕ) (listed : Option Meta) (meta : Meta) (start : Start) (state : FileState) (old new : FolderView) → state.lost ≡ lost
-    → IfOk result (λ finish. FinishesBy (cond lost (lost_finish start state) (whole_finish meta listed start state old.keeps_stamps)) finish (IsFinishCall lost listed start state path meta)
+    → IfOk result (λ finish. FinishesBy (cond lost (lost_finish start state) (whole_finish meta listed start state old.keeps)) finish (IsFinishCall lost listed start state path meta)
     (finish_calls lost listed start state path meta) meta start state path old new)
-    → IfOk result (λ finish. FinishesBy (finish_of meta listed start state old.keeps_stamps) finish (IsFinishCall state.lost listed start state path meta)
+    → IfOk result (λ finish. FinishesBy (finish_of meta listed start state old.keeps) finish (IsFinishCall state.lost listed start state path meta)
     (finish_calls state.lost listed start state path meta) meta start state path old new)
 file_finished result lost path listed meta start state old new is done =
-    subst (λ (l : Bool). IfOk result (λ (finish : Finish). FinishesBy (cond l (lost_finish start state) (whole_finish meta listed start state old.keeps_stamps)) finish
+    subst (λ (l : Bool). IfOk result (λ (finish : Finish). FinishesBy (cond l (lost_finish start state) (whole_finish meta listed start state old.keeps)) finish
     (IsFinishCall l listed start state path meta) (finish_calls l listed start state path meta) meta start state path old new)) (sym is) done

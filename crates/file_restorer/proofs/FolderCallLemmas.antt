@@ -27,7 +27,7 @@ pub makes_none : (P : FolderDone → Type 0) (v : FolderView) → FolderMakes P 
 makes_none P v = record {
   done = [];
   each = All-nil P;
-  goes_on = record { later = omega arith; keeps_stamps = refl; closed = refl; tells = refl; calls = record { told = λ t. t; more = λ t. sym (append-nil v.calls) } };
+  goes_on = record { later = omega arith; keeps = refl; closed = refl; tells = refl; calls = record { told = λ t. t; more = λ t. sym (append-nil v.calls) } };
   left = λ told is. refl;
 }
 
@@ -47,9 +47,9 @@ makes_then P {old = old} {mid = mid} {new = new} one two = record {
   each = All-append P one.done two.done one.each two.each;
   goes_on = goes_on_then old mid new one.done two.done one.goes_on two.goes_on;
   left = λ told is.
-      let first : MayBeLeft old.keeps_stamps one.done old.tree mid.tree = one.left told is in
-      let more = two.left (one.goes_on.tells ∙ told) (left_is_tree old.keeps_stamps one.done old.tree mid.tree is first) in
-      left_then old.keeps_stamps one.done two.done old.tree mid.tree new.tree first (subst (λ (keeps : Bool). MayBeLeft keeps two.done mid.tree new.tree) one.goes_on.keeps_stamps more);
+      let first : MayBeLeft old.keeps one.done old.tree mid.tree = one.left told is in
+      let more = two.left (one.goes_on.tells ∙ told) (left_is_tree old.keeps one.done old.tree mid.tree is first) in
+      left_then old.keeps one.done two.done old.tree mid.tree new.tree first (subst (λ (keeps : Bool). MayBeLeft keeps two.done mid.tree new.tree) one.goes_on.keeps more);
 }
 
 pub makes_wider : (P Q : FolderDone → Type 0) {old new : FolderView} → ((done : FolderDone) → P done → Q done) → FolderMakes P old new → FolderMakes Q old new
@@ -70,7 +70,7 @@ makes_reading P {old = old} {new = new} done each goes_on stays = record {
   done = done;
   each = each;
   goes_on = goes_on;
-  left = λ told is. subst (λ (tree : Tree). MayBeLeft old.keeps_stamps done old.tree tree) (sym (stays told)) (left_later old.keeps_stamps [] done old.tree old.tree is refl);
+  left = λ told is. subst (λ (tree : Tree). MayBeLeft old.keeps done old.tree tree) (sym (stays told)) (left_later old.keeps [] done old.tree old.tree is refl);
 }
 
 -- ---- calls of which none failed but readings, and such that may have failed
@@ -107,16 +107,16 @@ makes_by_then P Q B {old = old} {mid = mid} {new = new} joins one two = record {
   are = joins one.done two.done one.are two.are;
   goes_on = goes_on_then old mid new one.done two.done one.goes_on two.goes_on;
   left = λ told is.
-      let first : MayBeLeft old.keeps_stamps one.done old.tree mid.tree = one.left told is in
-      let more = two.left (one.goes_on.tells ∙ told) (left_is_tree old.keeps_stamps one.done old.tree mid.tree is first) in
-      left_then old.keeps_stamps one.done two.done old.tree mid.tree new.tree first (subst (λ (keeps : Bool). MayBeLeft keeps two.done mid.tree new.tree) one.goes_on.keeps_stamps more);
+      let first : MayBeLeft old.keeps one.done old.tree mid.tree = one.left told is in
+      let more = two.left (one.goes_on.tells ∙ told) (left_is_tree old.keeps one.done old.tree mid.tree is first) in
+      left_then old.keeps one.done two.done old.tree mid.tree new.tree first (subst (λ (keeps : Bool). MayBeLeft keeps two.done mid.tree new.tree) one.goes_on.keeps more);
 }
 
 pub makes_by_none : (P : List FolderDone → Type 0) (v : FolderView) → P [] → FolderMakesBy P v v
 makes_by_none P v none = record {
   done = [];
   are = none;
-  goes_on = record { later = omega arith; keeps_stamps = refl; closed = refl; tells = refl; calls = record { told = λ t. t; more = λ t. sym (append-nil v.calls) } };
+  goes_on = record { later = omega arith; keeps = refl; closed = refl; tells = refl; calls = record { told = λ t. t; more = λ t. sym (append-nil v.calls) } };
   left = λ told is. refl;
 }
 

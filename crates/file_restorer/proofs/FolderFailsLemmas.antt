@@ -49,9 +49,9 @@ fails_then P old mid new one two =
       };
       goes_on = goes_on_then old mid new one.done two.done one.goes_on two.goes_on;
       left = λ told is.
-          let first : MayBeLeft old.keeps_stamps one.done old.tree mid.tree = one.left told is in
-          let more = two.left (one.goes_on.tells ∙ told) (left_is_tree old.keeps_stamps one.done old.tree mid.tree is first) in
-          left_then old.keeps_stamps one.done two.done old.tree mid.tree new.tree first (subst (λ (keeps : Bool). MayBeLeft keeps two.done mid.tree new.tree) one.goes_on.keeps_stamps more);
+          let first : MayBeLeft old.keeps one.done old.tree mid.tree = one.left told is in
+          let more = two.left (one.goes_on.tells ∙ told) (left_is_tree old.keeps one.done old.tree mid.tree is first) in
+          left_then old.keeps one.done two.done old.tree mid.tree new.tree first (subst (λ (keeps : Bool). MayBeLeft keeps two.done mid.tree new.tree) one.goes_on.keeps more);
     }
 
 -- after the calls of a step of which each found its file
@@ -72,9 +72,9 @@ step_fails_then P calls old mid new one two =
         };
         goes_on = goes_on_then old mid new one.done two.fails.done one.goes_on two.fails.goes_on;
         left = λ told is.
-            let first : MayBeLeft old.keeps_stamps one.done old.tree mid.tree = one.left told is in
-            let more = two.fails.left (one.goes_on.tells ∙ told) (left_is_tree old.keeps_stamps one.done old.tree mid.tree is first) in
-            left_then old.keeps_stamps one.done two.fails.done old.tree mid.tree new.tree first (subst (λ (keeps : Bool). MayBeLeft keeps two.fails.done mid.tree new.tree) one.goes_on.keeps_stamps more);
+            let first : MayBeLeft old.keeps one.done old.tree mid.tree = one.left told is in
+            let more = two.fails.left (one.goes_on.tells ∙ told) (left_is_tree old.keeps one.done old.tree mid.tree is first) in
+            left_then old.keeps one.done two.fails.done old.tree mid.tree new.tree first (subst (λ (keeps : Bool). MayBeLeft keeps two.fails.done mid.tree new.tree) one.goes_on.keeps more);
       };
       found = list_any-append (λ (done : FolderDone). is_missing done.answer) one.done last.front ∙ ap₂ (λ (a b : Bool). a || b) one.are.found two.found;
     }

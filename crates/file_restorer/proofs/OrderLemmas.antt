@@ -18,7 +18,7 @@ use Rattle.file_restorer.proofs.FolderCallLemmas.{well_column}
 pub writes_none : (v : FolderView) → FolderWrites [] v v
 writes_none v = record {
   done = [];
-  goes_on = record { later = omega arith; keeps_stamps = refl; closed = refl; tells = refl; calls = record { told = λ t. t; more = λ t. sym (append-nil v.calls) } };
+  goes_on = record { later = omega arith; keeps = refl; closed = refl; tells = refl; calls = record { told = λ t. t; more = λ t. sym (append-nil v.calls) } };
   are = refl;
 }
 
@@ -27,19 +27,19 @@ writes_then one two {old = old} {mid = mid} {new = new} first more = record {
   done = first.done ++ more.done;
   goes_on = goes_on_then old mid new first.done more.done first.goes_on more.goes_on;
   are =
-      let keeps = old.keeps_stamps in
-      let later = subst (λ (k : Bool). filter is_writing more.done ≡ map (went_well k) two) first.goes_on.keeps_stamps more.are in
+      let keeps = old.keeps in
+      let later = subst (λ (k : Bool). filter is_writing more.done ≡ map (went_well k) two) first.goes_on.keeps more.are in
       filter-append is_writing first.done more.done ∙ ap₂ (λ (a b : List FolderDone). a ++ b) first.are later
       ∙ sym (map-append (went_well keeps) one two);
 }
 
 -- one call that writes
-pub writes_one : (call : FolderCall) {old new : FolderView} → is_reading call ≡ false → IsFolderWrite call (answer_to old.keeps_stamps call) old new
+pub writes_one : (call : FolderCall) {old new : FolderView} → is_reading call ≡ false → IsFolderWrite call (answer_to old.keeps call) old new
     → FolderWrites (call ∷ []) old new
 writes_one call {old = old} writing wrote = record {
-  done = went_well old.keeps_stamps call ∷ [];
+  done = went_well old.keeps call ∷ [];
   goes_on = wrote.called.goes_on;
-  are = ap (λ (reading : Bool). if not reading then went_well old.keeps_stamps call ∷ [] else []) writing;
+  are = ap (λ (reading : Bool). if not reading then went_well old.keeps call ∷ [] else []) writing;
 }
 
 -- calls that only read

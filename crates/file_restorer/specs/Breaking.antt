@@ -64,7 +64,7 @@ pub record FolderFails (P : FolderCall → Type 0) (old new : FolderView) : Type
   pub done : List FolderDone
   pub fails : FailsLast P done
   pub goes_on : FolderGoesOn old new done
-  pub left : IsTrue old.tells → IsTree old.tree → MayBeLeft old.keeps_stamps done old.tree new.tree
+  pub left : IsTrue old.tells → IsTree old.tree → MayBeLeft old.keeps done old.tree new.tree
 
 -- The same of the calls for one file: each before the one that failed found its file.
 pub record StepFails (P : FolderCall → Type 0) (old new : FolderView) : Type 0 where

@@ -102,6 +102,6 @@ pub record FinishesBy (wanted finish : Finish) (P : FolderCall → Type 0) (call
   pub is : finish ≡ wanted
   pub makes : StepMakes P calls false old new
   pub holds : IsTrue old.tells
-      → HoldsFinished finish old.keeps_stamps meta start state (bytes_now old.tree path) path old.tree new.tree
+      → HoldsFinished finish old.keeps meta start state (bytes_now old.tree path) path old.tree new.tree
   pub others : IsTrue old.tells → OthersStay path old.tree new.tree
   pub wrote : FolderWrites calls old new

@@ -157,10 +157,10 @@ pub record FinishesRecord (table : TableValue) (d i : ℕ) (listed : Option Meta
     (states : List (List FileState)) (folder : FolderView) (starts_new : StartsValue)
     (states_new : List (List FileState)) (folder_new : FolderView) : Type 0 where
   pub is : (finish ≡ finish_of (record_at table.columns d i).meta listed (start_in (starts_at starts.columns d) i)
-      (state_in states d i) folder.keeps_stamps)
+      (state_in states d i) folder.keeps)
       ⊎ ((finish ≡ Gone) × (folder.tells ≡ false)
       × (finish_of (record_at table.columns d i).meta listed (start_in (starts_at starts.columns d) i)
-      (state_in states d i) folder.keeps_stamps ≢ Kept))
+      (state_in states d i) folder.keeps ≢ Kept))
   pub starts_fit : StartsFit table starts_new
   pub states_fit : StatesFit table states_new
   pub other_starts : (k j : ℕ) → ((k ≢ d) ⊎ (j ≢ i)) → start_in (starts_at starts_new.columns k) j ≡ start_in (starts_at starts.columns k) j
@@ -170,11 +170,11 @@ pub record FinishesRecord (table : TableValue) (d i : ℕ) (listed : Option Meta
       (finish_calls (state_in states d i).lost listed (start_in (starts_at starts.columns d) i) (state_in states d i)
       (record_path (records_in table d) i) (record_at table.columns d i).meta) (was_gone finish) folder folder_new
   pub holds : IsTrue folder.tells
-      → HoldsFinished finish folder.keeps_stamps (record_at table.columns d i).meta (start_in (starts_at starts.columns d) i)
+      → HoldsFinished finish folder.keeps (record_at table.columns d i).meta (start_in (starts_at starts.columns d) i)
       (state_in states d i)
       (bytes_now folder.tree (record_path (records_in table d) i)) (record_path (records_in table d) i) folder.tree folder_new.tree
   pub whole : IsTrue folder.tells → (state_in states d i).lost ≡ false
-      → StandsWhole folder.keeps_stamps (record_at table.columns d i).meta (start_in (starts_at starts.columns d) i).place
+      → StandsWhole folder.keeps (record_at table.columns d i).meta (start_in (starts_at starts.columns d) i).place
       (bytes_now folder.tree (record_path (records_in table d) i)) (record_path (records_in table d) i) folder.tree folder_new.tree
   pub others : IsTrue folder.tells → OthersStay (record_path (records_in table d) i) folder.tree folder_new.tree
   pub wrote : was_gone finish ≡ false

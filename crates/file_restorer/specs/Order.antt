@@ -31,7 +31,7 @@ went_well keeps call = record { call = call; answer = answer_to keeps call }
 pub record FolderWrites (calls : List FolderCall) (old new : FolderView) : Type 0 where
   pub done : List FolderDone
   pub goes_on : FolderGoesOn old new done
-  pub are : filter is_writing done ≡ map (went_well old.keeps_stamps) calls
+  pub are : filter is_writing done ≡ map (went_well old.keeps) calls
 
 -- the call that puts a file under PATH, where it has the other name or there is none
 abbrev pub set_up_calls : Place → List ℕ → List FolderCall

@@ -138,7 +138,7 @@ pub record FolderMakes (P : FolderDone → Type 0) (old new : FolderView) : Type
   pub done : List FolderDone
   pub each : All P done
   pub goes_on : FolderGoesOn old new done
-  pub left : IsTrue old.tells → IsTree old.tree → MayBeLeft old.keeps_stamps done old.tree new.tree
+  pub left : IsTrue old.tells → IsTree old.tree → MayBeLeft old.keeps done old.tree new.tree
 
 -- one of these calls found no file
 abbrev pub has_missing : List FolderDone → Bool
@@ -160,7 +160,7 @@ pub record FolderMakesBy (P : List FolderDone → Type 0) (old new : FolderView)
   pub done : List FolderDone
   pub are : P done
   pub goes_on : FolderGoesOn old new done
-  pub left : IsTrue old.tells → IsTree old.tree → MayBeLeft old.keeps_stamps done old.tree new.tree
+  pub left : IsTrue old.tells → IsTree old.tree → MayBeLeft old.keeps done old.tree new.tree
 
 -- a step on a file was made by such calls: one of them found no file, or none did and they are just these
 abbrev pub StepMakes : (FolderCall → Type 0) → List FolderCall → Bool → FolderView → FolderView → Type 0

@@ -106,7 +106,7 @@ fn finish_whole<F: Folder>(
 ) -> Result<Finish, FileFault>
     requires { IsReady path.now listed meta start state (F.view folder.old) }
     ensures finished { IfOk result (λ finish. FinishesBy
-        (whole_finish meta listed start state (F.view folder.old).keeps_stamps) finish
+        (whole_finish meta listed start state (F.view folder.old).keeps) finish
         (IsWholeCall listed start state path.now meta) (whole_calls listed start state path.now meta)
         meta start state path.now (F.view folder.old) (F.view folder.new)) }
     ensures broke { IfErr result (λ fault. BreaksBy fault (IsWholeCall listed start state path.now meta)
@@ -172,7 +172,7 @@ fn finish_file<F: Folder>(
 ) -> Result<Finish, FileFault>
     requires { IsReady path.now listed meta start state (F.view folder.old) }
     ensures finished { IfOk result (λ finish. FinishesBy
-        (finish_of meta listed start state (F.view folder.old).keeps_stamps) finish
+        (finish_of meta listed start state (F.view folder.old).keeps) finish
         (IsFinishCall state.lost listed start state path.now meta)
         (finish_calls state.lost listed start state path.now meta)
         meta start state path.now (F.view folder.old) (F.view folder.new)) }

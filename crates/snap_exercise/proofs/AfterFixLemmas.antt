@@ -154,7 +154,7 @@ pub record IsLeft (plan : FixPlan) (stripes : List Mended) (d : ℕ) (first last
   pub others : (name : List ℕ) → ¬ (IsNameOf (records_in plan.table d) name) → file_of last name ≡ file_of first name
 
 module _ (plan : FixPlan) (starts : StartsValue) (stripes : List Mended) (finishes : List (List Finish)) (mids news : List FolderView) (files : FixesFiles plan starts stripes finishes mids news)
-    (tells : (d : ℕ) → d < length plan.table.columns → IsTrue (folder_at mids d).tells) (keeps : (d : ℕ) → d < length plan.table.columns → (folder_at mids d).keeps_stamps ≡ true)
+    (tells : (d : ℕ) → d < length plan.table.columns → IsTrue (folder_at mids d).tells) (keeps : (d : ℕ) → d < length plan.table.columns → (folder_at mids d).keeps ≡ true)
     (finished : (d i : ℕ) → d < length plan.table.columns → i < length (records_in plan.table d) → is_finished plan d i ≡ true)
     (kept : (d i : ℕ) → d < length plan.table.columns → has_lost plan stripes d i ≡ false) (d : ℕ) (below : d < length plan.table.columns) where
   abbrev records : List Record
@@ -178,8 +178,8 @@ module _ (plan : FixPlan) (starts : StartsValue) (stripes : List Mended) (finish
   mid_tells : IsTrue mid.tells
   mid_tells = (files.writes.underway.each d below).calls.goes_on.tells ∙ tells d below
 
-  mid_keeps : IsTrue mid.keeps_stamps
-  mid_keeps = (files.writes.underway.each d below).calls.goes_on.keeps_stamps ∙ keeps d below
+  mid_keeps : IsTrue mid.keeps
+  mid_keeps = (files.writes.underway.each d below).calls.goes_on.keeps ∙ keeps d below
 
   module _ (i : ℕ) (inside : i < length records) where
     abbrev path : List ℕ
@@ -200,7 +200,7 @@ module _ (plan : FixPlan) (starts : StartsValue) (stripes : List Mended) (finish
     held : HoldsRecord start state written path first mid.tree
     held = subst (λ (ws : List Write). HoldsRecord start state ws path first mid.tree) (get_or-map-range_with_len (writes_of plan stripes d) 0 (length records) i i [] inside (omega arith)) (holds.each i inside)
 
-    whole : StandsWhole mid.keeps_stamps meta start.place (bytes_now mid.tree path) path mid.tree last
+    whole : StandsWhole mid.keeps meta start.place (bytes_now mid.tree path) path mid.tree last
     whole = (files.finished d below).whole mid_tells i inside (finished d i below inside) ((files.writes.underway.each d below).lost i inside ∙ kept d i below)
 
     file_is : file_of last (path_of path false) ≡ Some (file_left meta (puts (bytes_placed first path) written))

@@ -56,7 +56,7 @@ worn_tells n (a ∷ b ∷ c ∷ rest) long tell (suc zero) within = refl
 worn_tells n (a ∷ b ∷ c ∷ rest) long tell (suc (suc zero)) within = refl
 worn_tells n (a ∷ b ∷ c ∷ rest) long tell (suc (suc (suc d))) within = tell (suc (suc (suc d))) (omega (arith, within, long))
 
-pub worn_keeps : (n : ℕ) (folders : List FolderView) → length folders ≡ 8 → ((d : ℕ) → d < 8 → (folder_at folders d).keeps_stamps ≡ true) → (d : ℕ) → d < length (damaged n folders) → (folder_at (damaged n folders) d).keeps_stamps ≡ true
+pub worn_keeps : (n : ℕ) (folders : List FolderView) → length folders ≡ 8 → ((d : ℕ) → d < 8 → (folder_at folders d).keeps ≡ true) → (d : ℕ) → d < length (damaged n folders) → (folder_at (damaged n folders) d).keeps ≡ true
 worn_keeps n [] long keep d within = absurd (omega (arith, long))
 worn_keeps n (a ∷ []) long keep d within = absurd (omega (arith, long))
 worn_keeps n (a ∷ b ∷ []) long keep d within = absurd (omega (arith, long))
@@ -150,10 +150,10 @@ module _ (laid : IsLaidByTrees) (read : IsReadByTrees) (n : ℕ) (new : Array) (
       let first : d < length (begun n).folders = omega (arith, below, eight laid read n new end done well) in
       (done.reads.read.each d (listed_at d below)).folder.goes_on.tells ∙ (done.laid.listed.each d first).call.called.goes_on.tells ∙ tells_at (trees n) d first
 
-  pub keeps_after : (d : ℕ) → d < 8 → (folder_at new.folders d).keeps_stamps ≡ true
+  pub keeps_after : (d : ℕ) → d < 8 → (folder_at new.folders d).keeps ≡ true
   keeps_after d below =
       let first : d < length (begun n).folders = omega (arith, below, eight laid read n new end done well) in
-      (done.reads.read.each d (listed_at d below)).folder.goes_on.keeps_stamps ∙ (done.laid.listed.each d first).call.called.goes_on.keeps_stamps ∙ keeps_at (trees n) d first
+      (done.reads.read.each d (listed_at d below)).folder.goes_on.keeps ∙ (done.laid.listed.each d first).call.called.goes_on.keeps ∙ keeps_at (trees n) d first
 
   pub tree_after : (d : ℕ) → d < 8 → (folder_at new.folders d).tree ≡ tree_at (trees n) d
   tree_after d below =

@@ -168,7 +168,7 @@ module _ (table : TableValue) (old new : Array) (end : FixEnd) (done : IsFixed t
   finished_there : (d i : ℕ) → d < length done.plan.table.columns → i < length (records_in done.plan.table d) → is_finished done.plan d i ≡ true → was_gone (finish_at (finishes_at done.finishes d) i) ≡ false
   finished_there d i below inside due = ⊎_elim
       (λ is. ap was_gone is ∙ asked_there (record_at done.plan.table.columns d i).meta (entry_at done.plan d i).listed (start_in (starts_at done.files.written.starts.columns d) i) (state_at (states_at done.files.written.states d) i)
-      (folder_at done.files.written.folders d).keeps_stamps)
+      (folder_at done.files.written.folders d).keeps)
       (λ gone. absurd (let clash : true ≡ false = sym tells_now ∙ gone.1 in cc))
       ((done.files.finished d below).is i inside due)
     where

@@ -32,7 +32,7 @@ tells_at [] d within = absurd (omega (arith, within))
 tells_at (tree ∷ those) zero within = refl
 tells_at (tree ∷ those) (suc d) within = tells_at those d (omega (arith, within))
 
-pub keeps_at : (those : List Tree) (d : ℕ) → d < length (map standing those) → (folder_at (map standing those) d).keeps_stamps ≡ true
+pub keeps_at : (those : List Tree) (d : ℕ) → d < length (map standing those) → (folder_at (map standing those) d).keeps ≡ true
 keeps_at [] d within = absurd (omega (arith, within))
 keeps_at (tree ∷ those) zero within = refl
 keeps_at (tree ∷ those) (suc d) within = keeps_at those d (omega (arith, within))

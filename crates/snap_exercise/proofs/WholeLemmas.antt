@@ -107,8 +107,8 @@ module _ (laid : IsLaidByTrees) (read : IsReadByTrees) (n : ℕ) (synced : SyncE
   pub tells : (d : ℕ) → d < length plan.table.columns → IsTrue (folder_at is.fix.mids d).tells
   tells = tells_listed synced.table worn is.after_fix fixed is.fix its_tell before is.sync_unfailed.vault is.fix_unfailed columns
 
-  keeps : (d : ℕ) → d < length plan.table.columns → (folder_at is.fix.mids d).keeps_stamps ≡ true
-  keeps d below = (is.fix.listed.each d (in_worn d below)).call.called.goes_on.keeps_stamps
+  keeps : (d : ℕ) → d < length plan.table.columns → (folder_at is.fix.mids d).keeps ≡ true
+  keeps d below = (is.fix.listed.each d (in_worn d below)).call.called.goes_on.keeps
       ∙ worn_keeps n is.after_sync.folders (many laid read n synced fixed checked last is) (keeps_after laid read n is.after_sync synced is.sync is.sync_unfailed) d (in_worn d below)
 
   left_at : (d : ℕ) → d < length plan.table.columns → IsLeft plan stripes d (folder_at is.fix.mids d).tree (folder_at is.after_fix.folders d).tree

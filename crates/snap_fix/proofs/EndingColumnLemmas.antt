@@ -63,9 +63,9 @@ module _ (plan : FixPlan) (d : ℕ) (first : StartsValue) (firsts : List (List F
     pub makes : FolderMakesBy (AreFinishCalls plan d starts_of states_of done n) folder now
     pub is : (i : ℕ) → i < n → is_finished plan d i ≡ true → IsDone plan d starts_of states_of folder i (finish_at done i)
     pub holds : IsTrue folder.tells → (i : ℕ) → i < n → is_finished plan d i ≡ true
-        → HoldsEnd plan d starts_of states_of folder.keeps_stamps i (finish_at done i) folder.tree now.tree
+        → HoldsEnd plan d starts_of states_of folder.keeps i (finish_at done i) folder.tree now.tree
     pub whole : IsTrue folder.tells → (i : ℕ) → i < n → is_finished plan d i ≡ true → (state_at states_of i).lost ≡ false
-        → StandsEnd plan d starts_of folder.keeps_stamps i folder.tree now.tree
+        → StandsEnd plan d starts_of folder.keeps i folder.tree now.tree
     pub others : IsTrue folder.tells → (name : List ℕ) → ((i : ℕ) (lost : Bool) → i < n → is_finished plan d i ≡ true → name ≢ path_of (path_at i) lost)
         → file_of now.tree name ≡ file_of folder.tree name
     pub wrote : IsTrue folder.tells → FolderWrites (calls_to n) folder now
@@ -157,16 +157,16 @@ module _ (plan : FixPlan) (d : ℕ) (first : StartsValue) (firsts : List (List F
     abbrev finish_next : List Start → List FileState → Bool → Finish
     finish_next of in_state keeps = finish_of (record_at plan.table.columns d n).meta (entry_at plan d n).listed (start_in of n) (state_at in_state n) keeps
 
-    same_next : finish_next (starts_at starts.columns d) (states_at states d) mid.keeps_stamps ≡ finish_next starts_of states_of folder.keeps_stamps
+    same_next : finish_next (starts_at starts.columns d) (states_at states d) mid.keeps ≡ finish_next starts_of states_of folder.keeps
     same_next =
-        ap (λ (s : Start). finish_of (record_at plan.table.columns d n).meta (entry_at plan d n).listed s (state_in states d n) mid.keeps_stamps) same_start
-        ∙ ap (λ (s : FileState). finish_of (record_at plan.table.columns d n).meta (entry_at plan d n).listed (start_in starts_of n) s mid.keeps_stamps) same_state
-        ∙ ap (finish_next starts_of states_of) so_far.makes.goes_on.keeps_stamps
+        ap (λ (s : Start). finish_of (record_at plan.table.columns d n).meta (entry_at plan d n).listed s (state_in states d n) mid.keeps) same_start
+        ∙ ap (λ (s : FileState). finish_of (record_at plan.table.columns d n).meta (entry_at plan d n).listed (start_in starts_of n) s mid.keeps) same_state
+        ∙ ap (finish_next starts_of states_of) so_far.makes.goes_on.keeps
 
     done_next : (finish : Finish) → IsDone plan d (starts_at starts.columns d) (states_at states d) mid n finish → IsDone plan d starts_of states_of folder n finish
     done_next finish (inl is) = inl (is ∙ same_next)
     done_next finish (inr (gone, untold, some)) =
-        inr (gone, sym so_far.makes.goes_on.tells ∙ untold, λ (kept : finish_next starts_of states_of folder.keeps_stamps ≡ Kept). some (same_next ∙ kept))
+        inr (gone, sym so_far.makes.goes_on.tells ∙ untold, λ (kept : finish_next starts_of states_of folder.keeps ≡ Kept). some (same_next ∙ kept))
 
     module _ (are : ArePaths (records_in plan.table d)) (told : IsTrue folder.tells) where
       -- its names were not touched before
@@ -174,21 +174,21 @@ module _ (plan : FixPlan) (d : ℕ) (first : StartsValue) (firsts : List (List F
       names_before lost = so_far.others told (path_of (path_at n) lost)
           (λ i l below finished. names_distinct (records_in plan.table d) are i n (omega (arith, below, within)) within (λ same. omega (arith, same, below)) lost l)
 
-      holds_next : (finish : Finish) (later : Tree) → HoldsEnd plan d (starts_at starts.columns d) (states_at states d) mid.keeps_stamps n finish mid.tree later
-          → HoldsEnd plan d starts_of states_of folder.keeps_stamps n finish folder.tree later
+      holds_next : (finish : Finish) (later : Tree) → HoldsEnd plan d (starts_at starts.columns d) (states_at states d) mid.keeps n finish mid.tree later
+          → HoldsEnd plan d starts_of states_of folder.keeps n finish folder.tree later
       holds_next finish later holds =
-          holds_since finish folder.keeps_stamps (record_at plan.table.columns d n).meta (start_in starts_of n) (state_at states_of n) (path_at n) folder.tree mid.tree later names_before
+          holds_since finish folder.keeps (record_at plan.table.columns d n).meta (start_in starts_of n) (state_at states_of n) (path_at n) folder.tree mid.tree later names_before
           (subst (λ (keeps : Bool). HoldsFinished finish keeps (record_at plan.table.columns d n).meta (start_in starts_of n) (state_at states_of n) (bytes_now mid.tree (path_at n)) (path_at n) mid.tree later)
-          so_far.makes.goes_on.keeps_stamps
-          (subst (λ (s : Start). HoldsFinished finish mid.keeps_stamps (record_at plan.table.columns d n).meta s (state_at states_of n) (bytes_now mid.tree (path_at n)) (path_at n) mid.tree later) same_start
-          (subst (λ (s : FileState). HoldsFinished finish mid.keeps_stamps (record_at plan.table.columns d n).meta (start_in (starts_at starts.columns d) n) s (bytes_now mid.tree (path_at n)) (path_at n) mid.tree later) same_state holds)))
+          so_far.makes.goes_on.keeps
+          (subst (λ (s : Start). HoldsFinished finish mid.keeps (record_at plan.table.columns d n).meta s (state_at states_of n) (bytes_now mid.tree (path_at n)) (path_at n) mid.tree later) same_start
+          (subst (λ (s : FileState). HoldsFinished finish mid.keeps (record_at plan.table.columns d n).meta (start_in (starts_at starts.columns d) n) s (bytes_now mid.tree (path_at n)) (path_at n) mid.tree later) same_state holds)))
 
-      whole_next : (later : Tree) → StandsEnd plan d (starts_at starts.columns d) mid.keeps_stamps n mid.tree later → StandsEnd plan d starts_of folder.keeps_stamps n folder.tree later
+      whole_next : (later : Tree) → StandsEnd plan d (starts_at starts.columns d) mid.keeps n mid.tree later → StandsEnd plan d starts_of folder.keeps n folder.tree later
       whole_next later whole =
-          whole_since folder.keeps_stamps (record_at plan.table.columns d n).meta (start_in starts_of n).place (path_at n) folder.tree mid.tree later names_before
+          whole_since folder.keeps (record_at plan.table.columns d n).meta (start_in starts_of n).place (path_at n) folder.tree mid.tree later names_before
           (subst (λ (keeps : Bool). StandsWhole keeps (record_at plan.table.columns d n).meta (start_in starts_of n).place (bytes_now mid.tree (path_at n)) (path_at n) mid.tree later)
-          so_far.makes.goes_on.keeps_stamps
-          (subst (λ (s : Start). StandsWhole mid.keeps_stamps (record_at plan.table.columns d n).meta s.place (bytes_now mid.tree (path_at n)) (path_at n) mid.tree later) same_start whole))
+          so_far.makes.goes_on.keeps
+          (subst (λ (s : Start). StandsWhole mid.keeps (record_at plan.table.columns d n).meta s.place (bytes_now mid.tree (path_at n)) (path_at n) mid.tree later) same_start whole))
 
     module _ {W R : Type 0} (view : W → SinkView) (standing : R → ReportView) (stands : R → List Event → Type 0)
         (starts_new : StartsValue) (states_new : List (List FileState)) (new : FolderView) (lines lines_new : Lines W) (reports reports_new : List R) (counts : Counts)
@@ -226,29 +226,29 @@ module _ (plan : FixPlan) (d : ℕ) (first : StartsValue) (firsts : List (List F
       ]
 
       holds_all : IsTrue folder.tells → (i : ℕ) → i < n + 1 → is_finished plan d i ≡ true
-          → HoldsEnd plan d starts_of states_of folder.keeps_stamps i (finish_at all_done i) folder.tree new.tree
+          → HoldsEnd plan d starts_of states_of folder.keeps i (finish_at all_done i) folder.tree new.tree
       holds_all told i below finished = elim (cases_lt i n) [
         | inl near ↦
-            subst (λ (f : Finish). HoldsEnd plan d starts_of states_of folder.keeps_stamps i f folder.tree new.tree) (sym (finish_is i near))
-            (holds_on (finish_at so_far.done i) folder.keeps_stamps (record_at plan.table.columns d i).meta (start_in starts_of i) (state_at states_of i)
+            subst (λ (f : Finish). HoldsEnd plan d starts_of states_of folder.keeps i f folder.tree new.tree) (sym (finish_is i near))
+            (holds_on (finish_at so_far.done i) folder.keeps (record_at plan.table.columns d i).meta (start_in starts_of i) (state_at states_of i)
             (bytes_now folder.tree (path_at i)) (path_at i) folder.tree mid.tree new.tree
             (names_after told i (omega (arith, near, within)) (λ same. omega (arith, same, near))) (so_far.holds told i near finished))
         | inr far ↦
             let here = last_one i below far in
-            subst (λ (k : ℕ). HoldsEnd plan d starts_of states_of folder.keeps_stamps k (finish_at all_done k) folder.tree new.tree) here
-            (subst (λ (f : Finish). HoldsEnd plan d starts_of states_of folder.keeps_stamps n f folder.tree new.tree) (sym finish_here)
+            subst (λ (k : ℕ). HoldsEnd plan d starts_of states_of folder.keeps k (finish_at all_done k) folder.tree new.tree) here
+            (subst (λ (f : Finish). HoldsEnd plan d starts_of states_of folder.keeps n f folder.tree new.tree) (sym finish_here)
             (holds_next are told one.finish new.tree (one.holds (tells_mid told) (subst (λ (k : ℕ). is_finished plan d k ≡ true) (sym here) finished))))
       ]
 
       whole_all : IsTrue folder.tells → (i : ℕ) → i < n + 1 → is_finished plan d i ≡ true → (state_at states_of i).lost ≡ false
-          → StandsEnd plan d starts_of folder.keeps_stamps i folder.tree new.tree
+          → StandsEnd plan d starts_of folder.keeps i folder.tree new.tree
       whole_all told i below finished lost = elim (cases_lt i n) [
         | inl near ↦
-            whole_on folder.keeps_stamps (record_at plan.table.columns d i).meta (start_in starts_of i).place (bytes_now folder.tree (path_at i)) (path_at i) folder.tree mid.tree new.tree
+            whole_on folder.keeps (record_at plan.table.columns d i).meta (start_in starts_of i).place (bytes_now folder.tree (path_at i)) (path_at i) folder.tree mid.tree new.tree
             (names_after told i (omega (arith, near, within)) (λ same. omega (arith, same, near))) (so_far.whole told i near finished lost)
         | inr far ↦
             let here = last_one i below far in
-            subst (λ (k : ℕ). StandsEnd plan d starts_of folder.keeps_stamps k folder.tree new.tree) here
+            subst (λ (k : ℕ). StandsEnd plan d starts_of folder.keeps k folder.tree new.tree) here
             (whole_next are told new.tree (one.whole (tells_mid told) (subst (λ (k : ℕ). is_finished plan d k ≡ true) (sym here) finished)
             (ap (λ (s : FileState). s.lost) same_state ∙ subst (λ (k : ℕ). (state_at states_of k).lost ≡ false) (sym here) lost)))
       ]

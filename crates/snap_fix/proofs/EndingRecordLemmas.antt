@@ -79,9 +79,9 @@ module _ (plan : FixPlan) (d i : ℕ) (starts : StartsValue) (states : List (Lis
           (step_wider (CallBy listed) This (calls_by listed) (was_gone finish) (call_of listed finished same) does.makes));
       is = λ is.
           subst (λ (l : Option Meta).
-          (finish ≡ finish_of (record_at plan.table.columns d i).meta l (start_in (starts_at starts.columns d) i) (state_in states d i) folder.keeps_stamps)
+          (finish ≡ finish_of (record_at plan.table.columns d i).meta l (start_in (starts_at starts.columns d) i) (state_in states d i) folder.keeps)
           ⊎ ((finish ≡ Gone) × (folder.tells ≡ false)
-          × (finish_of (record_at plan.table.columns d i).meta l (start_in (starts_at starts.columns d) i) (state_in states d i) folder.keeps_stamps ≢ Kept))) same does.is;
+          × (finish_of (record_at plan.table.columns d i).meta l (start_in (starts_at starts.columns d) i) (state_in states d i) folder.keeps ≢ Kept))) same does.is;
       holds = λ tells is. does.holds tells;
       whole = λ tells is. does.whole tells;
       others = λ tells name apart. does.others tells name (apart finished);
@@ -97,10 +97,10 @@ module _ (plan : FixPlan) (d i : ℕ) (starts : StartsValue) (states : List (Lis
 
         -- where the folder tells its files, the file was there
         there : {B : Type 0}
-            → (finish ≡ finish_of (record_at plan.table.columns d i).meta listed (start_in (starts_at starts.columns d) i) (state_in states d i) folder.keeps_stamps)
+            → (finish ≡ finish_of (record_at plan.table.columns d i).meta listed (start_in (starts_at starts.columns d) i) (state_in states d i) folder.keeps)
             ⊎ ((finish ≡ Gone) × (folder.tells ≡ false) × B) → IsTrue folder.tells → was_gone finish ≡ false
         there (inl is) tells =
-            ap was_gone is ∙ none_gone (record_at plan.table.columns d i).meta listed (start_in (starts_at starts.columns d) i) (state_in states d i) folder.keeps_stamps
+            ap was_gone is ∙ none_gone (record_at plan.table.columns d i).meta listed (start_in (starts_at starts.columns d) i) (state_in states d i) folder.keeps
         there (inr is) tells = absurd (let clash : true ≡ false = sym tells ∙ is.1 in cc)
 
     -- it was not to be

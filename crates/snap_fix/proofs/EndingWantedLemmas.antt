@@ -22,7 +22,7 @@ use Rattle.stripe_examiner.proofs.TellingLemmas.{events_to}
 
 module _ (plan : FixPlan) (d : ℕ) (starts : List Start) (states : List FileState) (folder : FolderView) where
   abbrev pub wanted : ℕ → Finish
-  wanted i = finish_of (record_at plan.table.columns d i).meta (entry_at plan d i).listed (start_in starts i) (state_at states i) folder.keeps_stamps
+  wanted i = finish_of (record_at plan.table.columns d i).meta (entry_at plan d i).listed (start_in starts i) (state_at states i) folder.keeps
 
   -- the records from one on
   abbrev pub wanted_from : ℕ → List Finish

@@ -277,7 +277,7 @@ module _ (plan : FixPlan) (starts : StartsValue) (stripes : List Mended) (finish
           let written : Written = has.files.written in
           let start : Start = start_in (starts_at written.starts.columns d) i in
           let state : FileState = state_at (states_at written.states d) i in
-          not_gone (record_at plan.table.columns d i).meta (entry_at plan d i).listed start state (folder_at written.folders d).keeps_stamps state.lost (sym is ∙ gone)
+          not_gone (record_at plan.table.columns d i).meta (entry_at plan d i).listed start state (folder_at written.folders d).keeps state.lost (sym is ∙ gone)
       by (inr gone) = absurd (false≢true (sym gone.1 ∙ (has.files.writes.makes d below).goes_on.tells ∙ tell d below))
 
   pub fixed_finds : filter is_finding (fix_events plan stripes finishes) ≡ check_events plan (facts_of stripes)

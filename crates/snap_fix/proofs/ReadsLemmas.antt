@@ -42,7 +42,7 @@ quiet_then one two = reads_on IsQuiet one two
 pub quiet_none : (v : FolderView) → FolderReads IsQuiet v v
 quiet_none v = record {
   done = [];
-  goes_on = record { later = omega arith; keeps_stamps = refl; closed = refl; tells = refl; calls = record { told = λ t. t; more = λ t. sym (append-nil v.calls) } };
+  goes_on = record { later = omega arith; keeps = refl; closed = refl; tells = refl; calls = record { told = λ t. t; more = λ t. sym (append-nil v.calls) } };
   are = refl;
 }
 

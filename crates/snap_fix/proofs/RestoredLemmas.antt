@@ -196,7 +196,7 @@ module _ (plan : FixPlan) (starts : StartsValue) (stripes : List Mended) (finish
   -- without a lost block it stands under its path
   whole_holds : has_lost plan stripes d i ≡ false → HoldsCell plan.table d cell false byte later
   whole_holds none =
-      let stood : StandsEnd plan d (starts_at written.starts.columns d) (folder_at written.folders d).keeps_stamps i before later =
+      let stood : StandsEnd plan d (starts_at written.starts.columns d) (folder_at written.folders d).keeps i before later =
       column.whole then_tells i within finished (underway.lost i within ∙ none) in
       let meta_size : ℕ = (record_at plan.table.columns d i).meta.size in
       record {
@@ -214,9 +214,9 @@ module _ (plan : FixPlan) (starts : StartsValue) (stripes : List Mended) (finish
       stood : stands start.place state.touched ≡ true
       stood = ap (stands start.place) touched ∙ then_stands start.place _ held.place
 
-      wanted : finish_of (record_at plan.table.columns d i).meta (entry_at plan d i).listed start state (folder_at written.folders d).keeps_stamps ≡ Renamed
+      wanted : finish_of (record_at plan.table.columns d i).meta (entry_at plan d i).listed start state (folder_at written.folders d).keeps ≡ Renamed
       wanted =
-          ap (λ (b : Bool). if b then lost_finish start state else whole_finish (record_at plan.table.columns d i).meta (entry_at plan d i).listed start state (folder_at written.folders d).keeps_stamps)
+          ap (λ (b : Bool). if b then lost_finish start state else whole_finish (record_at plan.table.columns d i).meta (entry_at plan d i).listed start state (folder_at written.folders d).keeps)
           (underway.lost i within ∙ some)
           ∙ renamed_where_lost start state stood
 
@@ -225,7 +225,7 @@ module _ (plan : FixPlan) (starts : StartsValue) (stripes : List Mended) (finish
       by_done (inr gone) = absurd (false≢true (sym gone.1 ∙ then_tells))
       by_done (inl is) =
           let moved : StandsLost path before later =
-          subst (λ (finish : Finish). HoldsEnd plan d (starts_at written.starts.columns d) (states_at written.states d) (folder_at written.folders d).keeps_stamps i finish before later)
+          subst (λ (finish : Finish). HoldsEnd plan d (starts_at written.starts.columns d) (states_at written.states d) (folder_at written.folders d).keeps i finish before later)
           (is ∙ wanted) (column.holds then_tells i within finished) in
           record { file = held.file; there = moved.moved ∙ held.there; bytes = has_block }
 

@@ -123,7 +123,7 @@ module _ (plan : FixPlan) (starts : StartsValue) (stripes : List Mended) (finish
   meta = (record_at plan.table.columns d i).meta
 
   abbrev keeps : Bool
-  keeps = (folder_at written.folders d).keeps_stamps
+  keeps = (folder_at written.folders d).keeps
 
   abbrev all_writes : List Write
   all_writes = writes_of plan stripes d i
@@ -273,14 +273,14 @@ module _ (plan : FixPlan) (starts : StartsValue) (stripes : List Mended) (finish
 
   -- ---- the files of records that are
 
-  stands_restored : is_finished plan d i ≡ true → has_lost plan stripes d i ≡ false → StandsRestored (folder_at firsts d).keeps_stamps meta path later
+  stands_restored : is_finished plan d i ≡ true → has_lost plan stripes d i ≡ false → StandsRestored (folder_at firsts d).keeps meta path later
   stands_restored finished none =
       let stood : StandsEnd plan d (starts_at written.starts.columns d) keeps i before later = column.whole then_tells i within finished (underway.lost i within ∙ none) in
       record {
         file = stood.file;
         there = stood.there;
         size = ap length stood.bytes_are ∙ length-resized (bytes_now before path) meta.size;
-        stamp = λ kept. stood.stamp ((has.files.writes.makes d column_is).goes_on.keeps_stamps ∙ kept);
+        stamp = λ kept. stood.stamp ((has.files.writes.makes d column_is).goes_on.keeps ∙ kept);
       }
 
   -- what stood under PATH`.unrecoverable` stays, but where the file was renamed back
@@ -376,7 +376,7 @@ module _ (plan : FixPlan) (starts : StartsValue) (stripes : List Mended) (finish
       by false files = files.0
       by true files = files.1
 
-  pub stands_finished : is_finished plan d i ≡ true → StandsFinished plan stripes d i (folder_at firsts d).keeps_stamps first later
+  pub stands_finished : is_finished plan d i ≡ true → StandsFinished plan stripes d i (folder_at firsts d).keeps first later
   stands_finished finished = record {
     whole = stands_restored finished;
     kept = other_stays finished;

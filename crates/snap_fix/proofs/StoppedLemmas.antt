@@ -200,10 +200,10 @@ module _ (stop : FixStop) (stops : IsStop stop) where
         by : (one other : Option File) → file_of first (path_of path false) ≡ one → file_of first (path_of path true) ≡ other → StandsSpared stop i file
         by (Some found) other one_is other_is =
             let place : place_in first path ≡ Plain = ap (λ (f : Option File). place_by f (file_of first (path_of path true))) one_is in
-            stands_spared file (plain_stays unnamed stop.keeps_stamps path calls first stop.left file placed own_or_apart
+            stands_spared file (plain_stays unnamed stop.keeps path calls first stop.left file placed own_or_apart
             (keeps_place false (λ gone. let clash : Plain ≡ Nowhere = sym place ∙ gone in cc) (λ no lost. let clash : Plain ≡ Lost = sym place ∙ lost in cc)) stops.left)
         by None (Some found) one_is other_is =
             let place : place_in first path ≡ Lost = ap (λ (f : Option File). place_by f (file_of first (path_of path true))) one_is ∙ ap (place_by None) other_is in
-            stands_spared file (lost_stays unnamed stop.keeps_stamps path calls first stop.left file placed one_is own_or_apart
+            stands_spared file (lost_stays unnamed stop.keeps path calls first stop.left file placed one_is own_or_apart
             (keeps_place true (λ gone. let clash : Lost ≡ Nowhere = sym place ∙ gone in cc) (λ no. absurd cc)) stops.left)
         by None None one_is other_is = absurd (let clash : None ≡ Some file = sym (ap₂ file_or one_is other_is) ∙ placed in cc)

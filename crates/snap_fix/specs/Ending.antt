@@ -183,9 +183,9 @@ pub record CanFinishAll (plan : FixPlan) (starts : StartsValue) (states : List (
 -- what was done to the file of a record: what its start and its state ask for, or it was gone where the folder doesn't tell its files
 abbrev pub IsDone : FixPlan → ℕ → List Start → List FileState → FolderView → ℕ → Finish → Type 0
 IsDone plan d starts states folder i finish =
-    (finish ≡ finish_of (record_at plan.table.columns d i).meta (entry_at plan d i).listed (start_in starts i) (state_at states i) folder.keeps_stamps)
+    (finish ≡ finish_of (record_at plan.table.columns d i).meta (entry_at plan d i).listed (start_in starts i) (state_at states i) folder.keeps)
     ⊎ ((finish ≡ Gone) × (folder.tells ≡ false)
-    × (finish_of (record_at plan.table.columns d i).meta (entry_at plan d i).listed (start_in starts i) (state_at states i) folder.keeps_stamps ≢ Kept))
+    × (finish_of (record_at plan.table.columns d i).meta (entry_at plan d i).listed (start_in starts i) (state_at states i) folder.keeps ≢ Kept))
 
 -- what the folder holds of it then
 abbrev pub HoldsEnd : FixPlan → ℕ → List Start → List FileState → Bool → ℕ → Finish → Tree → Tree → Type 0
@@ -205,9 +205,9 @@ pub record FinishesFiles (plan : FixPlan) (d : ℕ) (starts : List Start) (state
   pub makes : FolderMakesBy (AreColumnFinishCalls plan d starts states done) folder folder_new
   pub is : (i : ℕ) → i < length (records_in plan.table d) → is_finished plan d i ≡ true → IsDone plan d starts states folder i (finish_at done i)
   pub holds : IsTrue folder.tells → (i : ℕ) → i < length (records_in plan.table d) → is_finished plan d i ≡ true
-      → HoldsEnd plan d starts states folder.keeps_stamps i (finish_at done i) folder.tree folder_new.tree
+      → HoldsEnd plan d starts states folder.keeps i (finish_at done i) folder.tree folder_new.tree
   pub whole : IsTrue folder.tells → (i : ℕ) → i < length (records_in plan.table d) → is_finished plan d i ≡ true → (state_at states i).lost ≡ false
-      → StandsEnd plan d starts folder.keeps_stamps i folder.tree folder_new.tree
+      → StandsEnd plan d starts folder.keeps i folder.tree folder_new.tree
   pub others : IsTrue folder.tells → (name : List ℕ) → ((i : ℕ) (lost : Bool) → i < length (records_in plan.table d) → is_finished plan d i ≡ true
       → name ≢ path_of (record_path (records_in plan.table d) i) lost) → file_of folder_new.tree name ≡ file_of folder.tree name
   pub wrote : IsTrue folder.tells → FolderWrites (column_calls plan d starts states) folder folder_new

@@ -74,9 +74,9 @@ pub record EndsRecord {W R : Type 0} (view : W → SinkView) (standing : R → R
       (record_calls plan d (starts_at old.starts.columns d) (states_at old.states d) i) (was_gone finish) old.folder new.folder
   pub is : is_finished plan d i ≡ true → IsDone plan d (starts_at old.starts.columns d) (states_at old.states d) old.folder i finish
   pub holds : IsTrue old.folder.tells → is_finished plan d i ≡ true
-      → HoldsEnd plan d (starts_at old.starts.columns d) (states_at old.states d) old.folder.keeps_stamps i finish old.folder.tree new.folder.tree
+      → HoldsEnd plan d (starts_at old.starts.columns d) (states_at old.states d) old.folder.keeps i finish old.folder.tree new.folder.tree
   pub whole : IsTrue old.folder.tells → is_finished plan d i ≡ true → (state_in old.states d i).lost ≡ false
-      → StandsEnd plan d (starts_at old.starts.columns d) old.folder.keeps_stamps i old.folder.tree new.folder.tree
+      → StandsEnd plan d (starts_at old.starts.columns d) old.folder.keeps i old.folder.tree new.folder.tree
   pub others : IsTrue old.folder.tells → (name : List ℕ)
       → (is_finished plan d i ≡ true → (lost : Bool) → name ≢ path_of (record_path (records_in plan.table d) i) lost)
       → file_of new.folder.tree name ≡ file_of old.folder.tree name

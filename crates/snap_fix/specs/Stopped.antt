@@ -28,7 +28,7 @@ pub record FixStop : Type 0 where
   pub starts : StartsValue
   pub stripes : List Mended
   pub d : ℕ
-  pub keeps_stamps : Bool
+  pub keeps : Bool
   pub first : Tree
   pub left : Tree
 
@@ -55,7 +55,7 @@ pub record IsStop (stop : FixStop) : Type 0 where
   pub places : StandInPlace stop.plan stop.starts stop.d stop.first
   pub calls : List FolderDone
   pub each : All (AnyCall (IsRunCall stop)) calls
-  pub left : MayBeLeft stop.keeps_stamps calls stop.first stop.left
+  pub left : MayBeLeft stop.keeps calls stop.first stop.left
 
 -- ---- what it leaves of a file
 

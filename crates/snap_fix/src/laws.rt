@@ -261,7 +261,7 @@ pub fn a_fix_finishes_files()
     ensures { (plan : FixPlan) (starts : StartsValue) (stripes : List Mended)
         (finishes : List (List Finish)) (firsts news : List FolderView) (d i : ℕ) →
         HasFinished plan starts stripes finishes firsts news d i →
-        StandsFinished plan stripes d i (folder_at firsts d).keeps_stamps (folder_at firsts d).tree
+        StandsFinished plan stripes d i (folder_at firsts d).keeps (folder_at firsts d).tree
         (folder_at news d).tree }
 {}
 

@@ -182,14 +182,14 @@ module _ (plan : FixPlan) (starts : StartsValue) (stripes : List Mended) (firsts
   pub tells_mid : IsTrue mid.tells
   tells_mid = (writes_files.underway.each d below).calls.goes_on.tells ∙ tells
 
-  keeps_mid : mid.keeps_stamps ≡ first.keeps_stamps
-  keeps_mid = (writes_files.underway.each d below).calls.goes_on.keeps_stamps
+  keeps_mid : mid.keeps ≡ first.keeps
+  keeps_mid = (writes_files.underway.each d below).calls.goes_on.keeps
 
   -- what is done to it
-  finish_is : (finish : Finish) → IsDone plan d (starts_at written.starts.columns d) (get_or written.states d []) mid i finish → finish ≡ finish_by plan starts d i (has_lost plan stripes d i) writes first.tree first.keeps_stamps
+  finish_is : (finish : Finish) → IsDone plan d (starts_at written.starts.columns d) (get_or written.states d []) mid i finish → finish ≡ finish_by plan starts d i (has_lost plan stripes d i) writes first.tree first.keeps
   finish_is finish is = ⊎_elim
       (λ done. done
-      ∙ ap₂ (λ (s : Start) (t : FileState). finish_of (record_at plan.table.columns d i).meta (entry_at plan d i).listed s t mid.keeps_stamps) start_is state_is
+      ∙ ap₂ (λ (s : Start) (t : FileState). finish_of (record_at plan.table.columns d i).meta (entry_at plan d i).listed s t mid.keeps) start_is state_is
       ∙ ap (λ (keeps : Bool). finish_of (record_at plan.table.columns d i).meta (entry_at plan d i).listed (start_by (placed (has_some writes) (place_in first.tree path)) first_size)
       (state_by (has_lost plan stripes d i) (has_some writes) (size_after first_size writes)) keeps) keeps_mid)
       (λ gone. absurd (let clash : false ≡ true = sym gone.1 ∙ tells_mid in cc))
@@ -198,12 +198,12 @@ module _ (plan : FixPlan) (starts : StartsValue) (stripes : List Mended) (firsts
   -- and what it leaves
   pub bytes_last : (finish : Finish) (keeps : Bool) (later : Tree) → IsDone plan d (starts_at written.starts.columns d) (get_or written.states d []) mid i finish
       → HoldsFinished finish keeps (record_at plan.table.columns d i).meta start state (bytes_now mid.tree path) path mid.tree later
-      → (lost : Bool) → bytes_in (file_of later (path_of path lost)) ≡ last_bytes plan starts d i (has_lost plan stripes d i) writes first.tree first.keeps_stamps lost
+      → (lost : Bool) → bytes_in (file_of later (path_of path lost)) ≡ last_bytes plan starts d i (has_lost plan stripes d i) writes first.tree first.keeps lost
   bytes_last finish keeps later is holds lost =
       let size : ℕ = (record_at plan.table.columns d i).meta.size in
       bytes_finish finish keeps (record_at plan.table.columns d i).meta start state path mid.tree later holds lost
       ∙ ap₂ (λ (f : Finish) (p : Place). finished_bytes f size p (bytes_in (file_of mid.tree (path_of path false))) (bytes_in (file_of mid.tree (path_of path true))) lost) (finish_is finish is) place_is
-      ∙ ap₂ (λ (plain other : Option (List ℕ)). finished_bytes (finish_by plan starts d i (has_lost plan stripes d i) writes first.tree first.keeps_stamps) size (placed (has_some writes) (place_in first.tree path)) plain other lost)
+      ∙ ap₂ (λ (plain other : Option (List ℕ)). finished_bytes (finish_by plan starts d i (has_lost plan stripes d i) writes first.tree first.keeps) size (placed (has_some writes) (place_in first.tree path)) plain other lost)
       (bytes_mid false) (bytes_mid true)
 
 -- ---- two fixes of one plan, of which the same is written and lost
@@ -211,13 +211,13 @@ module _ (plan : FixPlan) (starts : StartsValue) (stripes : List Mended) (firsts
 module _ (plan : FixPlan) (starts : StartsValue) (ones others : List Mended) (firsts firsts_then : List FolderView) (written written_then : Written) (writes_files : WritesFiles plan starts ones firsts written)
     (writes_then : WritesFiles plan starts others firsts_then written_then) (finishes finishes_then : List (List Finish)) (tells : (d : ℕ) → d < length plan.table.columns → IsTrue (folder_at firsts d).tells)
     (tells_then : (d : ℕ) → d < length plan.table.columns → IsTrue (folder_at firsts_then d).tells) (trees : (d : ℕ) → d < length plan.table.columns → (folder_at firsts d).tree ≡ (folder_at firsts_then d).tree)
-    (keeps : (d : ℕ) → d < length plan.table.columns → (folder_at firsts d).keeps_stamps ≡ (folder_at firsts_then d).keeps_stamps)
+    (keeps : (d : ℕ) → d < length plan.table.columns → (folder_at firsts d).keeps ≡ (folder_at firsts_then d).keeps)
     (lost : (d i : ℕ) → d < length plan.table.columns → has_lost plan ones d i ≡ has_lost plan others d i) (wrote : (d i : ℕ) → d < length plan.table.columns → writes_of plan ones d i ≡ writes_of plan others d i) where
   module _ (are : AreDone plan written.starts written.states written.folders finishes) (are_then : AreDone plan written_then.starts written_then.states written_then.folders finishes_then) where
     finish_same : (d i : ℕ) → d < length plan.table.columns → i < length (records_in plan.table d) → is_finished plan d i ≡ true → finish_at (finishes_at finishes d) i ≡ finish_at (finishes_at finishes_then d) i
     finish_same d i below within finished =
         finish_is plan starts ones firsts written writes_files d below (tells d below) i within (finish_at (finishes_at finishes d) i) (are d i below within finished)
-        ∙ ap₂ (λ (l : Bool) (ws : List Write). finish_by plan starts d i l ws (folder_at firsts d).tree (folder_at firsts d).keeps_stamps) (lost d i below) (wrote d i below)
+        ∙ ap₂ (λ (l : Bool) (ws : List Write). finish_by plan starts d i l ws (folder_at firsts d).tree (folder_at firsts d).keeps) (lost d i below) (wrote d i below)
         ∙ ap₂ (λ (tree : Tree) (k : Bool). finish_by plan starts d i (has_lost plan others d i) (writes_of plan others d i) tree k) (trees d below) (keeps d below)
         ∙ sym (finish_is plan starts others firsts_then written_then writes_then d below (tells_then d below) i within (finish_at (finishes_at finishes_then d) i) (are_then d i below within finished))
 
@@ -236,8 +236,8 @@ module _ (plan : FixPlan) (starts : StartsValue) (ones others : List Mended) (fi
     all_news_same = flat_map_below (column_news_at plan finishes) (column_news_at plan finishes_then) (length plan.table.columns) column_news_same
 
   pub last_same : (d i : ℕ) → d < length plan.table.columns → (named : Bool)
-      → last_bytes plan starts d i (has_lost plan ones d i) (writes_of plan ones d i) (folder_at firsts d).tree (folder_at firsts d).keeps_stamps named
-      ≡ last_bytes plan starts d i (has_lost plan others d i) (writes_of plan others d i) (folder_at firsts_then d).tree (folder_at firsts_then d).keeps_stamps named
+      → last_bytes plan starts d i (has_lost plan ones d i) (writes_of plan ones d i) (folder_at firsts d).tree (folder_at firsts d).keeps named
+      ≡ last_bytes plan starts d i (has_lost plan others d i) (writes_of plan others d i) (folder_at firsts_then d).tree (folder_at firsts_then d).keeps named
   last_same d i below named =
-      ap₂ (λ (l : Bool) (ws : List Write). last_bytes plan starts d i l ws (folder_at firsts d).tree (folder_at firsts d).keeps_stamps named) (lost d i below) (wrote d i below)
+      ap₂ (λ (l : Bool) (ws : List Write). last_bytes plan starts d i l ws (folder_at firsts d).tree (folder_at firsts d).keeps named) (lost d i below) (wrote d i below)
       ∙ ap₂ (λ (tree : Tree) (k : Bool). last_bytes plan starts d i (has_lost plan others d i) (writes_of plan others d i) tree k named) (trees d below) (keeps d below)

@@ -219,10 +219,10 @@ module _ (determined : IsDetermined) (before before_then : Entry) (exit exit_the
       ∙ ap (λ (ts : List Tree). tree_at ts d) trees_are
       ∙ sym (listed_tree before_then exit_then status_then hold.tells_then other d (here d below))
 
-  keeps : (d : ℕ) → d < length plan.table.columns → (folder_at fix.course.listed d).keeps_stamps ≡ (folder_at again.listed d).keeps_stamps
+  keeps : (d : ℕ) → d < length plan.table.columns → (folder_at fix.course.listed d).keeps ≡ (folder_at again.listed d).keeps
   keeps d below =
-      (fix.course.lists_are.each d (within d below)).call.called.goes_on.keeps_stamps
-      ∙ ap (λ (folders : List FolderView). (folder_at folders d).keeps_stamps) folders_is
+      (fix.course.lists_are.each d (within d below)).call.called.goes_on.keeps
+      ∙ ap (λ (folders : List FolderView). (folder_at folders d).keeps) folders_is
       ∙ stamps d
       ∙ sym (listed_keeps before_then exit_then status_then hold.tells_then other d (here d below))
 

@@ -133,7 +133,7 @@ listed_then run d old mid new listing makes =
           (All-weaker (AnyCall (IsFixCall run.plan (starts_of run.loaded run.lists) d run.stripes)) (AnyCall (IsRunCall run d)) (λ done is. inr is) makes.done makes.each);
       goes_on = record {
         later = omega (arith, a.later, b.later);
-        keeps_stamps = b.keeps_stamps ∙ a.keeps_stamps;
+        keeps = b.keeps ∙ a.keeps;
         closed = b.closed ∙ a.closed;
         tells = b.tells ∙ a.tells;
         calls = record {
@@ -147,7 +147,7 @@ listed_then run d old mid new listing makes =
             old.tree,
             is_tree,
             (false, refl),
-            subst (λ (keeps : Bool). MayBeLeft keeps makes.done old.tree new.tree) a.keeps_stamps (subst (λ (t : Tree). MayBeLeft mid.keeps_stamps makes.done t new.tree) same (makes.left (a.tells ∙ told) is_tree_mid)),
+            subst (λ (keeps : Bool). MayBeLeft keeps makes.done old.tree new.tree) a.keeps (subst (λ (t : Tree). MayBeLeft mid.keeps makes.done t new.tree) same (makes.left (a.tells ∙ told) is_tree_mid)),
           );
     }
 

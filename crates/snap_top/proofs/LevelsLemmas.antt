@@ -5,7 +5,8 @@ use Rattle.std.proofs.lemmas.Bool.Decides.{nat_tests}
 use Rattle.std.proofs.lemmas.List.Sums.{sum_by-cons}
 use Rattle.disk_model.specs.Folder.{FolderView}
 use Rattle.disk_model.specs.Sink.{SinkView}
-use Rattle.disk_model.specs.Opener.{OpenerView, OpenerDone, OpenerGoesOn, HoldsSame, SameVault, SameImages}
+use Rattle.disk_model.specs.Moments.{SameImages}
+use Rattle.disk_model.specs.Opener.{OpenerView, OpenerDone, OpenerGoesOn, HoldsSame, SameVault}
 use Rattle.disk_model.specs.Vault.{VaultView, VaultState, state_of, IsSettled}
 use Rattle.parity_split.specs.Joined.{seen}
 use Rattle.parity_split.specs.Split.{AreParts, split_view}

@@ -3,7 +3,8 @@ use Rattle.std.proofs.Common.{◌≡◌, ℕ, ◌<◌, ◌≤◌, List, [], ◌�
 use Rattle.std.proofs.lemmas.List.{append-nil, length-map}
 use Rattle.disk_model.specs.Cause.{Rose}
 use Rattle.disk_model.specs.Folder.{FolderView, quiet_folder}
-use Rattle.disk_model.specs.Opener.{OpenerView, OpenerCall, OpenerDone, OpenerGoesOn, IsOpenerCall, HoldsSame, SameVault, SameImages, Config, Open, folder_held, FolderIsGiven, VaultIsGiven}
+use Rattle.disk_model.specs.Moments.{SameImages}
+use Rattle.disk_model.specs.Opener.{OpenerView, OpenerCall, OpenerDone, OpenerGoesOn, IsOpenerCall, HoldsSame, SameVault, Config, Open, folder_held, FolderIsGiven, VaultIsGiven}
 use Rattle.disk_model.specs.Vault.{VaultView, state_of}
 use Rattle.disk_model.specs.declared.fault.OpenFault.{OpenFault}
 use Rattle.disk_model.specs.declared.fault.OpenFault.TheVariants as opens

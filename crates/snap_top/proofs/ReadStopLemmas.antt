@@ -33,7 +33,7 @@ calls_stay keeps (done ∷ calls) old left each at =
 -- of a folder that tells its files
 stop_stays : (old new : FolderView) (left : Tree) → IsTrue old.tells → ReadsOnly old new → MayStandLeft old new left → left ≡ old.tree
 stop_stays old new left tells read (inl same) = same ∙ read.tree tells
-stop_stays old new left tells read (inr at) = calls_stay old.keeps_stamps (calls_since old new) old.tree left (read.reads at.0) at.1
+stop_stays old new left tells read (inr at) = calls_stay old.keeps (calls_since old new) old.tree left (read.reads at.0) at.1
 
 -- by what a run did
 pub each_tree_stays : (did : Did) (before : Entry) (exit : Exit) → folders_after did before.opener.folders exit.after.folders → LeavesEachTree did before exit

@@ -71,7 +71,7 @@ FixFindsAsCheck = (plan : FixPlan) (starts : StartsValue) (stripes : List Mended
 abbrev pub FilesAreFinished : Type 0
 FilesAreFinished = (plan : FixPlan) (starts : StartsValue) (stripes : List Mended) (finishes : List (List Finish)) (firsts news : List FolderView) (d i : ℕ)
     → HasFinished plan starts stripes finishes firsts news d i
-    → StandsFinished plan stripes d i (folder_at firsts d).keeps_stamps (folder_at firsts d).tree (folder_at news d).tree
+    → StandsFinished plan stripes d i (folder_at firsts d).keeps (folder_at firsts d).tree (folder_at news d).tree
 
 -- ---- what is found is told, and is all that is told of its kind
 
@@ -118,13 +118,13 @@ module _ (before : Entry) (exit : Exit) (run : FixRun) (is : IsFixOf before exit
   -- a finished file stands so over what they held first
   finished_since : (finishes : List (List Finish)) → FilesAreFinished → HasFixed run.plan (starts_of run.loaded run.lists) run.stripes finishes run.listed run.ended
       → (d i : ℕ) → d < length run.plan.table.columns → i < length (records_in run.plan.table d) → is_finished run.plan d i ≡ true
-      → StandsFinished run.plan run.stripes d i (folder_at run.folders d).keeps_stamps (folder_at run.folders d).tree (folder_at run.ended d).tree
+      → StandsFinished run.plan run.stripes d i (folder_at run.folders d).keeps (folder_at run.folders d).tree (folder_at run.ended d).tree
   finished_since finishes says fixed d i below inside finished =
       let listed = is.over.listed.each d (within_folders d below) in
       let stands = says run.plan (starts_of run.loaded run.lists) run.stripes finishes run.listed run.ended d i
       (record { fixed = record { fixed = fixed; tells = listed_tells d below; column = below; inside = inside }; finished = finished }) in
-      subst (λ (keeps : Bool). StandsFinished run.plan run.stripes d i keeps (folder_at run.folders d).tree (folder_at run.ended d).tree) listed.call.called.goes_on.keeps_stamps
-      (subst (λ (first : Tree). StandsFinished run.plan run.stripes d i (folder_at run.listed d).keeps_stamps first (folder_at run.ended d).tree)
+      subst (λ (keeps : Bool). StandsFinished run.plan run.stripes d i keeps (folder_at run.folders d).tree (folder_at run.ended d).tree) listed.call.called.goes_on.keeps
+      (subst (λ (first : Tree). StandsFinished run.plan run.stripes d i (folder_at run.listed d).keeps first (folder_at run.ended d).tree)
       (listed.call.tree (all_tell d (within_folders d below))) stands)
 
 pub tree_of_folder : (folders : List FolderView) (d : ℕ) → tree_at (trees_of folders) d ≡ (folder_at folders d).tree
@@ -215,7 +215,7 @@ module _ {O F V W : Type 0} (opener_view : O → OpenerView) (folder_view : F �
                     (blocked_is_told fixed.plan (facts_of fixed.stripes) parity d i it),
               );
               finished = λ d i below inside finished.
-                  subst (λ (tree : Tree). StandsFinished fixed.plan fixed.stripes d i (folder_at fixed.folders d).keeps_stamps (folder_at fixed.folders d).tree tree) (tree_is d)
+                  subst (λ (tree : Tree). StandsFinished fixed.plan fixed.stripes d i (folder_at fixed.folders d).keeps (folder_at fixed.folders d).tree tree) (tree_is d)
                   (finished_since before exit fixed ends.is_fix over.tells ends.finishes are_finished ends.fixed d i below inside finished);
             };
       }

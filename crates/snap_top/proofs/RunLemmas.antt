@@ -5,7 +5,8 @@ use Rattle.std.proofs.Math.Seq.{take-append_seam}
 use Rattle.disk_model.specs.Cause.{RoseBy}
 use Rattle.disk_model.specs.Files.{Files, Stays}
 use Rattle.disk_model.specs.Folder.{FolderView}
-use Rattle.disk_model.specs.Opener.{OpenerView, HoldsSame, SameImages}
+use Rattle.disk_model.specs.Moments.{SameImages}
+use Rattle.disk_model.specs.Opener.{OpenerView, HoldsSame}
 use Rattle.disk_model.specs.Sink.{SinkView}
 use Rattle.disk_model.specs.Vault.{VaultView, VaultState, state_of, ChangesBy, Holds, IsSettled}
 use Rattle.disk_model.proofs.GivenLemmas.{changes_held}

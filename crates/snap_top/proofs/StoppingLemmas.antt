@@ -60,12 +60,12 @@ pub record SaysOfStops : Type 0 where
 -- ---- a stop within the fix of a run
 
 -- what was left is among what a stop within all calls of the fix may leave
-left_within : (P : FolderDone → Type 0) (old new : FolderView) (left : Tree) (makes : FolderMakes P old new) → ((told : IsTrue old.tells) → MayBeLeft old.keeps_stamps makes.done old.tree new.tree) → IsTrue old.tells
-    → MayStandLeft old new left → MayBeLeft old.keeps_stamps makes.done old.tree left
-left_within P old new left makes at_end tells (inl same) = subst (λ (tree : Tree). MayBeLeft old.keeps_stamps makes.done old.tree tree) (sym same) (at_end tells)
+left_within : (P : FolderDone → Type 0) (old new : FolderView) (left : Tree) (makes : FolderMakes P old new) → ((told : IsTrue old.tells) → MayBeLeft old.keeps makes.done old.tree new.tree) → IsTrue old.tells
+    → MayStandLeft old new left → MayBeLeft old.keeps makes.done old.tree left
+left_within P old new left makes at_end tells (inl same) = subst (λ (tree : Tree). MayBeLeft old.keeps makes.done old.tree tree) (sym same) (at_end tells)
 left_within P old new left makes at_end tells (inr at) =
     let calls : calls_since old new ≡ makes.done = ap (drop (length old.calls)) (makes.goes_on.calls.more at.0) ∙ drop-append_seam old.calls makes.done in
-    subst (λ (done : List FolderDone). MayBeLeft old.keeps_stamps done old.tree left) calls at.1
+    subst (λ (done : List FolderDone). MayBeLeft old.keeps done old.tree left) calls at.1
 
 pub stop_is : ListedStandInPlace → (before : Entry) (exit : Exit) (run : FixRun) (d : ℕ) (left : Tree) → IsFixOf before exit run → FolderStandsIn before exit d left
     → IsStop (stop_of run d (folder_held before.opener d).tree left)
@@ -87,7 +87,7 @@ stop_is listed before exit run d left is at =
       places = subst (λ (t : TableValue). StandInPlace run.plan (starts_of t run.lists) d old.tree) table (listed run.plan run.lists d old.tree below found);
       calls = makes.done;
       each = makes.each;
-      left = subst (λ (keeps : Bool). MayBeLeft keeps makes.done old.tree left) (sym (ap (λ (folder : FolderView). folder.keeps_stamps) held))
+      left = subst (λ (keeps : Bool). MayBeLeft keeps makes.done old.tree left) (sym (ap (λ (folder : FolderView). folder.keeps) held))
           (left_within (AnyCall (IsRunCall run d)) old new left makes (λ told. makes.left told at.is_tree) at.tells at.stands);
     }
 

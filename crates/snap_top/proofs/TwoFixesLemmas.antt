@@ -133,7 +133,7 @@ module _ (determined : IsDetermined) (plan : FixPlan) (valid : IsValid plan.tabl
 
   module _ (rest : LeavesTheRest) (starts : StartsValue) (finishes finishes_then : List (List Finish)) (news news_then : List FolderView) (has : HasFixed plan starts ones finishes firsts news)
       (has_then : HasFixed plan starts others finishes_then firsts_then news_then) (same_trees : (d : ℕ) → d < length plan.table.columns → (folder_at firsts d).tree ≡ (folder_at firsts_then d).tree)
-      (keeps : (d : ℕ) → d < length plan.table.columns → (folder_at firsts d).keeps_stamps ≡ (folder_at firsts_then d).keeps_stamps) where
+      (keeps : (d : ℕ) → d < length plan.table.columns → (folder_at firsts d).keeps ≡ (folder_at firsts_then d).keeps) where
     done : AreDone plan has.files.written.starts has.files.written.states has.files.written.folders finishes
     done d i below within finished = (has.files.finished d below).is i within finished
 
@@ -148,13 +148,13 @@ module _ (determined : IsDetermined) (plan : FixPlan) (valid : IsValid plan.tabl
     finished_bytes_same : (d i : ℕ) (below : d < length plan.table.columns) (within : i < length (records_in plan.table d)) → is_finished plan d i ≡ true → (lost : Bool)
         → bytes_in (file_of (folder_at news d).tree (path_of (record_path (records_in plan.table d) i) lost)) ≡ bytes_in (file_of (folder_at news_then d).tree (path_of (record_path (records_in plan.table d) i) lost))
     finished_bytes_same d i below within finished lost =
-        bytes_last plan starts ones firsts has.files.written has.files.writes d below (tells d below) i within (finish_at (finishes_at finishes d) i) (folder_at has.files.written.folders d).keeps_stamps (folder_at news d).tree
+        bytes_last plan starts ones firsts has.files.written has.files.writes d below (tells d below) i within (finish_at (finishes_at finishes d) i) (folder_at has.files.written.folders d).keeps (folder_at news d).tree
         (done d i below within finished)
         ((has.files.finished d below).holds (tells_mid plan starts ones firsts has.files.written has.files.writes d below (tells d below) i within) i within finished) lost
         ∙ last_same plan starts ones others firsts firsts_then has.files.written has_then.files.written has.files.writes has_then.files.writes finishes finishes_then tells tells_after same_trees keeps
         lost_alike wrote_alike d i below lost
         ∙ sym (bytes_last plan starts others firsts_then has_then.files.written has_then.files.writes d below (tells_after d below) i within (finish_at (finishes_at finishes_then d) i)
-        (folder_at has_then.files.written.folders d).keeps_stamps (folder_at news_then d).tree (done_then d i below within finished)
+        (folder_at has_then.files.written.folders d).keeps (folder_at news_then d).tree (done_then d i below within finished)
         ((has_then.files.finished d below).holds (tells_mid plan starts others firsts_then has_then.files.written has_then.files.writes d below (tells_after d below) i within) i within finished) lost)
 
     record_bytes_same : (d i : ℕ) (below : d < length plan.table.columns) (within : i < length (records_in plan.table d)) (lost : Bool)
@@ -202,10 +202,10 @@ module _ (before : Entry) (exit : Exit) (status : ℕ) (tells : TellsAll before)
   pub listed_tree : (d : ℕ) → d < length run.plan.table.columns → (folder_at run.listed d).tree ≡ tree_at (trees_of run.folders) d
   listed_tree d below = tree_then run.folders run.listed run.lists ends.is_fix.over.listed all_tell d (within_folders d below)
 
-  pub listed_keeps : (d : ℕ) → d < length run.plan.table.columns → (folder_at run.listed d).keeps_stamps ≡ (folder_at before.opener.folders d).keeps_stamps
+  pub listed_keeps : (d : ℕ) → d < length run.plan.table.columns → (folder_at run.listed d).keeps ≡ (folder_at before.opener.folders d).keeps
   listed_keeps d below =
-      (ends.is_fix.over.listed.each d (within_folders d below)).call.called.goes_on.keeps_stamps
-      ∙ ap (λ (folders : List FolderView). (folder_at folders d).keeps_stamps) ends.is_fix.folders_are
+      (ends.is_fix.over.listed.each d (within_folders d below)).call.called.goes_on.keeps
+      ∙ ap (λ (folders : List FolderView). (folder_at folders d).keeps) ends.is_fix.folders_are
 
 -- what a fix prints
 abbrev fix_lines : TableValue → List Event → ℕ → ℕ → List ℕ
@@ -244,7 +244,7 @@ fixes_same determined rest are_finished before before_then exit exit_then status
     (listed_tree before exit status hold.tells one d below
     ∙ ap (λ (ts : List Tree). tree_at ts d) trees
     ∙ sym (listed_tree before_then exit_then status_then hold.tells_then other d (here d below))) in
-    let keeps : (d : ℕ) → d < length run.plan.table.columns → (folder_at run.listed d).keeps_stamps ≡ (folder_at again.listed d).keeps_stamps = λ d below.
+    let keeps : (d : ℕ) → d < length run.plan.table.columns → (folder_at run.listed d).keeps ≡ (folder_at again.listed d).keeps = λ d below.
     (listed_keeps before exit status hold.tells one d below ∙ stamps d ∙ sym (listed_keeps before_then exit_then status_then hold.tells_then other d (here d below))) in
     let size : ℕ = run.plan.table.shape.block_size in
     let old : Files = before.opener.vault.files in
@@ -286,8 +286,8 @@ fixes_same determined rest are_finished before before_then exit exit_then status
             over.finds.answered answered_then tell tell_then rest (starts_of run.loaded run.lists) one.finishes other.finishes run.ended again.ended one.fixed has_then listed_trees keeps d within)));
         whole = λ d name below stamped none.
             (let within : d < length run.plan.table.columns = (let as_loaded = ap (λ (t : TableValue). length t.columns) over.plan_is.table_is in omega (arith, below, as_loaded)) in
-            let at_first : IsTrue (folder_at run.listed d).keeps_stamps = listed_keeps before exit status hold.tells one d within
-            ∙ ap (λ (folders : List FolderView). (folder_at folders d).keeps_stamps) (sym is.folders_are) ∙ stamped in
+            let at_first : IsTrue (folder_at run.listed d).keeps = listed_keeps before exit status hold.tells one d within
+            ∙ ap (λ (folders : List FolderView). (folder_at folders d).keeps) (sym is.folders_are) ∙ stamped in
             let bytes : HaveSameBytes (folder_at run.ended d).tree (folder_at again.ended d).tree =
             bytes_same determined run.plan valid run.stripes again.stripes over.finds.are are_then over_then.no_gifts many same run.listed again.listed
             over.finds.answered answered_then tell tell_then rest (starts_of run.loaded run.lists) one.finishes other.finishes run.ended again.ended one.fixed has_then listed_trees keeps d within in

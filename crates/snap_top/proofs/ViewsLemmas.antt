@@ -33,7 +33,7 @@ reads_since old new done goes reads told = subst (All IsReadingDone) (sym (since
 pub read_nothing : (v : FolderView) → ReadsOnly v v
 read_nothing v =
     let goes : FolderGoesOn v v []
-    = record { later = omega arith; keeps_stamps = refl; closed = refl; tells = refl; calls = record { told = λ t. t; more = λ t. sym (append-nil v.calls) } } in
+    = record { later = omega arith; keeps = refl; closed = refl; tells = refl; calls = record { told = λ t. t; more = λ t. sym (append-nil v.calls) } } in
     record { calls = record { done = []; goes_on = goes }; reads = reads_since v v [] goes (All-nil IsReadingDone); tree = λ t. refl }
 
 pub read_then : (old mid new : FolderView) → ReadsOnly old mid → ReadsOnly mid new → ReadsOnly old new
@@ -42,7 +42,7 @@ read_then old mid new one two =
     let b = two.calls.goes_on in
     let goes : FolderGoesOn old new (one.calls.done ++ two.calls.done) = record {
       later = omega (arith, a.later, b.later);
-      keeps_stamps = b.keeps_stamps ∙ a.keeps_stamps;
+      keeps = b.keeps ∙ a.keeps;
       closed = b.closed ∙ a.closed;
       tells = b.tells ∙ a.tells;
       calls = record {

@@ -30,12 +30,12 @@ pub record LeavesTheRest : Type 0 where
 module _ (rest : LeavesTheRest) (says : FilesAreFinished) (plan : FixPlan) (starts : StartsValue) (ones others : List Mended) (finishes finishes_then : List (List Finish)) (firsts firsts_then news news_then : List FolderView)
     (has : HasFixed plan starts ones finishes firsts news) (has_then : HasFixed plan starts others finishes_then firsts_then news_then) (d : ℕ) (below : d < length plan.table.columns)
     (tells : IsTrue (folder_at firsts d).tells) (tells_then : IsTrue (folder_at firsts_then d).tells) (trees : (folder_at firsts d).tree ≡ (folder_at firsts_then d).tree)
-    (keeps : (folder_at firsts d).keeps_stamps ≡ (folder_at firsts_then d).keeps_stamps) (lost_same : (i : ℕ) → has_lost plan ones d i ≡ has_lost plan others d i)
-    (bytes : HaveSameBytes (folder_at news d).tree (folder_at news_then d).tree) (stamped : IsTrue (folder_at firsts d).keeps_stamps) where
+    (keeps : (folder_at firsts d).keeps ≡ (folder_at firsts_then d).keeps) (lost_same : (i : ℕ) → has_lost plan ones d i ≡ has_lost plan others d i)
+    (bytes : HaveSameBytes (folder_at news d).tree (folder_at news_then d).tree) (stamped : IsTrue (folder_at firsts d).keeps) where
   abbrev SameUnder : List ℕ → Type 0
   SameUnder name = file_of (folder_at news d).tree name ≡ file_of (folder_at news_then d).tree name
 
-  stamped_then : IsTrue (folder_at firsts_then d).keeps_stamps
+  stamped_then : IsTrue (folder_at firsts_then d).keeps
   stamped_then = sym keeps ∙ stamped
 
   -- what both had under a name, and what both left there
@@ -56,10 +56,10 @@ module _ (rest : LeavesTheRest) (says : FilesAreFinished) (plan : FixPlan) (star
     unfinished_same lost not = kept_same (path_of path lost) (rest.unfinished plan starts ones finishes firsts news d i lost its not) (rest.unfinished plan starts others finishes_then firsts_then news_then d i lost its_then not)
 
     module _ (finished : is_finished plan d i ≡ true) (whole : has_lost plan ones d i ≡ false) where
-      stands : StandsFinished plan ones d i (folder_at firsts d).keeps_stamps (folder_at firsts d).tree (folder_at news d).tree
+      stands : StandsFinished plan ones d i (folder_at firsts d).keeps (folder_at firsts d).tree (folder_at news d).tree
       stands = says plan starts ones finishes firsts news d i (record { fixed = its; finished = finished })
 
-      stands_then : StandsFinished plan others d i (folder_at firsts_then d).keeps_stamps (folder_at firsts_then d).tree (folder_at news_then d).tree
+      stands_then : StandsFinished plan others d i (folder_at firsts_then d).keeps (folder_at firsts_then d).tree (folder_at news_then d).tree
       stands_then = says plan starts others finishes_then firsts_then news_then d i (record { fixed = its_then; finished = finished })
 
       whole_then : has_lost plan others d i ≡ false

@@ -16,7 +16,7 @@ use Rattle.snap_top.specs.Run.{Entry, Exit}
 
 -- the folders of two runs keep stamps alike
 abbrev pub KeepStampsAlike : Entry → Entry → Type 0
-KeepStampsAlike one other = (d : ℕ) → (folder_at one.opener.folders d).keeps_stamps ≡ (folder_at other.opener.folders d).keeps_stamps
+KeepStampsAlike one other = (d : ℕ) → (folder_at one.opener.folders d).keeps ≡ (folder_at other.opener.folders d).keeps
 
 -- the bytes of a file, where there is one
 abbrev pub bytes_in : Option File → Option (List ℕ)
@@ -48,6 +48,6 @@ pub record FixesAlike (one other : FixRun) (finishes finishes_then : Finishes) (
   pub events : events_in one finishes ≡ events_in other finishes_then
   pub folders : (d : ℕ) → d < length one.loaded.columns
       → HaveSameBytes (folder_at exit.after.folders d).tree (folder_at exit_then.after.folders d).tree
-  pub whole : (d : ℕ) (name : List ℕ) → d < length one.loaded.columns → IsTrue (folder_at one.folders d).keeps_stamps → IsNoLostName one d name
+  pub whole : (d : ℕ) (name : List ℕ) → d < length one.loaded.columns → IsTrue (folder_at one.folders d).keeps → IsNoLostName one d name
       → file_of (folder_at exit.after.folders d).tree name ≡ file_of (folder_at exit_then.after.folders d).tree name
   pub vault : HaveSameFiles exit.after.vault.files exit_then.after.vault.files

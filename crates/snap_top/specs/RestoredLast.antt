@@ -40,7 +40,7 @@ HasLast run last trees facts d cell =
 -- written. What stood before is what the folders held when the run began.
 abbrev pub FinishesFiles : FixRun → List Tree → Type 0
 FinishesFiles run trees = (d i : ℕ) → d < length run.plan.table.columns → i < length (records_in run.plan.table d) → is_finished run.plan d i ≡ true
-    → StandsFinished run.plan run.stripes d i (folder_at run.folders d).keeps_stamps (folder_at run.folders d).tree (tree_at trees d)
+    → StandsFinished run.plan run.stripes d i (folder_at run.folders d).keeps (folder_at run.folders d).tree (tree_at trees d)
 
 -- So is each such cell where no more cells of its stripe are missing than levels that were read whole hold the sums of the row that was
 -- last synced; and so where no more are missing than levels were read and not changed from outside since then. Each selected damaged

@@ -20,7 +20,7 @@ use Rattle.snap_top.specs.Views.{calls_since, folder_at}
 -- after the first of these calls may leave is among that (`disk_model::laws::a_folder_stands_among_what_a_stop_may_leave`, clause `later`).
 abbrev pub MayStandLeft : FolderView → FolderView → Tree → Type 0
 MayStandLeft old new left =
-    (left ≡ new.tree) ⊎ (IsTrue new.tells_calls × MayBeLeft old.keeps_stamps (calls_since old new) old.tree left)
+    (left ≡ new.tree) ⊎ (IsTrue new.tells_calls × MayBeLeft old.keeps (calls_since old new) old.tree left)
 
 -- so it is of a folder that tells its files, which are a tree
 pub record FolderStandsIn (before : Entry) (exit : Exit) (d : ℕ) (left : Tree) : Type 0 where
@@ -38,7 +38,7 @@ stop_of run d first left = record {
   starts = starts_of run.loaded run.lists;
   stripes = run.stripes;
   d = d;
-  keeps_stamps = (folder_at run.folders d).keeps_stamps;
+  keeps = (folder_at run.folders d).keeps;
   first = first;
   left = left;
 }

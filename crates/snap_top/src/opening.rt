@@ -1,6 +1,7 @@
 // All that a run opens.
 ghost use Rattle.std.specs.Prelude.{◌≡◌, ◌∷◌, [], map, false, IfOk, IfErr, OnErr, OnOk, IsTrue};
-ghost use Rattle.disk_model.specs.Opener.{OpenerGoesOn, HoldsSame, SameImages};
+ghost use Rattle.disk_model.specs.Moments.{SameImages};
+ghost use Rattle.disk_model.specs.Opener.{OpenerGoesOn, HoldsSame};
 ghost use Rattle.snap_config.specs.Setup.{IsSetup, setup_value};
 ghost use Rattle.snap_config.specs.Words.{IsOptions, IsWay};
 ghost use Rattle.snap_top.specs.Task.{WorksOnArray};

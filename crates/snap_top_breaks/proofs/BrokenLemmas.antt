@@ -187,7 +187,7 @@ module _ {O F V W : Type 0} (opener_view : O → OpenerView) (folder_view : F �
       let ask : AskSame (begun run) (begun run_then) = ask_same (commands.Fix everything) (begun run) (begun run_then)
       (subst (AsksFor (commands.Fix everything)) (sym runs.over.texts_are) asks) (subst (AsksFor (commands.Fix everything)) (sym again.over.texts_are) asks_then) in
       let stamps : KeepStampsAlike (begun run) (begun run_then)
-      = λ d. ap (λ (fs : List FolderView). (folder_at fs d).keeps_stamps) (runs.held ∙ are_new ∙ sym are_new_then ∙ sym again.held) in
+      = λ d. ap (λ (fs : List FolderView). (folder_at fs d).keeps) (runs.held ∙ are_new ∙ sym are_new_then ∙ sym again.held) in
       let well : NothingRose (begun run_then) (ended run_then)
       = nothing_rose opener_view folder_view vault_view sink_view config others seed folders_then (view_of other) status_then then_folders left_then again.over faults_then calm_then in
       let words_then : asked_by run_then.texts ≡ Ok asks_then.asked = subst (λ (ts : List (List ℕ)). asked_by ts ≡ Ok asks_then.asked) (sym again.over.texts_are) asks_then.words in

@@ -249,7 +249,7 @@ module _ {O F V W : Type 0} (opener_view : O → OpenerView) (folder_view : F �
         = ends_fixed (begun run) (ended run) run.status tells_here asks.asked (words_of (commands.Fix everything) asks) runs.over.step few_ran everything asks.command_is in
         let one_then : EndsFixed (begun run_then) (ended run_then) run_then.status
         = ends_fixed (begun run_then) (ended run_then) run_then.status tells_there asks_then.asked (words_then (commands.Fix everything) asks_then) again.over.step few_ran_then everything asks_then.command_is in
-        let stamps : KeepStampsAlike (begun run) (begun run_then) = λ d. ap (λ (fs : List FolderView). (folder_at fs d).keeps_stamps) (runs.held ∙ sym are_same ∙ sym again.held) in
+        let stamps : KeepStampsAlike (begun run) (begun run_then) = λ d. ap (λ (fs : List FolderView). (folder_at fs d).keeps) (runs.held ∙ sym are_same ∙ sym again.held) in
         let left_alike = law run run_then one one_then both.hold both.ask stamps both.well both.well_then in
         let alike = seen_alike run run_then one one_then both.hold stamps left_alike.0.seen in
         record {

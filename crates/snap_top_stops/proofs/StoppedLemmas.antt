@@ -59,8 +59,8 @@ stands_in later standing before exit over d below told =
       is_tree = is_tree;
       stands = inr (
         told,
-        subst (λ (tree : Tree). MayBeLeft held.keeps_stamps calls held.tree tree) (tree_held standing before over d)
-            (later held.keeps_stamps [] calls held.tree held.tree is_tree refl),
+        subst (λ (tree : Tree). MayBeLeft held.keeps calls held.tree tree) (tree_held standing before over d)
+            (later held.keeps [] calls held.tree held.tree is_tree refl),
       );
     }
 

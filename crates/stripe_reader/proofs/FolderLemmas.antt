@@ -8,7 +8,7 @@ use Rattle.stripe_reader.specs.Column.{ReadsBy}
 pub goes_on_then : (old mid new : FolderView) (first back : List FolderDone) → FolderGoesOn old mid first → FolderGoesOn mid new back → FolderGoesOn old new (first ++ back)
 goes_on_then old mid new first back one two = record {
   later = omega (arith, one.later, two.later);
-  keeps_stamps = two.keeps_stamps ∙ one.keeps_stamps;
+  keeps = two.keeps ∙ one.keeps;
   closed = two.closed ∙ one.closed;
   tells = two.tells ∙ one.tells;
   calls = record {
@@ -22,7 +22,7 @@ pub reads_nothing : (P : List FolderDone → Type 0) (v : FolderView) → P [] �
 reads_nothing P v none = record {
   done = [];
   are = none;
-  goes_on = record { later = omega arith; keeps_stamps = refl; closed = refl; tells = refl; calls = record { told = λ t. t; more = λ t. sym (append-nil v.calls) } };
+  goes_on = record { later = omega arith; keeps = refl; closed = refl; tells = refl; calls = record { told = λ t. t; more = λ t. sym (append-nil v.calls) } };
   tree = λ t. refl;
 }
 

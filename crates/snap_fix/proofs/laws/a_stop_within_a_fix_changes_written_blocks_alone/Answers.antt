@@ -14,11 +14,11 @@ returns-clause-cells c stop cell file is spared within placed =
 pub returns-clause-not_selected : goal.returns-clause-not_selected
 returns-clause-not_selected c stop i lost is within not_finished =
     let name = path_of (path_at stop i) lost in
-    c.a_file_that_no_call_names_stays.ensures stop.keeps_stamps is.calls stop.first stop.left name (left_alone stop is name (unfinished_alone stop is i lost within not_finished)) is.left
+    c.a_file_that_no_call_names_stays.ensures stop.keeps is.calls stop.first stop.left name (left_alone stop is name (unfinished_alone stop is i lost within not_finished)) is.left
 
 pub returns-clause-others : goal.returns-clause-others
 returns-clause-others c stop name is none =
-    c.a_file_that_no_call_names_stays.ensures stop.keeps_stamps is.calls stop.first stop.left name (left_alone stop is name none) is.left
+    c.a_file_that_no_call_names_stays.ensures stop.keeps is.calls stop.first stop.left name (left_alone stop is name none) is.left
 
 pub returns-clause-listed : goal.returns-clause-listed
 returns-clause-listed c = listed_in_place
