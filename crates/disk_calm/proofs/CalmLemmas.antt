@@ -14,14 +14,14 @@ use Rattle.disk_calm.specs.declared.folder.CalmFolder.{CalmFolder}
 
 -- the folder after a call
 abbrev pub calm_after : CalmFolder → ℕ → Tree → FolderView
-calm_after f faults tree = record { faults = faults; keeps_stamps = f.keeps_stamps; closed = false; tells = true; tree = tree; tells_calls = false; calls = [] }
+calm_after f faults tree = record { faults = faults; keeps = λ stamp. f.keeps_stamps; closed = false; tells = true; tree = tree; tells_calls = false; calls = [] }
 
 -- memory refused its growth
-pub calm_failed : (f : CalmFolder) (faults : ℕ) (tree : Tree) (call : FolderCall) → f.faults ≤ faults → Rose f.faults faults → MayDo f.keeps_stamps call (tree_in f.files) tree
+pub calm_failed : (f : CalmFolder) (faults : ℕ) (tree : Tree) (call : FolderCall) → f.faults ≤ faults → Rose f.faults faults → MayDo (λ stamp. f.keeps_stamps) call (tree_in f.files) tree
     → IsFolderWrite call Failed (calm_folder_view f) (calm_after f faults tree)
 calm_failed f faults tree call later rose may = record {
   called = record {
-    goes_on = record { later = later; keeps_stamps = refl; closed = refl; tells = refl; calls = record { told = λ told. told; more = λ (told : false ≡ true). absurd (cc) } };
+    goes_on = record { later = later; keeps = refl; closed = refl; tells = refl; calls = record { told = λ told. told; more = λ (told : false ≡ true). absurd (cc) } };
     cause = λ failed. rose;
   };
   does = λ (no : true ≡ false). absurd (cc);

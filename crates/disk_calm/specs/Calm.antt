@@ -23,7 +23,7 @@ pub record IsCalmUnless (P : Type 0) (failed : Bool) (old new : ℕ) : Type 0 wh
 abbrev pub calm_folder_view : CalmFolder → FolderView
 calm_folder_view f = record {
   faults = f.faults;
-  keeps_stamps = f.keeps_stamps;
+  keeps = λ stamp. f.keeps_stamps;
   closed = false;
   tells = true;
   tree = tree_in f.files;
@@ -33,7 +33,7 @@ calm_folder_view f = record {
 
 -- an empty tree
 abbrev pub fresh_calm_folder : Bool → FolderView
-fresh_calm_folder keeps_stamps = record { faults = 0; keeps_stamps = keeps_stamps; closed = false; tells = true; tree = finite.empty; tells_calls = false; calls = [] }
+fresh_calm_folder keeps_stamps = record { faults = 0; keeps = λ stamp. keeps_stamps; closed = false; tells = true; tree = finite.empty; tells_calls = false; calls = [] }
 
 pub calm_folder_well_formed : (f : CalmFolder) → IsFolder (calm_folder_view f)
 calm_folder_well_formed f = record { tree = λ told. is_tree_in f.files; told = λ closed. absurd (untrue closed); closed = λ closed. absurd (untrue closed) }

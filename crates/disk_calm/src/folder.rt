@@ -193,7 +193,7 @@ impl Folder for CalmFolder {
         ensures call { IsFolderWrite (SetStamp path.now stamp) (file_answer Answer.Kept result)
             (calm_folder_view self.old) (calm_folder_view self.new) }
         ensures missing { MissingExactly result (calm_folder_view self.old) path.now }
-        ensures kept { IfOk result (λ kept. kept ≡ (calm_folder_view self.old).keeps_stamps) }
+        ensures kept { IfOk result (λ kept. kept ≡ (calm_folder_view self.old).keeps stamp) }
         ensures calm { IsCalm (is_failure (file_answer Answer.Kept result)) self.old.faults self.new.faults }
     {
         let name = path.as_str().as_bytes();

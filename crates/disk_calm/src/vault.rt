@@ -1,7 +1,7 @@
 // A calm vault.
 use crate::fault::fail;
 use crate::store::Store;
-use disk_model::{Answer, Draft, Failed, NoMemory, Vault};
+use disk_model::{Answer, Draft, Failed, NoAhead, NoMemory, Vault};
 use std::alloc::Global;
 
 /// All parity files and content copies, in memory. It fails where memory refuses a growth, and nowhere else.
@@ -34,9 +34,11 @@ impl Vault for CalmVault {
     ghost use Rattle.disk_model.specs.Bytes.{put, resized, read_from};
     ghost use Rattle.disk_model.specs.Files.{parity_of, content_of, TearsParity, StretchesParity, MayPublish, Stays};
     ghost use Rattle.disk_model.specs.Vault.{ParityLen, ParityRead, ParityWrite, ParitySetLen, ParitySync, ContentSize, ContentRead, DraftBegin, DraftAppend, DraftSeal, Publish};
-    ghost use Rattle.disk_model.specs.Vault.{copies_of, draft_of, staged_of, is_sealed, IsCall, IsReading, ChangesBy, Reads, Holds, DraftIs, DraftsStay};
+    ghost use Rattle.disk_model.specs.Vault.{copies_of, draft_of, staged_of, is_sealed, IsCall, IsReading, IsUntouched, ChangesBy, Reads, Holds, DraftIs, DraftsStay};
     ghost use Rattle.disk_calm.specs.Calm.{calm_vault_view, IsCalm, IsCalmUnless};
     ghost use Rattle.disk_calm.specs.CalmLaws.{calm_vault_well_formed};
+
+    type Ahead = NoAhead;
 
     ghost view = { calm_vault_view };
 
@@ -72,6 +74,16 @@ impl Vault for CalmVault {
     {
         Ok(self.store.parity_read(level, at, out))
     }
+
+    fn plan_ahead(&mut self, _level: u32, _at: u64, _len: usize) {}
+
+    fn take_ahead(&mut self) -> Option<Vec<NoAhead>> {
+        None
+    }
+
+    fn put_ahead(&mut self, _ahead: Vec<NoAhead>)
+        ensures { IsUntouched (calm_vault_view self.old) (calm_vault_view self.new) }
+    {}
 
     fn parity_write(&mut self, level: u32, at: u64, bytes: &[u8]) -> Result<(), Failed>
         requires level { level < (calm_vault_view self.old).levels }
