@@ -12,3 +12,4 @@ pub mod SeenLemmas
 pub mod SplitLemmas
 pub mod ReadLemmas
 mod MakingLemmas
+pub mod UntouchedLemmas

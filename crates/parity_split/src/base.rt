@@ -3,7 +3,7 @@ ghost use Rattle.std.specs.Prelude.{◌≡◌, ◌+◌, ◌^◌, ◌<◌, ◌≤
 ghost use Rattle.disk_model.specs.Bytes.{put, resized, read_from};
 ghost use Rattle.disk_model.specs.Files.{parity_of, TearsParity, StretchesParity, Stays};
 ghost use Rattle.disk_model.specs.Vault.{VaultView, ParityLen, ParityRead, ParityWrite, ParitySetLen, ParitySync};
-ghost use Rattle.disk_model.specs.Vault.{IsCall, IsReading, ChangesBy, Reads, Holds, DraftsStay, IsWellFormed};
+ghost use Rattle.disk_model.specs.Vault.{IsCall, IsReading, IsUntouched, ChangesBy, Reads, Holds, DraftsStay, IsWellFormed};
 
 use disk_model::{Answer, Failed, Vault};
 
@@ -27,6 +27,10 @@ pub trait Base {
         ensures bound { IfOk result (λ n. n ≤ length out.new) }
         ensures found { IsTrue (view self.old).tells → IfOk result (λ n.
             take n out.new ≡ read_from (parity_of (view self.old).files level) at (length out.old)) };
+
+    fn part_plan(&mut self, level: u32, at: u64, len: usize)
+        requires { level < (view self.old).levels }
+        ensures { IsUntouched (view self.old) (view self.new) };
 
     fn part_write(&mut self, level: u32, at: u64, bytes: &[u8]) -> Result<(), Failed>
         requires level { level < (view self.old).levels }
@@ -67,6 +71,10 @@ impl<V: Vault> Base for V {
 
     fn part_read(&mut self, level: u32, at: u64, out: &mut [u8]) -> Result<usize, Failed> {
         self.parity_read(level, at, out)
+    }
+
+    fn part_plan(&mut self, level: u32, at: u64, len: usize) {
+        self.plan_ahead(level, at, len)
     }
 
     fn part_write(&mut self, level: u32, at: u64, bytes: &[u8]) -> Result<(), Failed> {

@@ -6,10 +6,11 @@
 //! knows that its levels are split as before.
 //!
 //! `parts.rt` finds where a level ends, `growth.rt` fills parts, `cutting.rt` empties them, `lengths.rt` changes the length
-//! of a level, and `reading.rt` and `writing.rt` read and write its bytes over the edges of parts. `base.rt` says why they
-//! stand on a trait of their own.
+//! of a level, `reading.rt` and `writing.rt` read and write its bytes over the edges of parts, and `ahead.rt` plans what of
+//! them is read ahead. `base.rt` says why they stand on a trait of their own.
 #![tactic(auto)]
 
+mod ahead;
 mod base;
 mod cutting;
 mod growth;

@@ -2,6 +2,7 @@
 ghost use Rattle.std.specs.Prelude.{◌≡◌, ℕ, List, []};
 ghost use Rattle.parity_split.specs.Split.{AreParts, AllInStep};
 
+use crate::ahead::plan;
 use crate::lengths::set_len;
 use crate::parts::{find, parts_of, sync_from};
 use crate::reading::read;
@@ -66,6 +67,9 @@ impl<V: Vault, P: Shape> SplitVault<V, P> {
 }
 
 impl<V: Vault, P: Shape> Vault for SplitVault<V, P> {
+    type Ahead = V::Ahead;
+
+    ghost use Rattle.disk_model.specs.Vault.{IsUntouched};
     ghost use Rattle.parity_split.specs.Split.{split_view};
     ghost use Rattle.parity_split.specs.SplitLaws.{split_well_formed};
 
@@ -94,6 +98,22 @@ impl<V: Vault, P: Shape> Vault for SplitVault<V, P> {
     fn parity_read(&mut self, level: u32, at: u64, out: &mut [u8]) -> Result<usize, Failed> {
         let parts = parts_of(&self.parts, self.capacity, level);
         read(&mut self.base, parts, at, out)
+    }
+
+    fn plan_ahead(&mut self, level: u32, at: u64, len: usize) {
+        let parts = parts_of(&self.parts, self.capacity, level);
+        plan(&mut self.base, parts, at, len)
+    }
+
+    fn take_ahead(&mut self) -> Option<Vec<V::Ahead>> {
+        self.base.take_ahead()
+    }
+
+    fn put_ahead(&mut self, ahead: Vec<V::Ahead>)
+        ensures { IsUntouched (split_view P.counts P.capacity (V.view self.old.base))
+            (split_view P.counts P.capacity (V.view self.new.base)) }
+    {
+        self.base.put_ahead(ahead)
     }
 
     fn parity_write(&mut self, level: u32, at: u64, bytes: &[u8]) -> Result<(), Failed> {

@@ -55,6 +55,10 @@ fn count_in<C: Clock, T: Write + Drop>(
 }
 
 impl<'a, V: Vault, C: Clock + Sync, T: Write + Drop + Send> Vault for MeteredVault<'a, V, C, T> {
+    type Ahead = V::Ahead;
+
+    ghost use Rattle.disk_model.specs.Vault.{IsUntouched};
+
     ghost view = { λ s. V.view s.vault };
 
     ghost well_formed = { λ s. V.well_formed s.vault };
@@ -86,6 +90,20 @@ impl<'a, V: Vault, C: Clock + Sync, T: Write + Drop + Send> Vault for MeteredVau
         let place = at.saturating_add(bytes);
         count_in(&mut self.tally, &mut self.extent, bytes, level, place);
         answer
+    }
+
+    fn plan_ahead(&mut self, level: u32, at: u64, len: usize) {
+        self.vault.plan_ahead(level, at, len)
+    }
+
+    fn take_ahead(&mut self) -> Option<Vec<V::Ahead>> {
+        self.vault.take_ahead()
+    }
+
+    fn put_ahead(&mut self, ahead: Vec<V::Ahead>)
+        ensures { IsUntouched (V.view self.old.vault) (V.view self.new.vault) }
+    {
+        self.vault.put_ahead(ahead)
     }
 
     fn parity_write(&mut self, level: u32, at: u64, bytes: &[u8]) -> Result<(), Failed> {
