@@ -24,7 +24,7 @@ use Rattle.disk_memory.specs.declared.past.Past.{Past}
 abbrev pub view_after : MemFolder → ℕ → Past FolderEntry → Tree → FolderView
 view_after f faults now tree = record {
   faults = faults;
-  keeps_stamps = f.keeps_stamps;
+  keeps = λ stamp. f.keeps_stamps;
   closed = false;
   tells = true;
   tree = tree;
@@ -37,9 +37,9 @@ done call answer = record { call = call; answer = answer }
 
 module _ (f : MemFolder) (faults : ℕ) (now : Past FolderEntry) (tree : Tree) (call : FolderCall) where
   pub wrote : (answer : Answer) → is_failure answer ≡ false → faults ≡ f.schedule.faults → Grows (not f.past.lost) (folder_calls f.past.made.items) (not now.lost) (folder_calls now.made.items) (done call answer ∷ [])
-      → Does f.keeps_stamps call (tree_in f.files) tree → IsFolderWrite call answer (folder_view f) (view_after f faults now tree)
+      → Does (λ stamp. f.keeps_stamps) call (tree_in f.files) tree → IsFolderWrite call answer (folder_view f) (view_after f faults now tree)
   wrote answer unfailed same grows does = record {
-    called = record { goes_on = record { later = subst (λ n. f.schedule.faults ≤ n) (sym same) (omega arith); keeps_stamps = refl; closed = refl; tells = refl; calls = grows }; cause = λ failed. absurd (clash failed) };
+    called = record { goes_on = record { later = subst (λ n. f.schedule.faults ≤ n) (sym same) (omega arith); keeps = refl; closed = refl; tells = refl; calls = grows }; cause = λ failed. absurd (clash failed) };
     does = λ unfailed told. does;
     may = λ failed. absurd (clash failed);
   }
@@ -48,9 +48,9 @@ module _ (f : MemFolder) (faults : ℕ) (now : Past FolderEntry) (tree : Tree) (
       clash failed = cc
 
   pub failed : f.schedule.faults ≤ faults → Rose f.schedule.faults faults → Grows (not f.past.lost) (folder_calls f.past.made.items) (not now.lost) (folder_calls now.made.items) (done call answers.Failed ∷ [])
-      → MayDo f.keeps_stamps call (tree_in f.files) tree → IsFolderWrite call answers.Failed (folder_view f) (view_after f faults now tree)
+      → MayDo (λ stamp. f.keeps_stamps) call (tree_in f.files) tree → IsFolderWrite call answers.Failed (folder_view f) (view_after f faults now tree)
   failed later rose grows may = record {
-    called = record { goes_on = record { later = later; keeps_stamps = refl; closed = refl; tells = refl; calls = grows }; cause = λ failed. rose };
+    called = record { goes_on = record { later = later; keeps = refl; closed = refl; tells = refl; calls = grows }; cause = λ failed. rose };
     does = λ (no : true ≡ false). absurd (cc);
     may = λ failed told. may;
   }
@@ -72,7 +72,7 @@ held_allows f path there = by_file (file_of (folder_view f).tree path) refl
 -- a call that did its work where the file was there
 pub wrote_found : (there : Bool) (result : Result (Unit {0}) FileFault) (answer : Answer) → result ≡ answer_of there → answer ≡ kept_of there → (f : MemFolder) (faults : ℕ) (now : Past FolderEntry) (tree : Tree) (call : FolderCall)
     → faults ≡ f.schedule.faults → Grows (not f.past.lost) (folder_calls f.past.made.items) (not now.lost) (folder_calls now.made.items) (done call answer ∷ [])
-    → Does f.keeps_stamps call (tree_in f.files) tree → IsFolderWrite call (done_answer result) (folder_view f) (view_after f faults now tree)
+    → Does (λ stamp. f.keeps_stamps) call (tree_in f.files) tree → IsFolderWrite call (done_answer result) (folder_view f) (view_after f faults now tree)
 wrote_found there result answer is kept f faults now tree call same grows does =
     subst (λ a. IsFolderWrite call a (folder_view f) (view_after f faults now tree)) (kept ∙ as_kept there ∙ ap (λ (r : Result (Unit {0}) FileFault). done_answer r) (sym is))
     (wrote f faults now tree call answer (ap is_failure kept ∙ unfailed there) same grows does)

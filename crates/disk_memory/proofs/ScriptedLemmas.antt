@@ -50,7 +50,7 @@ pub as_untold : (call : FolderCall) (answer : Answer) (f : ScriptedFolder) (mid 
     → IsFolderWrite call answer (scripted_view f) (untold new)
 as_untold call answer f mid new is called = subst (λ (v : FolderView). IsFolderWrite call answer v (untold new)) (ap untold is) (record {
   called = record {
-    goes_on = record { later = called.goes_on.later; keeps_stamps = called.goes_on.keeps_stamps; closed = called.goes_on.closed; tells = refl; calls = called.goes_on.calls };
+    goes_on = record { later = called.goes_on.later; keeps = called.goes_on.keeps; closed = called.goes_on.closed; tells = refl; calls = called.goes_on.calls };
     cause = called.cause;
   };
   does = λ unfailed (told : false ≡ true). absurd (cc);
@@ -59,11 +59,11 @@ as_untold call answer f mid new is called = subst (λ (v : FolderView). IsFolder
 
 -- a call that was refused did nothing
 pub refused : (call : FolderCall) (mid new : FolderView) → IsFolderCall call Failed mid new → new.tree ≡ mid.tree
-    → MayDo mid.keeps_stamps call mid.tree mid.tree → IsFolderWrite call Failed mid new
+    → MayDo mid.keeps call mid.tree mid.tree → IsFolderWrite call Failed mid new
 refused call mid new called same may = record {
   called = called;
   does = λ (no : true ≡ false). absurd (cc);
-  may = λ failed told. subst (λ (tree : Tree). MayDo mid.keeps_stamps call mid.tree tree) (sym same) may;
+  may = λ failed told. subst (λ (tree : Tree). MayDo mid.keeps call mid.tree tree) (sym same) may;
 }
 
 -- a file that is not there was not put under its other name

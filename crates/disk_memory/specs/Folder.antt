@@ -14,7 +14,7 @@ use Rattle.disk_memory.specs.declared.folder.MemFolder.{MemFolder}
 abbrev pub folder_view : MemFolder → FolderView
 folder_view f = record {
   faults = f.schedule.faults;
-  keeps_stamps = f.keeps_stamps;
+  keeps = λ stamp. f.keeps_stamps;
   closed = false;
   tells = true;
   tree = tree_in f.files;
@@ -41,7 +41,7 @@ FolderObeysUnless P answer old new = ObeysUnless P (is_failure answer) (folder_p
 abbrev pub fresh_folder : Bool → FolderView
 fresh_folder keeps_stamps = record {
   faults = 0;
-  keeps_stamps = keeps_stamps;
+  keeps = λ stamp. keeps_stamps;
   closed = false;
   tells = true;
   tree = map.empty;

@@ -353,7 +353,7 @@ impl Folder for MemFolder {
         ensures call { IsFolderWrite (SetStamp path.now stamp) (file_answer Answer.Kept result)
             (folder_view self.old) (folder_view self.new) }
         ensures missing { MissingExactly result (folder_view self.old) path.now }
-        ensures kept { IfOk result (λ kept. kept ≡ (folder_view self.old).keeps_stamps) }
+        ensures kept { IfOk result (λ kept. kept ≡ (folder_view self.old).keeps stamp) }
         ensures scheduled { FolderObeysExactly (file_answer Answer.Kept result) self.old self.new }
     {
         let entry = set_stamp_entry(path, stamp);

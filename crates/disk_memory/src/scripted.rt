@@ -277,7 +277,7 @@ impl Folder for ScriptedFolder {
         ensures call { IsFolderWrite (SetStamp path.now stamp) (file_answer Answer.Kept result)
             (scripted_view self.old) (scripted_view self.new) }
         ensures missing { MissingExactly result (scripted_view self.old) path.now }
-        ensures kept { IfOk result (λ kept. kept ≡ (scripted_view self.old).keeps_stamps) }
+        ensures kept { IfOk result (λ kept. kept ≡ (scripted_view self.old).keeps stamp) }
         ensures played { Plays (IsFolderWrite (SetStamp path.now stamp) (file_answer Answer.Kept result))
             (FolderObeysExactly (file_answer Answer.Kept result)) self.old self.new }
         ensures missing_then { MissingExactly result (turned self.old) path.now }

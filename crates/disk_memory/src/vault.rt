@@ -8,7 +8,7 @@ use crate::calls::{VaultEntry, first_write_in};
 use crate::recorded::Recorded;
 use crate::schedule::Schedule;
 use disk_calm::Bytes;
-use disk_model::{Answer, Draft, Failed, NoMemory, Vault};
+use disk_model::{Answer, Draft, Failed, NoAhead, NoMemory, Vault};
 use std::alloc::Global;
 
 /// All parity files and content copies, in memory.
@@ -173,9 +173,11 @@ impl Vault for MemVault {
     ghost use Rattle.disk_model.specs.Bytes.{put, resized, read_from};
     ghost use Rattle.disk_model.specs.Files.{parity_of, content_of, TearsParity, StretchesParity, MayPublish, Stays};
     ghost use Rattle.disk_model.specs.Vault.{ParityLen, ParityRead, ParityWrite, ParitySetLen, ParitySync, ContentSize, ContentRead, DraftBegin, DraftAppend, DraftSeal, Publish};
-    ghost use Rattle.disk_model.specs.Vault.{copies_of, draft_of, staged_of, is_sealed, IsCall, IsReading, ChangesBy, Reads, Holds, DraftIs, DraftsStay};
+    ghost use Rattle.disk_model.specs.Vault.{copies_of, draft_of, staged_of, is_sealed, IsCall, IsReading, IsUntouched, ChangesBy, Reads, Holds, DraftIs, DraftsStay};
     ghost use Rattle.disk_memory.specs.Vault.{vault_view, VaultObeysExactly, VaultObeysUnless};
     ghost use Rattle.disk_memory.specs.VaultLaws.{vault_well_formed};
+
+    type Ahead = NoAhead;
 
     ghost view = { vault_view };
 
@@ -220,6 +222,16 @@ impl Vault for MemVault {
             Err(failed) => Err(failed),
         }
     }
+
+    fn plan_ahead(&mut self, _level: u32, _at: u64, _len: usize) {}
+
+    fn take_ahead(&mut self) -> Option<Vec<NoAhead>> {
+        None
+    }
+
+    fn put_ahead(&mut self, _ahead: Vec<NoAhead>)
+        ensures { IsUntouched (vault_view self.old) (vault_view self.new) }
+    {}
 
     fn parity_write(&mut self, level: u32, at: u64, bytes: &[u8]) -> Result<(), Failed>
         requires level { level < (vault_view self.old).levels }

@@ -50,6 +50,9 @@ impl<'a> GateVault<'a> {
 }
 
 impl<'a> Vault for GateVault<'a> {
+    type Ahead = <MemVault as Vault>::Ahead;
+
+    ghost use Rattle.disk_model.specs.Vault.{IsUntouched};
     ghost use Rattle.disk_memory.specs.Vault.{vault_view};
     ghost use Rattle.disk_memory.specs.VaultLaws.{vault_well_formed};
 
@@ -77,6 +80,21 @@ impl<'a> Vault for GateVault<'a> {
     fn parity_read(&mut self, level: u32, at: u64, out: &mut [u8]) -> Result<usize, Failed> {
         self.gate.pass();
         self.base.parity_read(level, at, out)
+    }
+
+    // No call of the vault: the gate stays as it is.
+    fn plan_ahead(&mut self, level: u32, at: u64, len: usize) {
+        self.base.plan_ahead(level, at, len)
+    }
+
+    fn take_ahead(&mut self) -> Option<Vec<Self::Ahead>> {
+        self.base.take_ahead()
+    }
+
+    fn put_ahead(&mut self, ahead: Vec<Self::Ahead>)
+        ensures { IsUntouched (vault_view self.old.base) (vault_view self.new.base) }
+    {
+        self.base.put_ahead(ahead)
     }
 
     fn parity_write(&mut self, level: u32, at: u64, bytes: &[u8]) -> Result<(), Failed> {

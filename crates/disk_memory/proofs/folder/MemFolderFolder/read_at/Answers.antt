@@ -10,6 +10,6 @@ returns-in-Some-clause-call c =
     let call = ReadAt c.args.path.now c.args.lost c.args.at (length c.args.out.now) in
     let grows = grows_done folder_call done c.read_entry-entry.result call c.args.self.now.past c.begin.new.past c.end.new.self c.begin.ensures.noted c.begin.ensures.refused c.end.ensures c.read_entry-entry.ensures in
     record {
-      called = record { goes_on = record { later = omega arith; keeps_stamps = refl; closed = refl; tells = refl; calls = grows }; cause = search rules };
+      called = record { goes_on = record { later = omega arith; keeps = refl; closed = refl; tells = refl; calls = grows }; cause = search rules };
       tree = λ told. refl;
     }
