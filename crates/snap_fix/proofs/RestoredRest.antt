@@ -281,7 +281,7 @@ module _ (plan : FixPlan) (starts : StartsValue) (stripes : List Mended) (finish
         file = stood.file;
         there = stood.there;
         size = ap length stood.bytes_are ∙ length-resized (bytes_now before path) meta.size;
-        stamp = λ kept. stood.stamp ((has.files.writes.makes d column_is).goes_on.keeps ∙ kept);
+        stamp = λ kept. stood.stamp (ap (λ (keeps_it : Stamp → Bool). keeps_it meta.stamp) (has.files.writes.makes d column_is).goes_on.keeps ∙ kept);
       }
 
   -- what stood under PATH`.unrecoverable` stays, but where the file was renamed back
