@@ -4,6 +4,7 @@ use Rattle.disk_model.specs.Folder.{FolderView, FolderCall}
 use Rattle.disk_model.specs.declared.fault.FileFault.{FileFault}
 use Rattle.disk_model.specs.declared.fault.FileFault.TheVariants.{Missing, Failed}
 use Rattle.disk_model.specs.declared.meta.Meta.{Meta}
+use Rattle.disk_model.specs.declared.meta.Stamp.{Stamp}
 use Rattle.file_table.specs.Table.{TableValue, record_at, no_column, no_record}
 use Rattle.file_table.specs.Valid.{IsRecord, IsValid}
 use Rattle.stripe_reader.specs.Starts.{StartsValue, starts_at, start_in}
@@ -21,8 +22,8 @@ use Rattle.file_restorer.proofs.FolderCallLemmas.{step_gone}
 
 -- ---- where a call is due, the file is not kept as it is
 
-stamped_some : (changed keeps : Bool) → stamped_finish changed keeps ≢ Kept
-stamped_some true keeps is = cc
+stamped_some : (changed is_kept : Bool) → stamped_finish changed is_kept ≢ Kept
+stamped_some true is_kept is = cc
 stamped_some false true is = cc
 stamped_some false false is = cc
 
@@ -47,25 +48,25 @@ module _ (path : List ℕ) (listed : Option Meta) (meta : Meta) (start : Start) 
   whole_due call (inr (inr (inl sized))) = due_by (inr sized.0)
   whole_due call (inr (inr (inr stamped))) = stamped.0
 
-  some_done : (keeps lost : Bool) (call : FolderCall) → IsFinishCall lost listed start state path meta call
+  some_done : (keeps : Stamp → Bool) (lost : Bool) (call : FolderCall) → IsFinishCall lost listed start state path meta call
       → cond lost (lost_finish start state) (whole_finish meta listed start state keeps) ≢ Kept
   some_done keeps true call due kept = let clash : Renamed ≡ Kept = sym (ap (λ (b : Bool). cond b Renamed Kept) due.0) ∙ kept in cc
-  some_done keeps false call due kept = stamped_some (is_changed meta start state) keeps
-      (sym (ap (λ (b : Bool). cond b (stamped_finish (is_changed meta start state) keeps) Kept) (whole_due call due)) ∙ kept)
+  some_done keeps false call due kept = stamped_some (is_changed meta start state) (keeps meta.stamp)
+      (sym (ap (λ (b : Bool). cond b (stamped_finish (is_changed meta start state) (keeps meta.stamp)) Kept) (whole_due call due)) ∙ kept)
 
-  not_kept : (keeps : Bool) (call : FolderCall) → IsFinishCall state.lost listed start state path meta call → finish_of meta listed start state keeps ≢ Kept
+  not_kept : (keeps : Stamp → Bool) (call : FolderCall) → IsFinishCall state.lost listed start state path meta call → finish_of meta listed start state keeps ≢ Kept
   not_kept keeps call due = some_done keeps state.lost call due
 
 -- what is to be done to a file is never that it is gone
-pub none_gone : (meta : Meta) (listed : Option Meta) (start : Start) (state : FileState) (keeps : Bool) → was_gone (finish_of meta listed start state keeps) ≡ false
-none_gone meta listed start state keeps = by state.lost (stands start.place state.touched) (is_stamped meta listed start state) (is_changed meta start state) keeps
+pub none_gone : (meta : Meta) (listed : Option Meta) (start : Start) (state : FileState) (keeps : Stamp → Bool) → was_gone (finish_of meta listed start state keeps) ≡ false
+none_gone meta listed start state keeps = by state.lost (stands start.place state.touched) (is_stamped meta listed start state) (is_changed meta start state) (keeps meta.stamp)
   where
-    by : (lost standing stamped changed keeps : Bool)
-        → was_gone (cond lost (cond standing Renamed Kept) (cond stamped (stamped_finish changed keeps) Kept)) ≡ false
-    by true true stamped changed keeps = refl
-    by true false stamped changed keeps = refl
-    by false standing false changed keeps = refl
-    by false standing true true keeps = refl
+    by : (lost standing stamped changed is_kept : Bool)
+        → was_gone (cond lost (cond standing Renamed Kept) (cond stamped (stamped_finish changed is_kept) Kept)) ≡ false
+    by true true stamped changed is_kept = refl
+    by true false stamped changed is_kept = refl
+    by false standing false changed is_kept = refl
+    by false standing true true is_kept = refl
     by false standing true false true = refl
     by false standing true false false = refl
 

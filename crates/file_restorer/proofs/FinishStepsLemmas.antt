@@ -10,6 +10,7 @@ use Rattle.disk_model.specs.Tree.{Tree, file_of, path_of}
 use Rattle.disk_model.specs.Writing.{IsFolderWrite, Does}
 use Rattle.disk_model.specs.declared.fault.FileFault.{FileFault}
 use Rattle.disk_model.specs.declared.meta.Meta.{Meta}
+use Rattle.disk_model.specs.declared.meta.Stamp.{Stamp}
 use Rattle.disk_model.proofs.AnsweredLemmas.{no_stamp_set}
 use Rattle.disk_model.proofs.TreeLemmas.{own_name}
 use Rattle.stripe_reader.specs.declared.starts.Start.{Start}
@@ -219,7 +220,7 @@ whole_kept path listed meta start state changed old new fit changed_is none =
     let stays = fit.stays (or_left (is_changed meta start state) same needless) in
     let calls = put_calls start.place state.touched path ++ size_calls state.size meta.size path in
     record {
-      is = sym (ap (λ (b : Bool). cond b (stamped_finish (is_changed meta start state) old.keeps) Kept) needless);
+      is = sym (ap (λ (b : Bool). cond b (stamped_finish (is_changed meta start state) (old.keeps meta.stamp)) Kept) needless);
       makes = subst (λ (b : Bool). StepMakes (IsWholeCall listed start state path meta) (calls ++ (if b then SetStamp path meta.stamp ∷ [] else [])) false old new) (sym needless)
           (subst (λ (its : List FolderCall). StepMakes (IsWholeCall listed start state path meta) its false old new) (sym (append-nil calls)) fit.makes);
       holds = λ told. same_names path old.tree new.tree (stays told);
@@ -228,10 +229,10 @@ whole_kept path listed meta start state changed old new fit changed_is none =
           (subst (λ (calls : List FolderCall). FolderWrites calls old new) (sym (append-nil (put_calls start.place state.touched path ++ size_calls state.size meta.size path))) fit.wrote);
     }
 
--- its stamp is set, where stamps are kept
+-- its stamp is set, where it is kept
 pub whole_stamped : (path : List ℕ) (listed : Option Meta) (meta : Meta) (start : Start) (state : FileState) (changed stamped : Bool) (finish : Finish) (old mid new : FolderView) → IsFolder new
     → IsFit path listed meta start state old mid → changed ≡ is_changed meta start state → (changed || not (same_stamp meta.stamp listed)) ≡ true
-    → IsFolderWrite (SetStamp path meta.stamp) (answers.Kept stamped) mid new → stamped ≡ mid.keeps → finish ≡ stamped_finish changed stamped
+    → IsFolderWrite (SetStamp path meta.stamp) (answers.Kept stamped) mid new → stamped ≡ mid.keeps meta.stamp → finish ≡ stamped_finish changed stamped
     → FinishesBy (whole_finish meta listed start state old.keeps) finish (IsWholeCall listed start state path meta) (whole_calls listed start state path meta) meta start state path old new
 whole_stamped path listed meta start state changed stamped finish old mid new formed fit changed_is needed wrote stamped_is finish_is =
     let change = is_changed meta start state in
@@ -240,15 +241,15 @@ whole_stamped path listed meta start state changed stamped finish old mid new fo
     let kept : mid.keeps ≡ keeps = fit.makes.goes_on.keeps in
     let due : is_stamped meta listed start state ≡ true = stamp_due listed meta start state changed changed_is needed in
     let Whole = IsWholeCall listed start state path meta in
-    let is : finish ≡ stamped_finish change keeps = finish_is ∙ ap₂ stamped_finish changed_is (stamped_is ∙ kept) in
+    let is : finish ≡ stamped_finish change (keeps meta.stamp) = finish_is ∙ ap₂ stamped_finish changed_is (stamped_is ∙ ap (λ (k : Stamp → Bool). k meta.stamp) kept) in
     let does = λ (told : IsTrue old.tells).
-    subst (λ (b : Bool). Does b (SetStamp path meta.stamp) mid.tree new.tree) kept (wrote.does refl (fit.makes.goes_on.tells ∙ told)) in
+    subst (λ (k : Stamp → Bool). Does k (SetStamp path meta.stamp) mid.tree new.tree) kept (wrote.does refl (fit.makes.goes_on.tells ∙ told)) in
     let both = λ (told : IsTrue old.tells). stands_stamped path (bytes_now old.tree path) start.place keeps meta old.tree mid.tree new.tree (fit.stand told) (does told) in
-    let unkept = λ (told : IsTrue old.tells) (none : change ≡ false) (no : keeps ≡ false).
+    let unkept = λ (told : IsTrue old.tells) (none : change ≡ false) (no : keeps meta.stamp ≡ false).
     same_names path old.tree new.tree
-    (no_stamp_set path meta.stamp mid.tree new.tree (subst (λ (b : Bool). Does b (SetStamp path meta.stamp) mid.tree new.tree) no (does told)) ∙ fit.stays none told) in
+    (no_stamp_set keeps path meta.stamp mid.tree new.tree no (does told) ∙ fit.stays none told) in
     record {
-      is = is ∙ sym (ap (λ (b : Bool). cond b (stamped_finish change keeps) Kept) due);
+      is = is ∙ sym (ap (λ (b : Bool). cond b (stamped_finish change (keeps meta.stamp)) Kept) due);
       makes = subst (λ (b : Bool). StepMakes Whole ((put_calls start.place state.touched path ++ size_calls state.size meta.size path) ++ (if b then SetStamp path meta.stamp ∷ [] else [])) false old new)
           (sym due) (step_then Whole false fit.makes (step_write Whole false formed wrote refl refl (of_stamp path listed meta start state due)));
       holds = λ told.

@@ -152,12 +152,12 @@ stands_sized path bytes lost size now_size before mid later at long = by (now_si
         let it = became path bytes lost (Resizes size) before mid later at changes in
         record { file = it.0; there = it.2.there; bytes_are = it.1 ∙ ap (λ (b : List ℕ). resized b size) at.bytes_are; lost_is = it.2.lost_is; others = it.2.others }
 
--- its stamp is set, where stamps are kept
-pub stands_stamped : (path bytes : List ℕ) (place : Place) (keeps : Bool) (meta : Meta) (before mid later : Tree)
+-- its stamp is set, where it is kept
+pub stands_stamped : (path bytes : List ℕ) (place : Place) (keeps : Stamp → Bool) (meta : Meta) (before mid later : Tree)
     → Stands path (resized bytes meta.size) (lost_after place (file_of before (path_of path true))) before mid
-    → ChangesFile path (Stamps keeps meta.stamp) mid later → StandsWhole keeps meta place bytes path before later × OthersStay path before later
+    → ChangesFile path (Stamps (keeps meta.stamp) meta.stamp) mid later → StandsWhole keeps meta place bytes path before later × OthersStay path before later
 stands_stamped path bytes place keeps meta before mid later at changes =
-    let it = became path (resized bytes meta.size) (lost_after place (file_of before (path_of path true))) (Stamps keeps meta.stamp) before mid later at changes in (
+    let it = became path (resized bytes meta.size) (lost_after place (file_of before (path_of path true))) (Stamps (keeps meta.stamp) meta.stamp) before mid later at changes in (
       record {
         file = it.0;
         there = it.2.there;
@@ -173,12 +173,15 @@ stands_stamped path bytes place keeps meta before mid later at changes =
 pub same_names : (path : List ℕ) (before later : Tree) → later ≡ before → SameNames path before later
 same_names path before later same = λ lost. ap (λ (tree : Tree). file_of tree (path_of path lost)) same
 
-pub holds_stamped : (changed keeps : Bool) (meta : Meta) (start : Start) (state : FileState) (bytes path : List ℕ) (before later : Tree)
-    → StandsWhole keeps meta start.place bytes path before later → (changed ≡ false → keeps ≡ false → SameNames path before later)
-    → HoldsFinished (stamped_finish changed keeps) keeps meta start state bytes path before later
-holds_stamped true keeps meta start state bytes path before later whole same = whole
-holds_stamped false true meta start state bytes path before later whole same = whole
-holds_stamped false false meta start state bytes path before later whole same = same refl refl
+pub holds_stamped : (changed : Bool) (keeps : Stamp → Bool) (meta : Meta) (start : Start) (state : FileState) (bytes path : List ℕ) (before later : Tree)
+    → StandsWhole keeps meta start.place bytes path before later → (changed ≡ false → keeps meta.stamp ≡ false → SameNames path before later)
+    → HoldsFinished (stamped_finish changed (keeps meta.stamp)) keeps meta start state bytes path before later
+holds_stamped changed keeps meta start state bytes path before later whole same = by changed (keeps meta.stamp) refl refl
+  where
+    by : (its_changed is_kept : Bool) → changed ≡ its_changed → keeps meta.stamp ≡ is_kept → HoldsFinished (stamped_finish its_changed is_kept) keeps meta start state bytes path before later
+    by true is_kept changed_is kept_is = whole
+    by false true changed_is kept_is = whole
+    by false false changed_is kept_is = same changed_is kept_is
 
 -- the file that stands under the path is renamed
 pub stands_lost : (path : List ℕ) (old new : Tree) → file_of old (path_of path false) ≢ None → new ≡ renamed (path_of path false) (path_of path true) old

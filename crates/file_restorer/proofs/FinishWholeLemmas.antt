@@ -40,7 +40,7 @@ listed_stamp stamp listed file is same =
 
 module _ (path : List ℕ) (listed : Option Meta) (meta : Meta) (start : Start) (state : FileState) (old new : Tree) (fits : FitsTree path listed start state old) where
   -- where nothing was to be changed but the stamp, and that is right, or is not kept
-  unchanged_whole : (keeps : Bool) → is_changed meta start state ≡ false → (IsTrue keeps → same_stamp meta.stamp listed ≡ true) → SameNames path old new
+  unchanged_whole : (keeps : Stamp → Bool) → is_changed meta start state ≡ false → (IsTrue (keeps meta.stamp) → same_stamp meta.stamp listed ≡ true) → SameNames path old new
       → StandsWhole keeps meta start.place (bytes_now old path) path old new
   unchanged_whole keeps none right same =
       let is = unchanged state.touched (stands start.place state.touched) (state.size == meta.size) none in
@@ -56,17 +56,17 @@ module _ (path : List ℕ) (listed : Option Meta) (meta : Meta) (start : Start) 
         lost = same true ∙ ap (λ (place : Place). lost_after place (file_of old (path_of path true))) (sym plain);
       }
 
-  whole_by : (changed unlike keeps : Bool) → is_changed meta start state ≡ changed → not (same_stamp meta.stamp listed) ≡ unlike
-      → HoldsFinished (cond (changed || unlike) (stamped_finish changed keeps) Kept) keeps meta start state (bytes_now old path) path old new
+  whole_by : (keeps : Stamp → Bool) (changed unlike is_kept : Bool) → is_changed meta start state ≡ changed → not (same_stamp meta.stamp listed) ≡ unlike → keeps meta.stamp ≡ is_kept
+      → HoldsFinished (cond (changed || unlike) (stamped_finish changed is_kept) Kept) keeps meta start state (bytes_now old path) path old new
       → StandsWhole keeps meta start.place (bytes_now old path) path old new
-  whole_by true unlike keeps changed_is unlike_is holds = holds
-  whole_by false true true changed_is unlike_is holds = holds
-  whole_by false true false changed_is unlike_is holds = unchanged_whole false changed_is (λ kept. absurd (let clash : false ≡ true = kept in cc)) holds
-  whole_by false false keeps changed_is unlike_is holds = unchanged_whole keeps changed_is (λ kept. not_false (same_stamp meta.stamp listed) unlike_is) holds
+  whole_by keeps true unlike is_kept changed_is unlike_is kept_is holds = holds
+  whole_by keeps false true true changed_is unlike_is kept_is holds = holds
+  whole_by keeps false true false changed_is unlike_is kept_is holds = unchanged_whole keeps changed_is (λ kept. absurd (let clash : false ≡ true = sym kept_is ∙ kept in cc)) holds
+  whole_by keeps false false is_kept changed_is unlike_is kept_is holds = unchanged_whole keeps changed_is (λ kept. not_false (same_stamp meta.stamp listed) unlike_is) holds
 
-  pub stands_whole : (keeps : Bool) (finish : Finish) → state.lost ≡ false → finish ≡ finish_of meta listed start state keeps
+  pub stands_whole : (keeps : Stamp → Bool) (finish : Finish) → state.lost ≡ false → finish ≡ finish_of meta listed start state keeps
       → HoldsFinished finish keeps meta start state (bytes_now old path) path old new → StandsWhole keeps meta start.place (bytes_now old path) path old new
   stands_whole keeps finish kept is holds =
       let whole : finish ≡ whole_finish meta listed start state keeps = is ∙ ap (λ (b : Bool). cond b (lost_finish start state) (whole_finish meta listed start state keeps)) kept in
-      whole_by (is_changed meta start state) (not (same_stamp meta.stamp listed)) keeps refl refl
+      whole_by keeps (is_changed meta start state) (not (same_stamp meta.stamp listed)) (keeps meta.stamp) refl refl refl
       (subst (λ (f : Finish). HoldsFinished f keeps meta start state (bytes_now old path) path old new) whole holds)

@@ -49,7 +49,7 @@ makes_then P {old = old} {mid = mid} {new = new} one two = record {
   left = λ told is.
       let first : MayBeLeft old.keeps one.done old.tree mid.tree = one.left told is in
       let more = two.left (one.goes_on.tells ∙ told) (left_is_tree old.keeps one.done old.tree mid.tree is first) in
-      left_then old.keeps one.done two.done old.tree mid.tree new.tree first (subst (λ (keeps : Bool). MayBeLeft keeps two.done mid.tree new.tree) one.goes_on.keeps more);
+      left_then old.keeps one.done two.done old.tree mid.tree new.tree first (subst (λ (keeps : Stamp → Bool). MayBeLeft keeps two.done mid.tree new.tree) one.goes_on.keeps more);
 }
 
 pub makes_wider : (P Q : FolderDone → Type 0) {old new : FolderView} → ((done : FolderDone) → P done → Q done) → FolderMakes P old new → FolderMakes Q old new
@@ -109,7 +109,7 @@ makes_by_then P Q B {old = old} {mid = mid} {new = new} joins one two = record {
   left = λ told is.
       let first : MayBeLeft old.keeps one.done old.tree mid.tree = one.left told is in
       let more = two.left (one.goes_on.tells ∙ told) (left_is_tree old.keeps one.done old.tree mid.tree is first) in
-      left_then old.keeps one.done two.done old.tree mid.tree new.tree first (subst (λ (keeps : Bool). MayBeLeft keeps two.done mid.tree new.tree) one.goes_on.keeps more);
+      left_then old.keeps one.done two.done old.tree mid.tree new.tree first (subst (λ (keeps : Stamp → Bool). MayBeLeft keeps two.done mid.tree new.tree) one.goes_on.keeps more);
 }
 
 pub makes_by_none : (P : List FolderDone → Type 0) (v : FolderView) → P [] → FolderMakesBy P v v

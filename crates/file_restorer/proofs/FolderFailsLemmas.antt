@@ -7,6 +7,7 @@ use Rattle.std.proofs.lemmas.List.Folds.{list_any-append}
 use Rattle.disk_model.specs.Answer.{is_missing}
 use Rattle.disk_model.specs.Folder.{FolderView, FolderCall, FolderDone, IsFolder}
 use Rattle.disk_model.specs.declared.answer.Answer.TheVariants.{Failed}
+use Rattle.disk_model.specs.declared.meta.Stamp.{Stamp}
 use Rattle.disk_model.specs.Stopped.{MayBeLeft}
 use Rattle.disk_model.specs.Writing.{IsFolderWrite}
 use Rattle.disk_model.proofs.AnsweredLemmas.{write_is_left, left_then, left_is_tree}
@@ -51,7 +52,7 @@ fails_then P old mid new one two =
       left = λ told is.
           let first : MayBeLeft old.keeps one.done old.tree mid.tree = one.left told is in
           let more = two.left (one.goes_on.tells ∙ told) (left_is_tree old.keeps one.done old.tree mid.tree is first) in
-          left_then old.keeps one.done two.done old.tree mid.tree new.tree first (subst (λ (keeps : Bool). MayBeLeft keeps two.done mid.tree new.tree) one.goes_on.keeps more);
+          left_then old.keeps one.done two.done old.tree mid.tree new.tree first (subst (λ (keeps : Stamp → Bool). MayBeLeft keeps two.done mid.tree new.tree) one.goes_on.keeps more);
     }
 
 -- after the calls of a step of which each found its file
@@ -74,7 +75,7 @@ step_fails_then P calls old mid new one two =
         left = λ told is.
             let first : MayBeLeft old.keeps one.done old.tree mid.tree = one.left told is in
             let more = two.fails.left (one.goes_on.tells ∙ told) (left_is_tree old.keeps one.done old.tree mid.tree is first) in
-            left_then old.keeps one.done two.fails.done old.tree mid.tree new.tree first (subst (λ (keeps : Bool). MayBeLeft keeps two.fails.done mid.tree new.tree) one.goes_on.keeps more);
+            left_then old.keeps one.done two.fails.done old.tree mid.tree new.tree first (subst (λ (keeps : Stamp → Bool). MayBeLeft keeps two.fails.done mid.tree new.tree) one.goes_on.keeps more);
       };
       found = list_any-append (λ (done : FolderDone). is_missing done.answer) one.done last.front ∙ ap₂ (λ (a b : Bool). a || b) one.are.found two.found;
     }

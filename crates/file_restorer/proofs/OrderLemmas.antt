@@ -4,6 +4,7 @@ use Rattle.std.proofs.lemmas.List.{append-nil, map-append}
 use Rattle.std.proofs.lemmas.List.Elements.{All-head, All-tail, All-weaker, filter-append}
 use Rattle.disk_model.specs.Folder.{FolderView, FolderCall, FolderDone, FolderGoesOn}
 use Rattle.disk_model.specs.Writing.{IsFolderWrite}
+use Rattle.disk_model.specs.declared.meta.Stamp.{Stamp}
 use Rattle.snap_report.specs.Answer.{is_reading}
 use Rattle.stripe_reader.specs.Column.{ReadsBy}
 use Rattle.stripe_reader.specs.FolderCalls.{AreColumnCalls}
@@ -28,7 +29,7 @@ writes_then one two {old = old} {mid = mid} {new = new} first more = record {
   goes_on = goes_on_then old mid new first.done more.done first.goes_on more.goes_on;
   are =
       let keeps = old.keeps in
-      let later = subst (λ (k : Bool). filter is_writing more.done ≡ map (went_well k) two) first.goes_on.keeps more.are in
+      let later = subst (λ (k : Stamp → Bool). filter is_writing more.done ≡ map (went_well k) two) first.goes_on.keeps more.are in
       filter-append is_writing first.done more.done ∙ ap₂ (λ (a b : List FolderDone). a ++ b) first.are later
       ∙ sym (map-append (went_well keeps) one two);
 }

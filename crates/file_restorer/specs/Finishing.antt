@@ -35,19 +35,20 @@ is_changed meta start state = state.touched || not (stands start.place state.tou
 abbrev pub is_stamped : Meta → Option Meta → Start → FileState → Bool
 is_stamped meta listed start state = is_changed meta start state || not (same_stamp meta.stamp listed)
 
--- what is done to a file without a lost block, in a folder that keeps stamps or doesn't
+-- what is done to a file without a lost block, in a folder that keeps its recorded stamp or doesn't
 abbrev pub stamped_finish : Bool → Bool → Finish
-stamped_finish changed keeps = if changed then Restored keeps else (if keeps then Restored true else Unstamped)
+stamped_finish changed is_kept = if changed then Restored is_kept else (if is_kept then Restored true else Unstamped)
 
-abbrev pub whole_finish : Meta → Option Meta → Start → FileState → Bool → Finish
+-- the same, in a folder that keeps these stamps
+abbrev pub whole_finish : Meta → Option Meta → Start → FileState → (Stamp → Bool) → Finish
 whole_finish meta listed start state keeps =
-    if is_stamped meta listed start state then stamped_finish (is_changed meta start state) keeps else Kept
+    if is_stamped meta listed start state then stamped_finish (is_changed meta start state) (keeps meta.stamp) else Kept
 
 -- and to one with a lost block
 abbrev pub lost_finish : Start → FileState → Finish
 lost_finish start state = if stands start.place state.touched then Renamed else Kept
 
-abbrev pub finish_of : Meta → Option Meta → Start → FileState → Bool → Finish
+abbrev pub finish_of : Meta → Option Meta → Start → FileState → (Stamp → Bool) → Finish
 finish_of meta listed start state keeps =
     if state.lost then lost_finish start state else whole_finish meta listed start state keeps
 
@@ -103,13 +104,13 @@ lost_after Plain file = file
 lost_after Lost file = None
 lost_after Nowhere file = file
 
--- a file stands under PATH with these bytes, and with its recorded stamp where the folder keeps stamps; the other name is gone,
+-- a file stands under PATH with these bytes, and with its recorded stamp where the folder keeps that; the other name is gone,
 -- if the file had it
-pub record StandsWhole (keeps : Bool) (meta : Meta) (place : Place) (bytes path : List ℕ) (before later : Tree) : Type 0 where
+pub record StandsWhole (keeps : Stamp → Bool) (meta : Meta) (place : Place) (bytes path : List ℕ) (before later : Tree) : Type 0 where
   pub file : File
   pub there : file_of later (path_of path false) ≡ Some file
   pub bytes_are : file.bytes ≡ resized bytes meta.size
-  pub stamp : IsTrue keeps → file.stamp ≡ meta.stamp
+  pub stamp : IsTrue (keeps meta.stamp) → file.stamp ≡ meta.stamp
   pub lost : file_of later (path_of path true) ≡ lost_after place (file_of before (path_of path true))
 
 -- what stood under PATH stands under PATH`.unrecoverable`
@@ -117,7 +118,7 @@ pub record StandsLost (path : List ℕ) (before later : Tree) : Type 0 where
   pub moved : file_of later (path_of path true) ≡ file_of before (path_of path false)
   pub none : file_of later (path_of path false) ≡ None
 
-abbrev pub HoldsFinished : Finish → Bool → Meta → Start → FileState → List ℕ → List ℕ → Tree → Tree → Type 0
+abbrev pub HoldsFinished : Finish → (Stamp → Bool) → Meta → Start → FileState → List ℕ → List ℕ → Tree → Tree → Type 0
 HoldsFinished Kept keeps meta start state bytes path before later = SameNames path before later
 HoldsFinished (Restored stamped) keeps meta start state bytes path before later = StandsWhole keeps meta start.place bytes path before later
 HoldsFinished Unstamped keeps meta start state bytes path before later = SameNames path before later

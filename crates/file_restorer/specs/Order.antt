@@ -3,6 +3,7 @@ use Rattle.std.specs.Prelude.{◌≡◌, ℕ, List, [], ◌∷◌, ◌++◌, map
 use Rattle.disk_model.specs.Folder.{FolderView, FolderCall, FolderDone, FolderGoesOn, ListFiles, Look, ReadAt, Make, WriteAt, SetSize, SetStamp, Rename}
 use Rattle.disk_model.specs.declared.answer.Answer.{Answer}
 use Rattle.disk_model.specs.declared.answer.Answer.TheVariants.{Done, Kept}
+use Rattle.disk_model.specs.declared.meta.Stamp.{Stamp}
 use Rattle.snap_report.specs.Answer.{is_reading}
 use Rattle.stripe_reader.specs.declared.starts.Place.{Place}
 use Rattle.stripe_reader.specs.declared.starts.Place.TheVariants.{Plain, Lost, Nowhere}
@@ -12,18 +13,18 @@ use Rattle.file_restorer.specs.State.{stands}
 abbrev pub is_writing : FolderDone → Bool
 is_writing done = not (is_reading done.call)
 
--- what a call that writes answers where it neither fails nor finds no file, in a folder that keeps stamps or doesn't
-abbrev pub answer_to : Bool → FolderCall → Answer
+-- what a call that writes answers where it neither fails nor finds no file, in a folder that keeps these stamps
+abbrev pub answer_to : (Stamp → Bool) → FolderCall → Answer
 answer_to keeps ListFiles = Done
 answer_to keeps (Look path lost) = Done
 answer_to keeps (ReadAt path lost at n) = Done
 answer_to keeps (Make path) = Done
 answer_to keeps (WriteAt path at bytes) = Done
 answer_to keeps (SetSize path size) = Done
-answer_to keeps (SetStamp path stamp) = Kept keeps
+answer_to keeps (SetStamp path stamp) = Kept (keeps stamp)
 answer_to keeps (Rename path lost) = Done
 
-abbrev pub went_well : Bool → FolderCall → FolderDone
+abbrev pub went_well : (Stamp → Bool) → FolderCall → FolderDone
 went_well keeps call = record { call = call; answer = answer_to keeps call }
 
 -- Of all calls of a folder just these write, in this order, as far as the folder tells its calls. None of them failed,

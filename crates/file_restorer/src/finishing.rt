@@ -18,7 +18,7 @@ pub enum Finish {
     Kept,
     /// It is as it was recorded, and the folder says whether it keeps the stamp.
     Restored { stamped: bool },
-    /// Its stamp alone differs, and the folder keeps none.
+    /// Its stamp alone differs, and the folder does not keep the recorded one.
     Unstamped,
     /// It has a lost block, and stands under PATH`.unrecoverable`.
     Renamed,
@@ -129,7 +129,7 @@ fn needs_stamp(changed: bool, stamp: Stamp, listed: Option<Meta>) -> bool
     changed || !same_stamp(stamp, listed)
 }
 
-// What was done to a file whose stamp was to be set, in a folder that keeps stamps or doesn't.
+// What was done to a file whose stamp was to be set, by whether the folder keeps it.
 fn stamped_finish(changed: bool, stamped: bool) -> Finish
     ensures { result ≡ stamped_finish_by changed stamped }
 {

@@ -18,6 +18,7 @@ use Rattle.file_restorer.specs.State.{HoldsBy, HoldsColumn, HoldsRecord, IsNameO
 use Rattle.file_restorer.specs.declared.finishing.Finish.{Finish}
 use Rattle.file_restorer.specs.declared.state.FileState.{FileState}
 use Rattle.file_table.specs.Table.{Record, record_at, records_in}
+use Rattle.snap_exercise.proofs.LawLemmas.{keeps_all}
 use Rattle.file_table.specs.declared.block.Cell.{Cell}
 use Rattle.snap_exercise.proofs.AlikeLemmas.{in_range}
 use Rattle.snap_fix.specs.Ending.{is_finished}
@@ -154,7 +155,7 @@ pub record IsLeft (plan : FixPlan) (stripes : List Mended) (d : ℕ) (first last
   pub others : (name : List ℕ) → ¬ (IsNameOf (records_in plan.table d) name) → file_of last name ≡ file_of first name
 
 module _ (plan : FixPlan) (starts : StartsValue) (stripes : List Mended) (finishes : List (List Finish)) (mids news : List FolderView) (files : FixesFiles plan starts stripes finishes mids news)
-    (tells : (d : ℕ) → d < length plan.table.columns → IsTrue (folder_at mids d).tells) (keeps : (d : ℕ) → d < length plan.table.columns → (folder_at mids d).keeps ≡ true)
+    (tells : (d : ℕ) → d < length plan.table.columns → IsTrue (folder_at mids d).tells) (keeps : (d : ℕ) → d < length plan.table.columns → (folder_at mids d).keeps ≡ keeps_all)
     (finished : (d i : ℕ) → d < length plan.table.columns → i < length (records_in plan.table d) → is_finished plan d i ≡ true)
     (kept : (d i : ℕ) → d < length plan.table.columns → has_lost plan stripes d i ≡ false) (d : ℕ) (below : d < length plan.table.columns) where
   abbrev records : List Record
@@ -178,7 +179,7 @@ module _ (plan : FixPlan) (starts : StartsValue) (stripes : List Mended) (finish
   mid_tells : IsTrue mid.tells
   mid_tells = (files.writes.underway.each d below).calls.goes_on.tells ∙ tells d below
 
-  mid_keeps : IsTrue mid.keeps
+  mid_keeps : mid.keeps ≡ keeps_all
   mid_keeps = (files.writes.underway.each d below).calls.goes_on.keeps ∙ keeps d below
 
   module _ (i : ℕ) (inside : i < length records) where
@@ -207,7 +208,7 @@ module _ (plan : FixPlan) (starts : StartsValue) (stripes : List Mended) (finish
     file_is =
         let bytes_are : whole.file.bytes ≡ resized (puts (bytes_placed first path) written) meta.size
         = whole.bytes_are ∙ ap (λ (bytes : List ℕ). resized bytes meta.size) (bytes_held state.touched start state written path first mid.tree held.holds) in
-        whole.there ∙ ap₂ (λ (stamp : Stamp) (bytes : List ℕ). let file : File = record { stamp = stamp; bytes = bytes } in Some file) (whole.stamp mid_keeps) bytes_are
+        whole.there ∙ ap₂ (λ (stamp : Stamp) (bytes : List ℕ). let file : File = record { stamp = stamp; bytes = bytes } in Some file) (whole.stamp (ap (λ (keeps_it : Stamp → Bool). keeps_it meta.stamp) mid_keeps)) bytes_are
 
     lost_is : file_of last (path_of path true) ≡ lost_by (has_some written) (place_in first path) (file_of first (path_of path true))
     lost_is = whole.lost ∙ lost_held state.touched start state written path first mid.tree held.holds

@@ -17,7 +17,7 @@ use Rattle.parity_writer.specs.Parity.{Row, Rows}
 use Rattle.snap_exercise.specs.Exercised.{Array, IsSynced, NoneFailed, begun, damaged, damaged_trees, plan_from, readings_of, start_of, table_of_sync, vault_of}
 use Rattle.snap_exercise.specs.Generated.{columns, first_table, moment, setup, standing, tree_of, trees, turned_tree}
 use Rattle.snap_exercise.proofs.HeldLemmas.{tree_of_folder}
-use Rattle.snap_exercise.proofs.LawLemmas.{IsLaidByTrees, IsReadByTrees, eight, is_end, keeps_at, readings_are, start_is, tells_at}
+use Rattle.snap_exercise.proofs.LawLemmas.{IsLaidByTrees, IsReadByTrees, eight, is_end, keeps_all, keeps_at, readings_are, start_is, tells_at}
 use Rattle.snap_sync.specs.Calls.{SyncPlan}
 use Rattle.snap_sync.specs.Closing.{closed}
 use Rattle.snap_sync.specs.Images.{HasParity, HasParityAfter, IsOutsideRows, table_after}
@@ -56,7 +56,7 @@ worn_tells n (a ∷ b ∷ c ∷ rest) long tell (suc zero) within = refl
 worn_tells n (a ∷ b ∷ c ∷ rest) long tell (suc (suc zero)) within = refl
 worn_tells n (a ∷ b ∷ c ∷ rest) long tell (suc (suc (suc d))) within = tell (suc (suc (suc d))) (omega (arith, within, long))
 
-pub worn_keeps : (n : ℕ) (folders : List FolderView) → length folders ≡ 8 → ((d : ℕ) → d < 8 → (folder_at folders d).keeps ≡ true) → (d : ℕ) → d < length (damaged n folders) → (folder_at (damaged n folders) d).keeps ≡ true
+pub worn_keeps : (n : ℕ) (folders : List FolderView) → length folders ≡ 8 → ((d : ℕ) → d < 8 → (folder_at folders d).keeps ≡ keeps_all) → (d : ℕ) → d < length (damaged n folders) → (folder_at (damaged n folders) d).keeps ≡ keeps_all
 worn_keeps n [] long keep d within = absurd (omega (arith, long))
 worn_keeps n (a ∷ []) long keep d within = absurd (omega (arith, long))
 worn_keeps n (a ∷ b ∷ []) long keep d within = absurd (omega (arith, long))
@@ -150,7 +150,7 @@ module _ (laid : IsLaidByTrees) (read : IsReadByTrees) (n : ℕ) (new : Array) (
       let first : d < length (begun n).folders = omega (arith, below, eight laid read n new end done well) in
       (done.reads.read.each d (listed_at d below)).folder.goes_on.tells ∙ (done.laid.listed.each d first).call.called.goes_on.tells ∙ tells_at (trees n) d first
 
-  pub keeps_after : (d : ℕ) → d < 8 → (folder_at new.folders d).keeps ≡ true
+  pub keeps_after : (d : ℕ) → d < 8 → (folder_at new.folders d).keeps ≡ keeps_all
   keeps_after d below =
       let first : d < length (begun n).folders = omega (arith, below, eight laid read n new end done well) in
       (done.reads.read.each d (listed_at d below)).folder.goes_on.keeps ∙ (done.laid.listed.each d first).call.called.goes_on.keeps ∙ keeps_at (trees n) d first

@@ -11,6 +11,7 @@ use Rattle.disk_model.specs.Files.{Files, parity_of}
 use Rattle.disk_model.specs.Folder.{FolderView}
 use Rattle.disk_model.specs.Tree.{Tree, listing_of}
 use Rattle.disk_model.specs.declared.meta.Meta.{Meta}
+use Rattle.disk_model.specs.declared.meta.Stamp.{Stamp}
 use Rattle.file_restorer.specs.Finishing.{finish_of, is_changed, is_stamped, stamped_finish, stands, was_gone}
 use Rattle.file_restorer.specs.declared.finishing.Finish.{Finish}
 use Rattle.file_restorer.specs.declared.finishing.Finish.TheVariants as finishes
@@ -85,25 +86,25 @@ news_left : (b : Bool) (d i : ℕ) (finish : Finish) → (b ≡ true → was_gon
 news_left true d i finish there = finish_left d i finish (there refl)
 news_left false d i finish there = refl
 
-stamped_there : (changed keeps : Bool) → was_gone (stamped_finish changed keeps) ≡ false
-stamped_there true keeps = refl
+stamped_there : (changed is_kept : Bool) → was_gone (stamped_finish changed is_kept) ≡ false
+stamped_there true is_kept = refl
 stamped_there false true = refl
 stamped_there false false = refl
 
-whole_there : (stamped changed keeps : Bool) → was_gone (if stamped then stamped_finish changed keeps else finishes.Kept) ≡ false
-whole_there true changed keeps = stamped_there changed keeps
-whole_there false changed keeps = refl
+whole_there : (stamped changed is_kept : Bool) → was_gone (if stamped then stamped_finish changed is_kept else finishes.Kept) ≡ false
+whole_there true changed is_kept = stamped_there changed is_kept
+whole_there false changed is_kept = refl
 
 lost_there : (stood : Bool) → was_gone (if stood then finishes.Renamed else finishes.Kept) ≡ false
 lost_there true = refl
 lost_there false = refl
 
-finish_there : (lost stood stamped changed keeps : Bool) → was_gone (if lost then (if stood then finishes.Renamed else finishes.Kept) else (if stamped then stamped_finish changed keeps else finishes.Kept)) ≡ false
-finish_there true stood stamped changed keeps = lost_there stood
-finish_there false stood stamped changed keeps = whole_there stamped changed keeps
+finish_there : (lost stood stamped changed is_kept : Bool) → was_gone (if lost then (if stood then finishes.Renamed else finishes.Kept) else (if stamped then stamped_finish changed is_kept else finishes.Kept)) ≡ false
+finish_there true stood stamped changed is_kept = lost_there stood
+finish_there false stood stamped changed is_kept = whole_there stamped changed is_kept
 
-asked_there : (meta : Meta) (listed : Option Meta) (start : Start) (state : FileState) (keeps : Bool) → was_gone (finish_of meta listed start state keeps) ≡ false
-asked_there meta listed start state keeps = finish_there state.lost (stands start.place state.touched) (is_stamped meta listed start state) (is_changed meta start state) keeps
+asked_there : (meta : Meta) (listed : Option Meta) (start : Start) (state : FileState) (keeps : Stamp → Bool) → was_gone (finish_of meta listed start state keeps) ≡ false
+asked_there meta listed start state keeps = finish_there state.lost (stands start.place state.touched) (is_stamped meta listed start state) (is_changed meta start state) (keeps meta.stamp)
 
 -- ---- gifts
 

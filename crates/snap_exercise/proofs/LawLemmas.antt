@@ -1,11 +1,12 @@
 -- The sync of an exercise follows from its number.
-use Rattle.std.proofs.Common.{◌≡◌, ℕ, zero, suc, ◌<◌, List, [], ◌∷◌, length, map, take, true, false, All, IsTrue, refl, sym, ap, ◌∙◌, subst, arith}
+use Rattle.std.proofs.Common.{◌≡◌, ℕ, zero, suc, ◌<◌, List, [], ◌∷◌, length, map, take, Bool, true, false, All, IsTrue, refl, sym, ap, ◌∙◌, subst, arith}
 use Rattle.std.proofs.lemmas.List.{append-nil, length-map, take_all}
 use Rattle.std.proofs.lemmas.List.FromFn.{length-range_with_len}
 use Rattle.array_scan.specs.Layout.{pending_stripes}
 use Rattle.disk_model.specs.Cause.{Rose}
 use Rattle.disk_model.specs.Folder.{FolderView, quiet_folder}
 use Rattle.disk_model.specs.Tree.{Tree}
+use Rattle.disk_model.specs.declared.meta.Stamp.{Stamp}
 use Rattle.file_table.specs.Table.{TableValue}
 use Rattle.snap_exercise.specs.Exercise.{Summary}
 use Rattle.snap_exercise.specs.Exercised.{Array, HasSyncOf, IsExercise, IsSynced, NoneFailed, TellSameSync, begun, plan_from, readings_of, start_of, vault_of}
@@ -32,7 +33,11 @@ tells_at [] d within = absurd (omega (arith, within))
 tells_at (tree ∷ those) zero within = refl
 tells_at (tree ∷ those) (suc d) within = tells_at those d (omega (arith, within))
 
-pub keeps_at : (those : List Tree) (d : ℕ) → d < length (map standing those) → (folder_at (map standing those) d).keeps ≡ true
+-- it keeps every stamp
+abbrev pub keeps_all : Stamp → Bool
+keeps_all stamp = true
+
+pub keeps_at : (those : List Tree) (d : ℕ) → d < length (map standing those) → (folder_at (map standing those) d).keeps ≡ keeps_all
 keeps_at [] d within = absurd (omega (arith, within))
 keeps_at (tree ∷ those) zero within = refl
 keeps_at (tree ∷ those) (suc d) within = keeps_at those d (omega (arith, within))

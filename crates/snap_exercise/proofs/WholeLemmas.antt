@@ -25,7 +25,7 @@ use Rattle.snap_exercise.proofs.CheckLemmas.{IsCheckOf, check_is, same_findings,
 use Rattle.snap_exercise.proofs.EngineLemmas.{synced_columns}
 use Rattle.snap_exercise.proofs.FixLemmas.{came_with, fix_one, left_is, levels_of_number, many, many_columns, many_worn, numbers, one_fix, one_plan, parities_same, plan_same, seen_other, table_same, tell, tells_listed, trees_worn, is_seen, valid}
 use Rattle.snap_exercise.proofs.HeldLemmas.{lists_same as listed_same, one_counted, tree_of_folder, tree_then}
-use Rattle.snap_exercise.proofs.LawLemmas.{IsLaidByTrees, IsReadByTrees, one_sync, sync_of}
+use Rattle.snap_exercise.proofs.LawLemmas.{IsLaidByTrees, IsReadByTrees, keeps_all, one_sync, sync_of}
 use Rattle.snap_exercise.proofs.SeenLemmas.{IsDetermined}
 use Rattle.snap_fix.specs.Course.{IsPlan}
 use Rattle.snap_fix.specs.Ending.{is_finished}
@@ -107,7 +107,7 @@ module _ (laid : IsLaidByTrees) (read : IsReadByTrees) (n : ℕ) (synced : SyncE
   pub tells : (d : ℕ) → d < length plan.table.columns → IsTrue (folder_at is.fix.mids d).tells
   tells = tells_listed synced.table worn is.after_fix fixed is.fix its_tell before is.sync_unfailed.vault is.fix_unfailed columns
 
-  keeps : (d : ℕ) → d < length plan.table.columns → (folder_at is.fix.mids d).keeps ≡ true
+  keeps : (d : ℕ) → d < length plan.table.columns → (folder_at is.fix.mids d).keeps ≡ keeps_all
   keeps d below = (is.fix.listed.each d (in_worn d below)).call.called.goes_on.keeps
       ∙ worn_keeps n is.after_sync.folders (many laid read n synced fixed checked last is) (keeps_after laid read n is.after_sync synced is.sync is.sync_unfailed) d (in_worn d below)
 

@@ -7,6 +7,7 @@ use Rattle.array_scan.proofs.PlacingLemmas.{flat_range_more}
 use Rattle.disk_model.specs.Folder.{FolderView, FolderCall}
 use Rattle.disk_model.specs.Sink.{SinkView}
 use Rattle.disk_model.specs.Tree.{Tree, file_of, path_of}
+use Rattle.disk_model.specs.declared.meta.Stamp.{Stamp}
 use Rattle.file_table.specs.Table.{record_at, records_in}
 use Rattle.snap_report.specs.Report.{ReportView}
 use Rattle.snap_report.specs.declared.events.Event.{Event}
@@ -154,7 +155,7 @@ module _ (plan : FixPlan) (d : ℕ) (first : StartsValue) (firsts : List (List F
     call_next call is = let next = this_next call is in record { i = n; within = within; finished = next.0; is = next.1 }
 
     -- what was done to it is by its first start and state, in the folder as it was
-    abbrev finish_next : List Start → List FileState → Bool → Finish
+    abbrev finish_next : List Start → List FileState → (Stamp → Bool) → Finish
     finish_next of in_state keeps = finish_of (record_at plan.table.columns d n).meta (entry_at plan d n).listed (start_in of n) (state_at in_state n) keeps
 
     same_next : finish_next (starts_at starts.columns d) (states_at states d) mid.keeps ≡ finish_next starts_of states_of folder.keeps
@@ -178,7 +179,7 @@ module _ (plan : FixPlan) (d : ℕ) (first : StartsValue) (firsts : List (List F
           → HoldsEnd plan d starts_of states_of folder.keeps n finish folder.tree later
       holds_next finish later holds =
           holds_since finish folder.keeps (record_at plan.table.columns d n).meta (start_in starts_of n) (state_at states_of n) (path_at n) folder.tree mid.tree later names_before
-          (subst (λ (keeps : Bool). HoldsFinished finish keeps (record_at plan.table.columns d n).meta (start_in starts_of n) (state_at states_of n) (bytes_now mid.tree (path_at n)) (path_at n) mid.tree later)
+          (subst (λ (keeps : Stamp → Bool). HoldsFinished finish keeps (record_at plan.table.columns d n).meta (start_in starts_of n) (state_at states_of n) (bytes_now mid.tree (path_at n)) (path_at n) mid.tree later)
           so_far.makes.goes_on.keeps
           (subst (λ (s : Start). HoldsFinished finish mid.keeps (record_at plan.table.columns d n).meta s (state_at states_of n) (bytes_now mid.tree (path_at n)) (path_at n) mid.tree later) same_start
           (subst (λ (s : FileState). HoldsFinished finish mid.keeps (record_at plan.table.columns d n).meta (start_in (starts_at starts.columns d) n) s (bytes_now mid.tree (path_at n)) (path_at n) mid.tree later) same_state holds)))
@@ -186,7 +187,7 @@ module _ (plan : FixPlan) (d : ℕ) (first : StartsValue) (firsts : List (List F
       whole_next : (later : Tree) → StandsEnd plan d (starts_at starts.columns d) mid.keeps n mid.tree later → StandsEnd plan d starts_of folder.keeps n folder.tree later
       whole_next later whole =
           whole_since folder.keeps (record_at plan.table.columns d n).meta (start_in starts_of n).place (path_at n) folder.tree mid.tree later names_before
-          (subst (λ (keeps : Bool). StandsWhole keeps (record_at plan.table.columns d n).meta (start_in starts_of n).place (bytes_now mid.tree (path_at n)) (path_at n) mid.tree later)
+          (subst (λ (keeps : Stamp → Bool). StandsWhole keeps (record_at plan.table.columns d n).meta (start_in starts_of n).place (bytes_now mid.tree (path_at n)) (path_at n) mid.tree later)
           so_far.makes.goes_on.keeps
           (subst (λ (s : Start). StandsWhole mid.keeps (record_at plan.table.columns d n).meta s.place (bytes_now mid.tree (path_at n)) (path_at n) mid.tree later) same_start whole))
 

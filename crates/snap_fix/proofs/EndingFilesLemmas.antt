@@ -7,6 +7,7 @@ use Rattle.disk_model.specs.Bytes.{resized}
 use Rattle.disk_model.specs.Path.{EndsWith, components, lost_suffix, with_front}
 use Rattle.disk_model.specs.Tree.{Tree, File, IsApart, file_of, is_directory_of, path_of}
 use Rattle.disk_model.specs.declared.meta.Meta.{Meta}
+use Rattle.disk_model.specs.declared.meta.Stamp.{Stamp}
 use Rattle.disk_model.proofs.PathLemmas.{components-here, components-other}
 use Rattle.disk_model.proofs.TreeLemmas.{own_name}
 use Rattle.file_table.specs.Table.{Record}
@@ -137,7 +138,7 @@ fits_stays path listed start state before later same fits = record {
 -- ---- what is held
 
 -- after the record was finished, its names stayed
-pub whole_on : (keeps : Bool) (meta : Meta) (place : Place) (bytes path : List ℕ) (before mid later : Tree) → SameNames path mid later
+pub whole_on : (keeps : Stamp → Bool) (meta : Meta) (place : Place) (bytes path : List ℕ) (before mid later : Tree) → SameNames path mid later
     → StandsWhole keeps meta place bytes path before mid → StandsWhole keeps meta place bytes path before later
 whole_on keeps meta place bytes path before mid later same whole = record {
   file = whole.file;
@@ -147,7 +148,7 @@ whole_on keeps meta place bytes path before mid later same whole = record {
   lost = same true ∙ whole.lost;
 }
 
-pub holds_on : (finish : Finish) (keeps : Bool) (meta : Meta) (start : Start) (state : FileState) (bytes path : List ℕ) (before mid later : Tree) → SameNames path mid later
+pub holds_on : (finish : Finish) (keeps : Stamp → Bool) (meta : Meta) (start : Start) (state : FileState) (bytes path : List ℕ) (before mid later : Tree) → SameNames path mid later
     → HoldsFinished finish keeps meta start state bytes path before mid → HoldsFinished finish keeps meta start state bytes path before later
 holds_on Kept keeps meta start state bytes path before mid later same holds = λ lost. same lost ∙ holds lost
 holds_on (Restored stamped) keeps meta start state bytes path before mid later same holds = whole_on keeps meta start.place bytes path before mid later same holds
@@ -156,7 +157,7 @@ holds_on Renamed keeps meta start state bytes path before mid later same holds =
 holds_on Gone keeps meta start state bytes path before mid later same holds = holds
 
 -- before it was finished, they stayed
-pub whole_since : (keeps : Bool) (meta : Meta) (place : Place) (path : List ℕ) (before mid later : Tree) → SameNames path before mid
+pub whole_since : (keeps : Stamp → Bool) (meta : Meta) (place : Place) (path : List ℕ) (before mid later : Tree) → SameNames path before mid
     → StandsWhole keeps meta place (bytes_now mid path) path mid later → StandsWhole keeps meta place (bytes_now before path) path before later
 whole_since keeps meta place path before mid later same whole = record {
   file = whole.file;
@@ -166,7 +167,7 @@ whole_since keeps meta place path before mid later same whole = record {
   lost = whole.lost ∙ ap (lost_after place) (same true);
 }
 
-pub holds_since : (finish : Finish) (keeps : Bool) (meta : Meta) (start : Start) (state : FileState) (path : List ℕ) (before mid later : Tree) → SameNames path before mid
+pub holds_since : (finish : Finish) (keeps : Stamp → Bool) (meta : Meta) (start : Start) (state : FileState) (path : List ℕ) (before mid later : Tree) → SameNames path before mid
     → HoldsFinished finish keeps meta start state (bytes_now mid path) path mid later → HoldsFinished finish keeps meta start state (bytes_now before path) path before later
 holds_since Kept keeps meta start state path before mid later same holds = λ lost. holds lost ∙ same lost
 holds_since (Restored stamped) keeps meta start state path before mid later same holds = whole_since keeps meta start.place path before mid later same holds

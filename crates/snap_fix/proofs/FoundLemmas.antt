@@ -9,6 +9,7 @@ use Rattle.std.proofs.lemmas.List.FromFn.{get_or-range_with_len, length-range_wi
 use Rattle.block_hash.specs.declared.Digest16.{Digest16}
 use Rattle.disk_model.specs.Folder.{FolderView}
 use Rattle.disk_model.specs.declared.meta.Meta.{Meta}
+use Rattle.disk_model.specs.declared.meta.Stamp.{Stamp}
 use Rattle.file_table.specs.Cells.{CellView, cell_seen}
 use Rattle.file_table.specs.Table.{column_at, record_at, records_in}
 use Rattle.file_table.specs.declared.block.Cell.{Cell}
@@ -244,23 +245,23 @@ fix_finds plan stripes finishes written there =
 abbrev AllTell : FixPlan → List FolderView → Type 0
 AllTell plan folders = (d : ℕ) → d < length plan.table.columns → IsTrue (folder_at folders d).tells
 
-not_stamped_gone : (changed keeps : Bool) → stamped_finish changed keeps ≢ Gone
-not_stamped_gone true keeps is = let clash : Restored keeps ≡ Gone = is in cc
+not_stamped_gone : (changed is_kept : Bool) → stamped_finish changed is_kept ≢ Gone
+not_stamped_gone true is_kept is = let clash : Restored is_kept ≡ Gone = is in cc
 not_stamped_gone false true is = let clash : Restored true ≡ Gone = is in cc
 not_stamped_gone false false is = let clash : Unstamped ≡ Gone = is in cc
 
-not_whole_gone : (stamped changed keeps : Bool) → (if stamped then stamped_finish changed keeps else Kept) ≢ Gone
-not_whole_gone true changed keeps is = not_stamped_gone changed keeps is
-not_whole_gone false changed keeps is = let clash : Kept ≡ Gone = is in cc
+not_whole_gone : (stamped changed is_kept : Bool) → (if stamped then stamped_finish changed is_kept else Kept) ≢ Gone
+not_whole_gone true changed is_kept is = not_stamped_gone changed is_kept is
+not_whole_gone false changed is_kept is = let clash : Kept ≡ Gone = is in cc
 
 not_lost_gone : (stood : Bool) → (if stood then Renamed else Kept) ≢ Gone
 not_lost_gone true is = let clash : Renamed ≡ Gone = is in cc
 not_lost_gone false is = let clash : Kept ≡ Gone = is in cc
 
-not_gone : (meta : Meta) (listed : Option Meta) (start : Start) (state : FileState) (keeps lost : Bool)
+not_gone : (meta : Meta) (listed : Option Meta) (start : Start) (state : FileState) (keeps : Stamp → Bool) (lost : Bool)
     → (if lost then lost_finish start state else whole_finish meta listed start state keeps) ≢ Gone
 not_gone meta listed start state keeps true = not_lost_gone (stands start.place state.touched)
-not_gone meta listed start state keeps false = not_whole_gone (is_stamped meta listed start state) (is_changed meta start state) keeps
+not_gone meta listed start state keeps false = not_whole_gone (is_stamped meta listed start state) (is_changed meta start state) (keeps meta.stamp)
 
 module _ (plan : FixPlan) (starts : StartsValue) (stripes : List Mended) (finishes : List (List Finish)) (firsts news : List FolderView)
     (has : HasFixed plan starts stripes finishes firsts news) (tell : AllTell plan firsts) where

@@ -14,7 +14,7 @@ use Rattle.snap_fix.specs.Stopped.{file_or, file_placed}
 
 -- what disk_model says of a file that no call names
 abbrev pub UnnamedStay : Type 0
-UnnamedStay = (keeps : Bool) (calls : List FolderDone) (old new : Tree) (name : List ℕ) → EachCall (LeavesAlone name) calls → MayBeLeft keeps calls old new → file_of new name ≡ file_of old name
+UnnamedStay = (keeps : Stamp → Bool) (calls : List FolderDone) (old new : Tree) (name : List ℕ) → EachCall (LeavesAlone name) calls → MayBeLeft keeps calls old new → file_of new name ≡ file_of old name
 
 never : {A : Type 0} → false ≡ true → A
 never clash = absurd cc
@@ -132,17 +132,17 @@ module _ (path : List ℕ) (back : Bool) (old new : Tree) (file : File) (place :
         ap (λ (bytes : List ℕ). slice_index bytes i) is ∙ (stretched_by_resized file.bytes size).same i below under (untouched refl),
       )
 
-  stamp_keeps : (keeps : Bool) (stamp : Stamp) (after : File) → Stamps keeps stamp file after → KeepsBy path (SetStamp path stamp) file after
-  stamp_keeps keeps stamp after is i below untouched = (subst (λ (f : File). i < length f.bytes) (sym is) below, ap (λ (f : File). slice_index f.bytes i) is)
+  stamp_keeps : (is_kept : Bool) (stamp : Stamp) (after : File) → Stamps is_kept stamp file after → KeepsBy path (SetStamp path stamp) file after
+  stamp_keeps is_kept stamp after is i below untouched = (subst (λ (f : File). i < length f.bytes) (sym is) below, ap (λ (f : File). slice_index f.bytes i) is)
 
-  own_write : (keeps : Bool) (at : ℕ) (bytes : List ℕ) → StopMayDo keeps (WriteAt path at bytes) old new → Outcome path back (WriteAt path at bytes) file new
+  own_write : (keeps : Stamp → Bool) (at : ℕ) (bytes : List ℕ) → StopMayDo keeps (WriteAt path at bytes) old new → Outcome path back (WriteAt path at bytes) file new
   own_write keeps at bytes step = by_step (WriteAt path at bytes) step.0 (WritesPart at (length bytes)) (write_keeps at bytes) step.1
 
-  own_size : (keeps : Bool) (size : ℕ) → StopMayDo keeps (SetSize path size) old new → Outcome path back (SetSize path size) file new
+  own_size : (keeps : Stamp → Bool) (size : ℕ) → StopMayDo keeps (SetSize path size) old new → Outcome path back (SetSize path size) file new
   own_size keeps size step = ⊎_elim (λ same. still (SetSize path size) same) (λ change. by_step (SetSize path size) step.0 (Resizes size) (size_keeps size) change) step.1
 
-  own_stamp : (keeps : Bool) (stamp : Stamp) → StopMayDo keeps (SetStamp path stamp) old new → Outcome path back (SetStamp path stamp) file new
-  own_stamp keeps stamp step = ⊎_elim (λ same. still (SetStamp path stamp) same) (λ change. by_step (SetStamp path stamp) step.0 (Stamps keeps stamp) (stamp_keeps keeps stamp) change) step.1
+  own_stamp : (keeps : Stamp → Bool) (stamp : Stamp) → StopMayDo keeps (SetStamp path stamp) old new → Outcome path back (SetStamp path stamp) file new
+  own_stamp keeps stamp step = ⊎_elim (λ same. still (SetStamp path stamp) same) (λ change. by_step (SetStamp path stamp) step.0 (Stamps (keeps stamp) stamp) (stamp_keeps (keeps stamp) stamp) change) step.1
 
   -- its file was put under the other name
   moves_away : new ≡ renamed (path_of path false) (path_of path true) old → Outcome path back (Rename path true) file new
@@ -175,19 +175,19 @@ module _ (path : List ℕ) (back : Bool) (old new : Tree) (file : File) (place :
             same_file path (Rename path false) file,
           )
 
-  own_rename : (keeps to : Bool) → (to ≡ false → IsTrue back) → StopMayDo keeps (Rename path to) old new → Outcome path back (Rename path to) file new
+  own_rename : (keeps : Stamp → Bool) (to : Bool) → (to ≡ false → IsTrue back) → StopMayDo keeps (Rename path to) old new → Outcome path back (Rename path to) file new
   own_rename keeps true may step = ⊎_elim (λ same. still (Rename path true) same) moves_away step.1
   own_rename keeps false may step = ⊎_elim (λ same. still (Rename path false) same) (moves_back (may refl)) step.1
 
 -- ---- one call of any PATH
 
-abbrev Goes : List ℕ → Bool → Bool → Tree → Tree → File → FolderCall → Type 0
+abbrev Goes : List ℕ → Bool → (Stamp → Bool) → Tree → Tree → File → FolderCall → Type 0
 Goes path back keeps old new file call = KeepsPlace path back call → StopMayDo keeps call old new → Outcome path back call file new
 
 abbrev Aside : List ℕ → FolderCall → Tree → Tree → Type 0
 Aside path call old new = ((name : Bool) → LeavesAlone (path_of path name) call) → (name : Bool) → file_of new (path_of path name) ≡ file_of old (path_of path name)
 
-one_step : (path : List ℕ) (back keeps : Bool) (call : FolderCall) (old new : Tree) (file : File) → IsPlaced path back file old → Aside path call old new → IsOwnOrApart path call → Goes path back keeps old new file call
+one_step : (path : List ℕ) (back : Bool) (keeps : Stamp → Bool) (call : FolderCall) (old new : Tree) (file : File) → IsPlaced path back file old → Aside path call old new → IsOwnOrApart path call → Goes path back keeps old new file call
 one_step path back keeps ListFiles old new file place aside own may step = still path back old new file place ListFiles step.1
 one_step path back keeps (Look other name) old new file place aside own may step = still path back old new file place (Look other name) step.1
 one_step path back keeps (ReadAt other name at n) old new file place aside own may step = still path back old new file place (ReadAt other name at n) step.1
@@ -214,7 +214,7 @@ pub record StandsPlaced (path : List ℕ) (calls : List FolderDone) (before : Fi
   pub there : file_placed new path ≡ Some after
   pub keeps : KeepsUntouched path calls before after
 
-steps : UnnamedStay → (path : List ℕ) (back keeps : Bool) (calls : List FolderDone) (old new : Tree) (file : File) → IsPlaced path back file old
+steps : UnnamedStay → (path : List ℕ) (back : Bool) (keeps : Stamp → Bool) (calls : List FolderDone) (old new : Tree) (file : File) → IsPlaced path back file old
     → EachCall (IsOwnOrApart path) calls → EachCall (KeepsPlace path back) calls → MayBeLeft keeps calls old new → StandsPlaced path calls file new
 steps unnamed path back keeps [] old new file place own may left = record {
   after = file;
@@ -244,13 +244,13 @@ steps unnamed path back keeps (done ∷ calls) old new file place own may left =
     }
 
 -- PATH's file, where no other is made, and none is renamed back over it
-pub plain_stays : UnnamedStay → (keeps : Bool) (path : List ℕ) (calls : List FolderDone) (old new : Tree) (file : File) → file_placed old path ≡ Some file
+pub plain_stays : UnnamedStay → (keeps : Stamp → Bool) (path : List ℕ) (calls : List FolderDone) (old new : Tree) (file : File) → file_placed old path ≡ Some file
     → EachCall (IsOwnOrApart path) calls → EachCall (KeepsPlace path false) calls → MayBeLeft keeps calls old new → StandsPlaced path calls file new
 plain_stays unnamed keeps path calls old new file placed own may left =
     steps unnamed path false keeps calls old new file (record { placed = placed; alone = λ back. never back }) own may left
 
 -- the lost file of a PATH that isn't there
-pub lost_stays : UnnamedStay → (keeps : Bool) (path : List ℕ) (calls : List FolderDone) (old new : Tree) (file : File) → file_placed old path ≡ Some file → file_of old (path_of path false) ≡ None
+pub lost_stays : UnnamedStay → (keeps : Stamp → Bool) (path : List ℕ) (calls : List FolderDone) (old new : Tree) (file : File) → file_placed old path ≡ Some file → file_of old (path_of path false) ≡ None
     → EachCall (IsOwnOrApart path) calls → EachCall (KeepsPlace path true) calls → MayBeLeft keeps calls old new → StandsPlaced path calls file new
 lost_stays unnamed keeps path calls old new file placed free own may left =
     steps unnamed path true keeps calls old new file (record { placed = placed; alone = λ back. inl free }) own may left

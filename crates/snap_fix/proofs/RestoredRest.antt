@@ -8,6 +8,7 @@ use Rattle.std.proofs.lemmas.List.FromFn.{get_or-map-range_with_len}
 use Rattle.disk_model.specs.Folder.{FolderView}
 use Rattle.disk_model.specs.Tree.{Tree, File, file_of, path_of}
 use Rattle.disk_model.specs.declared.meta.Meta.{Meta}
+use Rattle.disk_model.specs.declared.meta.Stamp.{Stamp}
 use Rattle.file_table.specs.Table.{record_at, records_in}
 use Rattle.file_table.specs.declared.block.Cell.{Cell}
 use Rattle.parity_writer.specs.Keeps.{HasByte}
@@ -74,24 +75,24 @@ plain_where place.Lost is = absurd cc
 plain_where place.Nowhere is = absurd cc
 
 -- only a file that stands is renamed
-not_renamed : (changed keeps : Bool) → stamped_finish changed keeps ≡ Renamed → ⊥
-not_renamed true keeps is = let clash : Restored keeps ≡ Renamed = is in cc
+not_renamed : (changed is_kept : Bool) → stamped_finish changed is_kept ≡ Renamed → ⊥
+not_renamed true is_kept is = let clash : Restored is_kept ≡ Renamed = is in cc
 not_renamed false true is = let clash : Restored true ≡ Renamed = is in cc
 not_renamed false false is = let clash : Unstamped ≡ Renamed = is in cc
 
-whole_not_renamed : (stamped changed keeps : Bool) → (if stamped then stamped_finish changed keeps else Kept) ≡ Renamed → ⊥
-whole_not_renamed true changed keeps is = not_renamed changed keeps is
-whole_not_renamed false changed keeps is = let clash : Kept ≡ Renamed = is in cc
+whole_not_renamed : (stamped changed is_kept : Bool) → (if stamped then stamped_finish changed is_kept else Kept) ≡ Renamed → ⊥
+whole_not_renamed true changed is_kept is = not_renamed changed is_kept is
+whole_not_renamed false changed is_kept is = let clash : Kept ≡ Renamed = is in cc
 
 lost_renamed : (stood : Bool) → (if stood then Renamed else Kept) ≡ Renamed → stood ≡ true
 lost_renamed true is = refl
 lost_renamed false is = let clash : Kept ≡ Renamed = is in absurd cc
 
-renamed_stood : (meta : Meta) (listed : Option Meta) (start : Start) (state : FileState) (keeps lost : Bool)
+renamed_stood : (meta : Meta) (listed : Option Meta) (start : Start) (state : FileState) (keeps : Stamp → Bool) (lost : Bool)
     → (if lost then lost_finish start state else whole_finish meta listed start state keeps) ≡ Renamed → stands start.place state.touched ≡ true
 renamed_stood meta listed start state keeps true is = lost_renamed (stands start.place state.touched) is
 renamed_stood meta listed start state keeps false is =
-    absurd (whole_not_renamed (is_stamped meta listed start state) (is_changed meta start state) keeps is)
+    absurd (whole_not_renamed (is_stamped meta listed start state) (is_changed meta start state) (keeps meta.stamp) is)
 
 -- ---- of a record
 
@@ -122,7 +123,7 @@ module _ (plan : FixPlan) (starts : StartsValue) (stripes : List Mended) (finish
   abbrev meta : Meta
   meta = (record_at plan.table.columns d i).meta
 
-  abbrev keeps : Bool
+  abbrev keeps : Stamp → Bool
   keeps = (folder_at written.folders d).keeps
 
   abbrev all_writes : List Write
@@ -280,7 +281,7 @@ module _ (plan : FixPlan) (starts : StartsValue) (stripes : List Mended) (finish
         file = stood.file;
         there = stood.there;
         size = ap length stood.bytes_are ∙ length-resized (bytes_now before path) meta.size;
-        stamp = λ kept. stood.stamp ((has.files.writes.makes d column_is).goes_on.keeps ∙ kept);
+        stamp = λ kept. stood.stamp (ap (λ (keeps_it : Stamp → Bool). keeps_it meta.stamp) (has.files.writes.makes d column_is).goes_on.keeps ∙ kept);
       }
 
   -- what stood under PATH`.unrecoverable` stays, but where the file was renamed back

@@ -7,6 +7,7 @@ use Rattle.disk_model.specs.Folder.{FolderView, FolderCall, FolderDone}
 use Rattle.disk_model.specs.Sink.{SinkView}
 use Rattle.disk_model.specs.Tree.{Tree, file_of, path_of}
 use Rattle.disk_model.specs.Vault.{VaultView, VaultCall, ParitySync, GoesOn, SomeCalls, ChangesBy, DraftsStay, Holds}
+use Rattle.disk_model.specs.declared.meta.Stamp.{Stamp}
 use Rattle.file_table.specs.Table.{record_at, records_in}
 use Rattle.snap_report.specs.Answer.{Gained}
 use Rattle.file_restorer.specs.Breaking.{FailsAfter, FailsInColumn, StepFails, broke_parity}
@@ -188,13 +189,13 @@ IsDone plan d starts states folder i finish =
     × (finish_of (record_at plan.table.columns d i).meta (entry_at plan d i).listed (start_in starts i) (state_at states i) folder.keeps ≢ Kept))
 
 -- what the folder holds of it then
-abbrev pub HoldsEnd : FixPlan → ℕ → List Start → List FileState → Bool → ℕ → Finish → Tree → Tree → Type 0
+abbrev pub HoldsEnd : FixPlan → ℕ → List Start → List FileState → (Stamp → Bool) → ℕ → Finish → Tree → Tree → Type 0
 HoldsEnd plan d starts states keeps i finish before later =
     let path = record_path (records_in plan.table d) i in
     HoldsFinished finish keeps (record_at plan.table.columns d i).meta (start_in starts i) (state_at states i) (bytes_now before path) path before later
 
 -- where it has no lost block, it stands whole
-abbrev pub StandsEnd : FixPlan → ℕ → List Start → Bool → ℕ → Tree → Tree → Type 0
+abbrev pub StandsEnd : FixPlan → ℕ → List Start → (Stamp → Bool) → ℕ → Tree → Tree → Type 0
 StandsEnd plan d starts keeps i before later =
     let path = record_path (records_in plan.table d) i in
     StandsWhole keeps (record_at plan.table.columns d i).meta (start_in starts i).place (bytes_now before path) path before later

@@ -3,6 +3,7 @@ use Rattle.std.specs.Prelude.{◌≡◌, ◌≢◌, ◌⊎◌, ℕ, ◌+◌, ◌
 use Rattle.disk_model.specs.Folder.{FolderView}
 use Rattle.disk_model.specs.Tree.{Tree, File, file_of, path_of}
 use Rattle.disk_model.specs.declared.meta.Meta.{Meta}
+use Rattle.disk_model.specs.declared.meta.Stamp.{Stamp}
 use Rattle.cauchy.specs.Matrix.{byte_of}
 use Rattle.cauchy.specs.Recovery.{AreBytes}
 use Rattle.file_table.specs.Table.{TableValue, record_at, records_in}
@@ -85,12 +86,12 @@ abbrev pub IsNotWritten : FixPlan → List Mended → ℕ → Cell → Type 0
 IsNotWritten plan stripes d cell = (mended : Mended) → Contains stripes mended → cell_at plan mended.facts.stripe d ≡ Some cell
     → is_written plan mended d ≡ false
 
--- a file stands under PATH with the recorded size, and with the recorded stamp where the folder keeps stamps
-pub record StandsRestored (keeps : Bool) (meta : Meta) (path : List ℕ) (tree : Tree) : Type 0 where
+-- a file stands under PATH with the recorded size, and with the recorded stamp where the folder keeps that
+pub record StandsRestored (keeps : Stamp → Bool) (meta : Meta) (path : List ℕ) (tree : Tree) : Type 0 where
   pub file : File
   pub there : file_of tree (path_of path false) ≡ Some file
   pub size : length file.bytes ≡ meta.size
-  pub stamp : IsTrue keeps → file.stamp ≡ meta.stamp
+  pub stamp : IsTrue (keeps meta.stamp) → file.stamp ≡ meta.stamp
 
 -- a file stands under PATH`.unrecoverable`, and none under PATH
 pub record StandsUnrecoverable (path : List ℕ) (tree : Tree) : Type 0 where
@@ -104,9 +105,9 @@ HadNoFile plan stripes d i first =
     (place_in first (record_path (records_in plan.table d) i) ≡ Nowhere) × (has_some (writes_of plan stripes d i) ≡ false)
 
 -- How a fix finishes the file of a record. If no cell of it is lost, it stands under PATH with its recorded size, and with its recorded stamp
--- where the folder keeps stamps; an older file under PATH`.unrecoverable` stays, or has become this one. If a cell is lost, it stands under
+-- where the folder keeps that; an older file under PATH`.unrecoverable` stays, or has become this one. If a cell is lost, it stands under
 -- PATH`.unrecoverable`, and none stands under PATH; but there is none where there was none and nothing was written.
-pub record StandsFinished (plan : FixPlan) (stripes : List Mended) (d i : ℕ) (keeps : Bool) (first later : Tree) : Type 0 where
+pub record StandsFinished (plan : FixPlan) (stripes : List Mended) (d i : ℕ) (keeps : Stamp → Bool) (first later : Tree) : Type 0 where
   pub whole : has_lost plan stripes d i ≡ false
       → StandsRestored keeps (record_at plan.table.columns d i).meta (record_path (records_in plan.table d) i) later
   pub kept : has_lost plan stripes d i ≡ false → place_in first (record_path (records_in plan.table d) i) ≡ Plain

@@ -3,6 +3,7 @@ use Rattle.std.specs.Prelude.{◌≡◌, ◌≢◌, ◌⊎◌, ℕ, ◌+◌, ◌
 use Rattle.disk_model.specs.Folder.{FolderCall, FolderDone, ListFiles}
 use Rattle.disk_model.specs.Stopped.{MayBeLeft}
 use Rattle.disk_model.specs.Tree.{Tree, File, file_of, path_of}
+use Rattle.disk_model.specs.declared.meta.Stamp.{Stamp}
 use Rattle.file_table.specs.Table.{Record, record_at, records_in}
 use Rattle.file_table.specs.Valid.{IsValid}
 use Rattle.file_table.specs.declared.block.Cell.{Cell}
@@ -21,14 +22,14 @@ use Rattle.snap_fix.specs.Underway.{WritesOneOf}
 
 -- ---- a stop
 
--- A stop within a fix: its plan, its starts and its stripes; and of one column whether the folder keeps stamps, the files that it held
+-- A stop within a fix: its plan, its starts and its stripes; and of one column which stamps the folder keeps, the files that it held
 -- before, and those that the stop left.
 pub record FixStop : Type 0 where
   pub plan : FixPlan
   pub starts : StartsValue
   pub stripes : List Mended
   pub d : ℕ
-  pub keeps : Bool
+  pub keeps : Stamp → Bool
   pub first : Tree
   pub left : Tree
 

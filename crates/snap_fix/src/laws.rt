@@ -255,7 +255,7 @@ pub fn a_fix_leaves_the_rest()
 {}
 
 /// How a fix finishes the file of a selected record that isn't blocked, where its folder tells its files. If no cell of it
-/// is lost, it stands under PATH with its recorded size and, where the folder keeps stamps, its recorded stamp. Else it stands
+/// is lost, it stands under PATH with its recorded size and, where the folder keeps that, its recorded stamp. Else it stands
 /// under PATH`.unrecoverable`, or there is none where there was none and nothing was written.
 pub fn a_fix_finishes_files()
     ensures { (plan : FixPlan) (starts : StartsValue) (stripes : List Mended)

@@ -5,6 +5,7 @@ use Rattle.disk_model.specs.Bytes.{resized}
 use Rattle.disk_model.specs.Folder.{FolderView}
 use Rattle.disk_model.specs.Tree.{Tree, File, file_of, path_of}
 use Rattle.disk_model.specs.declared.meta.Meta.{Meta}
+use Rattle.disk_model.specs.declared.meta.Stamp.{Stamp}
 use Rattle.file_restorer.specs.Finishing.{HoldsFinished, bytes_now, finish_of, lost_after}
 use Rattle.file_restorer.specs.State.{HoldsBy, Write, bytes_or, bytes_placed, has_some, lost_then, place_in, place_then, puts, record_path, size_after, state_in}
 use Rattle.file_restorer.specs.declared.finishing.Finish.{Finish}
@@ -37,7 +38,7 @@ abbrev pub state_by : Bool → Bool → ℕ → FileState
 state_by lost touched size = record { lost = lost; touched = touched; size = size }
 
 -- what is done to it at the end
-abbrev pub finish_by : FixPlan → StartsValue → ℕ → ℕ → Bool → List Write → Tree → Bool → Finish
+abbrev pub finish_by : FixPlan → StartsValue → ℕ → ℕ → Bool → List Write → Tree → (Stamp → Bool) → Finish
 finish_by plan starts d i lost writes first keeps =
     let size = (start_in (starts_at starts.columns d) i).size in
     finish_of (record_at plan.table.columns d i).meta (entry_at plan d i).listed
@@ -83,7 +84,7 @@ finished_bytes Unstamped size place plain other lost = stays_bytes plain other l
 finished_bytes Renamed size place plain other lost = moved_bytes plain lost
 finished_bytes Gone size place plain other lost = None
 
-abbrev pub last_bytes : FixPlan → StartsValue → ℕ → ℕ → Bool → List Write → Tree → Bool → Bool → Option (List ℕ)
+abbrev pub last_bytes : FixPlan → StartsValue → ℕ → ℕ → Bool → List Write → Tree → (Stamp → Bool) → Bool → Option (List ℕ)
 last_bytes plan starts d i lost_one writes first keeps lost =
     let path = record_path (records_in plan.table d) i in
     finished_bytes (finish_by plan starts d i lost_one writes first keeps) (record_at plan.table.columns d i).meta.size (placed (has_some writes) (place_in first path))
@@ -113,7 +114,7 @@ lost_is Plain there = refl
 lost_is Lost there = refl
 lost_is Nowhere there = refl
 
-bytes_finish : (finish : Finish) (keeps : Bool) (meta : Meta) (start : Start) (state : FileState) (path : List ℕ) (before later : Tree)
+bytes_finish : (finish : Finish) (keeps : Stamp → Bool) (meta : Meta) (start : Start) (state : FileState) (path : List ℕ) (before later : Tree)
     → HoldsFinished finish keeps meta start state (bytes_now before path) path before later → (lost : Bool) → bytes_in (file_of later (path_of path lost))
     ≡ finished_bytes finish meta.size start.place (bytes_in (file_of before (path_of path false))) (bytes_in (file_of before (path_of path true))) lost
 bytes_finish Kept keeps meta start state path before later h false = ap bytes_in (h false)
@@ -190,13 +191,13 @@ module _ (plan : FixPlan) (starts : StartsValue) (stripes : List Mended) (firsts
   finish_is finish is = ⊎_elim
       (λ done. done
       ∙ ap₂ (λ (s : Start) (t : FileState). finish_of (record_at plan.table.columns d i).meta (entry_at plan d i).listed s t mid.keeps) start_is state_is
-      ∙ ap (λ (keeps : Bool). finish_of (record_at plan.table.columns d i).meta (entry_at plan d i).listed (start_by (placed (has_some writes) (place_in first.tree path)) first_size)
+      ∙ ap (λ (keeps : Stamp → Bool). finish_of (record_at plan.table.columns d i).meta (entry_at plan d i).listed (start_by (placed (has_some writes) (place_in first.tree path)) first_size)
       (state_by (has_lost plan stripes d i) (has_some writes) (size_after first_size writes)) keeps) keeps_mid)
       (λ gone. absurd (let clash : false ≡ true = sym gone.1 ∙ tells_mid in cc))
       is
 
   -- and what it leaves
-  pub bytes_last : (finish : Finish) (keeps : Bool) (later : Tree) → IsDone plan d (starts_at written.starts.columns d) (get_or written.states d []) mid i finish
+  pub bytes_last : (finish : Finish) (keeps : Stamp → Bool) (later : Tree) → IsDone plan d (starts_at written.starts.columns d) (get_or written.states d []) mid i finish
       → HoldsFinished finish keeps (record_at plan.table.columns d i).meta start state (bytes_now mid.tree path) path mid.tree later
       → (lost : Bool) → bytes_in (file_of later (path_of path lost)) ≡ last_bytes plan starts d i (has_lost plan stripes d i) writes first.tree first.keeps lost
   bytes_last finish keeps later is holds lost =
@@ -218,7 +219,7 @@ module _ (plan : FixPlan) (starts : StartsValue) (ones others : List Mended) (fi
     finish_same d i below within finished =
         finish_is plan starts ones firsts written writes_files d below (tells d below) i within (finish_at (finishes_at finishes d) i) (are d i below within finished)
         ∙ ap₂ (λ (l : Bool) (ws : List Write). finish_by plan starts d i l ws (folder_at firsts d).tree (folder_at firsts d).keeps) (lost d i below) (wrote d i below)
-        ∙ ap₂ (λ (tree : Tree) (k : Bool). finish_by plan starts d i (has_lost plan others d i) (writes_of plan others d i) tree k) (trees d below) (keeps d below)
+        ∙ ap₂ (λ (tree : Tree) (k : Stamp → Bool). finish_by plan starts d i (has_lost plan others d i) (writes_of plan others d i) tree k) (trees d below) (keeps d below)
         ∙ sym (finish_is plan starts others firsts_then written_then writes_then d below (tells_then d below) i within (finish_at (finishes_at finishes_then d) i) (are_then d i below within finished))
 
     news_same : (d i : ℕ) → d < length plan.table.columns → i < length (records_in plan.table d) → record_news plan d (finishes_at finishes d) i ≡ record_news plan d (finishes_at finishes_then d) i
@@ -240,4 +241,4 @@ module _ (plan : FixPlan) (starts : StartsValue) (ones others : List Mended) (fi
       ≡ last_bytes plan starts d i (has_lost plan others d i) (writes_of plan others d i) (folder_at firsts_then d).tree (folder_at firsts_then d).keeps named
   last_same d i below named =
       ap₂ (λ (l : Bool) (ws : List Write). last_bytes plan starts d i l ws (folder_at firsts d).tree (folder_at firsts d).keeps named) (lost d i below) (wrote d i below)
-      ∙ ap₂ (λ (tree : Tree) (k : Bool). last_bytes plan starts d i (has_lost plan others d i) (writes_of plan others d i) tree k named) (trees d below) (keeps d below)
+      ∙ ap₂ (λ (tree : Tree) (k : Stamp → Bool). last_bytes plan starts d i (has_lost plan others d i) (writes_of plan others d i) tree k named) (trees d below) (keeps d below)

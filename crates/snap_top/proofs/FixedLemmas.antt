@@ -13,6 +13,7 @@ use Rattle.disk_model.specs.Sink.{SinkView}
 use Rattle.disk_model.specs.Stopped.{MayBeLeft}
 use Rattle.disk_model.specs.Tree.{Tree, IsTree}
 use Rattle.disk_model.specs.Vault.{VaultView, VaultCall, VaultDone, ParityLen, ParityRead, ParityWrite, ParitySetLen, ParitySync, ContentSize, ContentRead, DraftBegin, DraftAppend, DraftSeal, Publish, Holds, state_of}
+use Rattle.disk_model.specs.declared.meta.Stamp.{Stamp}
 use Rattle.file_table.proofs.PrefixLemmas.{All-left}
 use Rattle.file_table.specs.Table.{TableValue}
 use Rattle.parity_writer.specs.LevelReading.{LevelReading}
@@ -147,7 +148,7 @@ listed_then run d old mid new listing makes =
             old.tree,
             is_tree,
             (false, refl),
-            subst (λ (keeps : Bool). MayBeLeft keeps makes.done old.tree new.tree) a.keeps (subst (λ (t : Tree). MayBeLeft mid.keeps makes.done t new.tree) same (makes.left (a.tells ∙ told) is_tree_mid)),
+            subst (λ (keeps : Stamp → Bool). MayBeLeft keeps makes.done old.tree new.tree) a.keeps (subst (λ (t : Tree). MayBeLeft mid.keeps makes.done t new.tree) same (makes.left (a.tells ∙ told) is_tree_mid)),
           );
     }
 

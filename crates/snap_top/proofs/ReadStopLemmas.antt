@@ -6,6 +6,7 @@ use Rattle.disk_model.specs.Opener.{folder_held}
 use Rattle.disk_model.specs.Stopped.{EachCall, MayBeLeft, found_under}
 use Rattle.disk_model.specs.Tree.{Tree}
 use Rattle.disk_model.specs.Writing.{MayDo}
+use Rattle.disk_model.specs.declared.meta.Stamp.{Stamp}
 use Rattle.snap_top.specs.Run.{Entry, Exit}
 use Rattle.snap_top.specs.Step.{LeavesEachTree}
 use Rattle.snap_top.specs.Stopping.{MayStandLeft}
@@ -14,7 +15,7 @@ use Rattle.snap_top.specs.Views.{ReadsOnly, calls_since, folder_at}
 use Rattle.snap_top.proofs.ViewsLemmas.{IsReadingCall, IsReadingDone}
 
 -- a call that does not write leaves them
-call_stays : (keeps lost : Bool) (call : FolderCall) (old new : Tree) → IsReadingCall call → MayDo keeps (found_under lost call) old new → new ≡ old
+call_stays : (keeps : Stamp → Bool) (lost : Bool) (call : FolderCall) (old new : Tree) → IsReadingCall call → MayDo keeps (found_under lost call) old new → new ≡ old
 call_stays keeps lost ListFiles old new quiet may = may
 call_stays keeps lost (Look path other) old new quiet may = may
 call_stays keeps lost (ReadAt path other at n) old new quiet may = may
@@ -24,7 +25,7 @@ call_stays keeps lost (SetSize path size) old new quiet may = absurd (let clash 
 call_stays keeps lost (SetStamp path stamp) old new quiet may = absurd (let clash : Some path ≡ None = quiet in cc)
 call_stays keeps lost (Rename path other) old new quiet may = absurd (let clash : Some path ≡ None = quiet in cc)
 
-calls_stay : (keeps : Bool) (calls : List FolderDone) (old left : Tree) → EachCall IsReadingCall calls → MayBeLeft keeps calls old left → left ≡ old
+calls_stay : (keeps : Stamp → Bool) (calls : List FolderDone) (old left : Tree) → EachCall IsReadingCall calls → MayBeLeft keeps calls old left → left ≡ old
 calls_stay keeps [] old left each at = at
 calls_stay keeps (done ∷ calls) old left each at =
     calls_stay keeps calls at.0 left (All-tail IsReadingDone done calls each) at.3

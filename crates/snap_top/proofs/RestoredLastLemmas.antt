@@ -8,6 +8,7 @@ use Rattle.disk_model.specs.Opener.{OpenerView}
 use Rattle.disk_model.specs.Sink.{SinkView}
 use Rattle.disk_model.specs.Tree.{Tree}
 use Rattle.disk_model.specs.Vault.{VaultView, copies_of}
+use Rattle.disk_model.specs.declared.meta.Stamp.{Stamp}
 use Rattle.parity_writer.specs.Sound.{Snapshot, Sound}
 use Rattle.snap_config.specs.declared.options.Command.TheVariants as commands
 use Rattle.snap_config.specs.declared.options.Options.{Options}
@@ -123,7 +124,7 @@ module _ (before : Entry) (exit : Exit) (run : FixRun) (is : IsFixOf before exit
       let listed = is.over.listed.each d (within_folders d below) in
       let stands = says run.plan (starts_of run.loaded run.lists) run.stripes finishes run.listed run.ended d i
       (record { fixed = record { fixed = fixed; tells = listed_tells d below; column = below; inside = inside }; finished = finished }) in
-      subst (λ (keeps : Bool). StandsFinished run.plan run.stripes d i keeps (folder_at run.folders d).tree (folder_at run.ended d).tree) listed.call.called.goes_on.keeps
+      subst (λ (keeps : Stamp → Bool). StandsFinished run.plan run.stripes d i keeps (folder_at run.folders d).tree (folder_at run.ended d).tree) listed.call.called.goes_on.keeps
       (subst (λ (first : Tree). StandsFinished run.plan run.stripes d i (folder_at run.listed d).keeps first (folder_at run.ended d).tree)
       (listed.call.tree (all_tell d (within_folders d below))) stands)
 

@@ -8,6 +8,7 @@ use Rattle.disk_model.specs.Folder.{FolderView, FolderDone}
 use Rattle.disk_model.specs.Opener.{folder_held}
 use Rattle.disk_model.specs.Stopped.{MayBeLeft}
 use Rattle.disk_model.specs.Tree.{File, Tree, file_of, listing_of, path_of}
+use Rattle.disk_model.specs.declared.meta.Stamp.{Stamp}
 use Rattle.file_table.specs.Table.{TableValue}
 use Rattle.file_table.specs.Valid.{IsValid}
 use Rattle.file_table.specs.declared.block.Cell.{Cell}
@@ -87,7 +88,7 @@ stop_is listed before exit run d left is at =
       places = subst (λ (t : TableValue). StandInPlace run.plan (starts_of t run.lists) d old.tree) table (listed run.plan run.lists d old.tree below found);
       calls = makes.done;
       each = makes.each;
-      left = subst (λ (keeps : Bool). MayBeLeft keeps makes.done old.tree left) (sym (ap (λ (folder : FolderView). folder.keeps) held))
+      left = subst (λ (keeps : Stamp → Bool). MayBeLeft keeps makes.done old.tree left) (sym (ap (λ (folder : FolderView). folder.keeps) held))
           (left_within (AnyCall (IsRunCall run d)) old new left makes (λ told. makes.left told at.is_tree) at.tells at.stands);
     }
 

@@ -6,9 +6,10 @@ use Rattle.array_scan.specs.Kept.{ListedFile}
 use Rattle.disk_model.specs.Files.{Files}
 use Rattle.disk_model.specs.Folder.{FolderView}
 use Rattle.disk_model.specs.Tree.{Tree, file_of, path_of}
+use Rattle.disk_model.specs.declared.meta.Stamp.{Stamp}
 use Rattle.file_restorer.specs.State.{IsNameOf, record_path}
 use Rattle.file_restorer.specs.declared.finishing.Finish.{Finish}
-use Rattle.file_table.specs.Table.{TableValue, records_in}
+use Rattle.file_table.specs.Table.{TableValue, record_at, records_in}
 use Rattle.file_table.specs.Valid.{IsValid}
 use Rattle.snap_fix.specs.Ending.{AreDone, finish_at, finishes_at, is_finished}
 use Rattle.snap_fix.specs.FixCourse.{fix_events}
@@ -286,8 +287,11 @@ fixes_same determined rest are_finished before before_then exit exit_then status
             over.finds.answered answered_then tell tell_then rest (starts_of run.loaded run.lists) one.finishes other.finishes run.ended again.ended one.fixed has_then listed_trees keeps d within)));
         whole = λ d name below stamped none.
             (let within : d < length run.plan.table.columns = (let as_loaded = ap (λ (t : TableValue). length t.columns) over.plan_is.table_is in omega (arith, below, as_loaded)) in
-            let at_first : IsTrue (folder_at run.listed d).keeps = listed_keeps before exit status hold.tells one d within
-            ∙ ap (λ (folders : List FolderView). (folder_at folders d).keeps) (sym is.folders_are) ∙ stamped in
+            let listed_keep : (folder_at run.listed d).keeps ≡ (folder_at run.folders d).keeps = listed_keeps before exit status hold.tells one d within
+            ∙ ap (λ (folders : List FolderView). (folder_at folders d).keeps) (sym is.folders_are) in
+            let at_first : (i : ℕ) → i < length (records_in run.plan.table d) → is_finished run.plan d i ≡ true → path_of (record_path (records_in run.plan.table d) i) false ≡ name
+            → IsTrue ((folder_at run.listed d).keeps (record_at run.plan.table.columns d i).meta.stamp) = λ i inside finished under.
+            (ap (λ (keeps_it : Stamp → Bool). keeps_it (record_at run.plan.table.columns d i).meta.stamp) listed_keep ∙ stamped i inside finished under) in
             let bytes : HaveSameBytes (folder_at run.ended d).tree (folder_at again.ended d).tree =
             bytes_same determined run.plan valid run.stripes again.stripes over.finds.are are_then over_then.no_gifts many same run.listed again.listed
             over.finds.answered answered_then tell tell_then rest (starts_of run.loaded run.lists) one.finishes other.finishes run.ended again.ended one.fixed has_then listed_trees keeps d within in
@@ -296,7 +300,7 @@ fixes_same determined rest are_finished before before_then exit exit_then status
             (whole_same rest are_finished run.plan (starts_of run.loaded run.lists) run.stripes again.stripes one.finishes other.finishes run.listed again.listed run.ended again.ended one.fixed has_then d within
             (tell d within) (tell_then d within) (listed_trees d within) (keeps d within)
             (λ i. lost_alike determined run.plan valid run.stripes again.stripes over.finds.are are_then over_then.no_gifts many same run.listed
-            again.listed over.finds.answered answered_then tell tell_then d i within) bytes at_first name none)));
+            again.listed over.finds.answered answered_then tell tell_then d i within) bytes name at_first none)));
         vault = vault_same determined run.plan valid run.stripes again.stripes over.finds.are are_then over_then.no_gifts many same run.listed again.listed
             over.finds.answered answered_then tell tell_then old exit.after.vault.files files_then one.moment keeps_then one.zeros zeros_then (one.leaves.reads one.tells) holds_then;
       },

@@ -3,7 +3,7 @@ use Rattle.std.specs.Prelude.{◌≡◌, ◌≢◌, ℕ, ◌<◌, List, length, 
 use Rattle.disk_model.specs.Files.{Files, parity_of}
 use Rattle.disk_model.specs.Tree.{Tree, File, file_of, path_of}
 use Rattle.file_restorer.specs.State.{record_path}
-use Rattle.file_table.specs.Table.{records_in}
+use Rattle.file_table.specs.Table.{record_at, records_in}
 use Rattle.snap_fix.specs.Ending.{Finishes, is_finished}
 use Rattle.snap_fix.specs.Fixing.{facts_of}
 use Rattle.snap_fix.specs.Mended.{has_lost}
@@ -14,7 +14,7 @@ use Rattle.snap_top.specs.Fix.{FixRun}
 use Rattle.snap_top.specs.Restoring.{events_in}
 use Rattle.snap_top.specs.Run.{Entry, Exit}
 
--- the folders of two runs keep stamps alike
+-- the folders of two runs keep the same stamps
 abbrev pub KeepStampsAlike : Entry → Entry → Type 0
 KeepStampsAlike one other = (d : ℕ) → (folder_at one.opener.folders d).keeps ≡ (folder_at other.opener.folders d).keeps
 
@@ -37,9 +37,14 @@ abbrev pub IsNoLostName : FixRun → ℕ → List ℕ → Type 0
 IsNoLostName run d name = (i : ℕ) (lost : Bool) → i < length (records_in run.plan.table d) → is_finished run.plan d i ≡ true
     → has_lost run.plan run.stripes d i ≡ true → path_of (record_path (records_in run.plan.table d) i) lost ≢ name
 
+-- the folder keeps the recorded stamp of each finished file that has this path
+abbrev pub KeepsStampUnder : FixRun → ℕ → List ℕ → Type 0
+KeepsStampUnder run d name = (i : ℕ) → i < length (records_in run.plan.table d) → is_finished run.plan d i ≡ true
+    → path_of (record_path (records_in run.plan.table d) i) false ≡ name → IsTrue ((folder_at run.folders d).keeps (record_at run.plan.table.columns d i).meta.stamp)
+
 -- Two fixes began with the same table, saw the same blocks and know the same rows. They told the same, and leave the same bytes: under each name of each
--- folder, and in each copy and level of the vault. In a folder that keeps stamps they leave the same files, with their stamps, but
--- those with a lost block.
+-- folder, and in each copy and level of the vault. They leave the same files, with their stamps, but finished ones with a lost block, and those
+-- whose recorded stamp the folder does not keep.
 pub record FixesAlike (one other : FixRun) (finishes finishes_then : Finishes) (exit exit_then : Exit) : Type 0 where
   pub loaded : one.loaded ≡ other.loaded
   pub seen : SeenAlike (seen_by one) (seen_by other)
@@ -48,6 +53,6 @@ pub record FixesAlike (one other : FixRun) (finishes finishes_then : Finishes) (
   pub events : events_in one finishes ≡ events_in other finishes_then
   pub folders : (d : ℕ) → d < length one.loaded.columns
       → HaveSameBytes (folder_at exit.after.folders d).tree (folder_at exit_then.after.folders d).tree
-  pub whole : (d : ℕ) (name : List ℕ) → d < length one.loaded.columns → IsTrue (folder_at one.folders d).keeps → IsNoLostName one d name
+  pub whole : (d : ℕ) (name : List ℕ) → d < length one.loaded.columns → KeepsStampUnder one d name → IsNoLostName one d name
       → file_of (folder_at exit.after.folders d).tree name ≡ file_of (folder_at exit_then.after.folders d).tree name
   pub vault : HaveSameFiles exit.after.vault.files exit_then.after.vault.files

@@ -36,7 +36,7 @@ HasLast run last trees facts d cell =
     HoldsCell run.plan.table d cell (has_lost run.plan run.stripes d cell.rec) (byte_of (last.snapshot facts.stripe) d) (tree_at trees d)
 
 -- The file of each selected record that isn't blocked is finished: it stands under PATH with its recorded size and, where the folder keeps
--- stamps, its recorded stamp; or, if a cell of it is lost, under PATH`.unrecoverable`, or nowhere if it was nowhere and nothing of it was
+-- that, its recorded stamp; or, if a cell of it is lost, under PATH`.unrecoverable`, or nowhere if it was nowhere and nothing of it was
 -- written. What stood before is what the folders held when the run began.
 abbrev pub FinishesFiles : FixRun → List Tree → Type 0
 FinishesFiles run trees = (d i : ℕ) → d < length run.plan.table.columns → i < length (records_in run.plan.table d) → is_finished run.plan d i ≡ true

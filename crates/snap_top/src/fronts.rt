@@ -19,10 +19,10 @@ use stripe_examiner::laws::what_is_read_determines_what_is_found;
 /// What a run told and printed that broke off is a front of what a run tells and prints over the same array in which nothing
 /// failed but its output. Both were asked for the same, and their openers tell all and hold the same. Of the run that broke off, no
 /// count of faults of a folder or of the vault rose but that of what broke it off, and that by one at most: so that call failed alone,
-/// and no reading did. Scrubs begin at one moment, and the folders of both fixes keep stamps alike. It is enough that by the account of
+/// and no reading did. Scrubs begin at one moment, and the folders of both fixes keep the same stamps. It is enough that by the account of
 /// a fix no reading of a copy failed, nor one of what it looked at. Whatever readings failed, it is enough of a sync that the other one
 /// read the same of its stripes first, in the same layout; of a scrub that it began with the same table and read the same; and of a fix
-/// that the other one was of the same array, with folders that keep stamps alike, was asked for the same of disks with the same names,
+/// that the other one was of the same array, with folders that keep the same stamps, was asked for the same of disks with the same names,
 /// began with the same table, listed the same, and saw the same blocks of its stripes first. A run that ended early printed nothing: it
 /// was refused, or it only read and did not come to its end.
 pub fn a_broken_run_prints_a_front<O: Opener, F: Folder, V: Vault, W: Sink>()

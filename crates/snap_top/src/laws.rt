@@ -236,9 +236,9 @@ pub fn one_array_is_found_alike<O: Opener, F: Folder, V: Vault, W: Sink>()
 /// Two syncs of one array leave the same, and so do two scrubs that began at one moment, and two fixes: where they were asked for the
 /// same, their openers tell all and hold the same, and no count of faults of a folder or of the vault rose in them. They begin with
 /// the same table and read the same. Two syncs end with the same parity and the same table, but for the times of the last checks where
-/// their moments differ. Two fixes leave the same bytes in all folders and in the vault, where their folders keep stamps alike; and in
-/// a folder that keeps them all stamps but those of finished files with a lost block. They print the same, and have the same status
-/// where the output of neither failed; the number of readers may differ.
+/// their moments differ. Two fixes leave the same bytes in all folders and in the vault, where their folders keep the same stamps; and
+/// the same stamps, but those of finished files with a lost block, and of those whose recorded stamp their folder does not keep.
+/// They print the same, and have the same status where the output of neither failed; the number of readers may differ.
 pub fn one_array_is_left_alike<O: Opener, F: Folder, V: Vault, W: Sink>()
     ensures syncs { (run again : RunOf O F V W)
         (one : EndsInPart (entry_of O.view W.view run) (end_of O.view F.view V.view W.view run) run.status)
@@ -281,8 +281,8 @@ pub fn one_array_is_left_alike<O: Opener, F: Folder, V: Vault, W: Sink>()
 
 /// What is read determines what is left, whatever readings failed. Two syncs, or two scrubs that began at one moment, leave and print
 /// the same over one array, where they began with the same table and read the same. So do two fixes that were asked for the same of
-/// disks with the same names, and listed the same, where their folders keep stamps alike. Of fixes it is enough that the same blocks
-/// came, whatever sizes and times were seen of the files.
+/// disks with the same names, and listed the same, where their folders keep the same stamps. Of fixes it is enough that the same
+/// blocks came, whatever sizes and times were seen of the files.
 pub fn what_is_read_alike_is_left_alike<O: Opener, F: Folder, V: Vault, W: Sink>()
     ensures syncs { (run again : RunOf O F V W)
         (one : EndsInPart (entry_of O.view W.view run) (end_of O.view F.view V.view W.view run) run.status)
@@ -338,7 +338,7 @@ pub fn what_a_run_loaded_is_known<O: Opener, F: Folder, V: Vault, W: Sink>()
 /// that went to its end is what it read; and a fix that goes to its end restores the blocks that were last synced of each
 /// stripe in which no more are missing than levels are intact, unless their record is blocked, and names those of stripes in
 /// which more are missing. It finishes each selected file that isn't blocked: that stands under PATH with its recorded size
-/// and, where the folder keeps stamps, its recorded stamp; or, with a lost block, under PATH`.unrecoverable`, or nowhere if
+/// and, where the folder keeps that, its recorded stamp; or, with a lost block, under PATH`.unrecoverable`, or nowhere if
 /// it was nowhere and nothing of it was restored. A fix that is stopped spares the cells, files and levels
 /// that it leaves alone. The next one from the same table has enough undamaged levels for each stripe that both look at, if
 /// the first one had. A check that goes to its end names what is lost. Copies are as they were, or spell a table of the run.

@@ -10,6 +10,7 @@ use Rattle.disk_model.specs.Sink.{SinkView}
 use Rattle.disk_model.specs.Stopped.{MayBeLeft}
 use Rattle.disk_model.specs.Tree.{IsTree, Tree, file_of}
 use Rattle.disk_model.specs.Vault.{VaultView, copies_of}
+use Rattle.disk_model.specs.declared.meta.Stamp.{Stamp}
 use Rattle.file_table.specs.Table.{TableValue}
 use Rattle.snap_fix.specs.Fixing.{facts_of}
 use Rattle.snap_sync.specs.Part.{tree_at, trees_of}
@@ -43,7 +44,7 @@ use Rattle.snap_top_stops.proofs.SparedLemmas.{AsksMissing, as_many_trees, fix_a
 
 -- what the law on folders says of a later stop: before any call, the files may stay
 abbrev pub StandsLater : Type 0
-StandsLater = (keeps : Bool) (first more : List FolderDone) (old new : Tree) → IsTree old → MayBeLeft keeps first old new → MayBeLeft keeps (first ++ more) old new
+StandsLater = (keeps : Stamp → Bool) (first more : List FolderDone) (old new : Tree) → IsTree old → MayBeLeft keeps first old new → MayBeLeft keeps (first ++ more) old new
 
 -- so each folder stands as it did
 stands_in : StandsLater → (standing : Standing) (before : Entry) (exit : Exit) → BeginsOver standing before → (d : ℕ) → d < length standing.trees
