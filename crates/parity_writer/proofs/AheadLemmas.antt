@@ -1,5 +1,5 @@
 -- What is read of a vault that was left untouched since then is read of it as it was then.
-use Rattle.std.proofs.Common.{◌≡◌, ℕ, List, [], ◌∷◌}
+use Rattle.std.proofs.Common.{ℕ, List, [], ◌∷◌}
 use Rattle.disk_model.specs.Files.{Stays}
 use Rattle.disk_model.specs.Vault.{VaultView, IsUntouched}
 use Rattle.disk_model.proofs.UntouchedLemmas.{same_files, same_tells, goes_on_untouched, changes_untouched, drafts_untouched, rose_untouched}
