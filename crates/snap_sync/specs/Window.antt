@@ -1,5 +1,5 @@
 -- What the parts of a sync ask of a window, and what its judging and writing leave.
-use Rattle.std.specs.Prelude.{◌≡◌, ℕ, ◌≤◌, ◌×◌, List, length, map, All, Bool, Result, IfOk, OnOk}
+use Rattle.std.specs.Prelude.{◌≡◌, ℕ, ◌≤◌, List, length, map, All, Bool, Result, IfOk, OnOk}
 use Rattle.disk_model.specs.Ran.{Ran}
 use Rattle.disk_model.specs.Sink.{SinkView}
 use Rattle.disk_model.specs.Vault.{VaultView, SomeCalls, ChangesBy, Reads, state_of}
@@ -34,7 +34,7 @@ pub record CanWrite (table : TableValue) (judged : Judged) (sums : List Sums) (v
   pub stripes : length judged.stripes.now ≡ judged.window.now.count
   pub chosen : length judged.chosen.now ≡ judged.window.now.count
   pub room : judged.window.now.count ≤ length sums
-  pub sums : AreSumsOf judged.window.now table.shape.levels sums
+  pub summed : AreSumsOf judged.window.now table.shape.levels sums
 
 -- The chosen stripes of a window were written: just their writes were made, up to the first that failed, and only their blocks changed.
 -- If none failed, parity has their sums, and those that it had of other rows.
@@ -61,7 +61,7 @@ pub record CanSync (table : TableValue) (stripes : List ℕ) (window : WindowVal
   pub unhashed : IsUnhashedWindow window
   pub chosen : window.count ≤ choices
   pub room : window.count ≤ length sums
-  pub sums : All (HaveSize table.shape.block_size) sums
+  pub each : All (HaveSize table.shape.block_size) sums
   pub levels : vault.levels ≡ table.shape.levels
 
 -- A window was hashed: just what is found in its stripes was told, and those that are verified are chosen and were written.

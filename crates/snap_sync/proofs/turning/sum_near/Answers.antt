@@ -4,7 +4,7 @@ use Rattle.parity_writer.specs.Summing.{AreSumsOf, HaveSize}
 use Rattle.snap_sync.proofs.turning.sum_near.Goals as goal
 
 pub sum_window-requires-clause-room : goal.sum_window-requires-clause-room
-sum_window-requires-clause-room g c =
+sum_window-requires-clause-room g c κs lives =
     subst (λ (n : ℕ). All (HaveSize n) c.args.sums.now) (sym c.requires.holds.fits.block_size) c.requires.room
 
 pub returns-clause-room : goal.returns-clause-room

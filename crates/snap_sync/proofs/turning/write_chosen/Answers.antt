@@ -4,7 +4,7 @@ use Rattle.snap_sync.proofs.turning.write_chosen.Goals as goal
 
 pub write_sums-requires-clause-sums : goal.write_sums-requires-clause-sums
 write_sums-requires-clause-sums g c =
-    subst (λ (n : ℕ). AreSumsOf c.args.near.now.window.now n c.args.sums.now) (sym c.requires.levels) c.requires.sums
+    subst (λ (n : ℕ). AreSumsOf c.args.near.now.window.now n c.args.sums.now) (sym c.requires.levels) c.requires.summed
 
 pub returns : goal.returns
 returns g c =
