@@ -14,7 +14,7 @@ returns c = record {
   chosen = search rules;
   sums = record {
     as_many = search rules;
-    each = subst (λ (n : ℕ). All (HaveSize n) c.in_ok-sums.field-0.items) (ap (λ (it : Shape). it.block_size) c.shape-block_size.ensures.shape) c.in_ok-sums.ensures.each;
+    each = subst (λ (n : ℕ). All (HaveSize n) c.in_ok-sums.sums.items) (ap (λ (it : Shape). it.block_size) c.shape-block_size.ensures.shape) c.in_ok-sums.ensures.each;
   };
   piece = search rules;
 }
