@@ -1,5 +1,5 @@
 -- What a sync works with, from window to window.
-use Rattle.std.proofs.Common.{◌≡◌, Vec, Global, Bool, not, ℕ, ◌+◌, ◌*◌, ◌<◌, ◌≤◌, List, length, map, take, drop, max, min, All, Option, None, Some, IfSome, refl, sym, ap, ap₂, ◌∙◌, subst, arith}
+use Rattle.std.proofs.Common.{◌≡◌, Vec, Global, Bool, not, ℕ, ◌+◌, ◌<◌, ◌≤◌, List, length, map, take, drop, max, min, All, Option, None, Some, IfSome, refl, sym, ap, ap₂, ◌∙◌, subst, arith}
 use Rattle.std.specs.List.{range_with_len}
 use Rattle.std.proofs.lemmas.List.Elements.{All-from_get_or, All-filter}
 use Rattle.std.proofs.lemmas.List.Filters.{length-filter_both}
