@@ -7,9 +7,12 @@ use Rattle.std.proofs.lemmas.List.{append-nil, map-append, length-append}
 use Rattle.std.proofs.lemmas.List.Elements.{All-nil, All-cons, All-append}
 use Rattle.std.proofs.lemmas.List.FromFn.{map-range_with_len_more}
 use Rattle.disk_model.specs.Sink.{SinkView}
+use Rattle.disk_model.specs.Vault.{IsUntouched}
 use Rattle.file_table.specs.Table.{TableValue}
 use Rattle.snap_report.specs.Report.{ReportView}
+use Rattle.snap_report.specs.Told.{Told}
 use Rattle.snap_report.specs.declared.events.Event.{Event}
+use Rattle.snap_report.specs.declared.pages.Lines.{Lines}
 use Rattle.snap_report.proofs.ToldLemmas.{told_then, told_nothing}
 use Rattle.stripe_findings.specs.Findings.{stripe_events}
 use Rattle.stripe_findings.specs.Reading.{StripeReading, is_verified, reading_at}
@@ -22,7 +25,7 @@ use Rattle.snap_scrub.specs.Findings.{level_events, scrub_events, events_of}
 use Rattle.snap_scrub.specs.Looking.{AreFound, Scene, LooksAt, LooksAtOne, LooksInto}
 use Rattle.snap_scrub.specs.Marks.{verdict_by, verdict_of, at_most}
 use Rattle.snap_scrub.specs.Reading.{ScrubReading, HasLevels}
-use Rattle.snap_scrub.proofs.ReadingLemmas.{levels_none, levels_then}
+use Rattle.snap_scrub.proofs.ReadingLemmas.{levels_none, levels_then, levels_untouched}
 use Rattle.snap_scrub.proofs.TellingLemmas.{told_as}
 
 -- one of some
@@ -110,6 +113,23 @@ module _ {W R : Type 0} (view : W → SinkView) (standing : R → ReportView) (s
             ∙ sym (map-append (verdict_of table) xs (x ∷ []));
         findings_are = omega (arith, more_is, into.findings_are, one.found_are.count, count);
       }
+
+  -- of a vault that was untouched before the first stripe
+  pub into_untouched : (stripes : List ℕ) (window : WindowValue) (count : ℕ) (verdicts : List Verdict) (findings : ℕ) (old mid new : Scene W R) → IsUntouched old.vault mid.vault
+      → old.lines ≡ mid.lines → old.reports ≡ mid.reports
+      → LooksInto view standing stands table stripes window count verdicts findings mid new → LooksInto view standing stands table stripes window count verdicts findings old new
+  into_untouched stripes window count verdicts findings old mid new same lines reports into = record {
+    readings = into.readings;
+    cells_are = into.cells_are;
+    looks = record {
+      due = into.looks.due;
+      levels = levels_untouched table into.readings old.vault mid.vault new.vault same into.looks.levels;
+      told = subst (λ (it : Lines W). Told view standing stands table.columns (events_of table into.readings) it new.lines old.reports new.reports) (sym lines)
+          (subst (λ (its : List R). Told view standing stands table.columns (events_of table into.readings) mid.lines new.lines its new.reports) (sym reports) into.looks.told);
+    };
+    verdicts_are = into.verdicts_are;
+    findings_are = into.findings_are;
+  }
 
   -- a window with the same slots
   pub one_as : {stripes : List ℕ} {i : ℕ} {found : Found} {old new : Scene W R} (window other : WindowValue) → window ≡ other → LooksAtOne view standing stands table stripes window i found old new → LooksAtOne view standing stands table stripes other i found old new

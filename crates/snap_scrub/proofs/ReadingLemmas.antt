@@ -9,7 +9,8 @@ use Rattle.std.proofs.lemmas.List.Sums.{sum_by-append}
 use Rattle.disk_model.specs.Bytes.{read_from}
 use Rattle.disk_model.specs.Cause.{RoseBy}
 use Rattle.disk_model.specs.Files.{Files, parity_of, Stays}
-use Rattle.disk_model.specs.Vault.{VaultView, VaultDone, GoesOn, DraftsStay}
+use Rattle.disk_model.specs.Vault.{VaultView, VaultDone, GoesOn, DraftsStay, IsUntouched}
+use Rattle.disk_model.proofs.UntouchedLemmas.{changes_untouched, drafts_untouched, goes_on_untouched, rose_untouched, same_files, same_tells}
 use Rattle.disk_model.proofs.VaultLemmas.{changes_start, stays_then}
 use Rattle.file_table.specs.Table.{TableValue}
 use Rattle.parity_writer.specs.LevelReading.{LevelReading, IsReadingOf, ReadsLevels, calls_of}
@@ -65,6 +66,16 @@ levels_then table xs ys old mid new one two =
       changes = stays_then Stays old mid new tells one.changes two.changes (λ files. refl);
       drafts = drafts_then old mid new tells one.drafts two.drafts;
     }
+
+-- and of a vault that was untouched before
+pub levels_untouched : (table : TableValue) (readings : List ScrubReading) (old mid new : VaultView) → IsUntouched old mid → LevelsAreRead table readings mid new → LevelsAreRead table readings old new
+levels_untouched table readings old mid new same read = record {
+  are = λ k d within r below. reading_before table.shape.block_size _ r _ old mid (same_tells old mid same) (λ told. same_files old mid same) (read.are k d within r below);
+  unread = rose_untouched (sum_by unread_levels readings) old mid new same read.unread;
+  goes_on = goes_on_untouched old mid new (flat_map (level_calls table.shape.block_size) readings) same read.goes_on;
+  changes = changes_untouched Stays old mid new same read.changes;
+  drafts = drafts_untouched old mid new same read.drafts;
+}
 
 -- a stripe whose levels are not read
 pub levels_unread : (table : TableValue) (cells : StripeReading) (v : VaultView) → LevelsAreRead table ((let it : ScrubReading = record { cells = cells; levels = [] } in it) ∷ []) v v

@@ -1,11 +1,12 @@
 -- A turn of a sync as if the near window had had its digests before, and as if the far one had been read with them.
-use Rattle.std.proofs.Common.{◌≡◌, ℕ, List, length, map, take, Bool, Option, Result, refl, sym, ap, ◌∙◌, subst}
+use Rattle.std.proofs.Common.{◌≡◌, ℕ, List, length, map, take, All, Bool, Option, Result, refl, sym, ap, ◌∙◌, subst}
 use Rattle.std.proofs.lemmas.List.{length-map}
 use Rattle.disk_model.specs.Folder.{FolderView}
 use Rattle.disk_model.specs.Sink.{SinkView}
 use Rattle.disk_model.specs.declared.fault.Failed.{Failed}
 use Rattle.file_table.specs.Table.{TableValue}
 use Rattle.file_table.specs.declared.shape.Shape.{Shape}
+use Rattle.parity_writer.specs.Summing.{HaveSize}
 use Rattle.snap_report.specs.Report.{ReportView}
 use Rattle.snap_report.specs.declared.events.Event.{Event}
 use Rattle.stripe_findings.specs.Reading.{StripeReading, is_verified}
@@ -21,7 +22,7 @@ use Rattle.snap_sync.specs.Run.{near_hashed, readings_near, stripes_next, IsWork
 use Rattle.snap_sync.specs.Window.{Scene, SyncsWindow}
 use Rattle.snap_sync.proofs.StaysLemmas.{differs-closed}
 use Rattle.snap_sync.proofs.TasksLemmas.{reads_window-by_closed}
-use Rattle.snap_sync.proofs.WorkLemmas.{Judges, ReadsFar, swapped_of}
+use Rattle.snap_sync.proofs.WorkLemmas.{Judges, ReadsFar, sums_again, swapped_of}
 
 -- ---- a window with its digests fits as before
 
@@ -143,7 +144,7 @@ module _ (now : ℕ) (work turned : Work) (done : ℕ) (turns : Turns work turne
       let room = ready.is_work.room in
       subst (λ (it : Work). IsReady every it done) (sym turns.rest) (record {
         is_work = record {
-          room = record { starts = room.starts; some = room.some; size = room.size; near = fits_hashed work.table work.table.shape work.room.near room.near; far = turns.fits; as_much = as_much ∙ room.as_much; chosen = turns.chosen ∙ room.chosen; sums = turns.sums ∙ room.sums; piece = room.piece };
+          room = record { starts = room.starts; some = room.some; size = room.size; near = fits_hashed work.table work.table.shape work.room.near room.near; far = turns.fits; as_much = as_much ∙ room.as_much; chosen = turns.chosen ∙ room.chosen; sums = sums_again room.sums turns.sums; piece = room.piece };
           pending = ready.is_work.pending;
           few = ready.is_work.few;
         };
@@ -167,7 +168,7 @@ module _ (now : ℕ) (work turned : Work) (done : ℕ) (turns : Turns work turne
     reads_far =
         let differs = differs-closed now work.table readings in
         subst (λ (it : Work). ReadsFar judged_of (far_hashed it)) (sym closed_is) (record {
-          sums = turns.sums;
+          sums = record { as_many = turns.sums.as_many; each = subst (λ (n : ℕ). All (HaveSize n) turned.room.sums.items) (sym (ap (λ (shape : Shape). shape.block_size) differs.shape)) turns.sums.each };
           fits = record {
             lanes = lanes_hashed (closed now work.table readings).shape turned.room.far ∙ turns.fits.lanes ∙ sym differs.columns;
             block_size = turns.fits.block_size ∙ sym (ap (λ (shape : Shape). shape.block_size) differs.shape);

@@ -1,5 +1,5 @@
 -- What a sync works with, from window to window.
-use Rattle.std.proofs.Common.{◌≡◌, Vec, Global, Bool, not, ℕ, ◌+◌, ◌*◌, ◌<◌, ◌≤◌, List, length, map, take, drop, max, min, All, Option, None, Some, IfSome, refl, sym, ap, ap₂, ◌∙◌, subst, arith}
+use Rattle.std.proofs.Common.{◌≡◌, Vec, Global, Bool, not, ℕ, ◌+◌, ◌<◌, ◌≤◌, List, length, map, take, drop, max, min, All, Option, None, Some, IfSome, refl, sym, ap, ap₂, ◌∙◌, subst, arith}
 use Rattle.std.specs.List.{range_with_len}
 use Rattle.std.proofs.lemmas.List.Elements.{All-from_get_or, All-filter}
 use Rattle.std.proofs.lemmas.List.Filters.{length-filter_both}
@@ -9,6 +9,8 @@ use Rattle.disk_model.specs.Folder.{FolderView}
 use Rattle.file_table.specs.Table.{TableValue, info_at}
 use Rattle.file_table.specs.Valid.{most_blocks}
 use Rattle.parity_writer.specs.Chosen.{Choice}
+use Rattle.parity_writer.specs.Summing.{HaveSize}
+use Rattle.parity_writer.specs.declared.summing.Sums.{Sums}
 use Rattle.stripe_reader.specs.Columns.{ReadsWindow}
 use Rattle.file_table.specs.declared.shape.Shape.{Shape}
 use Rattle.stripe_reader.specs.WindowValue.{WindowValue, Fits, stripe_count}
@@ -18,7 +20,7 @@ use Rattle.snap_sync.specs.Closing.{closed}
 use Rattle.stripe_findings.specs.Reading.{StripeReading, readings_in, is_verified}
 use Rattle.snap_sync.specs.Run.{all_of, count_after, stripes_near, stripes_next, readings_near, IsWork, IsReady, KeepsWork}
 use Rattle.snap_sync.specs.Schedule.{window_count}
-use Rattle.snap_sync.specs.Work.{IsRoomFor}
+use Rattle.snap_sync.specs.Work.{AreSumsFor, IsRoomFor}
 use Rattle.snap_sync.proofs.StaysLemmas.{differs-closed}
 use Rattle.snap_sync.proofs.TasksLemmas.{recorded_starts-closed}
 use Rattle.stripe_findings.proofs.ReadLemmas.{length_after}
@@ -103,7 +105,7 @@ room_closed now table pending readings room is =
       far = record { lanes = is.far.lanes ∙ sym width; block_size = is.far.block_size ∙ sym (ap (λ it. it.block_size) shape) };
       as_much = is.as_much;
       chosen = is.chosen;
-      sums = is.sums ∙ sym (ap (λ it. 6 * it.block_size) shape);
+      sums = record { as_many = is.sums.as_many; each = subst (λ (n : ℕ). All (HaveSize n) room.sums.items) (sym (ap (λ it. it.block_size) shape)) is.sums.each };
       piece = is.piece;
     }
 
@@ -135,16 +137,20 @@ judged_ready every now work judged done ready judges =
 
 -- ---- the next window was read
 
+-- sums were made in as many rooms as there were
+pub sums_again : {table : TableValue} {count : ℕ} {sums made : List Sums} → AreSumsFor table count sums → AreSumsFor table (length sums) made → AreSumsFor table count made
+sums_again were are = record { as_many = are.as_many ∙ were.as_many; each = are.each }
+
 -- and it stands in the far room, with its digests
 pub record ReadsFar (old new : Work) : Type 0 where
-  pub sums : length new.room.sums.items ≡ length old.room.sums.items
+  pub sums : AreSumsFor old.table (length old.room.sums.items) new.room.sums.items
   pub fits : Fits old.table new.room.far
   pub rest : new ≡ record old { room = record old.room { sums = new.room.sums; far = new.room.far } }
 
 pub turned_work : (work turned : Work) → IsWork work → ReadsFar work turned → turned.room.far.room ≡ work.room.far.room → IsWork turned
 turned_work work turned is far as_much =
     subst IsWork (sym far.rest) (record {
-      room = record { starts = is.room.starts; some = is.room.some; size = is.room.size; near = is.room.near; far = far.fits; as_much = as_much ∙ is.room.as_much; chosen = is.room.chosen; sums = far.sums ∙ is.room.sums; piece = is.room.piece };
+      room = record { starts = is.room.starts; some = is.room.some; size = is.room.size; near = is.room.near; far = far.fits; as_much = as_much ∙ is.room.as_much; chosen = is.room.chosen; sums = sums_again is.room.sums far.sums; piece = is.room.piece };
       pending = is.pending;
       few = is.few;
     })
@@ -171,7 +177,7 @@ swapped_work work is = record {
     far = is.room.near;
     as_much = sym is.room.as_much;
     chosen = is.room.chosen ∙ sym is.room.as_much;
-    sums = is.room.sums;
+    sums = record { as_many = is.room.sums.as_many ∙ sym is.room.as_much; each = is.room.sums.each };
     piece = is.room.piece;
   };
   pending = is.pending;

@@ -26,7 +26,7 @@ use Rattle.stripe_findings.specs.Findings.{events_of}
 use Rattle.stripe_findings.specs.Reading.{StripeReading, readings_in}
 use Rattle.snap_sync.specs.Reading.{ReadsFirst}
 use Rattle.snap_sync.specs.Schedule.{window_count, windows_end, is_checkpoint}
-use Rattle.snap_sync.specs.Work.{IsRoomFor, IsUnderway, VaultBroke, MaySettle, more_findings}
+use Rattle.snap_sync.specs.Work.{AreSumsFor, IsRoomFor, IsUnderway, VaultBroke, MaySettle, more_findings}
 
 -- how many pending stripes there are, and how many a window takes after so many
 abbrev pub all_of : Work → ℕ
@@ -78,10 +78,10 @@ pub record AreCounts (table : TableValue) (readings : List StripeReading) (count
 abbrev pub near_hashed : Work → Work
 near_hashed work = record work { room = record work.room { near = hashed_window work.table.shape work.room.near } }
 
--- the near window was hashed, stripes of it were chosen, and the next one was fetched into the far room
+-- the near window was hashed, stripes of it were chosen, sums were made, and the next one was fetched into the far room
 pub record Turns (old new : Work) : Type 0 where
   pub chosen : length new.room.chosen.items ≡ length old.room.chosen.items
-  pub sums : length new.room.sums.items ≡ length old.room.sums.items
+  pub sums : AreSumsFor old.table (length old.room.sums.items) new.room.sums.items
   pub fits : Fits old.table new.room.far
   pub rest : new ≡ record (near_hashed old) {
     room = record (near_hashed old).room { chosen = new.room.chosen; sums = new.room.sums; far = new.room.far };

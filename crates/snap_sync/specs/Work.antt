@@ -1,5 +1,5 @@
 -- What a sync works with, and how far the vault is.
-use Rattle.std.specs.Prelude.{◌≡◌, ℕ, ◌+◌, ◌*◌, ◌<◌, ◌≤◌, ◌⊎◌, ◌++◌, List, length, min, max, ◌^◌, ◌-◌, Bool, true, false, if◌then◌else◌, IsTrue}
+use Rattle.std.specs.Prelude.{◌≡◌, ℕ, ◌+◌, ◌<◌, ◌≤◌, ◌⊎◌, ◌++◌, List, length, min, max, ◌^◌, ◌-◌, All, Bool, true, false, if◌then◌else◌, IsTrue}
 use Rattle.content_file.specs.Save.{MaySave, HasSaved}
 use Rattle.content_file.specs.Spelling.{spelling}
 use Rattle.disk_model.specs.Answer.{is_failure}
@@ -10,6 +10,8 @@ use Rattle.disk_model.specs.Vault.{VaultView, VaultCall, VaultDone, ParityRead, 
 use Rattle.file_table.specs.Table.{TableValue}
 use Rattle.parity_writer.specs.Keeps.{SameParities}
 use Rattle.parity_writer.specs.Parity.{HoldsRows}
+use Rattle.parity_writer.specs.Summing.{HaveSize}
+use Rattle.parity_writer.specs.declared.summing.Sums.{Sums}
 use Rattle.snap_report.specs.Answer.{Gained}
 use Rattle.stripe_reader.specs.Starts.{recorded_starts}
 use Rattle.stripe_reader.specs.WindowValue.{Fits, stripe_count}
@@ -18,8 +20,14 @@ use Rattle.snap_sync.specs.Calls.{SyncPlan, piece_size, opening_calls, stripe_ca
 use Rattle.snap_sync.specs.Images.{MayStand, HasParityAfter, table_after, rows_after}
 use Rattle.stripe_findings.specs.Reading.{StripeReading}
 
+-- room for the sums of so many stripes of a table
+pub record AreSumsFor (table : TableValue) (stripes : ℕ) (sums : List Sums) : Type 0 where
+  pub as_many : length sums ≡ stripes
+  pub each : All (HaveSize table.shape.block_size) sums
+
 -- Room for the windows of a table, of which so many stripes are pending: each has room for as many stripes as one of any run over it, but
--- for no more than are pending, and for one at least. There is a piece for the drafts besides.
+-- for no more than are pending, and for one at least. There is a choice and room for the sums of each of its stripes, and a piece for the
+-- drafts besides.
 pub record IsRoomFor (table : TableValue) (pending : ℕ) (room : Room) : Type 0 where
   pub starts : room.starts ≡ recorded_starts table
   pub some : 0 < room.near.room
@@ -28,7 +36,7 @@ pub record IsRoomFor (table : TableValue) (pending : ℕ) (room : Room) : Type 0
   pub far : Fits table room.far
   pub as_much : room.far.room ≡ room.near.room
   pub chosen : length room.chosen.items ≡ room.near.room
-  pub sums : length room.sums.items ≡ 6 * table.shape.block_size
+  pub sums : AreSumsFor table room.near.room room.sums.items
   pub piece : length room.piece.items ≡ piece_size
 
 -- a call that reads parity or a copy, and a failed one that does not

@@ -2,9 +2,10 @@
 //!
 //! Start at `sync` in `syncing.rt`: `begin` (`beginning.rt`) lists the folders, lays out and takes all memory; `carry_out`
 //! (`carrying.rt`) saves the laid out table, goes through the pending stripes window by window (`stripes.rt`), and ends with a
-//! checkpoint. A window is hashed and judged (`judging.rt`): its findings are told and its verified stripes are chosen and
-//! written, while the next one is fetched (`turning.rt`); then these are closed in the table in hand. `opening.rt` has what
-//! is done to the vault at its beginning and at a checkpoint.
+//! checkpoint. A window is hashed and judged (`judging.rt`): its findings are told and its verified stripes are chosen. Then
+//! the sums of its stripes are made, and those of the verified ones are written; meanwhile the next window is fetched
+//! (`turning.rt`). The verified stripes are closed in the table in hand. `opening.rt` has what is done to the vault at its
+//! beginning and at a checkpoint.
 //! Its definitions: what was read and what is verified by it (`specs/Reading.antt`), what is found (`specs/Findings.antt`), the
 //! table and the rows after it (`specs/Closing.antt`), when it is saved (`specs/Schedule.antt`), by which calls
 //! (`specs/Calls.antt`), what stands at each moment (`specs/Images.antt`), and all of it together (`specs/Course.antt`).

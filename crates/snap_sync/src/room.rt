@@ -4,6 +4,7 @@ ghost use Rattle.snap_sync.specs.Work.{IsRoomFor};
 
 use disk_model::NoMemory;
 use file_table::Table;
+use parity_writer::{Sums, make_sums};
 use std::alloc::Global;
 use stripe_reader::{Starts, Window, stripe_count};
 
@@ -20,8 +21,8 @@ pub(crate) struct Room {
     pub far: Window,
     /// Of each stripe of the near window, whether it is verified.
     pub chosen: Vec<bool>,
-    /// The sums of a stripe: a block for each of six levels.
-    pub sums: Vec<u8>,
+    /// The sums of each stripe of the near window.
+    pub sums: Vec<Sums>,
     /// A piece of the table's spelling.
     pub piece: Vec<u8>,
 }
@@ -39,7 +40,7 @@ impl Room {
         let near = Window::make(alloc, table.disks(), stripes, block_size)?;
         let far = Window::make(alloc, table.disks(), stripes, block_size)?;
         let chosen = vec![in alloc; false; stripes as usize]?;
-        let sums = vec![in alloc; 0u8; 6 * block_size as usize]?;
+        let sums = make_sums(alloc, stripes, block_size)?;
         let piece = vec![in alloc; 0u8; PIECE]?;
         Ok(Room {
             starts,

@@ -1,15 +1,17 @@
-// One window is hashed, judged and written while the next one is fetched.
-ghost use Rattle.std.specs.Prelude.{◌≡◌, length, map, take};
+// One window is hashed, judged, summed and written while the next one is fetched.
+ghost use Rattle.std.specs.Prelude.{◌≡◌, All, length, map, take};
 ghost use Rattle.std.specs.Thread.{IsSend, IsSync};
+ghost use Rattle.parity_writer.specs.Summing.{AreSumsOf, HaveSize};
 ghost use Rattle.stripe_reader.specs.Fetched.{FetchesWindow, IsUnhashedWindow, hashed_window};
 ghost use Rattle.stripe_reader.specs.Held.{CanRead, HoldsStripes};
 ghost use Rattle.stripe_reader.specs.WindowValue.{Fits};
-ghost use Rattle.snap_sync.specs.Window.{CanSync, CanWrite, SyncsWindow, WritesWindow, choice_of, scene};
+ghost use Rattle.snap_sync.specs.Window.{CanSync, CanWrite, SumsAndSyncs, SyncsWindow, WritesWindow, choice_of, scene};
+ghost use Rattle.snap_sync.specs.Work.{AreSumsFor};
 
 use crate::judging::{Counts, look_over};
 use disk_model::{Failed, Folder, Sink, Vault};
 use file_table::Table;
-use parity_writer::write_window;
+use parity_writer::{Sums, sum_window, write_sums};
 use snap_report::{Lines, Report};
 use std::thread::{Threads, join_mut};
 use stripe_reader::{Starts, Window, fetch_window, hash_window};
@@ -29,23 +31,23 @@ pub(crate) struct Round<'t, 'p, 's> {
     pub starts: &'p Starts,
     pub stripes: &'s [u32],
     pub ahead: &'s [u32],
-    /// How many threads hash at most.
+    /// How many threads hash and sum at most.
     pub threads: u32,
 }
 
-// Writes the chosen stripes of a window of a table to parity.
+// Writes the chosen stripes of a window of a table to parity, whose sums were made.
 fn write_chosen<V: Vault>(
     vault: &mut V,
     table: &Table,
     near: &Judged<'_, '_, '_>,
-    sums: &mut [u8],
+    sums: &[Sums],
 ) -> Result<(), Failed>
-    requires { CanWrite table.now near.now (length sums.old) (V.view vault.old) }
+    requires { CanWrite table.now near.now sums.now (V.view vault.old) }
     ensures { WritesWindow near.now.window.now (choice_of near.now) result (V.view vault.old) (V.view vault.new) }
 {
-    // Its levels, columns and block size are within the limits of a table.
+    // Its levels and block size are within the limits of a table.
     let _shape = table.shape();
-    write_window(vault, near.window, near.stripes, near.chosen, sums)
+    write_sums(vault, near.window, near.stripes, near.chosen, sums)
 }
 
 // Hashes the blocks of a window that was fetched.
@@ -58,6 +60,22 @@ fn hash_near<R: Threads + Sync>(rt: &R, round: &Round<'_, '_, '_>, window: &mut 
     hash_window(rt, round.table.shape(), round.threads, window);
 }
 
+// Makes the sums of the stripes of a window that holds them.
+fn sum_near<R: Threads + Sync>(
+    rt: &R,
+    round: &Round<'_, '_, '_>,
+    window: &Window,
+    sums: &mut [Sums],
+)
+    requires holds { HoldsStripes round.now.table.now round.now.stripes.now window.now }
+    requires room { All (HaveSize round.now.table.now.shape.block_size) sums.old }
+    ensures room { AreSumsFor round.now.table.now (length sums.old) sums.new }
+    ensures sums { AreSumsOf window.now round.now.table.now.shape.levels sums.new }
+{
+    let levels = round.table.shape().levels;
+    sum_window(rt, window, levels, round.threads, sums);
+}
+
 // Hashes a window that was fetched, tells what is found in its stripes, and writes those to parity in which nothing is.
 fn sync_window<R: Threads + Sync, V: Vault, W: Sink>(
     rt: &R,
@@ -67,11 +85,12 @@ fn sync_window<R: Threads + Sync, V: Vault, W: Sink>(
     lines: &mut Lines<'_, W>,
     reports: &mut Vec<Box<dyn Report>>,
     chosen: &mut [bool],
-    sums: &mut [u8],
+    sums: &mut [Sums],
 ) -> Result<Counts, Failed>
-    requires { CanSync round.now.table.now round.now.stripes.now window.old (length chosen.old) (length sums.old)
+    requires { CanSync round.now.table.now round.now.stripes.now window.old (length chosen.old) sums.old
         (V.view vault.old) }
-    ensures { SyncsWindow W.view standing stands round.now.table.now round.now.stripes.now window.old window.new
+    ensures sums { AreSumsFor round.now.table.now (length sums.old) sums.new }
+    ensures syncs { SyncsWindow W.view standing stands round.now.table.now round.now.stripes.now window.old window.new
         (take window.old.count chosen.new) result
         (scene (V.view vault.old) lines.old reports.old.items) (scene (V.view vault.new) lines.new reports.new.items) }
 {
@@ -79,6 +98,7 @@ fn sync_window<R: Threads + Sync, V: Vault, W: Sink>(
     let count = window.count() as usize;
     hash_near(rt, round, window);
     let counts = look_over(table, stripes, window, &mut chosen[..count], lines, reports);
+    sum_near(rt, round, window, sums);
     let judged = Judged {
         window,
         stripes,
@@ -90,7 +110,7 @@ fn sync_window<R: Threads + Sync, V: Vault, W: Sink>(
     }
 }
 
-/// Hashes, judges and writes the stripes of the near window, and meanwhile fetches the stripes ahead into the far one. All
+/// Hashes, judges, sums and writes the stripes of the near window, and meanwhile fetches the stripes ahead into the far one. All
 /// that reports stays in this thread.
 pub(crate) fn turn<R: Threads + Sync, F: Folder, V: Vault, W: Sink>(
     rt: &R,
@@ -102,11 +122,12 @@ pub(crate) fn turn<R: Threads + Sync, F: Folder, V: Vault, W: Sink>(
     lines: &mut Lines<'_, W>,
     reports: &mut Vec<Box<dyn Report>>,
     chosen: &mut [bool],
-    sums: &mut [u8],
+    sums: &mut [Sums],
 ) -> Result<Counts, Failed>
-    requires near { CanSync round.now.table.now round.now.stripes.now near.old (length chosen.old) (length sums.old)
+    requires near { CanSync round.now.table.now round.now.stripes.now near.old (length chosen.old) sums.old
         (V.view vault.old) }
     requires far { CanRead round.now.table.now round.now.starts.now round.now.ahead.now far.old (length folders.old) }
+    ensures sums { AreSumsFor round.now.table.now (length sums.old) sums.new }
     ensures near { SyncsWindow W.view standing stands round.now.table.now round.now.stripes.now near.old near.new
         (take near.old.count chosen.new) result
         (scene (V.view vault.old) lines.old reports.old.items) (scene (V.view vault.new) lines.new reports.new.items) }
@@ -120,9 +141,9 @@ pub(crate) fn turn<R: Threads + Sync, F: Folder, V: Vault, W: Sink>(
     { fetch_window(rt, folders, table, starts, ahead, far) };
     let mut syncing = || -> Result<Counts, Failed>
         requires { IsSync R.row × CanSync round.now.table.now round.now.stripes.now near.now (length chosen.now)
-            (length sums.now) (V.view vault.now) }
-        ensures { SyncsWindow W.view standing stands round.entry.now.table.now round.entry.now.stripes.now
-            near.entry.now near.exit.now (take near.entry.now.count chosen.exit.now) result
+            sums.now (V.view vault.now) }
+        ensures { SumsAndSyncs W.view standing stands round.entry.now.table.now round.entry.now.stripes.now
+            near.entry.now near.exit.now (take near.entry.now.count chosen.exit.now) sums.entry.now sums.exit.now result
             (scene (V.view vault.entry.now) lines.entry.now reports.entry.now.items)
             (scene (V.view vault.exit.now) lines.exit.now reports.exit.now.items) }
     { sync_window(rt, round, near, vault, lines, reports, chosen, sums) };
