@@ -48,7 +48,7 @@ impl<R: Files> AheadFile<R> {
         self.count = 0;
     }
 
-    // The bytes from a place on, if all of them are held. That the file has none there is never known here.
+    // The bytes from a place on, if all of them are held, and one at least: then the file is there.
     fn held(&self, at: u64, len: usize) -> Option<&[u8]>
         ensures { IfSome result (λ bytes. length bytes.now ≡ len) }
     {
