@@ -163,17 +163,24 @@ impl<R: Files + Drop> AheadFiles<R> {
 
     /// Fills all of `out`, if that was read ahead. Otherwise `out` stays.
     pub fn fill(&self, name: &str, at: u64, out: &mut [u8]) -> bool {
-        if let Some(files) = &self.files {
-            for file in files {
-                if file.is_of(name) {
-                    if let Some(bytes) = file.held(at, out.len()) {
-                        out.copy_from_slice(bytes);
-                        return true;
-                    }
-                }
+        match self.held(name, at, out.len()) {
+            Some(bytes) => {
+                out.copy_from_slice(bytes);
+                true
+            }
+            None => false,
+        }
+    }
+
+    fn held(&self, name: &str, at: u64, len: usize) -> Option<&[u8]>
+        ensures { IfSome result (λ bytes. length bytes.now ≡ len) }
+    {
+        for file in self.files.as_ref()? {
+            if file.is_of(name) {
+                return file.held(at, len);
             }
         }
-        false
+        None
     }
 }
 

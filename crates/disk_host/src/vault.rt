@@ -155,7 +155,8 @@ where
 
     // What was read ahead is of a file that is there.
     fn parity_read(&mut self, level: u32, at: u64, out: &mut [u8]) -> Result<usize, Failed> {
-        if self.ahead
+        if self
+            .ahead
             .fill(self.parities[level as usize].name(), at, out)
         {
             return Ok(out.len());
