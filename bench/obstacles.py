@@ -33,7 +33,7 @@ LACKING = ("' was not there: mount its disk, make it empty if it is new, "
            "or give it its full length if it is lost (see the manual)\n")
 MISSING = "snapraid: parity file '{room}/par/p" + LACKING
 GONE = "snapraid: parity or content failed\n" + MISSING
-# Times of the earliest files, in nanoseconds since 1970. A fix can't set one before 1970.
+# Times of the earliest files, in nanoseconds since 1970. A fix can't set one before 1970: it says so, and goes on.
 FIRST_OF_1970 = "d1/first"
 BEFORE_1970 = {"d2/before": -1, "d2/half": -500_000_000, "d2/oldest": -2**31 * 10**9}
 EARLY = {FIRST_OF_1970: 0, **BEFORE_1970}
@@ -264,9 +264,9 @@ CASES = [
     ("a folder in the place of the content file", folder_in_place("c/content"), 3, VAULT + "look at '{room}/c/content" + NO_FILE, "", (), None),
     ("a file of the first moment of 1970 that is gone", removed(FIRST_OF_1970), 0, "", "fix: 1 blocks and 0 parities fixed, 0 findings left\n",
      (FIRST_OF_1970,), nothing),
-    ("files from before 1970 that are gone, until their times are set by hand", removed(*BEFORE_1970), 3,
-     "snapraid: disk 'd2' failed\nsnapraid: set the time of '{room}/d2/before': a time before 1970 can't be set\n", "", tuple(BEFORE_1970),
-     set_early_times),
+    ("files from before 1970 that are gone, until their times are set by hand", removed("d2/c", *BEFORE_1970), 0, "",
+     "restored d2:before\nno-stamp d2:before\nrestored d2:c\nrestored d2:half\nno-stamp d2:half\nrestored d2:oldest\nno-stamp d2:oldest\n"
+     "fix: 5 blocks and 0 parities fixed, 0 findings left\n", ("d2/c", *BEFORE_1970), set_early_times),
 ]
 
 # What it is, the damage, the command, its status, what stands on standard error, and how the obstacle goes.

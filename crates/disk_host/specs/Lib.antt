@@ -1,3 +1,4 @@
 pub mod Drafts
+pub mod Keeping
 pub mod Listing
 pub mod Opener

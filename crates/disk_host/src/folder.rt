@@ -2,7 +2,8 @@
 ghost use Rattle.std.specs.Prelude.{◌≡◌, ◌≤◌, length, IfOk, IfSome, OnOk, OnErr};
 ghost use Rattle.disk_model.specs.Cause.{Rose, AtMostOnce};
 ghost use Rattle.disk_model.specs.Stamp.{IsStamp};
-ghost use Rattle.disk_model.specs.Folder.{quiet_folder, quiet_folder-is_folder};
+ghost use Rattle.disk_model.specs.Folder.{quiet_keeping, quiet_keeping-is_folder};
+ghost use Rattle.disk_host.specs.Keeping.{keeps_of};
 
 use crate::changing::{make_file, rename_file};
 use crate::failures::{Failure, Failures, Request};
@@ -142,14 +143,14 @@ where
         }
     }
 
-    // Where stamps are not kept the file is looked at alone.
+    // Where the stamp is not kept the file is looked at alone.
     fn stamp_kept(&mut self, path: &Path, stamp: Stamp) -> io::Result<Option<bool>>
         ensures faults { self.new.faults ≡ self.old.faults }
         ensures keeps { self.new.keeps_stamps ≡ self.old.keeps_stamps }
-        ensures kept { IfOk result (λ found. IfSome found (λ kept. kept ≡ self.old.keeps_stamps)) }
+        ensures kept { IfOk result (λ found. IfSome found (λ kept. kept ≡ keeps_of self.old.keeps_stamps stamp)) }
     {
         let dir = self.dir.as_str();
-        if !self.keeps_stamps {
+        if !self.keeps_stamps || stamp.seconds.is_negative() {
             let found = place_of(&self.rt, dir, path.as_str(), false)?;
             return Ok(found.map(|_| false));
         }
@@ -178,9 +179,9 @@ impl<R: Files + AllocGlobal + Clone + Drop + Send> Folder for DiskFolder<R>
 where
     R::File: FileExt + Send,
 {
-    ghost view = { λ s. quiet_folder s.faults s.keeps_stamps };
+    ghost view = { λ s. quiet_keeping s.faults (keeps_of s.keeps_stamps) };
 
-    ghost well_formed = { λ s. quiet_folder-is_folder s.faults s.keeps_stamps };
+    ghost well_formed = { λ s. quiet_keeping-is_folder s.faults (keeps_of s.keeps_stamps) };
 
     fn faults(&self) -> u64 {
         self.faults

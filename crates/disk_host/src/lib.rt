@@ -3,12 +3,13 @@
 //! Start at `opener.rt`: `DiskOpener` gives each `DiskFolder` and the `DiskVault`, once `apart.rt` found that their names are
 //! of different files. Under the folder stand
 //! `listing.rt`, `order.rt`, `places.rt`, `kept.rt`, `changing.rt` and `unsynced.rt`, under the vault `parity.rt`,
-//! `contents.rt` and `drafts.rt`. `sink.rt` and `log.rt` are where text goes.
+//! `ahead.rt`, `contents.rt` and `drafts.rt`. `sink.rt` and `log.rt` are where text goes.
 //! Proved: they meet their traits, and count each call that fails; what a folder lists is in order,
 //! whatever the system gave. They tell nothing of what files hold, since no contract can; the crate
 //! `disk_host_tests` runs them over real files.
 #![tactic(auto)]
 
+mod ahead;
 mod apart;
 mod changing;
 mod contents;
@@ -29,6 +30,7 @@ mod stamps;
 mod unsynced;
 mod vault;
 
+pub use ahead::AheadFile;
 pub use failures::{Failure, Failures, Request};
 pub use folder::DiskFolder;
 pub use log::LogSink;

@@ -3,6 +3,7 @@ ghost use Rattle.std.specs.Prelude.{◌≡◌, ◌<◌, ◌^◌, length, vec_len
 ghost use Rattle.disk_host.specs.Drafts.{state_of};
 ghost use Rattle.disk_model.specs.declared.draft.Draft.{Draft};
 
+use crate::ahead::AheadFiles;
 use crate::apart::are_apart;
 use crate::contents::ContentFile;
 use crate::failures::{Failure, Failures, Request};
@@ -108,7 +109,7 @@ where
     Ok(contents)
 }
 
-fn vault_of<R: Files + Clone>(
+fn vault_of<R: Files + Clone + Drop>(
     alloc: Global,
     rt: &R,
     places: &Places,
@@ -124,7 +125,8 @@ where
 {
     let parities = parities_of(alloc, places.parities.as_slice())?;
     let contents = contents_of(alloc, places.contents.as_slice())?;
-    Ok(DiskVault::new(alloc, rt.clone()?, parities, contents))
+    let ahead = AheadFiles::new(alloc, rt, places.parities.as_slice())?;
+    Ok(DiskVault::new(alloc, rt.clone()?, parities, contents, ahead))
 }
 
 // Whether the names are of different files. Once they are, the log is emptied.

@@ -11,11 +11,11 @@ use std::{fs, io};
 // File systems that keep no nanoseconds keep multiples of so many at best.
 const COARSE: i64 = 100;
 
-// Sets the time of last change. It is a failure where the system then tells another. The standard library takes no time
-// before 1970.
+// Sets the time of last change. It is a failure where the system then tells another, and where the standard library takes
+// no such time, as of one before 1970.
 pub(crate) fn set_stamp_of<F: OpenFile>(file: &F, stamp: Stamp) -> io::Result<()> {
     let Some(time) = time_of(stamp) else {
-        return Err(io::Error::new(ErrorKind::Unsupported, "a time before 1970 can't be set"));
+        return Err(io::Error::new(ErrorKind::Unsupported, "such a time can't be set"));
     };
     file.set_times(FileTimes::new().set_modified(time))?;
     if meta_of(&file.metadata()?)?.stamp != stamp {

@@ -1,8 +1,9 @@
 // Parity files and content copies of the system.
 ghost use Rattle.std.specs.Prelude.{◌≡◌, ◌<◌, ◌^◌, length, map, vec_len};
 ghost use Rattle.disk_host.specs.Drafts.{state_of};
-ghost use Rattle.disk_model.specs.Vault.{quiet_vault, quiet_vault-well_formed};
+ghost use Rattle.disk_model.specs.Vault.{quiet_vault, quiet_vault-well_formed, IsUntouched};
 
+use crate::ahead::{AheadFile, AheadFiles};
 use crate::contents::ContentFile;
 use crate::failures::{Failure, Failures, Request};
 use crate::faults::counted;
@@ -20,6 +21,7 @@ pub struct DiskVault<R: Files> {
     rt: R,
     parities: Vec<ParityFile<R>>,
     contents: Vec<ContentFile<R>>,
+    ahead: AheadFiles<R>,
     faults: u64,
     failures: Failures,
     // whether content is there, or was once the parity files were made for it
@@ -34,6 +36,7 @@ impl<R: Files> DiskVault<R> {
         rt: R,
         parities: Vec<ParityFile<R>>,
         contents: Vec<ContentFile<R>>,
+        ahead: AheadFiles<R>,
     ) -> DiskVault<R>
         requires levels { vec_len parities < 2 ^ 32 }
         requires copies { vec_len contents < 2 ^ 32 }
@@ -45,6 +48,7 @@ impl<R: Files> DiskVault<R> {
             rt,
             parities,
             contents,
+            ahead,
             faults: 0,
             failures: Failures::none(alloc),
             has_content: false,
@@ -113,10 +117,12 @@ where
     lacked
 }
 
-impl<R: Files + Send> Vault for DiskVault<R>
+impl<R: Files + Drop + Send> Vault for DiskVault<R>
 where
     R::File: FileExt + Send,
 {
+    type Ahead = AheadFile<R>;
+
     ghost view = { λ s. quiet_vault s.faults (vec_len s.parities) (map (λ content. state_of content.draft.stage) s.contents.items) };
 
     ghost well_formed = { λ s. quiet_vault-well_formed s.faults (vec_len s.parities) (map (λ content. state_of content.draft.stage) s.contents.items) };
@@ -147,7 +153,14 @@ where
         counted(&mut self.faults, answer)
     }
 
+    // What was read ahead is of a file that is there.
     fn parity_read(&mut self, level: u32, at: u64, out: &mut [u8]) -> Result<usize, Failed> {
+        if self
+            .ahead
+            .fill(self.parities[level as usize].name(), at, out)
+        {
+            return Ok(out.len());
+        }
         let answer = self.parities[level as usize].read(&self.rt, at, out);
         self.failures.note(Request::Read, self.parities[level as usize].name(), &answer);
         if answer.is_ok() && !self.parities[level as usize].is_open() {
@@ -157,7 +170,26 @@ where
         counted(&mut self.faults, answer)
     }
 
+    #[tactic(auto, using(disk_model::proofs::UntouchedLemmas::untouched_here))]
+    fn plan_ahead(&mut self, level: u32, at: u64, len: usize) {
+        self.ahead
+            .plan(self.parities[level as usize].name(), at, len);
+    }
+
+    #[tactic(auto, using(disk_model::proofs::UntouchedLemmas::untouched_here))]
+    fn take_ahead(&mut self) -> Option<Vec<AheadFile<R>>> {
+        self.ahead.take()
+    }
+
+    #[tactic(auto, using(disk_model::proofs::UntouchedLemmas::untouched_here))]
+    fn put_ahead(&mut self, ahead: Vec<AheadFile<R>>)
+        ensures { IsUntouched (⟦<DiskVault<R> as Vault>⟧.view self.old) (⟦<DiskVault<R> as Vault>⟧.view self.new) }
+    {
+        self.ahead.put(ahead);
+    }
+
     fn parity_write(&mut self, level: u32, at: u64, bytes: &[u8]) -> Result<(), Failed> {
+        self.ahead.forget(self.parities[level as usize].name());
         if self.has_content {
             look_for(
                 &self.rt,
@@ -179,6 +211,7 @@ where
     }
 
     fn parity_set_len(&mut self, level: u32, len: u64) -> Result<(), Failed> {
+        self.ahead.forget(self.parities[level as usize].name());
         if self.has_content
             && lacked_one(&self.rt, self.parities.as_mut_slice(), &mut self.failures)
         {
@@ -195,6 +228,7 @@ where
     }
 
     fn parity_sync(&mut self, level: u32) -> Result<(), Failed> {
+        self.ahead.forget(self.parities[level as usize].name());
         let answer = self.parities[level as usize].sync(&self.rt);
         self.failures.note(Request::Sync, self.parities[level as usize].name(), &answer);
         counted(&mut self.faults, answer)

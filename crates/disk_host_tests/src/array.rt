@@ -4,7 +4,7 @@ use crate::causes::are_causes;
 use crate::folder::folder_step;
 use crate::outside::{config_step, opener_faults};
 use crate::system::{Host, Plan};
-use crate::vault::{copy_step, level_step, vault_faults};
+use crate::vault::{ahead_step, copy_step, level_step, vault_faults};
 use crate::words::place_of;
 use disk_host::{DiskFolder, DiskOpener, DiskVault};
 use disk_model::{OpenFault, Opened, Opener, Places, Text};
@@ -23,6 +23,7 @@ pub struct Array {
 pub enum Part {
     Folder,
     Level,
+    Ahead,
     Copy,
     Config,
     OpenerFaults,
@@ -40,6 +41,7 @@ pub fn part_of(verb: &str) -> Option<Part> {
     match verb {
         "folder" => Some(Part::Folder),
         "level" => Some(Part::Level),
+        "ahead" => Some(Part::Ahead),
         "copy" => Some(Part::Copy),
         "config" => Some(Part::Config),
         "opener-faults" => Some(Part::OpenerFaults),
@@ -69,6 +71,7 @@ impl Array {
         match part {
             Part::Folder => column_step(alloc, &mut self.folders, step),
             Part::Level => level_step(alloc, &mut self.vault, step),
+            Part::Ahead => ahead_step(alloc, &mut self.vault, step),
             Part::Copy => copy_step(alloc, &mut self.vault, step),
             Part::Config => Some(config_step(alloc, &mut self.opener, step)),
             Part::OpenerFaults => Some(opener_faults(&self.opener)),

@@ -1,10 +1,10 @@
-// Steps of a vault: `level LEVEL ..`, `copy COPY ..`, and the count of its faults.
+// Steps of a vault: `level LEVEL ..`, `ahead ..`, `copy COPY ..`, and the count of its faults.
 use crate::answer::{Answer, done};
 use crate::folder::came;
 use crate::system::Host;
 use crate::words::{first_of, number_of, place_of, text_of};
 use disk_host::DiskVault;
-use disk_model::{Failed, Vault};
+use disk_model::{Ahead, Failed, Vault};
 use std::alloc::Global;
 
 #[derive(Clone, Copy)]
@@ -14,6 +14,7 @@ enum Act {
     Write,
     Cut,
     Sync,
+    Plan,
     Save,
 }
 
@@ -24,6 +25,7 @@ fn act_of(verb: &str) -> Option<Act> {
         "write" => Some(Act::Write),
         "cut" => Some(Act::Cut),
         "sync" => Some(Act::Sync),
+        "plan" => Some(Act::Plan),
         "save" => Some(Act::Save),
         _ => None,
     }
@@ -48,6 +50,7 @@ pub fn level_step(alloc: Global, vault: &mut DiskVault<Host>, step: &str) -> Opt
         Act::Read => read_level(alloc, vault, level, rest),
         Act::Write => write_level(alloc, vault, level, rest),
         Act::Cut => cut_level(vault, level, rest),
+        Act::Plan => plan_level(vault, level, rest),
         Act::Save => None,
     }
 }
@@ -98,6 +101,34 @@ fn cut_level(vault: &mut DiskVault<Host>, level: u32, words: &str) -> Option<Ans
         return None;
     }
     Some(done(vault.parity_set_len(level, len)))
+}
+
+fn plan_level(vault: &mut DiskVault<Host>, level: u32, words: &str) -> Option<Answer> {
+    let (at, len) = number_of(words)?;
+    let (len, _) = place_of(len)?;
+    if level >= vault.levels() {
+        return None;
+    }
+    vault.plan_ahead(level, at, len as usize);
+    Some(Answer::Done)
+}
+
+/// Reads ahead what was planned, and makes a step of a parity file before it is taken back, if there is one. There is
+/// `Missing` where nothing reads ahead.
+pub fn ahead_step(alloc: Global, vault: &mut DiskVault<Host>, step: &str) -> Option<Answer> {
+    let Some(mut files) = vault.take_ahead() else {
+        return Some(Answer::Missing);
+    };
+    for file in &mut files {
+        file.fetch();
+    }
+    let answer = if step.is_empty() {
+        Some(Answer::Done)
+    } else {
+        level_step(alloc, vault, step)
+    };
+    vault.put_ahead(files);
+    answer
 }
 
 /// A step of a content copy: `COPY VERB ..`.
