@@ -1,95 +1,145 @@
--- Folders listed one after another.
-use Rattle.std.proofs.Common.{◌≡◌, ◌≢◌, ℕ, ◌+◌, ◌<◌, ◌≤◌, List, [], ◌∷◌, ◌++◌, length, map, set, get_or, false, true, refl, sym, ap, ◌∙◌, subst, arith, below_more}
-use Rattle.std.proofs.lemmas.List.{length-map, length-set, length_push, map-set, get_or-map, get_or-set_same, get_or-set_other, get_or_append_left, get_or_at}
-use Rattle.disk_model.specs.Folder.{FolderView, ListFiles, IsFolderReading, quiet_folder}
-use Rattle.disk_model.specs.declared.answer.Answer.{Answer}
-use Rattle.disk_model.specs.declared.answer.Answer.TheVariants as answers
-use Rattle.array_scan.specs.declared.listing.ListingFault.{ListingFault}
-use Rattle.array_scan.specs.declared.listing.ListingFault.TheVariants.{Folder, Memory}
-use Rattle.array_scan.specs.Kept.{ListedFile}
-use Rattle.array_scan.specs.Listings.{Lists, FailsToList, folder_at, IsAsked, ListsFirst, ListsAll, FailsAt, FailsListing}
+-- Folders listed side by side.
+use Rattle.std.proofs.Common.{◌≡◌, ◌≢◌, below_more, ◌⊎◌, inl, inr, ℕ, ◌+◌, ◌-◌, ◌<◌, ◌≤◌, List, [], ◌++◌, length, map, set, get_or, Option, None, Some, Ok, Err, false, refl, sym, ap, ◌∙◌, subst, arith}
+use Rattle.std.proofs.lemmas.Bool.{cases_lt}
+use Rattle.std.proofs.lemmas.List.{length-append, length-map, length-set, map-append, map-set, get_or-map, get_or-set_same, get_or-set_other, get_or_append_left, get_or-append_right}
+use Rattle.disk_model.specs.Folder.{FolderView, quiet_folder}
+use Rattle.disk_model.specs.declared.fault.ListFault.{ListFault}
+use Rattle.disk_model.specs.declared.fault.ListFault.TheVariants as lists
+use Rattle.array_scan.specs.declared.listing.Listing.{Listing}
+use Rattle.array_scan.specs.Kept.{ListedFile, files_of, lists_of}
+use Rattle.array_scan.specs.Listings.{folder_at, IsAsked, ListsAll, FailsAt, RunsOut, Gives, HavePlaces, GiveAll, IsFirstFault}
 
--- the first folders were listed, and these are their files
-pub record ListsSome (d : ℕ) (olds news : List FolderView) (lists : List (List ListedFile)) : Type 0 where
-  pub as_many : length news ≡ length olds
-  pub count : length lists ≡ d
-  pub each : (k : ℕ) → k < d → Lists (folder_at olds k) (folder_at news k) (get_or lists k [])
-  pub others : (k : ℕ) → d ≤ k → folder_at news k ≡ folder_at olds k
+-- the first folders were asked, and what they gave is in their places
+pub record GiveSome (count : ℕ) (olds news : List FolderView) (listings : List Listing) (faults : List (Option ListFault)) : Type 0 where
+  pub folders : length news ≡ length olds
+  pub places : HavePlaces (length olds) listings faults
+  pub each : (d : ℕ) → d < count → Gives (folder_at olds d) (folder_at news d) (get_or (lists_of listings) d []) (get_or faults d None)
+  pub others : (d : ℕ) → count ≤ d → folder_at news d ≡ folder_at olds d
 
-pub lists_none : (folders : List FolderView) → ListsSome 0 folders folders []
-lists_none folders = record { as_many = refl; count = refl; each = λ k below. absurd (omega arith); others = λ k from. refl }
+pub give_none : {F : Type 0} (view : F → FolderView) (folders : List F) (listings : List Listing) (faults : List (Option ListFault)) → HavePlaces (length folders) listings faults
+    → GiveSome 0 (map view folders) (map view folders) listings faults
+give_none view folders listings faults places = record {
+  folders = refl;
+  places = record { for_files = places.for_files ∙ sym (length-map folders view); for_faults = places.for_faults ∙ sym (length-map folders view) };
+  each = λ d below. absurd (omega (arith, below));
+  others = λ d from. refl;
+}
 
-pub lists_all : (d : ℕ) (olds news : List FolderView) (lists : List (List ListedFile)) → d ≡ length olds → ListsSome d olds news lists → ListsAll olds news lists
-lists_all d olds news lists all some = record { as_many = some.count ∙ all; each = λ k below. some.each k (omega (arith, all, below)) }
+-- one more folder, as the code lends it
+pub give_more : {F : Type 0} (view : F → FolderView) (i : ℕ) (olds news : List F) (before after : F) (listings : List Listing) (listing : Listing) (faults : List (Option ListFault)) (fault : Option ListFault)
+    → i < length olds → GiveSome i (map view olds) (map view news) listings faults → Gives (view (get_or news i before)) (view after) (files_of listing) fault
+    → GiveSome (i + 1) (map view olds) (map view (set news i after)) (set listings i listing) (set faults i fault)
+give_more view i olds news before after listings listing faults fault lt so_far gives =
+    let none = quiet_folder 0 false in
+    let many : length (map view olds) ≡ length olds = length-map olds view in
+    let there : i < length news = omega (arith, lt, many, so_far.folders, length-map news view) in
+    let before_is : view (get_or news i before) ≡ folder_at (map view olds) i = sym (get_or-map view news i before none there) ∙ so_far.others i (omega arith) in
+    let news_are : map view (set news i after) ≡ set (map view news) i (view after) = map-set view news i after in
+    let lists_are : lists_of (set listings i listing) ≡ set (lists_of listings) i (files_of listing) = map-set files_of listings i listing in
+    let in_lists : i < length (lists_of listings) = omega (arith, lt, many, so_far.places.for_files, length-map listings files_of) in
+    let in_faults : i < length faults = omega (arith, lt, many, so_far.places.for_faults) in
+    let in_views : i < length (map view news) = omega (arith, there, length-map news view) in
+    rw news_are (record {
+      folders = length-set (map view news) i (view after) ∙ so_far.folders;
+      places = record { for_files = length-set listings i listing ∙ so_far.places.for_files; for_faults = length-set faults i fault ∙ so_far.places.for_faults };
+      each = below_more (λ (k : ℕ). Gives (folder_at (map view olds) k) (folder_at (set (map view news) i (view after)) k) (get_or (lists_of (set listings i listing)) k []) (get_or (set faults i fault) k None)) i
+          (λ k below. let other : k ≢ i = omega (arith, below) in
+          rw (lists_are, get_or-set_other (lists_of listings) i k (files_of listing) [] other, get_or-set_other faults i k fault None other, get_or-set_other (map view news) i k (view after) none other)
+          (so_far.each k below))
+          (rw (lists_are, get_or-set_same (lists_of listings) i (files_of listing) [] in_lists, get_or-set_same faults i fault None in_faults, get_or-set_same (map view news) i (view after) none in_views, sym before_is)
+          gives);
+      others = λ k above. let other : k ≢ i = omega (arith, above) in get_or-set_other (map view news) i k (view after) none other ∙ so_far.others k (omega (arith, above));
+    })
 
--- one folder, as the code lends it
-module _ {F : Type 0} (view : F → FolderView) (d : ℕ) (olds : List FolderView) (folders : List F) (before after : F) (lists : List (List ListedFile)) where
-  lent : d < length folders → folder_at (map view folders) d ≡ view (get_or folders d before)
-  lent within = get_or-map view folders d before (quiet_folder 0 false) within
+pub give_all : (count : ℕ) (olds news : List FolderView) (listings : List Listing) (faults : List (Option ListFault)) → length olds ≤ count → GiveSome count olds news listings faults → GiveAll olds news listings faults
+give_all count olds news listings faults most some = record {
+  folders = some.folders;
+  places = some.places;
+  each = λ d lt. some.each d (omega (arith, lt, most));
+}
 
-  now : d < length folders → folder_at (map view (set folders d after)) d ≡ view after
-  now within = ap (λ (vs : List FolderView). folder_at vs d) (map-set view folders d after) ∙ get_or-set_same (map view folders) d (view after) (quiet_folder 0 false) (omega (arith, length-map folders view))
+-- two groups, one behind the other
+module _ (olds news far_olds far_news : List FolderView) (listings far_listings : List Listing) (faults far_faults : List (Option ListFault))
+    (one : GiveAll olds news listings faults) (two : GiveAll far_olds far_news far_listings far_faults) where
+  here : (k : ℕ) → k < length (olds ++ far_olds) → (k < length olds) ⊎ (length olds ≤ k)
+      → Gives (folder_at (olds ++ far_olds) k) (folder_at (news ++ far_news) k) (get_or (lists_of (listings ++ far_listings)) k []) (get_or (faults ++ far_faults) k None)
+  here k lt (inl near) =
+      rw (
+        map-append files_of listings far_listings,
+        get_or_append_left (lists_of listings) (lists_of far_listings) [] k (omega (arith, near, one.places.for_files, length-map listings files_of)),
+        get_or_append_left faults far_faults None k (omega (arith, near, one.places.for_faults)),
+        get_or_append_left olds far_olds (quiet_folder 0 false) k near,
+        get_or_append_left news far_news (quiet_folder 0 false) k (omega (arith, near, one.folders)),
+      )
+      (one.each k near)
+  here k lt (inr far) =
+      rw (
+        map-append files_of listings far_listings,
+        get_or-append_right (lists_of listings) (lists_of far_listings) (length olds) k [] (length-map listings files_of ∙ one.places.for_files) far,
+        get_or-append_right faults far_faults (length olds) k None one.places.for_faults far,
+        get_or-append_right olds far_olds (length olds) k (quiet_folder 0 false) refl far,
+        get_or-append_right news far_news (length olds) k (quiet_folder 0 false) one.folders far,
+      )
+      (two.each (k - length olds) (omega (arith, lt, far, length-append olds far_olds)))
 
-  other : (k : ℕ) → k ≢ d → folder_at (map view (set folders d after)) k ≡ folder_at (map view folders) k
-  other k apart = ap (λ (vs : List FolderView). folder_at vs k) (map-set view folders d after) ∙ get_or-set_other (map view folders) d k (view after) (quiet_folder 0 false) apart
-
-  many : length (map view (set folders d after)) ≡ length (map view folders)
-  many = length-map (set folders d after) view ∙ length-set folders d after ∙ sym (length-map folders view)
-
-  -- the call that was made of it
-  call : (answer : Answer) → d < length folders → ListsSome d olds (map view folders) lists → IsFolderReading ListFiles answer (view (get_or folders d before)) (view after)
-      → IsFolderReading ListFiles answer (folder_at olds d) (folder_at (map view (set folders d after)) d)
-  call answer within some read =
-      subst (λ (v : FolderView). IsFolderReading ListFiles answer (folder_at olds d) v) (sym (now within))
-      (subst (λ (v : FolderView). IsFolderReading ListFiles answer v (view after)) (sym (lent within) ∙ some.others d (omega arith)) read)
-
-  earlier : d < length folders → ListsSome d olds (map view folders) lists → (k : ℕ) → k < d → IsFolderReading ListFiles answers.Done (folder_at olds k) (folder_at (map view (set folders d after)) k)
-  earlier within some k below =
-      let apart : k ≢ d = (λ (e : k ≡ d). omega (arith, e, below)) in
-      subst (λ (v : FolderView). IsFolderReading ListFiles answers.Done (folder_at olds k) v) (sym (other k apart)) (some.each k below).call
-
-  later : ListsSome d olds (map view folders) lists → (k : ℕ) → d < k → folder_at (map view (set folders d after)) k ≡ folder_at olds k
-  later some k above =
-      let apart : k ≢ d = (λ (e : k ≡ d). omega (arith, e, above)) in
-      other k apart ∙ some.others k (omega arith)
-
-  pub lists_more : (files : List ListedFile) → d < length folders → ListsSome d olds (map view folders) lists → Lists (view (get_or folders d before)) (view after) files
-      → ListsSome (d + 1) olds (map view (set folders d after)) (lists ++ files ∷ [])
-  lists_more files within some one = record {
-    as_many = many ∙ some.as_many;
-    count = length_push lists files ∙ ap (λ n. n + 1) some.count;
-    each = below_more (λ k. Lists (folder_at olds k) (folder_at (map view (set folders d after)) k) (get_or (lists ++ files ∷ []) k [])) d
-        (λ k below.
-        let apart : k ≢ d = (λ (e : k ≡ d). omega (arith, e, below)) in
-        subst (λ (v : FolderView). Lists (folder_at olds k) v (get_or (lists ++ files ∷ []) k [])) (sym (other k apart))
-        (subst (λ (fs : List ListedFile). Lists (folder_at olds k) (folder_at (map view folders) k) fs) (sym (get_or_append_left lists (files ∷ []) [] k (omega (arith, some.count)))) (some.each k below)))
-        (subst (λ (v : FolderView). Lists (folder_at olds d) v (get_or (lists ++ files ∷ []) d [])) (sym (now within))
-        (subst (λ (v : FolderView). Lists v (view after) (get_or (lists ++ files ∷ []) d [])) (sym (lent within) ∙ some.others d (omega arith))
-        (subst (λ (fs : List ListedFile). Lists (view (get_or folders d before)) (view after) fs) (sym (get_or_at lists files [] [] d some.count)) one)));
-    others = λ k from. later some k (omega arith);
+  pub both_give : GiveAll (olds ++ far_olds) (news ++ far_news) (listings ++ far_listings) (faults ++ far_faults)
+  both_give = record {
+    folders = omega (arith, length-append news far_news, length-append olds far_olds, one.folders, two.folders);
+    places = record {
+      for_files = omega (arith, length-append listings far_listings, length-append olds far_olds, one.places.for_files, two.places.for_files);
+      for_faults = omega (arith, length-append faults far_faults, length-append olds far_olds, one.places.for_faults, two.places.for_faults);
+    };
+    each = λ k lt. here k lt (cases_lt k (length olds));
   }
 
-  pub lists_lent : (files : List ListedFile) (more : List (List ListedFile)) → more ≡ lists ++ files ∷ [] → d < length folders → ListsSome d olds (map view folders) lists
-      → Lists (view (get_or folders d before)) (view after) files → ListsSome (d + 1) olds (map view (set folders d after)) more
-  lists_lent files more same within some one = subst (ListsSome (d + 1) olds (map view (set folders d after))) (sym same) (lists_more files within some one)
+-- as the code has it: the folders were cut in two
+pub both_groups : {F : Type 0} (view : F → FolderView) (all olds news far_olds far_news : List F) (listings far_listings : List Listing) (faults far_faults : List (Option ListFault))
+    → all ≡ olds ++ far_olds → GiveAll (map view olds) (map view news) listings faults → GiveAll (map view far_olds) (map view far_news) far_listings far_faults
+    → GiveAll (map view all) (map view (news ++ far_news)) (listings ++ far_listings) (faults ++ far_faults)
+both_groups view all olds news far_olds far_news listings far_listings faults far_faults all_is one two =
+    rw (ap (map view) all_is ∙ map-append view olds far_olds, map-append view news far_news)
+    (both_give (map view olds) (map view news) (map view far_olds) (map view far_news) listings far_listings faults far_faults one two)
 
-  pub first_listed : d < length folders → ListsSome d olds (map view folders) lists → IsAsked (view (get_or folders d before)) (view after)
-      → ListsFirst (d + 1) olds (map view (set folders d after))
-  first_listed within some read = record {
-    as_many = many ∙ some.as_many;
-    calls = below_more (λ k. IsAsked (folder_at olds k) (folder_at (map view (set folders d after)) k)) d
-        (λ k below. record { answer = answers.Done; call = earlier within some k below; unfailed = refl })
-        (record { answer = read.answer; call = call read.answer within some read.call; unfailed = read.unfailed });
-    others = λ k from. later some k (omega arith);
+-- ---- what is told
+
+asked : (old new : FolderView) (files : List ListedFile) (fault : Option ListFault) → Gives old new files fault → IsAsked old new
+asked old new files None gives = record { answer = Ok tt; call = gives.call }
+asked old new files (Some lists.Failed) gives = record { answer = Err lists.Failed; call = gives }
+asked old new files (Some lists.Memory) gives = record { answer = Err lists.Memory; call = gives }
+
+module _ (olds news : List FolderView) (listings : List Listing) (faults : List (Option ListFault)) (all : GiveAll olds news listings faults) where
+  gives_as : (d : ℕ) (fault : Option ListFault) → d < length faults → get_or faults d None ≡ fault → Gives (folder_at olds d) (folder_at news d) (get_or (lists_of listings) d []) fault
+  gives_as d fault lt is =
+      subst (λ (f : Option ListFault). Gives (folder_at olds d) (folder_at news d) (get_or (lists_of listings) d []) f) is (all.each d (omega (arith, lt, all.places.for_faults)))
+
+  pub lists_all : IsFirstFault faults None → ListsAll olds news (lists_of listings)
+  lists_all none = record {
+    as_many = length-map listings files_of ∙ all.places.for_files;
+    each = λ d lt. let within : d < length faults = omega (arith, lt, all.places.for_faults) in gives_as d None within (none d within);
   }
 
-  pub fails_at : (fault : ListingFault) → d < length folders → ListsSome d olds (map view folders) lists → FailsToList d (view (get_or folders d before)) (view after) fault
-      → FailsListing olds (map view (set folders d after)) fault
-  fails_at (Folder disk) within some fails =
-      subst (λ (n : ℕ). FailsAt n olds (map view (set folders d after))) (sym fails.0) (record {
-        within = omega (arith, some.as_many, length-map folders view);
-        failed = call answers.Failed within some fails.1;
-        before = earlier within some;
-        behind = later some;
-      })
-  fails_at Memory within some fails = (d + 1, first_listed within some (record { answer = answers.OutOfMemory; call = fails; unfailed = refl }))
+  pub fails_at : (disk : ℕ) → IsFirstFault faults (Some (disk, lists.Failed)) → FailsAt disk olds news
+  fails_at disk first = record {
+    as_many = all.folders;
+    within = omega (arith, first.0, all.places.for_faults);
+    failed = gives_as disk (Some lists.Failed) first.0 first.1;
+    before = λ d lt. (gives_as d None (omega (arith, lt, first.0)) (first.2 d lt)).call;
+    behind = λ d above lt. asked _ _ _ _ (all.each d lt);
+  }
+
+  pub runs_out : (disk : ℕ) → IsFirstFault faults (Some (disk, lists.Memory)) → RunsOut olds news
+  runs_out disk first = inr (
+    disk,
+    record {
+      as_many = all.folders;
+      within = omega (arith, first.0, all.places.for_faults);
+      before = λ d lt. (gives_as d None (omega (arith, lt, first.0)) (first.2 d lt)).call;
+      ran_out = λ below. gives_as disk (Some lists.Memory) first.0 first.1;
+      behind = λ d above lt. asked _ _ _ _ (all.each d lt);
+    },
+  )
+
+-- as the code has it: the places are the items of a vector
+pub first_is : (given faults : List (Option ListFault)) (result first : Option (ℕ × ListFault)) → given ≡ faults → result ≡ first → IsFirstFault given result → IsFirstFault faults first
+first_is given faults result first same is told =
+    subst (λ (it : Option (ℕ × ListFault)). IsFirstFault faults it) is (subst (λ (places : List (Option ListFault)). IsFirstFault places result) same told)

@@ -1,7 +1,7 @@
 -- What a check leaves.
 use Rattle.std.proofs.Common.{◌≡◌, ℕ, ◌<◌, ◌≤◌, ◌⊎◌, inl, inr, List, length, Result, Ok, Err, IfOk, IfErr, refl, ◌∙◌, sym, ap, subst, arith}
 use Rattle.std.proofs.lemmas.Bool.{cases_lt}
-use Rattle.array_scan.specs.Listings.{FailsAt, ListsFirst}
+use Rattle.array_scan.specs.Listings.{FailsAt, ListsFirst, RunsOut}
 use Rattle.disk_model.specs.Files.{Stays}
 use Rattle.disk_model.specs.Folder.{FolderView, TreeStays}
 use Rattle.disk_model.specs.Sink.{SinkView}
@@ -39,15 +39,25 @@ same_stays old new same tells = ap (λ (v : FolderView). v.tree) same
 first_stay : (count : ℕ) (olds news : List FolderView) → ListsFirst count olds news → AllStay olds news
 first_stay count olds news first d below = by (cases_lt d count)
   where
+    from : (count < d) ⊎ (d ≤ count) → count ≤ d → TreeStays (folder_at olds d) (folder_at news d)
+    from (inl over) least = (first.behind d over below).call.tree
+    from (inr under) least =
+        let same : d ≡ count = omega (arith, under, least) in
+        subst (λ k. TreeStays (folder_at olds k) (folder_at news k)) (sym same) (first.ran_out (omega (arith, below, same))).tree
+
     by : (d < count) ⊎ (count ≤ d) → TreeStays (folder_at olds d) (folder_at news d)
-    by (inl under) = (first.calls d under).call.tree
-    by (inr over) = same_stays _ _ (first.others d over)
+    by (inl before) = (first.before d before).tree
+    by (inr least) = from (cases_lt count d) least
+
+out_stay : (olds news : List FolderView) → RunsOut olds news → AllStay olds news
+out_stay olds news (inl same) d below = same_stays _ _ (ap (λ fs. folder_at fs d) same)
+out_stay olds news (inr first) d below = first_stay first.0 olds news first.1 d below
 
 failed_stay : (disk : ℕ) (olds news : List FolderView) → FailsAt disk olds news → AllStay olds news
 failed_stay disk olds news fails d below = by (cases_lt d disk)
   where
     behind : (disk < d) ⊎ (d ≤ disk) → disk ≤ d → TreeStays (folder_at olds d) (folder_at news d)
-    behind (inl over) least = same_stays _ _ (fails.behind d over)
+    behind (inl over) least = (fails.behind d over below).call.tree
     behind (inr under) least = let same : d ≡ disk = omega (arith, under, least) in subst (λ k. TreeStays (folder_at olds k) (folder_at news k)) (sym same) fails.failed.tree
 
     by : (d < disk) ⊎ (disk ≤ d) → TreeStays (folder_at olds d) (folder_at news d)
@@ -56,7 +66,7 @@ failed_stay disk olds news fails d below = by (cases_lt d disk)
 
 begun_stay : (olds news : List FolderView) (fault : RunFault) → BeginsNot olds news fault → AllStay olds news
 begun_stay olds news (Folder disk) why = failed_stay disk olds news why
-begun_stay olds news Memory why = first_stay why.0 olds news why.1
+begun_stay olds news Memory why = out_stay olds news why
 begun_stay olds news Vault why = absurd why
 
 -- a check that did not begin

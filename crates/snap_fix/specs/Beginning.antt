@@ -1,7 +1,7 @@
 -- What comes before anything is read of parity or written: the folders are listed, and the files of all records are placed.
 use Rattle.std.specs.Prelude.{◌≡◌, ℕ, List, length}
 use Rattle.array_scan.specs.Kept.{ListedFile}
-use Rattle.array_scan.specs.Listings.{ListsAll, FailsAt, ListsFirst}
+use Rattle.array_scan.specs.Listings.{ListsAll, FailsAt, RunsOut}
 use Rattle.array_scan.specs.declared.listing.ListingFault.{ListingFault}
 use Rattle.array_scan.specs.declared.listing.ListingFault.TheVariants as listing
 use Rattle.disk_model.specs.Folder.{FolderView}
@@ -32,8 +32,9 @@ abbrev pub of_listing : ListingFault → RunFault
 of_listing (listing.Folder disk) = Folder disk
 of_listing listing.Memory = Memory
 
--- Why a run did not begin: a folder could not be listed, or memory ran out after so many were.
+-- Why a run did not begin: a folder could not be listed; or memory ran out, before any folder was asked or after the first so many
+-- were listed.
 abbrev pub BeginsNot : List FolderView → List FolderView → RunFault → Type 0
 BeginsNot olds news (Folder disk) = FailsAt disk olds news
-BeginsNot olds news Memory = (count : ℕ) × ListsFirst count olds news
+BeginsNot olds news Memory = RunsOut olds news
 BeginsNot olds news Vault = ⊥

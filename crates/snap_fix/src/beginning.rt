@@ -11,6 +11,7 @@ use repair_scope::{Entries, Mode, Scope, scope_of, stripes_to_look_at};
 use snap_config::{Selection, Setup};
 use snap_report::RunFault;
 use std::alloc::Global;
+use std::thread::Threads;
 use stripe_examiner::{Room, place_all};
 use stripe_reader::Starts;
 
@@ -36,7 +37,8 @@ fn fault_of(fault: ListingFault) -> RunFault
 }
 
 /// Lists each folder once, finds the places of all files, and takes all memory.
-pub(crate) fn begin<F: Folder>(
+pub(crate) fn begin<R: Threads + Sync, F: Folder>(
+    rt: &R,
     alloc: Global,
     mode: Mode,
     selection: &Selection,
@@ -52,7 +54,7 @@ pub(crate) fn begin<F: Folder>(
     // There is a folder for each column, and so no more of them than a table has columns.
     let columns = table.disks() as usize;
     prove!(folders.len() == columns);
-    let lists = match listings(alloc, folders) {
+    let lists = match listings(rt, alloc, folders) {
         Ok(lists) => lists,
         Err(fault) => return Err(fault_of(fault)),
     };

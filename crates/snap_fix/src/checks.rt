@@ -50,7 +50,7 @@ pub(crate) fn check<R: Threads + Sync, F: Folder, V: Vault, P: Spare, W: Sink>(
         (vault.new ≡ vault.old) × (spare.new ≡ spare.old) × (lines.new ≡ lines.old) × (reports.new ≡ reports.old)) }
 {
     let (selection, setup, table) = (task.selection, task.setup, task.table);
-    let mut work = begin(alloc, task.mode, selection, setup, folders, table)?;
+    let mut work = begin(rt, alloc, task.mode, selection, setup, folders, table)?;
     let (most, block_size) = (work.room.window.room(), table.shape().block_size);
     let Ok(mut far) = Window::make(alloc, table.disks(), most, block_size) else {
         return Err(RunFault::Memory);

@@ -88,7 +88,8 @@ fn progress_before(alloc: Global, table: &Table, starts: Starts) -> Result<Progr
 }
 
 // Lists each folder once, and takes all that a fix works with.
-fn begin_fix<F: Folder>(
+fn begin_fix<R: Threads + Sync, F: Folder>(
+    rt: &R,
     alloc: Global,
     selection: &Selection,
     setup: &Setup,
@@ -101,7 +102,7 @@ fn begin_fix<F: Folder>(
         (map F.view folders.old) (map F.view folders.new)) }
     ensures failed { IfErr result (BeginsNot (map F.view folders.old) (map F.view folders.new)) }
 {
-    let work = begin(alloc, Mode::Fix, selection, setup, folders, table)?;
+    let work = begin(rt, alloc, Mode::Fix, selection, setup, folders, table)?;
     let Work {
         scope,
         entries,
@@ -211,6 +212,6 @@ pub(crate) fn fix<R: Threads + Sync, F: Folder, V: Vault, P: Spare, W: Sink>(
         ((vault.new ≡ vault.old) × (spare.new ≡ spare.old) × (lines.new ≡ lines.old) × (reports.new ≡ reports.old))) }
 {
     let (selection, setup, table) = (task.selection, task.setup, task.table);
-    let mut begun = begin_fix(alloc, selection, setup, folders, table, task.readers)?;
+    let mut begun = begin_fix(rt, alloc, selection, setup, folders, table, task.readers)?;
     fix_begun(rt, table, &mut begun, folders, vault, spare, lines, reports)
 }

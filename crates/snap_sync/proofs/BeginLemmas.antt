@@ -1,14 +1,12 @@
 -- Before the vault is touched.
-use Rattle.std.proofs.Common.{◌≡◌, ℕ, List, [], length, All, false, refl, sym, ◌∙◌, arith}
-use Rattle.std.proofs.lemmas.List.{get_or_past}
+use Rattle.std.proofs.Common.{◌≡◌, List, [], length, All, inr, refl, arith}
 use Rattle.std.proofs.lemmas.List.Elements.{All-from_get_or}
 use Rattle.std.proofs.lemmas.List.FromFn.{length-map-range_with_len}
-use Rattle.disk_model.specs.declared.answer.Answer.TheVariants.{Done}
 use Rattle.array_scan.specs.Kept.{ListedFile, kept_lists}
-use Rattle.array_scan.specs.Listings.{ListsAll, ListsFirst, FailsListing}
+use Rattle.array_scan.specs.Listings.{ListsAll, RunsOut, FailsListing}
 use Rattle.array_scan.specs.declared.listing.ListingFault.{ListingFault}
 use Rattle.array_scan.specs.declared.listing.ListingFault.TheVariants as listing
-use Rattle.disk_model.specs.Folder.{FolderView, quiet_folder}
+use Rattle.disk_model.specs.Folder.{FolderView}
 use Rattle.disk_model.specs.Tree.{IsListing}
 use Rattle.file_table.specs.Table.{TableValue}
 use Rattle.snap_config.specs.Setup.{SetupValue}
@@ -31,13 +29,15 @@ listing_fails setup way old olds news (listing.Folder disk) fails = fails
 listing_fails setup way old olds news listing.Memory fails = fails
 
 -- all folders were listed
-pub all_listed : (olds news : List FolderView) (lists : List (List ListedFile)) → length news ≡ length olds → ListsAll olds news lists → (count : ℕ) × ListsFirst count olds news
-all_listed olds news lists as_many all = (
+pub all_listed : (olds news : List FolderView) (lists : List (List ListedFile)) → length news ≡ length olds → ListsAll olds news lists → RunsOut olds news
+all_listed olds news lists as_many all = inr (
   length olds,
   record {
     as_many = as_many;
-    calls = λ d lt. record { answer = Done; call = (all.each d lt).call; unfailed = refl };
-    others = λ d behind. get_or_past news d (quiet_folder 0 false) (omega (arith, behind, as_many)) ∙ sym (get_or_past olds d (quiet_folder 0 false) behind);
+    within = omega arith;
+    before = λ d lt. (all.each d lt).call;
+    ran_out = λ below. absurd (omega (arith, below));
+    behind = λ d above lt. absurd (omega (arith, above, lt));
   },
 )
 

@@ -1,8 +1,8 @@
 -- What comes before the vault is touched: the folders are listed, and their kept files laid out.
-use Rattle.std.specs.Prelude.{◌≡◌, ℕ, List, length, None}
+use Rattle.std.specs.Prelude.{◌≡◌, List, length, None}
 use Rattle.array_scan.specs.Kept.{ListedFile, kept_lists}
 use Rattle.array_scan.specs.Layout.{layout, all_sorted}
-use Rattle.array_scan.specs.Listings.{ListsAll, FailsAt, ListsFirst}
+use Rattle.array_scan.specs.Listings.{ListsAll, FailsAt, RunsOut}
 use Rattle.array_scan.specs.Refusals.{refusal, IsCause}
 use Rattle.array_scan.specs.declared.fault.ScanFault.{ScanFault}
 use Rattle.disk_model.specs.Folder.{FolderView}
@@ -30,9 +30,9 @@ pub record RefusesLayout (setup : SetupValue) (way : SyncWay) (old : TableValue)
   pub cause : IsCause (refusal way.force_zero way.force_empty old (all_sorted old (kept_lists setup lists))) fault
 
 -- Why a sync did not begin: the layout is refused, and then the old table is handed back; a folder could not be listed; or memory ran
--- out after so many folders were listed.
+-- out, before any folder was asked or after the first so many were listed.
 abbrev pub BeginsNot : SetupValue → SyncWay → TableValue → List FolderView → List FolderView → SyncFault → Type 0
 BeginsNot setup way old olds news (Scan fault table) = (table ≡ old) × RefusesLayout setup way old olds news fault
 BeginsNot setup way old olds news (Run (Folder disk)) = FailsAt disk olds news
-BeginsNot setup way old olds news (Run Memory) = (count : ℕ) × ListsFirst count olds news
+BeginsNot setup way old olds news (Run Memory) = RunsOut olds news
 BeginsNot setup way old olds news (Run Vault) = ⊥

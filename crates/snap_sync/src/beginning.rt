@@ -13,6 +13,7 @@ use file_table::Table;
 use snap_config::{Setup, SyncWay};
 use snap_report::RunFault;
 use std::alloc::Global;
+use std::thread::Threads;
 
 /// A table that is laid out, its pending stripes, ascending, and all memory that its sync needs.
 #[derive(Drop)]
@@ -23,7 +24,8 @@ pub(crate) struct Work {
 }
 
 /// Lists each folder once, lays out, and takes all memory. A layout that is refused hands the old table back.
-pub(crate) fn begin<F: Folder>(
+pub(crate) fn begin<R: Threads + Sync, F: Folder>(
+    rt: &R,
     alloc: Global,
     folders: &mut [F],
     setup: &Setup,
@@ -37,7 +39,7 @@ pub(crate) fn begin<F: Folder>(
     ensures room { IfOk result (λ work. IsRoomFor work.table (length work.pending.items) work.room) }
     ensures failed { IfErr result (BeginsNot (setup_value setup.now) way.now old (map F.view folders.old) (map F.view folders.new)) }
 {
-    let lists = listings(alloc, folders)?;
+    let lists = listings(rt, alloc, folders)?;
     let plan = match lay_out_in_place(alloc, old, lists.as_slice(), setup, way) {
         Ok(plan) => plan,
         Err(unlaid) => return Err(SyncFault::Scan(unlaid.fault, unlaid.table)),

@@ -56,7 +56,7 @@ pub fn sync<R: Threads + Sync, F: Folder, V: Vault, W: Sink>(
         (outside (map F.view folders.new) (V.view vault.new) lines.new reports.new.items)
         ((vault.new ≡ vault.old) × (lines.new ≡ lines.old) × (reports.new ≡ reports.old))) }
 {
-    let work = begin(alloc, folders, setup, way, old)?;
+    let work = begin(rt, alloc, folders, setup, way, old)?;
     let columns = u64::from(work.table.disks());
     let stripe_bytes = u64::from(work.table.shape().block_size) * columns;
     let pace = Pace {

@@ -41,7 +41,7 @@ use Rattle.snap_top.specs.Does.{DoesCommand, IsDone}
 use Rattle.snap_top.specs.Task.{Task, Did, reads_only, Left}
 use Rattle.snap_top.specs.Views.{World, world_view, world_of, view_of, outside_of, AllReadOnly}
 use Rattle.snap_top.proofs.DoneLemmas.{by_output, nothing_more}
-use Rattle.snap_top.proofs.FolderLemmas.{all_listed, column_reads_only, first_listed, failed_at}
+use Rattle.snap_top.proofs.FolderLemmas.{all_listed, column_reads_only, ran_out, failed_at}
 use Rattle.snap_top.proofs.SyncLemmas.{changes_of, printed_lines, listing_failed}
 use Rattle.snap_top.proofs.ViewsLemmas.{some_calls_of, sink_stays, all_read_then}
 
@@ -81,7 +81,7 @@ folders_read plan starts stripes olds news read = record {
 
 begun_not : (olds news : List FolderView) (fault : RunFault) → length news ≡ length olds → BeginsNot olds news fault → AllReadOnly olds news
 begun_not olds news (runs.Folder disk) many why = failed_at disk olds news many why
-begun_not olds news runs.Memory many why = first_listed why.0 olds news why.1
+begun_not olds news runs.Memory many why = ran_out olds news why
 begun_not olds news runs.Vault many why = absurd why
 
 -- what holds nothing gives none

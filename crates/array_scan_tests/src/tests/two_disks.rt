@@ -133,7 +133,7 @@ fn two_disks_are_laid_out_in_one_call(rt: HostRuntime) -> Result<(), Fail> {
 fn each_folder_is_listed(rt: HostRuntime) -> Result<(), Fail> {
     let alloc = rt.alloc();
     let mut folders = two_folders(alloc, &ONE, &TWO)?;
-    let lists = listings(alloc, &mut folders).ok().ok_or("not listed")?;
+    let lists = listings(&rt, alloc, &mut folders).ok().ok_or("not listed")?;
     let counts = [1, 2];
     assert_eq!(rt; lists.len(), counts.len());
     for d in 0..lists.len().min(counts.len()) {

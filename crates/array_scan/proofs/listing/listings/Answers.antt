@@ -1,42 +1,33 @@
-use Rattle.std.proofs.Common.{◌+◌, [], ◌∷◌, map, ap, refl, sym, ◌∙◌, subst, arith, Result, Ok, Err, IfErr}
-use Rattle.std.specs.Result.{IsErrAnd}
-use Rattle.std.proofs.lemmas.List.{length-map, map-append}
-use Rattle.disk_model.specs.declared.answer.Answer.TheVariants as answers
-use Rattle.array_scan.specs.Kept.{files_of, lists_of}
-use Rattle.array_scan.specs.Listings.{FailsListing}
-use Rattle.array_scan.proofs.ListingLemmas.{ListsSome, lists_none, lists_all, lists_lent, first_listed, fails_at}
+use Rattle.std.proofs.Common.{◌≡◌, length, Some, ap, ◌∙◌}
+use Rattle.std.proofs.lemmas.List.{with_items_is}
+use Rattle.disk_model.specs.declared.fault.ListFault.{ListFault}
+use Rattle.array_scan.proofs.ListingLemmas.{lists_all, fails_at, runs_out, first_is}
 use Rattle.array_scan.proofs.listing.listings.Goals as goal
 
--- the fault of a call that is handed on
-handed_on : {T E : Type 0} (result : Result T E) (P Q : E → Type 0) → ((e : E) → P e → Q e) → IsErrAnd result P → IfErr result Q
-handed_on (Ok x) P Q more is = tt
-handed_on (Err e) P Q more is = more e is
+pub returns-in-Some-default-Failed-clause-failed : goal.returns-in-Some-default-Failed-clause-failed
+returns-in-Some-default-Failed-clause-failed g c =
+    let faults = c.list_group.new.faults in
+    let long : length faults ≡ c.in_ok-faults.faults.len = c.list_group.auto.faults ∙ c.as_mut_slice-2.ensures.len in
+    let disk = c.in-Some-default-Failed.disk in
+    fails_at _ _ c.list_group.new.listings faults c.list_group.ensures disk
+    (first_is _ faults _ _ (c.deref.ensures.value ∙ with_items_is c.in_ok-faults.faults faults long)
+    (c.in-Some-default-Failed.is ∙ ap (λ (fault : ListFault). Some (disk, fault)) c.in-Some-default-Failed.field-0-1-is) c.first_fault.ensures)
 
-pub loop-d-init : goal.loop-d-init
-loop-d-init g c =
-    let views = map g.F.Folder.view c.args.folders.now in
-    subst (λ listings. ListsSome 0 views views (lists_of listings)) (sym c.new-listings.ensures.items) (lists_none views)
-
-pub returns-in_err-listing-clause-failed : goal.returns-in_err-listing-clause-failed
-returns-in_err-listing-clause-failed g c =
-    let olds = map g.F.Folder.view c.args.folders.now in
-    handed_on c.from_residual.result _ _
-    (λ fault same. subst (FailsListing olds (map g.F.Folder.view _)) (sym same)
-    (fails_at g.F.Folder.view c.loop-d.d olds c.loop-d.folders _ _ (lists_of c.loop-d.listings.items) c.in_err-listing.field-0.0 (omega arith) c.loop-d.invariant c.in_err-listing.ensures.failed))
-    c.from_residual.ensures.1
-
-pub returns-in_err-push-clause-failed : goal.returns-in_err-push-clause-failed
-returns-in_err-push-clause-failed g c =
-    let olds = map g.F.Folder.view c.args.folders.now in
-    handed_on c.from_residual-in_err-push.result _ _
-    (λ fault same. subst (FailsListing olds (map g.F.Folder.view _)) (sym same)
-    (c.loop-d.d + 1, first_listed g.F.Folder.view c.loop-d.d olds c.loop-d.folders _ _ (lists_of c.loop-d.listings.items) (omega arith) c.loop-d.invariant (record { answer = answers.Done; call = c.in_ok-listing.ensures.listed.call; unfailed = refl })))
-    c.from_residual-in_err-push.ensures.1
-
-pub loop-d-preserved : goal.loop-d-preserved
-loop-d-preserved g c =
-    lists_lent g.F.Folder.view c.loop-d.d (map g.F.Folder.view c.args.folders.now) c.loop-d.folders _ _ (lists_of c.loop-d.listings.items) (files_of c.in_ok-listing.listing) _
-    (ap lists_of c.in_ok-push.ensures.items ∙ map-append files_of c.loop-d.listings.items (c.in_ok-listing.listing ∷ [])) (omega arith) c.loop-d.invariant c.in_ok-listing.ensures.listed
+pub returns-in-Some-default-Memory-clause-failed : goal.returns-in-Some-default-Memory-clause-failed
+returns-in-Some-default-Memory-clause-failed g c =
+    let faults = c.list_group.new.faults in
+    let long : length faults ≡ c.in_ok-faults.faults.len = c.list_group.auto.faults ∙ c.as_mut_slice-2.ensures.len in
+    let disk = c.in-Some-default-Memory.field-0-0 in
+    runs_out _ _ c.list_group.new.listings faults c.list_group.ensures disk
+    (first_is _ faults _ _ (c.deref.ensures.value ∙ with_items_is c.in_ok-faults.faults faults long)
+    (c.in-Some-default-Memory.is ∙ ap (λ (fault : ListFault). Some (disk, fault)) c.in-Some-default-Memory.field-0-1-is) c.first_fault.ensures)
 
 pub returns-clause-listed : goal.returns-clause-listed
-returns-clause-listed g c = lists_all c.loop-d.d _ _ _ (omega (arith, length-map c.args.folders.now g.F.Folder.view)) c.loop-d.invariant
+returns-clause-listed g c =
+    let faults = c.list_group.new.faults in
+    let listings = c.list_group.new.listings in
+    let long : length faults ≡ c.in_ok-faults.faults.len = c.list_group.auto.faults ∙ c.as_mut_slice-2.ensures.len in
+    let as_long : length listings ≡ c.in_ok-listings.listings.len = c.list_group.auto.listings ∙ c.as_mut_slice.ensures.len in
+    rw (with_items_is c.in_ok-listings.listings listings as_long)
+    (lists_all _ _ listings faults c.list_group.ensures
+    (first_is _ faults _ _ (c.deref.ensures.value ∙ with_items_is c.in_ok-faults.faults faults long) c.in-None.is c.first_fault.ensures))
