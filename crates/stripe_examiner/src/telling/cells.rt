@@ -204,7 +204,7 @@ pub fn tell_lost<W: Sink>(
         (λ d. is_marked_missing (mark_in marks.now d)) known) result }
 {
     let mut counts = Counts::NONE;
-    for d in 0..table.disks() {
+    for d in 0..plan.table.disks() {
         let found = lost(plan, stripe, marks[d as usize], known, d);
         counts = counts.and(tell_found(plan.table, found, lines, reports));
     }

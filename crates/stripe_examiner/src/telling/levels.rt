@@ -54,7 +54,7 @@ pub fn tell_unread_levels<W: Sink>(
         (take levels.now.count levels.now.levels)) result }
 {
     let mut counts = Counts::NONE;
-    for r in 0..table.shape().levels {
+    for r in 0..plan.table.shape().levels {
         let found = unread(plan, stripe, levels, r);
         counts = counts.and(tell_found(plan.table, found, lines, reports));
     }

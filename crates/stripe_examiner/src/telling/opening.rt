@@ -94,7 +94,7 @@ fn tell_column<W: Sink>(
     ensures counts { AreCounts (column_events (seen plan.now) d) result }
 {
     let mut counts = Counts::NONE;
-    for i in 0..table.records(d) {
+    for i in 0..plan.table.records(d) {
         counts = counts.and(tell_record(plan, d, i, lines, reports));
     }
     counts
@@ -112,7 +112,7 @@ pub fn tell_opening<W: Sink>(
     ensures counts { AreCounts (opening_events (seen plan.now)) result }
 {
     let mut counts = Counts::NONE;
-    for d in 0..table.disks() {
+    for d in 0..plan.table.disks() {
         counts = counts.and(tell_column(plan, d, lines, reports));
     }
     counts
