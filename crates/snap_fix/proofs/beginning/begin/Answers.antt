@@ -16,7 +16,7 @@ place_all-requires-clause-order g c =
     subst (λ lists. All IsListing (lists_of lists)) (sym c.as_slice.ensures.value) listed
 
 pub stripes_to_look_at-requires : goal.stripes_to_look_at-requires
-stripes_to_look_at-requires g c κs within =
+stripes_to_look_at-requires g c =
     subst (EntriesFit c.args.table.now) (sym c.in-Ok-place_all.ensures.entries)
     (entries_fit c.args.selection.now (names_of (setup_value c.args.setup.now)) c.args.table.now (lists_of c.as_slice.result.now))
 

@@ -4,7 +4,7 @@ use Rattle.stripe_examiner.specs.Surveyed.{plan_in}
 use Rattle.stripe_examiner.proofs.AheadLemmas.{rooms_untouched}
 use Rattle.stripe_examiner.proofs.beside.take_levels_of.Goals as goal
 
-pub read_levels_of-requires-clause-levels : goal.calls-read_levels_of-requires-levels
+pub read_levels_of-requires-clause-levels : goal.read_levels_of-requires-clause-levels
 read_levels_of-requires-clause-levels g c = same_levels _ _ c.read_stripes_ahead.ensures ∙ c.requires.levels
 
 pub returns : goal.returns
