@@ -9,6 +9,7 @@ use Rattle.snap_config.specs.Setup.{SetupValue}
 use Rattle.snap_config.specs.declared.options.Selection.{Selection}
 use Rattle.snap_config.specs.declared.setup.Disk.{Disk}
 use Rattle.repair_scope.specs.declared.entry.Entry.{Entry}
+use Rattle.repair_scope.specs.declared.plan.Plan.{Plan}
 use Rattle.repair_scope.specs.declared.scope.Mode.{Mode}
 use Rattle.repair_scope.specs.declared.scope.Mode.TheVariants.{Check, Audit, Fix}
 use Rattle.repair_scope.specs.declared.scope.Scope.{Scope}
@@ -23,6 +24,10 @@ pub record FixPlan : Type 0 where
 
 abbrev pub plan_of : Scope → TableValue → List (List Entry) → FixPlan
 plan_of scope table entries = record { scope = scope; table = table; entries = entries }
+
+-- what is seen of a plan that is handed on
+abbrev pub seen : Plan → FixPlan
+seen plan = plan_of plan.scope plan.table.now plan.entries.now
 
 -- ---- how it follows from what was asked for and from what the folders list
 

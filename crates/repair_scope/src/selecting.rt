@@ -4,13 +4,12 @@ ghost use Rattle.std.specs.List.{list_any};
 ghost use Rattle.disk_model.specs.Name.{level_names};
 ghost use Rattle.file_table.specs.Table.{Record};
 ghost use Rattle.snap_config.specs.Matching.{matches};
-ghost use Rattle.repair_scope.specs.Plan.{EntriesFit, IsScope, plan_of, stripes_of, is_in_scope, selects_cell, selects_level, has_selected_cell, has_selected_level, is_looked_at};
+ghost use Rattle.repair_scope.specs.Plan.{EntriesFit, IsScope, seen, stripes_of, is_in_scope, selects_cell, selects_level, has_selected_cell, has_selected_level, is_looked_at};
 ghost use Rattle.repair_scope.specs.Selected.{selects as selects_by, is_named, means_disk, means_path, is_as_recorded, means_all, means_level};
 
-use crate::entry::Entries;
+use crate::plan::Plan;
 use crate::scope::{Mode, Scope};
 use disk_model::{Meta, NoMemory, Path, Text};
-use file_table::Table;
 use snap_config::{Pattern, Selection, matches};
 use std::alloc::Global;
 
@@ -113,52 +112,46 @@ pub fn selects(
 }
 
 // Whether a stripe is in scope.
-fn is_in_scope(scope: Scope, table: &Table, entries: &Entries, stripe: u32) -> bool
-    requires { stripe < length table.now.infos }
-    ensures { result ≡ is_in_scope (plan_of scope table.now entries.now) stripe }
+fn is_in_scope(plan: &Plan<'_>, stripe: u32) -> bool
+    requires { stripe < length plan.now.table.now.infos }
+    ensures { result ≡ is_in_scope (seen plan.now) stripe }
 {
-    !scope.only_bad || table.info(stripe).bad
+    !plan.scope.only_bad || plan.table.info(stripe).bad
 }
 
 /// Whether the cell of a column at a stripe is selected.
-pub fn selects_cell(scope: Scope, table: &Table, entries: &Entries, stripe: u32, d: u32) -> bool
-    requires entries { EntriesFit table.now entries.now }
-    requires stripe { stripe < length table.now.infos }
-    requires column { d < length table.now.columns }
-    ensures { result ≡ selects_cell (plan_of scope table.now entries.now) stripe d }
+pub fn selects_cell(plan: &Plan<'_>, stripe: u32, d: u32) -> bool
+    requires entries { EntriesFit plan.now.table.now plan.now.entries.now }
+    requires stripe { stripe < length plan.now.table.now.infos }
+    requires column { d < length plan.now.table.now.columns }
+    ensures { result ≡ selects_cell (seen plan.now) stripe d }
 {
-    if !is_in_scope(scope, table, entries, stripe) {
+    if !is_in_scope(plan, stripe) {
         return false;
     }
-    match table.cell(stripe, d) {
-        Some(cell) => entries.at(d, cell.rec).selected,
+    match plan.table.cell(stripe, d) {
+        Some(cell) => plan.entries.at(d, cell.rec).selected,
         None => false,
     }
 }
 
 /// Whether a level is selected at a stripe.
-pub fn selects_level(
-    scope: Scope,
-    table: &Table,
-    entries: &Entries,
-    stripe: u32,
-    level: u32,
-) -> bool
-    requires stripe { stripe < length table.now.infos }
+pub fn selects_level(plan: &Plan<'_>, stripe: u32, level: u32) -> bool
+    requires stripe { stripe < length plan.now.table.now.infos }
     requires level { level < 6 }
-    ensures { result ≡ selects_level (plan_of scope table.now entries.now) stripe level }
+    ensures { result ≡ selects_level (seen plan.now) stripe level }
 {
-    is_in_scope(scope, table, entries, stripe) && scope.levels[level as usize]
+    is_in_scope(plan, stripe) && plan.scope.levels[level as usize]
 }
 
 /// Whether a stripe has a selected cell.
-pub fn has_selected_cell(scope: Scope, table: &Table, entries: &Entries, stripe: u32) -> bool
-    requires entries { EntriesFit table.now entries.now }
-    requires stripe { stripe < length table.now.infos }
-    ensures { result ≡ has_selected_cell (plan_of scope table.now entries.now) stripe }
+pub fn has_selected_cell(plan: &Plan<'_>, stripe: u32) -> bool
+    requires entries { EntriesFit plan.now.table.now plan.now.entries.now }
+    requires stripe { stripe < length plan.now.table.now.infos }
+    ensures { result ≡ has_selected_cell (seen plan.now) stripe }
 {
-    for d in 0..table.disks() {
-        if selects_cell(scope, table, entries, stripe, d) {
+    for d in 0..plan.table.disks() {
+        if selects_cell(plan, stripe, d) {
             return true;
         }
     }
@@ -166,12 +159,12 @@ pub fn has_selected_cell(scope: Scope, table: &Table, entries: &Entries, stripe:
 }
 
 /// Whether a stripe has a selected level.
-pub fn has_selected_level(scope: Scope, table: &Table, entries: &Entries, stripe: u32) -> bool
-    requires { stripe < length table.now.infos }
-    ensures { result ≡ has_selected_level (plan_of scope table.now entries.now) stripe }
+pub fn has_selected_level(plan: &Plan<'_>, stripe: u32) -> bool
+    requires { stripe < length plan.now.table.now.infos }
+    ensures { result ≡ has_selected_level (seen plan.now) stripe }
 {
-    for level in 0..table.shape().levels {
-        if selects_level(scope, table, entries, stripe, level) {
+    for level in 0..plan.table.shape().levels {
+        if selects_level(plan, stripe, level) {
             return true;
         }
     }
@@ -179,29 +172,22 @@ pub fn has_selected_level(scope: Scope, table: &Table, entries: &Entries, stripe
 }
 
 // Whether a stripe has a selected cell or level. Levels come first: no search is needed for them.
-fn is_looked_at(scope: Scope, table: &Table, entries: &Entries, stripe: u32) -> bool
-    requires entries { EntriesFit table.now entries.now }
-    requires stripe { stripe < length table.now.infos }
-    ensures { result ≡ is_looked_at (plan_of scope table.now entries.now) stripe }
+fn is_looked_at(plan: &Plan<'_>, stripe: u32) -> bool
+    requires entries { EntriesFit plan.now.table.now plan.now.entries.now }
+    requires stripe { stripe < length plan.now.table.now.infos }
+    ensures { result ≡ is_looked_at (seen plan.now) stripe }
 {
-    has_selected_level(scope, table, entries, stripe)
-        || has_selected_cell(scope, table, entries, stripe)
+    has_selected_level(plan, stripe) || has_selected_cell(plan, stripe)
 }
 
 /// The stripes with a selected cell or level, ascending.
-pub fn stripes_to_look_at(
-    alloc: Global,
-    scope: Scope,
-    table: &Table,
-    entries: &Entries,
-) -> Result<Vec<u32>, NoMemory>
-    requires { EntriesFit table.now entries.now }
-    ensures { IfOk result (λ stripes.
-        stripes.items ≡ stripes_of (plan_of scope table.now entries.now)) }
+pub fn stripes_to_look_at(alloc: Global, plan: &Plan<'_>) -> Result<Vec<u32>, NoMemory>
+    requires { EntriesFit plan.now.table.now plan.now.entries.now }
+    ensures { IfOk result (λ stripes. stripes.items ≡ stripes_of (seen plan.now)) }
 {
     let mut stripes = Vec::new(alloc);
-    for stripe in 0..table.length() {
-        if is_looked_at(scope, table, entries, stripe) {
+    for stripe in 0..plan.table.length() {
+        if is_looked_at(plan, stripe) {
             stripes.push(stripe)?;
         }
     }

@@ -1,10 +1,10 @@
 // What is tried at a stripe.
 ghost use Rattle.std.specs.Prelude.{◌≡◌, ◌<◌, length};
-ghost use Rattle.repair_scope.specs.Plan.{plan_of, is_audit as is_audit_mode, is_synced as is_synced_at, is_searched as is_searched_at};
+ghost use Rattle.repair_scope.specs.Plan.{seen, is_audit as is_audit_mode, is_synced as is_synced_at, is_searched as is_searched_at};
 
-use crate::entry::Entries;
-use crate::scope::{Mode, Scope};
-use file_table::{Mark, Table};
+use crate::plan::Plan;
+use crate::scope::Mode;
+use file_table::Mark;
 
 /// Whether files alone are looked at, and no parity.
 pub fn is_audit(mode: Mode) -> bool
@@ -14,17 +14,17 @@ pub fn is_audit(mode: Mode) -> bool
 }
 
 /// Whether a stripe is synced.
-pub fn is_synced(scope: Scope, table: &Table, entries: &Entries, stripe: u32) -> bool
-    requires { stripe < length table.now.infos }
-    ensures { result ≡ is_synced_at (plan_of scope table.now entries.now) stripe }
+pub fn is_synced(plan: &Plan<'_>, stripe: u32) -> bool
+    requires { stripe < length plan.now.table.now.infos }
+    ensures { result ≡ is_synced_at (seen plan.now) stripe }
 {
-    table.info(stripe).mark == Mark::Synced
+    plan.table.info(stripe).mark == Mark::Synced
 }
 
 /// Whether a recovery of the damaged blocks of a stripe is tried.
-pub fn is_searched(scope: Scope, table: &Table, entries: &Entries, stripe: u32) -> bool
-    requires { stripe < length table.now.infos }
-    ensures { result ≡ is_searched_at (plan_of scope table.now entries.now) stripe }
+pub fn is_searched(plan: &Plan<'_>, stripe: u32) -> bool
+    requires { stripe < length plan.now.table.now.infos }
+    ensures { result ≡ is_searched_at (seen plan.now) stripe }
 {
-    is_synced(scope, table, entries, stripe) && !is_audit(scope.mode)
+    is_synced(plan, stripe) && !is_audit(plan.scope.mode)
 }

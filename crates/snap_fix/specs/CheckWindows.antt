@@ -1,4 +1,4 @@
--- A check that goes from window to window: one is looked at while the next one is fetched.
+-- A check that goes from window to window: one is examined while the next one is fetched, and then told.
 use Rattle.std.specs.Prelude.{◌≡◌, ℕ, ◌+◌, ◌-◌, ◌<◌, ◌≤◌, min, List, length, take, drop}
 use Rattle.file_table.specs.Table.{TableValue}
 use Rattle.stripe_reader.specs.Fetched.{IsUnhashedWindow}

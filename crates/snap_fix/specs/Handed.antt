@@ -1,4 +1,4 @@
--- What is handed on as one value: the plan of a run, and a stripe that was examined. What is asked of it, and said of it.
+-- What is handed on as one value, as a stripe that was examined: what is asked of it, and said of it.
 use Rattle.std.specs.Prelude.{◌≡◌, ℕ, List, map, Bool, true}
 use Rattle.disk_model.specs.Folder.{FolderView}
 use Rattle.disk_model.specs.Sink.{SinkView}
@@ -12,12 +12,11 @@ use Rattle.file_restorer.specs.declared.state.FileState.{FileState}
 use Rattle.stripe_examiner.specs.Facts.{StripeFacts}
 use Rattle.stripe_examiner.specs.Judging.{TellsWrong}
 use Rattle.stripe_examiner.specs.Marks.{CanExamine, row_if}
-use Rattle.repair_scope.specs.Plan.{FixPlan, is_searched, plan_of}
+use Rattle.repair_scope.specs.Plan.{FixPlan, is_searched, seen}
 use Rattle.stripe_examiner.specs.Spare.{IsSpareFor, SpareView, nothing}
 use Rattle.stripe_examiner.specs.WindowExamined.{CanExamineWindow}
 use Rattle.snap_fix.specs.declared.fixing.Totals.{Totals}
 use Rattle.snap_fix.specs.declared.plan.Examined.{Examined}
-use Rattle.snap_fix.specs.declared.plan.Plan.{Plan}
 use Rattle.snap_fix.specs.declared.plan.Progress.{Progress}
 use Rattle.snap_fix.specs.declared.plan.Shown.{Shown}
 use Rattle.snap_fix.specs.declared.plan.Stretch.{Stretch}
@@ -30,10 +29,6 @@ use Rattle.snap_fix.specs.Repairing.{CanMend, CanMendLevels, FilesOutside, Flags
 use Rattle.snap_fix.specs.FixRun.{BreaksWindow, FixesWindow, MendsInto, MendsNotInto}
 use Rattle.snap_fix.specs.Underway.{FixUnderway}
 use Rattle.snap_fix.specs.WindowShown.{ShowsAll, ShowsFactsOf}
-
--- the plan of a run
-abbrev pub seen : Plan → FixPlan
-seen plan = plan_of plan.scope plan.table.now plan.entries.now
 
 -- ---- a stripe that was examined
 

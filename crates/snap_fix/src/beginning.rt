@@ -7,7 +7,7 @@ ghost use Rattle.repair_scope.specs.Plan.{names_of};
 use array_scan::{ListingFault, listings};
 use disk_model::Folder;
 use file_table::Table;
-use repair_scope::{Entries, Mode, Scope, scope_of, stripes_to_look_at};
+use repair_scope::{Entries, Mode, Plan, Scope, scope_of, stripes_to_look_at};
 use snap_config::{Selection, Setup};
 use snap_report::RunFault;
 use std::alloc::Global;
@@ -64,7 +64,12 @@ pub(crate) fn begin<R: Threads + Sync, F: Folder>(
     // The rest of the memory is taken once that of the listings is given back.
     drop(lists);
     let scope = scope_of(mode, selection);
-    let Ok(stripes) = stripes_to_look_at(alloc, scope, table, &entries) else {
+    let plan = Plan {
+        scope,
+        table,
+        entries: &entries,
+    };
+    let Ok(stripes) = stripes_to_look_at(alloc, &plan) else {
         return Err(RunFault::Memory);
     };
     let Ok(room) = Room::make(alloc, table) else {

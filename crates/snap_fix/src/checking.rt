@@ -1,39 +1,37 @@
-// The stripes of a check, window by window: one is looked at while the next one is fetched.
+// The stripes of a check, window by window: one is examined while the next one is fetched, and told behind both.
 ghost use Rattle.std.specs.Prelude.{◌≡◌, ℕ, ◌<◌, ◌≤◌, List, length, map, take, min, get_or, slice_index_or};
 ghost use Rattle.std.specs.Thread.{IsSend, IsSync};
 ghost use Rattle.snap_report.specs.Told.{Told};
 ghost use Rattle.snap_fix.specs.Checking.{AreShown, IsWorkFor, KeepsWork, ChecksStripes, plan_for};
 ghost use Rattle.snap_fix.specs.CheckWindows.{IsReady, UsesRoom, stripes_near, stripes_next};
-ghost use Rattle.snap_fix.specs.Handed.{seen};
 ghost use Rattle.stripe_examiner.specs.declared.room.StripeRoom.{StripeRoom};
 ghost use Rattle.stripe_examiner.specs.Counts.{AreCounts};
 ghost use Rattle.stripe_examiner.specs.Facts.{StripeFacts};
 ghost use Rattle.stripe_examiner.specs.Findings.{events_of};
 ghost use Rattle.stripe_examiner.specs.Looking.{LooksInto, scene};
-ghost use Rattle.repair_scope.specs.Plan.{plan_of};
+ghost use Rattle.repair_scope.specs.Plan.{seen};
 ghost use Rattle.stripe_examiner.specs.Shown.{CanTell};
 ghost use Rattle.stripe_examiner.specs.Spare.{IsSpareFor};
+ghost use Rattle.stripe_examiner.specs.Surveyed.{plan_in};
 ghost use Rattle.stripe_examiner.specs.WindowExamined.{CanExamineFetched, ExaminesFetched};
 ghost use Rattle.stripe_reader.specs.Fetched.{FetchesWindow, hashed_window};
 ghost use Rattle.stripe_reader.specs.Held.{CanRead};
 ghost use Rattle.stripe_reader.specs.WindowValue.{Fits, WindowValue};
 
 use crate::beginning::Work;
-use crate::plan::{Plan, Stretch, Task};
+use crate::plan::Task;
 use disk_model::{Folder, Sink, Vault};
 use file_table::Table;
-use repair_scope::{Entries, Scope};
+use repair_scope::Plan;
 use snap_report::{Lines, Report};
 use std::mem::swap;
 use std::thread::{Threads, join_mut};
-use stripe_examiner::{Counts, Room, Spare, StripeRoom, examine_fetched, tell_stripe};
+use stripe_examiner::{Counts, Room, Spare, StripeRoom, Survey, examine_fetched, tell_stripe};
 use stripe_reader::{Starts, Window, fetch_window};
 
 // Tells what is found in the stripes of a window that was examined, one stripe after another.
 fn tell_window<W: Sink>(
-    scope: Scope,
-    table: &Table,
-    entries: &Entries,
+    plan: &Plan<'_>,
     stripes: &[u32],
     rooms: &[StripeRoom],
     lines: &mut Lines<'_, W>,
@@ -41,18 +39,18 @@ fn tell_window<W: Sink>(
 ) -> Counts
     requires count { length stripes.now ≤ length rooms.now }
     requires can { (k : ℕ) (other : StripeRoom) → k < length stripes.now →
-        CanTell (plan_of scope table.now entries.now) (get_or stripes.now k 0) (slice_index_or rooms.now k other) }
+        CanTell (seen plan.now) (get_or stripes.now k 0) (slice_index_or rooms.now k other) }
     ensures told { (all : List StripeFacts) (window : WindowValue) →
-        AreShown (plan_of scope table.now entries.now) all stripes.now window rooms.now →
-        Told W.view standing stands table.now.columns (events_of (plan_of scope table.now entries.now) all)
+        AreShown (seen plan.now) all stripes.now window rooms.now →
+        Told W.view standing stands plan.now.table.now.columns (events_of (seen plan.now) all)
         lines.old lines.new reports.old.items reports.new.items }
     ensures counts { (all : List StripeFacts) (window : WindowValue) →
-        AreShown (plan_of scope table.now entries.now) all stripes.now window rooms.now →
-        AreCounts (events_of (plan_of scope table.now entries.now) all) result }
+        AreShown (seen plan.now) all stripes.now window rooms.now →
+        AreCounts (events_of (seen plan.now) all) result }
 {
     let mut counts = Counts::NONE;
     for k in 0..stripes.len() {
-        let more = tell_stripe(scope, table, entries, stripes[k], &rooms[k], lines, reports);
+        let more = tell_stripe(plan, stripes[k], &rooms[k], lines, reports);
         counts = counts.and(more);
     }
     counts
@@ -61,8 +59,7 @@ fn tell_window<W: Sink>(
 // Examines stripes that were fetched into the window of a room, and meanwhile fetches the stripes ahead into the far window.
 fn turn<R: Threads + Sync, F: Folder, V: Vault, P: Spare>(
     rt: &R,
-    stretch: &Stretch<'_, '_>,
-    readers: u32,
+    survey: &Survey<'_>,
     starts: &Starts,
     ahead: &[u32],
     room: &mut Room,
@@ -71,29 +68,25 @@ fn turn<R: Threads + Sync, F: Folder, V: Vault, P: Spare>(
     vault: &mut V,
     spare: &mut P,
 )
-    requires near { CanExamineFetched (seen stretch.now.plan) stretch.now.stripes.now room.old }
-    requires far { CanRead stretch.now.plan.table.now starts.now ahead.now far.old (length folders.old) }
-    requires levels { (V.view vault.old).levels ≡ stretch.now.plan.table.now.shape.levels }
-    requires spare { IsSpareFor stretch.now.plan.table.now.shape (P.holding spare.old) }
-    ensures far { Fits stretch.now.plan.table.now far.new }
-    ensures fetched { FetchesWindow stretch.now.plan.table.now starts.now ahead.now far.old far.new
+    requires near { CanExamineFetched (seen survey.now.plan) survey.now.stripes.now room.old }
+    requires far { CanRead survey.now.plan.table.now starts.now ahead.now far.old (length folders.old) }
+    requires levels { (V.view vault.old).levels ≡ survey.now.plan.table.now.shape.levels }
+    requires spare { IsSpareFor survey.now.plan.table.now.shape (P.holding spare.old) }
+    ensures far { Fits survey.now.plan.table.now far.new }
+    ensures fetched { FetchesWindow survey.now.plan.table.now starts.now ahead.now far.old far.new
         (map F.view folders.old) (map F.view folders.new) }
-    ensures examined { ExaminesFetched (seen stretch.now.plan) stretch.now.stripes.now room.old room.new
+    ensures examined { ExaminesFetched (seen survey.now.plan) survey.now.stripes.now room.old room.new
         (V.view vault.old) (V.view vault.new) (P.holding spare.old) (P.holding spare.new) }
 {
-    let (plan, stripes) = (stretch.plan, stretch.stripes);
-    let (scope, table, entries) = (plan.scope, plan.table, plan.entries);
+    let table = survey.plan.table;
     let mut fetching = ||
         requires { IsSync R.row × IsSend F.row × CanRead table.now starts.now ahead.now far.now (length folders.now) }
     { fetch_window(rt, folders, table, starts, ahead, far) };
     let mut examining = ||
-        requires { IsSync R.row × CanExamineFetched (plan_of scope table.now entries.now) stripes.now room.now ×
-            ((V.view vault.now).levels ≡ table.now.shape.levels) × IsSpareFor table.now.shape (P.holding spare.now) }
-    {
-        examine_fetched(
-            rt, scope, table, entries, stripes, readers, room, vault, spare,
-        )
-    };
+        requires { IsSync R.row × CanExamineFetched (plan_in survey.now) survey.now.stripes.now room.now ×
+            ((V.view vault.now).levels ≡ survey.now.plan.table.now.shape.levels) ×
+            IsSpareFor survey.now.plan.table.now.shape (P.holding spare.now) }
+    { examine_fetched(rt, survey, room, vault, spare) };
     join_mut(rt, &mut fetching, &mut examining);
 }
 
@@ -101,8 +94,7 @@ fn turn<R: Threads + Sync, F: Folder, V: Vault, P: Spare>(
 // window, and then what is found in them is told.
 fn look_at<R: Threads + Sync, F: Folder, V: Vault, P: Spare, W: Sink>(
     rt: &R,
-    stretch: &Stretch<'_, '_>,
-    readers: u32,
+    survey: &Survey<'_>,
     starts: &Starts,
     ahead: &[u32],
     room: &mut Room,
@@ -113,25 +105,22 @@ fn look_at<R: Threads + Sync, F: Folder, V: Vault, P: Spare, W: Sink>(
     lines: &mut Lines<'_, W>,
     reports: &mut Vec<Box<dyn Report>>,
 ) -> Counts
-    requires near { CanExamineFetched (seen stretch.now.plan) stretch.now.stripes.now room.old }
-    requires far { CanRead stretch.now.plan.table.now starts.now ahead.now far.old (length folders.old) }
-    requires levels { (V.view vault.old).levels ≡ stretch.now.plan.table.now.shape.levels }
-    requires spare { IsSpareFor stretch.now.plan.table.now.shape (P.holding spare.old) }
-    ensures room { UsesRoom stretch.now.plan.table.now room.old room.new }
-    ensures far { Fits stretch.now.plan.table.now far.new }
-    ensures fetched { FetchesWindow stretch.now.plan.table.now starts.now ahead.now far.old far.new
+    requires near { CanExamineFetched (seen survey.now.plan) survey.now.stripes.now room.old }
+    requires far { CanRead survey.now.plan.table.now starts.now ahead.now far.old (length folders.old) }
+    requires levels { (V.view vault.old).levels ≡ survey.now.plan.table.now.shape.levels }
+    requires spare { IsSpareFor survey.now.plan.table.now.shape (P.holding spare.old) }
+    ensures room { UsesRoom survey.now.plan.table.now room.old room.new }
+    ensures far { Fits survey.now.plan.table.now far.new }
+    ensures fetched { FetchesWindow survey.now.plan.table.now starts.now ahead.now far.old far.new
         (map F.view folders.old) (map F.view folders.new) }
-    ensures looks { LooksInto W.view standing stands (seen stretch.now.plan) stretch.now.stripes.now
-        (hashed_window stretch.now.plan.table.now.shape room.old.window) result
+    ensures looks { LooksInto W.view standing stands (seen survey.now.plan) survey.now.stripes.now
+        (hashed_window survey.now.plan.table.now.shape room.old.window) result
         (scene (V.view vault.old) (P.holding spare.old) lines.old reports.old.items)
         (scene (V.view vault.new) (P.holding spare.new) lines.new reports.new.items) }
 {
-    turn(
-        rt, stretch, readers, starts, ahead, room, far, folders, vault, spare,
-    );
-    let (plan, stripes, rooms) = (stretch.plan, stretch.stripes, &room.stripes);
-    let (scope, table, entries) = (plan.scope, plan.table, plan.entries);
-    tell_window(scope, table, entries, stripes, rooms, lines, reports)
+    turn(rt, survey, starts, ahead, room, far, folders, vault, spare);
+    let (plan, stripes) = (&survey.plan, survey.stripes);
+    tell_window(plan, stripes, &room.stripes, lines, reports)
 }
 
 // Fetches the first window.
@@ -153,7 +142,8 @@ fn fetch_first<R: Threads + Sync, F: Folder>(
     fetch_window(rt, folders, table, &work.starts, stripes, &mut room.window);
 }
 
-// Looks at the stripes of the window that was fetched, which stands after so many, and meanwhile fetches the next ones.
+// Examines the stripes of the window that was fetched, which stands after so many, and meanwhile fetches the next ones. Then what is
+// found is told.
 fn check_window<R: Threads + Sync, F: Folder, V: Vault, P: Spare, W: Sink>(
     rt: &R,
     task: &Task<'_>,
@@ -187,12 +177,15 @@ fn check_window<R: Threads + Sync, F: Folder, V: Vault, P: Spare, W: Sink>(
         table: task.table,
         entries: &work.entries,
     };
-    let stripes = &work.stripes[done..next];
-    let stretch = Stretch { plan, stripes };
+    let survey = Survey {
+        plan,
+        stripes: &work.stripes[done..next],
+        threads: task.readers,
+    };
     let ahead = &work.stripes[next..next + more];
-    let (readers, starts, room) = (task.readers, &work.starts, &mut work.room);
+    let (starts, room) = (&work.starts, &mut work.room);
     look_at(
-        rt, &stretch, readers, starts, ahead, room, far, folders, vault, spare, lines, reports,
+        rt, &survey, starts, ahead, room, far, folders, vault, spare, lines, reports,
     )
 }
 
@@ -204,8 +197,8 @@ fn swap_windows(work: &mut Work, far: &mut Window)
     swap(&mut work.room.window, far);
 }
 
-/// Looks at all stripes that a run is for: a window of them is fetched, and then each is examined and what is found is told, while
-/// the next window is fetched.
+/// Looks at all stripes that a run is for: a window of them is fetched, and then examined while the next one is fetched. What is found
+/// is told behind both.
 pub(crate) fn check_stripes<R: Threads + Sync, F: Folder, V: Vault, P: Spare, W: Sink>(
     rt: &R,
     task: &Task<'_>,

@@ -9,6 +9,7 @@ use crate::beginning::begin;
 use crate::checking::check_stripes;
 use crate::plan::Task;
 use disk_model::{Folder, Sink, Vault};
+use repair_scope::Plan;
 use snap_report::{Lines, Report, RunFault};
 use std::alloc::Global;
 use std::thread::Threads;
@@ -55,7 +56,12 @@ pub(crate) fn check<R: Threads + Sync, F: Folder, V: Vault, P: Spare, W: Sink>(
     let Ok(mut far) = Window::make(alloc, table.disks(), most, block_size) else {
         return Err(RunFault::Memory);
     };
-    let opening = tell_opening(work.scope, table, &work.entries, lines, reports);
+    let plan = Plan {
+        scope: work.scope,
+        table,
+        entries: &work.entries,
+    };
+    let opening = tell_opening(&plan, lines, reports);
     let stripes = check_stripes(
         rt, task, &mut work, &mut far, folders, vault, spare, lines, reports,
     );

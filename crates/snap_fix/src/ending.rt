@@ -6,15 +6,14 @@ ghost use Rattle.snap_report.specs.Told.{Told};
 ghost use Rattle.stripe_examiner.specs.Counts.{AreCounts};
 ghost use Rattle.snap_fix.specs.Ending.{CanFinishAll, FinishesAll, FinishesNotAll, IsLevelSettled, SyncsWritten, SyncsNot, Syncs, finish_news, sync_if, written_syncs};
 ghost use Rattle.snap_fix.specs.EndingSteps.{CanEndRecord, EndsRecord, EndsNotRecord, CanEndColumn, EndsColumn, EndsNotColumn, column_outside, done_news, unstamped_news};
-ghost use Rattle.repair_scope.specs.Plan.{EntriesFit};
-ghost use Rattle.snap_fix.specs.Handed.{seen};
+ghost use Rattle.repair_scope.specs.Plan.{EntriesFit, seen};
 ghost use Rattle.snap_fix.specs.Repairing.{outside};
 
-use crate::plan::{Plan, Progress};
+use crate::plan::Progress;
 use disk_model::{Failed, Folder, Sink, Vault};
 use file_restorer::{Finish, States, finish_record};
 use file_table::Table;
-use repair_scope::Entry;
+use repair_scope::{Entry, Plan};
 use snap_report::events::Event;
 use snap_report::{Lines, Report};
 use stripe_examiner::{Counts, tell_found};

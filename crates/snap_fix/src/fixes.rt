@@ -15,7 +15,7 @@ use crate::plan::{Examined, Progress, Shown, Stretch, Workspace};
 use disk_model::{Folder, Sink, Vault};
 use snap_report::{Lines, Report, RunFault};
 use std::thread::Threads;
-use stripe_examiner::{Counts, Spare, examine_window};
+use stripe_examiner::{Counts, Spare, Survey, examine_window};
 
 impl Totals {
     /// Nothing was found or written.
@@ -103,13 +103,14 @@ fn fix_window<R: Threads + Sync, F: Folder, V: Vault, P: Spare, W: Sink>(
         (scene_at F.view V.view P.holding space.old folders.old vault.old spare.old lines.old reports.old.items)
         (scene_at F.view V.view P.holding space.new folders.new vault.new spare.new lines.new reports.new.items)) }
 {
-    let (plan, stripes, readers) = (stretch.plan, stretch.stripes, space.readers);
-    let (scope, table, entries) = (plan.scope, plan.table, plan.entries);
+    let survey = Survey {
+        plan: stretch.plan,
+        stripes: stretch.stripes,
+        threads: space.readers,
+    };
     let (room, progress) = (&mut space.room, &mut space.progress);
     let starts = &progress.starts;
-    examine_window(
-        rt, scope, table, entries, starts, stripes, readers, room, folders, vault, spare,
-    );
+    examine_window(rt, &survey, starts, room, folders, vault, spare);
     let window = &room.window;
     let rooms = &room.stripes;
     let block = &mut room.block;

@@ -2,14 +2,15 @@
 ghost use Rattle.std.specs.Prelude.{◌≡◌, IfOk, IfErr, length, map};
 ghost use Rattle.stripe_examiner.specs.Facts.{StripeFacts};
 ghost use Rattle.snap_fix.specs.Fixing.{SceneFits};
-ghost use Rattle.snap_fix.specs.Handed.{beside, BreaksOne, CanExamineOne, CanMendRow, FixesOne, IfSearched, MendsNotRowTried, MendsRowTried, ShowsOne, TellsWrongOne, seen};
+ghost use Rattle.repair_scope.specs.Plan.{seen};
+ghost use Rattle.snap_fix.specs.Handed.{beside, BreaksOne, CanExamineOne, CanMendRow, FixesOne, IfSearched, MendsNotRowTried, MendsRowTried, ShowsOne, TellsWrongOne};
 ghost use Rattle.snap_fix.specs.Repairing.{levels_outside};
 ghost use Rattle.snap_fix.specs.Underway.{FixUnderway};
 
-use crate::plan::{Examined, Plan, Progress};
+use crate::plan::{Examined, Progress};
 use crate::repairing::{mend_files, mend_levels};
 use disk_model::{Failed, Folder, Sink, Vault};
-use repair_scope::is_searched;
+use repair_scope::{Plan, is_searched};
 use snap_report::{Lines, Report, RunFault};
 use stripe_examiner::{Counts, tell_stripe};
 
@@ -43,7 +44,7 @@ fn mend_parity<V: Vault, W: Sink>(
         (levels_outside (V.view vault.old) lines.old reports.old.items)
         (levels_outside (V.view vault.new) lines.new reports.new.items)) }
 {
-    if !is_searched(plan.scope, plan.table, plan.entries, one.stripe) {
+    if !is_searched(plan, one.stripe) {
         return Ok(0);
     }
     mend_levels(plan, one, block, written, vault, lines, reports)
@@ -73,9 +74,8 @@ pub(crate) fn fix_stripe<F: Folder, V: Vault, W: Sink>(
         (beside F.view V.view progress.old folders.old vault.old lines.old reports.old.items)
         (beside F.view V.view progress.new folders.new vault.new lines.new reports.new.items)) }
 {
-    let (scope, table, entries) = (plan.scope, plan.table, plan.entries);
     let (starts, states) = (&mut progress.starts, &mut progress.states);
-    let found = tell_stripe(scope, table, entries, one.stripe, one.own, lines, reports);
+    let found = tell_stripe(plan, one.stripe, one.own, lines, reports);
     let repaired = match mend_files(plan, one, starts, states, folders, lines, reports) {
         Ok(repaired) => repaired,
         Err(disk) => return Err(RunFault::Folder { disk }),

@@ -1,7 +1,7 @@
-// What a run is asked for, what it goes by, how far a fix is, and stripes of a window that were examined: each as one value.
+// What a run is asked for, the stripes that a fix looks at, how far it is, and stripes of a window that were examined: each as one value.
 use file_restorer::States;
 use file_table::Table;
-use repair_scope::{Entries, Mode, Scope};
+use repair_scope::{Mode, Plan};
 use snap_config::{Selection, Setup};
 use stripe_examiner::{Room, StripeRoom};
 use stripe_reader::{Starts, Window};
@@ -14,14 +14,6 @@ pub(crate) struct Task<'a> {
     pub setup: &'a Setup,
     pub table: &'a Table,
     pub readers: u32,
-}
-
-/// What a run is to do, the table that it goes by, and what is known of the files of its records.
-#[derive(Clone, Copy)]
-pub(crate) struct Plan<'a> {
-    pub scope: Scope,
-    pub table: &'a Table,
-    pub entries: &'a Entries,
 }
 
 /// Stripes that a fix looks at, and the plan that it goes by.

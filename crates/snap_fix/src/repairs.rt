@@ -17,11 +17,11 @@ use crate::checks::FixEnd;
 use crate::ending::{finish_all, sync_levels};
 use crate::fixes::fix_stripes;
 use crate::fixing::Totals;
-use crate::plan::{Plan, Progress, Stretch, Task, Workspace};
+use crate::plan::{Progress, Stretch, Task, Workspace};
 use disk_model::{Folder, NoMemory, Sink, Vault};
 use file_restorer::{FileState, States};
 use file_table::Table;
-use repair_scope::{Entries, Mode, Scope};
+use repair_scope::{Entries, Mode, Plan, Scope};
 use snap_config::{Selection, Setup};
 use snap_report::{Lines, Report, RunFault};
 use std::alloc::Global;
@@ -172,7 +172,7 @@ fn fix_begun<R: Threads + Sync, F: Folder, V: Vault, P: Spare, W: Sink>(
     let stripes = begun.stripes.as_slice();
     let stretch = Stretch { plan, stripes };
     let space = &mut begun.space;
-    let opening = tell_opening(plan.scope, table, plan.entries, lines, reports);
+    let opening = tell_opening(&plan, lines, reports);
     let totals = fix_stripes(rt, &stretch, space, folders, vault, spare, lines, reports)?;
     if sync_levels(space.progress.written.as_slice(), vault).is_err() {
         return Err(RunFault::Vault);

@@ -2,6 +2,7 @@ pub mod LookingLemmas
 pub mod WindowLemmas
 pub mod TakenLemmas
 pub mod ReadSteps
+pub mod AheadLemmas
 pub mod MarkSteps
 pub mod JudgedLemmas
 pub mod WindowShown

@@ -48,7 +48,7 @@ reading_before size stripe level (Some bytes) old mid tells stays (few, is) =
     (few, λ told. is (tells ∙ told) ∙ ap (λ (files : Files). read_from (parity_of files level) (stripe * size) size) (stays told))
 
 module _ (size : ℕ) (old mid : VaultView) (tells : mid.tells ≡ old.tells) (stays : IsTrue old.tells → mid.files ≡ old.files) where
-  levels_before : (stripes : List StripeFacts) (readings : List (List LevelReading)) → AreAllLevelsOf size mid stripes readings → AreAllLevelsOf size old stripes readings
+  pub levels_before : (stripes : List StripeFacts) (readings : List (List LevelReading)) → AreAllLevelsOf size mid stripes readings → AreAllLevelsOf size old stripes readings
   levels_before [] [] are = tt
   levels_before [] (of ∷ readings) are = absurd are
   levels_before (facts ∷ stripes) [] are = absurd are

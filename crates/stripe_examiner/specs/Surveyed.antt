@@ -2,11 +2,11 @@
 use Rattle.std.specs.Prelude.{◌≡◌, ℕ, ◌<◌, List, length, All}
 use Rattle.stripe_reader.specs.WindowValue.{WindowValue, Fits}
 use Rattle.stripe_examiner.specs.declared.survey.Survey.{Survey}
-use Rattle.repair_scope.specs.Plan.{FixPlan, EntriesFit, plan_of}
+use Rattle.repair_scope.specs.Plan.{FixPlan, EntriesFit, seen}
 
 -- the plan that stripes are examined by
 abbrev pub plan_in : Survey → FixPlan
-plan_in survey = plan_of survey.scope survey.table.now survey.entries.now
+plan_in survey = seen survey.plan
 
 -- stripes of these numbers were read into a window, and can be marked there
 pub record CanMark (plan : FixPlan) (numbers : List ℕ) (window : WindowValue) : Type 0 where

@@ -32,7 +32,7 @@ fn make_searched(survey: &Survey<'_>, stripe: u32, i: u32, window: &Window, own:
     requires searched { is_searched_at (plan_in survey.now) stripe ≡ true }
     ensures { MakesFirst (plan_in survey.now) stripe i window.now own.old own.new }
 {
-    let table = survey.table;
+    let table = survey.plan.table;
     let shape = table.shape();
     own.first = FirstChoice::NONE;
     see_levels(&own.levels, shape.levels);
@@ -61,7 +61,7 @@ fn make(survey: &Survey<'_>, k: usize, window: &Window, own: &mut StripeRoom)
     // A number of a stripe of a window is below its count.
     let _count = window.count();
     let stripe = survey.stripes[k];
-    if !is_searched(survey.scope, survey.table, survey.entries, stripe) {
+    if !is_searched(&survey.plan, stripe) {
         own.first = FirstChoice::NONE;
         return;
     }

@@ -37,17 +37,16 @@ fn is_wrong_level(
     r: u32,
     left: &[u8],
 ) -> bool
-    requires within { stripe < length survey.now.table.now.infos }
+    requires within { stripe < length survey.now.plan.table.now.infos }
     requires most { r < 6 }
     requires level { r < levels.now.count }
-    requires size { levels.now.block_size ≡ survey.now.table.now.shape.block_size }
+    requires size { levels.now.block_size ≡ survey.now.plan.table.now.shape.block_size }
     requires left { length left.now ≡ levels.now.block_size }
     ensures { (row : Row) → (known ≡ true → IsLeftOf levels.now row r left.now) →
         result ≡ is_wrong_at (plan_in survey.now) stripe (level_at levels.now r)
         (if known then Some row else None) r }
 {
-    selects_level(survey.scope, survey.table, survey.entries, stripe, r)
-        && is_wrong(known, levels, r, left)
+    selects_level(&survey.plan, stripe, r) && is_wrong(known, levels, r, left)
 }
 
 /// Which of the selected levels that were read are short or not the sum of a row, where that is known: by what is left of them less
@@ -59,16 +58,16 @@ pub fn wrong_levels(
     levels: &Levels,
     remainders: &[u8],
 ) -> [bool; 6]
-    requires within { stripe < length survey.now.table.now.infos }
-    requires count { levels.now.count ≡ survey.now.table.now.shape.levels }
+    requires within { stripe < length survey.now.plan.table.now.infos }
+    requires count { levels.now.count ≡ survey.now.plan.table.now.shape.levels }
     requires room { levels.now.count ≤ length levels.now.levels }
-    requires size { levels.now.block_size ≡ survey.now.table.now.shape.block_size }
-    requires remainders { length remainders.now ≡ 6 * survey.now.table.now.shape.block_size }
-    ensures { (row : Row) → (known ≡ true → AreRemainders survey.now.table.now.shape.block_size row
+    requires size { levels.now.block_size ≡ survey.now.plan.table.now.shape.block_size }
+    requires remainders { length remainders.now ≡ 6 * survey.now.plan.table.now.shape.block_size }
+    ensures { (row : Row) → (known ≡ true → AreRemainders survey.now.plan.table.now.shape.block_size row
         (take levels.now.count levels.now.levels) remainders.now) →
         TellsWrong (plan_in survey.now) stripe levels.now (if known then Some row else None) result }
 {
-    let shape = survey.table.shape();
+    let shape = survey.plan.table.shape();
     let size = shape.block_size as usize;
     let mut wrong = [false; 6];
     for r in 0..shape.levels {

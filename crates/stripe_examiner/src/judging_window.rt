@@ -24,18 +24,18 @@ fn judge_searched(survey: &Survey<'_>, stripe: u32, i: u32, window: &Window, own
     requires can { CanJudge (plan_in survey.now) stripe i window.now own.old }
     requires searched { is_searched_at (plan_in survey.now) stripe ≡ true }
     requires first { HasFirstIn (plan_in survey.now) stripe i window.now own.old }
-    ensures room { IsStripeRoomFor survey.now.table.now own.new }
+    ensures room { IsStripeRoomFor survey.now.plan.table.now own.new }
     ensures kept { KeepsRead own.old own.new }
     ensures judged { JudgesStripe (plan_in survey.now) stripe i window.now own.new }
 {
-    let (scope, table, entries) = (survey.scope, survey.table, survey.entries);
+    let table = survey.plan.table;
     own.known = false;
     own.wrong = [false; 6];
     see_levels(&own.levels, table.shape().levels);
     let Some(wanted) = wanted_blocks(survey, stripe, &own.marks) else {
         return;
     };
-    let is_judged = has_selected_level(scope, table, entries, stripe);
+    let is_judged = has_selected_level(&survey.plan, stripe);
     if wanted.is_empty() && !is_judged {
         own.known = true;
         return;
@@ -67,7 +67,7 @@ fn judge(survey: &Survey<'_>, k: usize, window: &Window, own: &mut StripeRoom)
     // A number of a stripe of a window is below its count.
     let _count = window.count();
     let stripe = survey.stripes[k];
-    if !is_searched(survey.scope, survey.table, survey.entries, stripe) {
+    if !is_searched(&survey.plan, stripe) {
         own.known = false;
         return;
     }
@@ -103,7 +103,7 @@ fn judge_part(survey: &Survey<'_>, start: usize, window: &Window, rooms: &mut [S
         (slice_index_or rooms.old k other) (slice_index_or rooms.new k other) }
 {
     make_first_blocks(survey, start, window, rooms);
-    hash_together(survey.table.shape(), rooms);
+    hash_together(survey.plan.table.shape(), rooms);
     judge_in_turn(survey, start, window, rooms);
 }
 
@@ -114,10 +114,10 @@ const LEAST_PART: usize = 1 << 20;
 fn part_size(survey: &Survey<'_>, stripes: usize) -> usize
     ensures { 0 < result }
 {
-    if is_audit(survey.scope.mode) {
+    if is_audit(survey.plan.scope.mode) {
         return stripes.max(1);
     }
-    let table = survey.table;
+    let table = survey.plan.table;
     let row = (table.disks() as usize).saturating_mul(table.shape().block_size as usize);
     let least = LEAST_PART / row.max(1);
     stripes

@@ -74,8 +74,8 @@ pub fn wanted_blocks(
     stripe: u32,
     marks: &[CellMark],
 ) -> Option<ArrayVec<Wanted, 6>>
-    requires within { stripe < length survey.now.table.now.infos }
-    requires marks { length marks.now ≡ length survey.now.table.now.columns }
+    requires within { stripe < length survey.now.plan.table.now.infos }
+    requires marks { length marks.now ≡ length survey.now.plan.table.now.columns }
     requires synced { is_synced (plan_in survey.now) stripe ≡ true }
     requires cells { HaveCells (plan_in survey.now) stripe marks.now }
     ensures value { MatchOption result
@@ -83,7 +83,7 @@ pub fn wanted_blocks(
         (λ wanted. wanted.items
         ≡ wanted_marked (plan_in survey.now) stripe marks.now) }
 {
-    let table = survey.table;
+    let table = survey.plan.table;
     let mut wanted = ArrayVec::new();
     for d in 0..table.disks() {
         if is_missing(marks[d as usize]) {

@@ -2,7 +2,7 @@
 //!
 //! Start at `surveying.rt`: a window of stripes is examined, by what `survey.rt` holds, and the room of each of them (`room.rt`) shows
 //! then what is found in it.
-//! 1. Its cells are read beside the levels of its stripes (`beside.rt`).
+//! 1. Its cells are read beside the levels of its stripes, which are read ahead of the calls that take them (`beside.rt`).
 //! 2. Stripe after stripe it is noted what is found in the cells, and they are marked (`marking_window.rt`, `marking.rt`, which asks
 //!    the spare for the blocks of damaged ones).
 //! 3. The stripes are judged side by side (`judging_window.rt`): the missing blocks are searched for by what is left of the levels
@@ -42,5 +42,6 @@ pub use marking::CellMark;
 pub use places::place_all;
 pub use room::{FirstChoice, Room, StripeRoom};
 pub use spare::{NoSpare, Spare};
+pub use survey::Survey;
 pub use surveying::{examine_fetched, examine_window};
 pub use telling::{tell_found, tell_opening, tell_stripe};

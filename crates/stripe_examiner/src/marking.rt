@@ -1,24 +1,23 @@
 // Which cells of a stripe are damaged, and what the spare gives of them.
-ghost use Rattle.std.specs.Prelude.{◌≡◌, ◌<◌, ◌≤◌, List, Some, IsTrue, is_some, length, true};
+ghost use Rattle.std.specs.Prelude.{◌≡◌, ◌<◌, ◌≤◌, Some, IsTrue, is_some, length, true};
 ghost use Rattle.block_hash.specs.Hash.{hash as hash_of};
 ghost use Rattle.file_table.specs.Cells.{cell_seen};
 ghost use Rattle.file_table.specs.Table.{column_at, record_at};
 ghost use Rattle.parity_writer.specs.Sound.{real_length};
 ghost use Rattle.stripe_reader.specs.WindowValue.{slot_at};
-ghost use Rattle.repair_scope.specs.declared.entry.Entry.{Entry};
 ghost use Rattle.stripe_examiner.specs.AskedCell.{AsksBlock, AsksCell, AsksMarked, is_marked_given};
 ghost use Rattle.stripe_examiner.specs.Facts.{agrees as agrees_with, hash_or_none};
 ghost use Rattle.stripe_examiner.specs.MarkedCell.{CanMarkCell, CanPut, ChangesSlot, ShowsAnswer};
 ghost use Rattle.stripe_examiner.specs.Marks.{CanExamine, IsMarked, MarksCells};
-ghost use Rattle.repair_scope.specs.Plan.{plan_of, is_searched as is_searched_by, seen_in};
+ghost use Rattle.repair_scope.specs.Plan.{seen_in};
 ghost use Rattle.stripe_examiner.specs.Spare.{IsSpareFor, holds_block};
 ghost use Rattle.stripe_examiner.specs.Surveyed.{plan_in};
 
 use crate::spare::Spare;
 use crate::survey::Survey;
 use block_hash::{Digest16, digest};
-use file_table::{Cell, Mark, Shape, Table};
-use repair_scope::{Mode, Scope};
+use file_table::{Cell, Shape, Table};
+use repair_scope::is_searched;
 use stripe_reader::Window;
 
 /// What became of the cell of a column.
@@ -80,15 +79,6 @@ fn ask<P: Spare>(spare: &mut P, shape: Shape, hash: Digest16, out: &mut [u8]) ->
         Ok(held) => held && digest(shape.kind, &shape.seed, out) == hash,
         Err(_) => false,
     }
-}
-
-// Whether the damaged blocks of a stripe are searched for.
-fn is_searched(scope: Scope, table: &Table, stripe: u32) -> bool
-    requires { stripe < length table.now.infos }
-    ensures { (entries : List (List Entry)) →
-        result ≡ is_searched_by (plan_of scope table.now entries) stripe }
-{
-    table.info(stripe).mark == Mark::Synced && scope.mode != Mode::Audit
 }
 
 // Marks a damaged cell. The spare is asked for its block where that has a hash and is searched for.
@@ -168,16 +158,16 @@ pub fn mark_cells<P: Spare>(
     block: &mut [u8],
 )
     requires can { CanExamine (plan_in survey.now) stripe i window.old }
-    requires marks { length marks.old ≡ length survey.now.table.now.columns }
-    requires block { length block.old ≡ survey.now.table.now.shape.block_size }
-    requires spare { IsSpareFor survey.now.table.now.shape (P.holding spare.old) }
+    requires marks { length marks.old ≡ length survey.now.plan.table.now.columns }
+    requires block { length block.old ≡ survey.now.plan.table.now.shape.block_size }
+    requires spare { IsSpareFor survey.now.plan.table.now.shape (P.holding spare.old) }
     ensures block { length block.new ≡ length block.old }
     ensures marked { MarksCells (plan_in survey.now) stripe i window.old marks.new window.new }
     ensures asks { AsksMarked (plan_in survey.now) stripe i
         window.old marks.new (P.holding spare.old) (P.holding spare.new) }
 {
-    let table = survey.table;
-    let searched = is_searched(survey.scope, table, stripe);
+    let table = survey.plan.table;
+    let searched = is_searched(&survey.plan, stripe);
     for d in 0..table.disks() {
         marks[d as usize] = mark_cell(searched, table, stripe, i, d, window, spare, block);
     }

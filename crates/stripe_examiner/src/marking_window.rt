@@ -26,14 +26,14 @@ fn note_cells(
     found: &mut [Option<Event>],
 )
     requires can { CanExamine (plan_in survey.now) stripe i window.now }
-    requires count { length found.old ≡ length survey.now.table.now.columns }
+    requires count { length found.old ≡ length survey.now.plan.table.now.columns }
     ensures count { length found.new ≡ length found.old }
-    ensures found { (d : ℕ) → d < length survey.now.table.now.columns →
+    ensures found { (d : ℕ) → d < length survey.now.plan.table.now.columns →
         IsFound (plan_in survey.now) stripe (slot_at window.now i d) d (found_at found.new d) }
 {
-    let (scope, table, entries) = (survey.scope, survey.table, survey.entries);
-    for d in 0..table.disks() {
-        found[d as usize] = cell_finding(scope, table, entries, stripe, i, window, d);
+    let plan = &survey.plan;
+    for d in 0..plan.table.disks() {
+        found[d as usize] = cell_finding(plan, stripe, i, window, d);
     }
 }
 
@@ -48,9 +48,9 @@ fn mark_stripe<P: Spare>(
     own: &mut StripeRoom,
 )
     requires can { CanExamine (plan_in survey.now) stripe i window.old }
-    requires block { length block.old ≡ survey.now.table.now.shape.block_size }
-    requires spare { IsSpareFor survey.now.table.now.shape (P.holding spare.old) }
-    requires room { IsStripeRoomFor survey.now.table.now own.old }
+    requires block { length block.old ≡ survey.now.plan.table.now.shape.block_size }
+    requires spare { IsSpareFor survey.now.plan.table.now.shape (P.holding spare.old) }
+    requires room { IsStripeRoomFor survey.now.plan.table.now own.old }
     ensures block { length block.new ≡ length block.old }
     ensures marks { MarksIn (plan_in survey.now) stripe i window.old window.new own.old own.new }
     ensures asks { AsksMarked (plan_in survey.now) stripe i window.old own.new.marks.items
@@ -69,9 +69,9 @@ pub(crate) fn mark_stripes<P: Spare>(
     rooms: &mut [StripeRoom],
 )
     requires can { CanMark (plan_in survey.now) survey.now.stripes.now window.old }
-    requires block { length block.old ≡ survey.now.table.now.shape.block_size }
-    requires spare { IsSpareFor survey.now.table.now.shape (P.holding spare.old) }
-    requires rooms { AreRoomsFor survey.now.table.now (length survey.now.stripes.now) rooms.old }
+    requires block { length block.old ≡ survey.now.plan.table.now.shape.block_size }
+    requires spare { IsSpareFor survey.now.plan.table.now.shape (P.holding spare.old) }
+    requires rooms { AreRoomsFor survey.now.plan.table.now (length survey.now.stripes.now) rooms.old }
     ensures block { length block.new ≡ length block.old }
     ensures marks { MarksStripes (plan_in survey.now) survey.now.stripes.now window.old window.new
         rooms.old rooms.new }

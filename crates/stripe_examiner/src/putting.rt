@@ -25,13 +25,13 @@ fn put_stripe(survey: &Survey<'_>, stripe: u32, i: u32, window: &mut Window, own
     let Some(wanted) = wanted_blocks(survey, stripe, &own.marks) else {
         unreachable!()
     };
-    let size = survey.table.shape().block_size as usize;
+    let size = survey.plan.table.shape().block_size as usize;
     put_found(window, i, size, &wanted, &own.blocks[..wanted.len() * size]);
 }
 
 /// Puts of each stripe of a window the blocks that were found of it into the window, where its row is known.
 pub(crate) fn put_stripes(survey: &Survey<'_>, window: &mut Window, rooms: &[StripeRoom])
-    requires window { Fits survey.now.table.now window.old }
+    requires window { Fits survey.now.plan.table.now window.old }
     requires number { window.old.count ≡ length survey.now.stripes.now }
     requires count { length rooms.now ≡ length survey.now.stripes.now }
     requires can { (k : ℕ) (other : StripeRoom) → k < length survey.now.stripes.now →

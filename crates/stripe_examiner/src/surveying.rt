@@ -1,7 +1,7 @@
 // A window of stripes, examined.
 ghost use Rattle.std.specs.Prelude.{◌≡◌, ◌<◌, ℕ, length, map, slice_index_or, true};
 ghost use Rattle.stripe_reader.specs.Held.{AreDisksOf};
-ghost use Rattle.repair_scope.specs.Plan.{plan_of, is_searched};
+ghost use Rattle.repair_scope.specs.Plan.{is_searched};
 ghost use Rattle.stripe_examiner.specs.declared.room.StripeRoom.{StripeRoom};
 ghost use Rattle.stripe_examiner.specs.MarkedWindow.{number_at};
 ghost use Rattle.stripe_examiner.specs.Room.{AreRoomsFor};
@@ -18,8 +18,6 @@ use crate::room::{Room, StripeRoom};
 use crate::spare::Spare;
 use crate::survey::Survey;
 use disk_model::{Folder, Vault};
-use file_table::Table;
-use repair_scope::{Entries, Scope};
 use std::thread::Threads;
 use stripe_reader::{Starts, Window};
 
@@ -33,18 +31,18 @@ fn examine_read<R: Threads + Sync, P: Spare>(
     rooms: &mut [StripeRoom],
 )
     requires can { CanMark (plan_in survey.now) survey.now.stripes.now window.old }
-    requires block { length block.old ≡ survey.now.table.now.shape.block_size }
-    requires spare { IsSpareFor survey.now.table.now.shape (P.holding spare.old) }
-    requires rooms { AreRoomsFor survey.now.table.now (length survey.now.stripes.now) rooms.old }
+    requires block { length block.old ≡ survey.now.plan.table.now.shape.block_size }
+    requires spare { IsSpareFor survey.now.plan.table.now.shape (P.holding spare.old) }
+    requires rooms { AreRoomsFor survey.now.plan.table.now (length survey.now.stripes.now) rooms.old }
     requires counts { (k : ℕ) (other : StripeRoom) → k < length survey.now.stripes.now →
         is_searched (plan_in survey.now) (number_at survey.now.stripes.now k) ≡ true →
-        (slice_index_or rooms.old k other).levels.count ≡ survey.now.table.now.shape.levels }
+        (slice_index_or rooms.old k other).levels.count ≡ survey.now.plan.table.now.shape.levels }
     ensures block { length block.new ≡ length block.old }
     ensures examined { ExaminesRead (plan_in survey.now) survey.now.stripes.now window.old window.new
         rooms.old rooms.new (P.holding spare.old) (P.holding spare.new) }
 {
     // A table has at most six levels.
-    let _shape = survey.table.shape();
+    let _shape = survey.plan.table.shape();
     mark_stripes(survey, window, spare, block, rooms);
     judge_stripes(rt, survey, window, rooms);
     put_stripes(survey, window, rooms);
@@ -64,9 +62,9 @@ fn examine_rooms<R: Threads + Sync, F: Folder, V: Vault, P: Spare>(
 )
     requires can { CanExamineRooms (plan_in survey.now) starts.now survey.now.stripes.now
         window.old (length folders.old) all.old }
-    requires block { length block.old ≡ survey.now.table.now.shape.block_size }
-    requires disks { AreDisksOf survey.now.table.now (length folders.old) (V.view vault.old) }
-    requires spare { IsSpareFor survey.now.table.now.shape (P.holding spare.old) }
+    requires block { length block.old ≡ survey.now.plan.table.now.shape.block_size }
+    requires disks { AreDisksOf survey.now.plan.table.now (length folders.old) (V.view vault.old) }
+    requires spare { IsSpareFor survey.now.plan.table.now.shape (P.holding spare.old) }
     ensures count { length all.new ≡ length all.old }
     ensures block { length block.new ≡ length block.old }
     ensures examined { ExaminesRooms (plan_in survey.now) starts.now survey.now.stripes.now
@@ -89,9 +87,9 @@ fn examine_fetched_rooms<R: Threads + Sync, V: Vault, P: Spare>(
     all: &mut [StripeRoom],
 )
     requires can { CanExamineFetchedRooms (plan_in survey.now) survey.now.stripes.now window.old all.old }
-    requires block { length block.old ≡ survey.now.table.now.shape.block_size }
-    requires levels { (V.view vault.old).levels ≡ survey.now.table.now.shape.levels }
-    requires spare { IsSpareFor survey.now.table.now.shape (P.holding spare.old) }
+    requires block { length block.old ≡ survey.now.plan.table.now.shape.block_size }
+    requires levels { (V.view vault.old).levels ≡ survey.now.plan.table.now.shape.levels }
+    requires spare { IsSpareFor survey.now.plan.table.now.shape (P.holding spare.old) }
     ensures count { length all.new ≡ length all.old }
     ensures block { length block.new ≡ length block.old }
     ensures examined { ExaminesFetchedRooms (plan_in survey.now) survey.now.stripes.now window.old window.new all.new
@@ -107,35 +105,24 @@ fn examine_fetched_rooms<R: Threads + Sync, V: Vault, P: Spare>(
 /// window has its row, where that is known.
 pub fn examine_window<R: Threads + Sync, F: Folder, V: Vault, P: Spare>(
     rt: &R,
-    scope: Scope,
-    table: &Table,
-    entries: &Entries,
+    survey: &Survey<'_>,
     starts: &Starts,
-    stripes: &[u32],
-    readers: u32,
     room: &mut Room,
     folders: &mut [F],
     vault: &mut V,
     spare: &mut P,
 )
-    requires can { CanExamineWindow (plan_of scope table.now entries.now) starts.now stripes.now room.old }
-    requires folders { length folders.old ≡ length table.now.columns }
-    requires levels { (V.view vault.old).levels ≡ table.now.shape.levels }
-    requires spare { IsSpareFor table.now.shape (P.holding spare.old) }
-    ensures { ExaminesWindow (plan_of scope table.now entries.now) starts.now stripes.now room.old room.new
+    requires can { CanExamineWindow (plan_in survey.now) starts.now survey.now.stripes.now room.old }
+    requires folders { length folders.old ≡ length survey.now.plan.table.now.columns }
+    requires levels { (V.view vault.old).levels ≡ survey.now.plan.table.now.shape.levels }
+    requires spare { IsSpareFor survey.now.plan.table.now.shape (P.holding spare.old) }
+    ensures { ExaminesWindow (plan_in survey.now) starts.now survey.now.stripes.now room.old room.new
         (map F.view folders.old) (map F.view folders.new) (V.view vault.old) (V.view vault.new)
         (P.holding spare.old) (P.holding spare.new) }
 {
-    let survey = Survey {
-        scope,
-        table,
-        entries,
-        stripes,
-        threads: readers,
-    };
     let (window, block, rooms) = (&mut room.window, &mut room.block, &mut room.stripes);
     examine_rooms(
-        rt, &survey, starts, window, block, folders, vault, spare, rooms,
+        rt, survey, starts, window, block, folders, vault, spare, rooms,
     );
 }
 
@@ -144,28 +131,17 @@ pub fn examine_window<R: Threads + Sync, F: Folder, V: Vault, P: Spare>(
 /// room of each stripe shows then what is found in it, and the window has its row, where that is known.
 pub fn examine_fetched<R: Threads + Sync, V: Vault, P: Spare>(
     rt: &R,
-    scope: Scope,
-    table: &Table,
-    entries: &Entries,
-    stripes: &[u32],
-    readers: u32,
+    survey: &Survey<'_>,
     room: &mut Room,
     vault: &mut V,
     spare: &mut P,
 )
-    requires can { CanExamineFetched (plan_of scope table.now entries.now) stripes.now room.old }
-    requires levels { (V.view vault.old).levels ≡ table.now.shape.levels }
-    requires spare { IsSpareFor table.now.shape (P.holding spare.old) }
-    ensures { ExaminesFetched (plan_of scope table.now entries.now) stripes.now room.old room.new
+    requires can { CanExamineFetched (plan_in survey.now) survey.now.stripes.now room.old }
+    requires levels { (V.view vault.old).levels ≡ survey.now.plan.table.now.shape.levels }
+    requires spare { IsSpareFor survey.now.plan.table.now.shape (P.holding spare.old) }
+    ensures { ExaminesFetched (plan_in survey.now) survey.now.stripes.now room.old room.new
         (V.view vault.old) (V.view vault.new) (P.holding spare.old) (P.holding spare.new) }
 {
-    let survey = Survey {
-        scope,
-        table,
-        entries,
-        stripes,
-        threads: readers,
-    };
     let (window, block, rooms) = (&mut room.window, &mut room.block, &mut room.stripes);
-    examine_fetched_rooms(rt, &survey, window, block, vault, spare, rooms);
+    examine_fetched_rooms(rt, survey, window, block, vault, spare, rooms);
 }

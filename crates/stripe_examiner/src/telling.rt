@@ -18,7 +18,7 @@ use disk_model::Sink;
 use file_table::Table;
 pub use levels::{tell_unread_levels, tell_wrong_levels};
 pub use opening::tell_opening;
-use repair_scope::{Entries, Entry};
+use repair_scope::{Entry, Plan};
 use snap_report::events::Event;
 use snap_report::{Lines, Report, tell};
 pub use stripe::tell_stripe;
@@ -46,11 +46,11 @@ pub fn tell_found<W: Sink>(
 }
 
 // What is known of the file of a record.
-fn entry_of(table: &Table, entries: &Entries, d: u32, i: u32) -> Entry
-    requires entries { EntriesFit table.now entries.now }
-    requires column { d < length table.now.columns }
-    requires rec { i < length (column_at table.now.columns d).records }
-    ensures { result ≡ entry_in entries.now d i }
+fn entry_of(plan: &Plan<'_>, d: u32, i: u32) -> Entry
+    requires entries { EntriesFit plan.now.table.now plan.now.entries.now }
+    requires column { d < length plan.now.table.now.columns }
+    requires rec { i < length (column_at plan.now.table.now.columns d).records }
+    ensures { result ≡ entry_in plan.now.entries.now d i }
 {
-    entries.at(d, i)
+    plan.entries.at(d, i)
 }

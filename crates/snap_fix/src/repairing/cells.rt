@@ -4,18 +4,18 @@ ghost use Rattle.parity_writer.specs.WindowRow.{bytes_of};
 ghost use Rattle.stripe_reader.specs.WindowValue.{slot_at};
 ghost use Rattle.stripe_examiner.specs.Marks.{mark_in};
 ghost use Rattle.file_restorer.specs.Mending.{CanWrite, with_state};
-ghost use Rattle.repair_scope.specs.Plan.{EntriesFit, cell_at};
-ghost use Rattle.snap_fix.specs.Handed.{CanExamineOne, CanMendIn, MendsIn, MendsNotIn, seen};
+ghost use Rattle.repair_scope.specs.Plan.{EntriesFit, cell_at, seen};
+ghost use Rattle.snap_fix.specs.Handed.{CanExamineOne, CanMendIn, MendsIn, MendsNotIn};
 ghost use Rattle.snap_fix.specs.RepairSteps.{column_outside, WritesBlockOf, WritesNotBlockOf, is_lost_by, is_repaired_by};
 ghost use Rattle.file_restorer.specs.State.{state_in};
 ghost use Rattle.stripe_examiner.specs.Showing.{is_damaged_mark};
 
 use super::Repaired;
-use crate::plan::{Examined, Plan};
+use crate::plan::Examined;
 use disk_model::{Failed, Folder, Sink};
 use file_restorer::{States, mend_cell};
 use file_table::{Cell, Table};
-use repair_scope::selects_cell;
+use repair_scope::{Plan, selects_cell};
 use snap_report::events::Event;
 use snap_report::{Lines, Report, tell};
 use stripe_examiner::CellMark;
@@ -68,9 +68,7 @@ fn is_lost(plan: &Plan<'_>, one: &Examined<'_>, d: u32, mark: CellMark) -> bool
     requires column { d < length plan.now.table.now.columns }
     ensures { result ≡ is_lost_by (seen plan.now) one.now.stripe mark one.now.own.now.known d }
 {
-    selects_cell(plan.scope, plan.table, plan.entries, one.stripe, d)
-        && mark == CellMark::Missing
-        && !one.own.known
+    selects_cell(plan, one.stripe, d) && mark == CellMark::Missing && !one.own.known
 }
 
 // Whether a cell is to be written, by its mark.
@@ -81,7 +79,7 @@ fn is_repaired(plan: &Plan<'_>, one: &Examined<'_>, d: u32, cell: Cell, mark: Ce
     requires cell { cell_at (seen plan.now) one.now.stripe d ≡ Some cell }
     ensures { result ≡ is_repaired_by (seen plan.now) one.now.stripe mark one.now.own.now.known d }
 {
-    selects_cell(plan.scope, plan.table, plan.entries, one.stripe, d)
+    selects_cell(plan, one.stripe, d)
         && is_damaged(mark)
         && (mark == CellMark::Given || one.own.known)
         && !plan.entries.at(d, cell.rec).blocked

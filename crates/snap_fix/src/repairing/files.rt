@@ -1,13 +1,15 @@
 // The damaged cells of a stripe of the window, written anew.
 ghost use Rattle.std.specs.Prelude.{◌≡◌, ◌<◌, ◌≤◌, length, map, IfOk, IfErr};
-ghost use Rattle.snap_fix.specs.Handed.{CanExamineOne, CanMendOne, MendsNotOne, MendsOne, seen};
+ghost use Rattle.repair_scope.specs.Plan.{seen};
+ghost use Rattle.snap_fix.specs.Handed.{CanExamineOne, CanMendOne, MendsNotOne, MendsOne};
 ghost use Rattle.snap_fix.specs.Repairing.{outside};
 
 use super::Repaired;
 use super::cells::mend_column;
-use crate::plan::{Examined, Plan};
+use crate::plan::Examined;
 use disk_model::{Folder, Sink};
 use file_restorer::States;
+use repair_scope::Plan;
 use snap_report::{Lines, Report};
 use stripe_reader::Starts;
 

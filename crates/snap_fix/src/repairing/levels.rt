@@ -1,14 +1,16 @@
 // The wrong levels of a stripe of the window, written anew.
 ghost use Rattle.std.specs.Prelude.{◌≡◌, ◌<◌, ◌≤◌, [], ◌∷◌, length, IfOk, IfErr};
 ghost use Rattle.parity_writer.specs.WindowRow.{row_at};
-ghost use Rattle.snap_fix.specs.Handed.{CanExamineOne, CanMendRow, FlagsOne, MendsNotRow, MendsRow, TellsWrongOne, seen};
+ghost use Rattle.repair_scope.specs.Plan.{seen};
+ghost use Rattle.snap_fix.specs.Handed.{CanExamineOne, CanMendRow, FlagsOne, MendsNotRow, MendsRow, TellsWrongOne};
 ghost use Rattle.snap_fix.specs.Repairing.{levels_outside};
 ghost use Rattle.snap_fix.specs.RepairSteps.{WritesLevel, WritesNotLevel};
 
-use crate::plan::{Examined, Plan};
+use crate::plan::Examined;
 use disk_model::{Failed, Sink, Vault};
 use file_table::Table;
 use parity_writer::sum_row;
+use repair_scope::Plan;
 use snap_report::events::Event;
 use snap_report::{Lines, Report, tell};
 

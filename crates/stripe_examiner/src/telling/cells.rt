@@ -9,7 +9,7 @@ ghost use Rattle.stripe_reader.specs.WindowValue.{slot_at};
 ghost use Rattle.stripe_examiner.specs.Counts.{AreCounts};
 ghost use Rattle.stripe_examiner.specs.Findings.{read_event, silent_event, cell_events, lost_events, unsynced_events, all_lost_events};
 ghost use Rattle.stripe_examiner.specs.Marks.{CanExamine, mark_in, is_marked_missing};
-ghost use Rattle.repair_scope.specs.Plan.{EntriesFit, plan_of, cell_at, selects_cell as selects_cell_at};
+ghost use Rattle.repair_scope.specs.Plan.{EntriesFit, seen, cell_at, selects_cell as selects_cell_at};
 
 use super::{entry_of, tell_found};
 use crate::counts::Counts;
@@ -18,46 +18,40 @@ use block_hash::Digest16;
 use disk_model::Sink;
 use file_table::{Cell, Table};
 use repair_scope::{
-    Entries, Entry, Scope, has_selected_cell, is_as_recorded, is_audit, is_synced, selects_cell,
+    Entry, Plan, has_selected_cell, is_as_recorded, is_audit, is_synced, selects_cell,
 };
 use snap_report::events::Event;
 use snap_report::{Lines, Report};
 use stripe_reader::{CellRead, Found, Window};
 
 // The cell of a column at a stripe, if it is selected.
-fn selected_cell(
-    scope: Scope,
-    table: &Table,
-    entries: &Entries,
-    stripe: u32,
-    d: u32,
-) -> Option<Cell>
-    requires entries { EntriesFit table.now entries.now }
-    requires within { stripe < length table.now.infos }
-    requires column { d < length table.now.columns }
-    ensures value { result ≡ (if selects_cell_at (plan_of scope table.now entries.now) stripe d
-        then cell_at (plan_of scope table.now entries.now) stripe d else None) }
-    ensures rec { IfSome result (λ cell. cell.rec < length (column_at table.now.columns d).records) }
+fn selected_cell(plan: &Plan<'_>, stripe: u32, d: u32) -> Option<Cell>
+    requires entries { EntriesFit plan.now.table.now plan.now.entries.now }
+    requires within { stripe < length plan.now.table.now.infos }
+    requires column { d < length plan.now.table.now.columns }
+    ensures value { result ≡ (if selects_cell_at (seen plan.now) stripe d
+        then cell_at (seen plan.now) stripe d else None) }
+    ensures rec { IfSome result (λ cell. cell.rec < length (column_at plan.now.table.now.columns d).records) }
     ensures block { IfSome result (λ cell.
-        cell.index < length (record_at table.now.columns d cell.rec).blocks) }
+        cell.index < length (record_at plan.now.table.now.columns d cell.rec).blocks) }
 {
-    if selects_cell(scope, table, entries, stripe, d) {
-        table.cell(stripe, d)
+    if selects_cell(plan, stripe, d) {
+        plan.table.cell(stripe, d)
     } else {
         None
     }
 }
 
 // That a stripe with a selected cell is pending, where parity is looked at.
-fn unsynced(scope: Scope, table: &Table, entries: &Entries, stripe: u32) -> Option<Event>
-    requires entries { EntriesFit table.now entries.now }
-    requires within { stripe < length table.now.infos }
+fn unsynced(plan: &Plan<'_>, stripe: u32) -> Option<Event>
+    requires entries { EntriesFit plan.now.table.now plan.now.entries.now }
+    requires within { stripe < length plan.now.table.now.infos }
     ensures value { option_to_list result
-        ≡ unsynced_events (plan_of scope table.now entries.now) stripe }
-    ensures fits { IfSome result (λ event. EventFits table.now.columns event) }
+        ≡ unsynced_events (seen plan.now) stripe }
+    ensures fits { IfSome result (λ event. EventFits plan.now.table.now.columns event) }
 {
-    let is_pending = !is_audit(scope.mode) && !is_synced(scope, table, entries, stripe);
-    if is_pending && has_selected_cell(scope, table, entries, stripe) {
+    let is_pending = !is_audit(plan.scope.mode) && !is_synced(plan, stripe);
+    if is_pending && has_selected_cell(plan, stripe) {
         Some(Event::Unsynced { stripe })
     } else {
         None
@@ -66,26 +60,19 @@ fn unsynced(scope: Scope, table: &Table, entries: &Entries, stripe: u32) -> Opti
 
 /// Tells that a stripe with a selected cell is pending.
 pub fn tell_unsynced<W: Sink>(
-    scope: Scope,
-    table: &Table,
-    entries: &Entries,
+    plan: &Plan<'_>,
     stripe: u32,
     lines: &mut Lines<'_, W>,
     reports: &mut Vec<Box<dyn Report>>,
 ) -> Counts
-    requires entries { EntriesFit table.now entries.now }
-    requires within { stripe < length table.now.infos }
-    ensures told { Told W.view standing stands table.now.columns
-        (unsynced_events (plan_of scope table.now entries.now) stripe)
+    requires entries { EntriesFit plan.now.table.now plan.now.entries.now }
+    requires within { stripe < length plan.now.table.now.infos }
+    ensures told { Told W.view standing stands plan.now.table.now.columns
+        (unsynced_events (seen plan.now) stripe)
         lines.old lines.new reports.old.items reports.new.items }
-    ensures counts { AreCounts (unsynced_events (plan_of scope table.now entries.now) stripe) result }
+    ensures counts { AreCounts (unsynced_events (seen plan.now) stripe) result }
 {
-    tell_found(
-        table,
-        unsynced(scope, table, entries, stripe),
-        lines,
-        reports,
-    )
+    tell_found(plan.table, unsynced(plan, stripe), lines, reports)
 }
 
 // That the block that came of a cell has another hash than the recorded one.
@@ -156,25 +143,17 @@ fn read_finding(
 }
 
 /// What is found in the reading of the cell of a column, if it is selected.
-pub fn cell_finding(
-    scope: Scope,
-    table: &Table,
-    entries: &Entries,
-    stripe: u32,
-    i: u32,
-    window: &Window,
-    d: u32,
-) -> Option<Event>
-    requires can { CanExamine (plan_of scope table.now entries.now) stripe i window.now }
-    requires column { d < length table.now.columns }
+pub fn cell_finding(plan: &Plan<'_>, stripe: u32, i: u32, window: &Window, d: u32) -> Option<Event>
+    requires can { CanExamine (seen plan.now) stripe i window.now }
+    requires column { d < length plan.now.table.now.columns }
     ensures value { option_to_list result
-        ≡ cell_events (plan_of scope table.now entries.now) stripe (slot_at window.now i d) d }
-    ensures fits { IfSome result (λ event. EventFits table.now.columns event) }
+        ≡ cell_events (seen plan.now) stripe (slot_at window.now i d) d }
+    ensures fits { IfSome result (λ event. EventFits plan.now.table.now.columns event) }
 {
-    let cell = selected_cell(scope, table, entries, stripe, d)?;
-    let entry = entry_of(table, entries, d, cell.rec);
+    let cell = selected_cell(plan, stripe, d)?;
+    let entry = entry_of(plan, d, cell.rec);
     read_finding(
-        table,
+        plan.table,
         stripe,
         d,
         cell,
@@ -185,26 +164,18 @@ pub fn cell_finding(
 }
 
 // That the cell of a column is lost: it is selected and missing, and the row is not known.
-fn lost(
-    scope: Scope,
-    table: &Table,
-    entries: &Entries,
-    stripe: u32,
-    mark: CellMark,
-    known: bool,
-    d: u32,
-) -> Option<Event>
-    requires entries { EntriesFit table.now entries.now }
-    requires within { stripe < length table.now.infos }
-    requires column { d < length table.now.columns }
+fn lost(plan: &Plan<'_>, stripe: u32, mark: CellMark, known: bool, d: u32) -> Option<Event>
+    requires entries { EntriesFit plan.now.table.now plan.now.entries.now }
+    requires within { stripe < length plan.now.table.now.infos }
+    requires column { d < length plan.now.table.now.columns }
     ensures value { option_to_list result
-        ≡ lost_events (plan_of scope table.now entries.now) stripe (is_marked_missing mark) known d }
-    ensures fits { IfSome result (λ event. EventFits table.now.columns event) }
+        ≡ lost_events (seen plan.now) stripe (is_marked_missing mark) known d }
+    ensures fits { IfSome result (λ event. EventFits plan.now.table.now.columns event) }
 {
-    if known || is_audit(scope.mode) || mark != CellMark::Missing {
+    if known || is_audit(plan.scope.mode) || mark != CellMark::Missing {
         return None;
     }
-    let Cell { rec, index } = selected_cell(scope, table, entries, stripe, d)?;
+    let Cell { rec, index } = selected_cell(plan, stripe, d)?;
     Some(Event::Lost {
         stripe,
         disk: d,
@@ -215,29 +186,27 @@ fn lost(
 
 /// Tells which of the selected cells are lost, column by column.
 pub fn tell_lost<W: Sink>(
-    scope: Scope,
-    table: &Table,
-    entries: &Entries,
+    plan: &Plan<'_>,
     stripe: u32,
     marks: &[CellMark],
     known: bool,
     lines: &mut Lines<'_, W>,
     reports: &mut Vec<Box<dyn Report>>,
 ) -> Counts
-    requires entries { EntriesFit table.now entries.now }
-    requires within { stripe < length table.now.infos }
-    requires marks { length marks.now ≡ length table.now.columns }
-    ensures told { Told W.view standing stands table.now.columns
-        (all_lost_events (plan_of scope table.now entries.now) stripe
+    requires entries { EntriesFit plan.now.table.now plan.now.entries.now }
+    requires within { stripe < length plan.now.table.now.infos }
+    requires marks { length marks.now ≡ length plan.now.table.now.columns }
+    ensures told { Told W.view standing stands plan.now.table.now.columns
+        (all_lost_events (seen plan.now) stripe
         (λ d. is_marked_missing (mark_in marks.now d)) known)
         lines.old lines.new reports.old.items reports.new.items }
-    ensures counts { AreCounts (all_lost_events (plan_of scope table.now entries.now) stripe
+    ensures counts { AreCounts (all_lost_events (seen plan.now) stripe
         (λ d. is_marked_missing (mark_in marks.now d)) known) result }
 {
     let mut counts = Counts::NONE;
-    for d in 0..table.disks() {
-        let found = lost(scope, table, entries, stripe, marks[d as usize], known, d);
-        counts = counts.and(tell_found(table, found, lines, reports));
+    for d in 0..plan.table.disks() {
+        let found = lost(plan, stripe, marks[d as usize], known, d);
+        counts = counts.and(tell_found(plan.table, found, lines, reports));
     }
     counts
 }

@@ -8,34 +8,27 @@ ghost use Rattle.snap_report.specs.Told.{Told};
 ghost use Rattle.stripe_examiner.specs.Counts.{AreCounts};
 ghost use Rattle.stripe_examiner.specs.Findings.{all_level_io_events, level_io_events};
 ghost use Rattle.stripe_examiner.specs.Judging.{flagged_event, flagged_events};
-ghost use Rattle.repair_scope.specs.Plan.{EntriesFit, plan_of};
+ghost use Rattle.repair_scope.specs.Plan.{EntriesFit, seen};
 
 use super::tell_found;
 use crate::counts::Counts;
 use disk_model::Sink;
 use file_table::Table;
 use parity_writer::{LevelRead, Levels};
-use repair_scope::{Entries, Scope, selects_level};
+use repair_scope::{Plan, selects_level};
 use snap_report::events::Event;
 use snap_report::{Lines, Report};
 
 // That a selected level could not be read.
-fn unread(
-    scope: Scope,
-    table: &Table,
-    entries: &Entries,
-    stripe: u32,
-    levels: &Levels,
-    r: u32,
-) -> Option<Event>
-    requires within { stripe < length table.now.infos }
+fn unread(plan: &Plan<'_>, stripe: u32, levels: &Levels, r: u32) -> Option<Event>
+    requires within { stripe < length plan.now.table.now.infos }
     requires level { r < levels.now.count }
     requires most { r < 6 }
     ensures value { option_to_list result
-        ≡ level_io_events (plan_of scope table.now entries.now) stripe (level_at levels.now r) r }
-    ensures fits { IfSome result (λ event. EventFits table.now.columns event) }
+        ≡ level_io_events (seen plan.now) stripe (level_at levels.now r) r }
+    ensures fits { IfSome result (λ event. EventFits plan.now.table.now.columns event) }
 {
-    if selects_level(scope, table, entries, stripe, r) && levels.state(r) == LevelRead::Unread {
+    if selects_level(plan, stripe, r) && levels.state(r) == LevelRead::Unread {
         Some(Event::ParityIo { stripe, level: r })
     } else {
         None
@@ -44,28 +37,26 @@ fn unread(
 
 /// Tells which of the selected levels could not be read.
 pub fn tell_unread_levels<W: Sink>(
-    scope: Scope,
-    table: &Table,
-    entries: &Entries,
+    plan: &Plan<'_>,
     stripe: u32,
     levels: &Levels,
     lines: &mut Lines<'_, W>,
     reports: &mut Vec<Box<dyn Report>>,
 ) -> Counts
-    requires entries { EntriesFit table.now entries.now }
-    requires within { stripe < length table.now.infos }
-    requires count { levels.now.count ≡ table.now.shape.levels }
+    requires entries { EntriesFit plan.now.table.now plan.now.entries.now }
+    requires within { stripe < length plan.now.table.now.infos }
+    requires count { levels.now.count ≡ plan.now.table.now.shape.levels }
     requires room { levels.now.count ≤ length levels.now.levels }
-    ensures told { Told W.view standing stands table.now.columns
-        (all_level_io_events (plan_of scope table.now entries.now) stripe (take levels.now.count levels.now.levels))
+    ensures told { Told W.view standing stands plan.now.table.now.columns
+        (all_level_io_events (seen plan.now) stripe (take levels.now.count levels.now.levels))
         lines.old lines.new reports.old.items reports.new.items }
-    ensures counts { AreCounts (all_level_io_events (plan_of scope table.now entries.now) stripe
+    ensures counts { AreCounts (all_level_io_events (seen plan.now) stripe
         (take levels.now.count levels.now.levels)) result }
 {
     let mut counts = Counts::NONE;
-    for r in 0..table.shape().levels {
-        let found = unread(scope, table, entries, stripe, levels, r);
-        counts = counts.and(tell_found(table, found, lines, reports));
+    for r in 0..plan.table.shape().levels {
+        let found = unread(plan, stripe, levels, r);
+        counts = counts.and(tell_found(plan.table, found, lines, reports));
     }
     counts
 }

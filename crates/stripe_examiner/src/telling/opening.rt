@@ -6,13 +6,13 @@ ghost use Rattle.snap_report.specs.EventFits.{Fits as EventFits};
 ghost use Rattle.snap_report.specs.Told.{Told};
 ghost use Rattle.stripe_examiner.specs.Counts.{AreCounts};
 ghost use Rattle.stripe_examiner.specs.Findings.{changed_event, blocked_event, record_events, column_events, opening_events};
-ghost use Rattle.repair_scope.specs.Plan.{EntriesFit, plan_of, is_audit as is_audit_mode};
+ghost use Rattle.repair_scope.specs.Plan.{EntriesFit, seen, is_audit as is_audit_mode};
 
 use super::{entry_of, tell_found};
 use crate::counts::Counts;
 use disk_model::Sink;
 use file_table::Table;
-use repair_scope::{Entries, Entry, Mode, Scope, is_as_recorded, is_audit};
+use repair_scope::{Entry, Mode, Plan, is_as_recorded, is_audit};
 use snap_report::events::Event;
 use snap_report::{Lines, Report};
 
@@ -51,30 +51,28 @@ fn blocked(mode: Mode, table: &Table, d: u32, i: u32, entry: Entry) -> Option<Ev
 
 // Tells of a record, if it is selected.
 fn tell_record<W: Sink>(
-    scope: Scope,
-    table: &Table,
-    entries: &Entries,
+    plan: &Plan<'_>,
     d: u32,
     i: u32,
     lines: &mut Lines<'_, W>,
     reports: &mut Vec<Box<dyn Report>>,
 ) -> Counts
-    requires entries { EntriesFit table.now entries.now }
-    requires column { d < length table.now.columns }
-    requires rec { i < length (column_at table.now.columns d).records }
-    ensures told { Told W.view standing stands table.now.columns
-        (record_events (plan_of scope table.now entries.now) d i)
+    requires entries { EntriesFit plan.now.table.now plan.now.entries.now }
+    requires column { d < length plan.now.table.now.columns }
+    requires rec { i < length (column_at plan.now.table.now.columns d).records }
+    ensures told { Told W.view standing stands plan.now.table.now.columns
+        (record_events (seen plan.now) d i)
         lines.old lines.new reports.old.items reports.new.items }
-    ensures counts { AreCounts (record_events (plan_of scope table.now entries.now) d i) result }
+    ensures counts { AreCounts (record_events (seen plan.now) d i) result }
 {
-    let entry = entry_of(table, entries, d, i);
+    let entry = entry_of(plan, d, i);
     if !entry.selected {
         return Counts::NONE;
     }
-    let first = tell_found(table, changed(table, d, i, entry), lines, reports);
+    let first = tell_found(plan.table, changed(plan.table, d, i, entry), lines, reports);
     let second = tell_found(
-        table,
-        blocked(scope.mode, table, d, i, entry),
+        plan.table,
+        blocked(plan.scope.mode, plan.table, d, i, entry),
         lines,
         reports,
     );
@@ -83,43 +81,39 @@ fn tell_record<W: Sink>(
 
 // Tells of each selected record of a column.
 fn tell_column<W: Sink>(
-    scope: Scope,
-    table: &Table,
-    entries: &Entries,
+    plan: &Plan<'_>,
     d: u32,
     lines: &mut Lines<'_, W>,
     reports: &mut Vec<Box<dyn Report>>,
 ) -> Counts
-    requires entries { EntriesFit table.now entries.now }
-    requires column { d < length table.now.columns }
-    ensures told { Told W.view standing stands table.now.columns
-        (column_events (plan_of scope table.now entries.now) d)
+    requires entries { EntriesFit plan.now.table.now plan.now.entries.now }
+    requires column { d < length plan.now.table.now.columns }
+    ensures told { Told W.view standing stands plan.now.table.now.columns
+        (column_events (seen plan.now) d)
         lines.old lines.new reports.old.items reports.new.items }
-    ensures counts { AreCounts (column_events (plan_of scope table.now entries.now) d) result }
+    ensures counts { AreCounts (column_events (seen plan.now) d) result }
 {
     let mut counts = Counts::NONE;
-    for i in 0..table.records(d) {
-        counts = counts.and(tell_record(scope, table, entries, d, i, lines, reports));
+    for i in 0..plan.table.records(d) {
+        counts = counts.and(tell_record(plan, d, i, lines, reports));
     }
     counts
 }
 
 /// Tells of each selected record, in order, whether its file is not listed as it was recorded, and whether it is blocked.
 pub fn tell_opening<W: Sink>(
-    scope: Scope,
-    table: &Table,
-    entries: &Entries,
+    plan: &Plan<'_>,
     lines: &mut Lines<'_, W>,
     reports: &mut Vec<Box<dyn Report>>,
 ) -> Counts
-    requires { EntriesFit table.now entries.now }
-    ensures told { Told W.view standing stands table.now.columns (opening_events (plan_of scope table.now entries.now))
+    requires { EntriesFit plan.now.table.now plan.now.entries.now }
+    ensures told { Told W.view standing stands plan.now.table.now.columns (opening_events (seen plan.now))
         lines.old lines.new reports.old.items reports.new.items }
-    ensures counts { AreCounts (opening_events (plan_of scope table.now entries.now)) result }
+    ensures counts { AreCounts (opening_events (seen plan.now)) result }
 {
     let mut counts = Counts::NONE;
-    for d in 0..table.disks() {
-        counts = counts.and(tell_column(scope, table, entries, d, lines, reports));
+    for d in 0..plan.table.disks() {
+        counts = counts.and(tell_column(plan, d, lines, reports));
     }
     counts
 }

@@ -6,7 +6,7 @@ ghost use Rattle.stripe_reader.specs.WindowValue.{WindowValue};
 ghost use Rattle.stripe_examiner.specs.Counts.{AreCounts};
 ghost use Rattle.stripe_examiner.specs.Facts.{StripeFacts};
 ghost use Rattle.stripe_examiner.specs.Findings.{stripe_events};
-ghost use Rattle.repair_scope.specs.Plan.{plan_of};
+ghost use Rattle.repair_scope.specs.Plan.{seen};
 ghost use Rattle.stripe_examiner.specs.Shown.{CanTell, ShowsStripe, found_at, noted_events, level_events_shown};
 
 use super::{tell_found, tell_lost, tell_unread_levels, tell_unsynced, tell_wrong_levels};
@@ -15,7 +15,7 @@ use crate::knowing::see_levels;
 use crate::room::StripeRoom;
 use disk_model::Sink;
 use file_table::Table;
-use repair_scope::{Entries, Scope, is_searched};
+use repair_scope::{Plan, is_searched};
 use snap_report::events::Event;
 use snap_report::{Lines, Report};
 
@@ -42,53 +42,47 @@ fn tell_noted<W: Sink>(
 
 // Tells what is found in the levels of a stripe, where they were read.
 fn tell_levels<W: Sink>(
-    scope: Scope,
-    table: &Table,
-    entries: &Entries,
+    plan: &Plan<'_>,
     stripe: u32,
     own: &StripeRoom,
     lines: &mut Lines<'_, W>,
     reports: &mut Vec<Box<dyn Report>>,
 ) -> Counts
-    requires can { CanTell (plan_of scope table.now entries.now) stripe own.now }
-    ensures told { Told W.view standing stands table.now.columns
-        (level_events_shown (plan_of scope table.now entries.now) stripe own.now)
+    requires can { CanTell (seen plan.now) stripe own.now }
+    ensures told { Told W.view standing stands plan.now.table.now.columns
+        (level_events_shown (seen plan.now) stripe own.now)
         lines.old lines.new reports.old.items reports.new.items }
-    ensures counts { AreCounts (level_events_shown (plan_of scope table.now entries.now) stripe own.now) result }
+    ensures counts { AreCounts (level_events_shown (seen plan.now) stripe own.now) result }
 {
-    if !is_searched(scope, table, entries, stripe) {
+    if !is_searched(plan, stripe) {
         return Counts::NONE;
     }
-    see_levels(&own.levels, table.shape().levels);
-    let unread = tell_unread_levels(scope, table, entries, stripe, &own.levels, lines, reports);
-    let wrong = tell_wrong_levels(table, stripe, &own.wrong, lines, reports);
+    see_levels(&own.levels, plan.table.shape().levels);
+    let unread = tell_unread_levels(plan, stripe, &own.levels, lines, reports);
+    let wrong = tell_wrong_levels(plan.table, stripe, &own.wrong, lines, reports);
     unread.and(wrong)
 }
 
 /// Tells what is found in a stripe, by what its room shows.
 pub fn tell_stripe<W: Sink>(
-    scope: Scope,
-    table: &Table,
-    entries: &Entries,
+    plan: &Plan<'_>,
     stripe: u32,
     own: &StripeRoom,
     lines: &mut Lines<'_, W>,
     reports: &mut Vec<Box<dyn Report>>,
 ) -> Counts
-    requires { CanTell (plan_of scope table.now entries.now) stripe own.now }
+    requires { CanTell (seen plan.now) stripe own.now }
     ensures told { (facts : StripeFacts) (i : ℕ) (window : WindowValue) →
-        ShowsStripe (plan_of scope table.now entries.now) facts i window own.now → facts.stripe ≡ stripe →
-        Told W.view standing stands table.now.columns (stripe_events (plan_of scope table.now entries.now) facts)
+        ShowsStripe (seen plan.now) facts i window own.now → facts.stripe ≡ stripe →
+        Told W.view standing stands plan.now.table.now.columns (stripe_events (seen plan.now) facts)
         lines.old lines.new reports.old.items reports.new.items }
     ensures counts { (facts : StripeFacts) (i : ℕ) (window : WindowValue) →
-        ShowsStripe (plan_of scope table.now entries.now) facts i window own.now → facts.stripe ≡ stripe →
-        AreCounts (stripe_events (plan_of scope table.now entries.now) facts) result }
+        ShowsStripe (seen plan.now) facts i window own.now → facts.stripe ≡ stripe →
+        AreCounts (stripe_events (seen plan.now) facts) result }
 {
-    let unsynced = tell_unsynced(scope, table, entries, stripe, lines, reports);
-    let noted = tell_noted(table, &own.found, lines, reports);
-    let levels = tell_levels(scope, table, entries, stripe, own, lines, reports);
-    let lost = tell_lost(
-        scope, table, entries, stripe, &own.marks, own.known, lines, reports,
-    );
+    let unsynced = tell_unsynced(plan, stripe, lines, reports);
+    let noted = tell_noted(plan.table, &own.found, lines, reports);
+    let levels = tell_levels(plan, stripe, own, lines, reports);
+    let lost = tell_lost(plan, stripe, &own.marks, own.known, lines, reports);
     unsynced.and(noted.and(levels.and(lost)))
 }

@@ -1,12 +1,12 @@
 use Rattle.std.proofs.Common.{sym, ap, ◌∙◌}
-use Rattle.repair_scope.specs.Plan.{plan_of, is_looked_at}
+use Rattle.repair_scope.specs.Plan.{seen, is_looked_at}
 use Rattle.repair_scope.proofs.SelectLemmas.{kept_more, left_out}
 use Rattle.repair_scope.proofs.selecting.stripes_to_look_at.Goals as goal
 use Rattle.repair_scope.proofs.selecting.stripes_to_look_at.Goals.{then-is_looked_at+in_ok-push, else-is_looked_at}
 
 pub loop-stripe-preserved : goal.loop-stripe-preserved
 loop-stripe-preserved c =
-    let plan = plan_of c.args.scope c.args.table.now c.args.entries.now in
+    let plan = seen c.args.plan.now in
     elim c.if-is_looked_at.branch [
       | then-is_looked_at+in_ok-push w ↦
           ap (λ stripes. stripes.items) w.stripes-is

@@ -2,7 +2,7 @@ use Rattle.std.proofs.Common.{◌<◌, ℕ, List, length, get_or, sym, ap, subst
 use Rattle.stripe_examiner.specs.declared.room.StripeRoom.{StripeRoom}
 use Rattle.stripe_examiner.specs.Shown.{CanTell}
 use Rattle.snap_fix.specs.Checking.{AreShown}
-use Rattle.snap_fix.specs.Handed.{seen}
+use Rattle.repair_scope.specs.Plan.{seen}
 use Rattle.snap_fix.proofs.CheckLemmas.{as_many_shown, number_shown}
 use Rattle.snap_fix.proofs.checking.look_at.Goals as goal
 
@@ -14,9 +14,9 @@ tell_window-requires-clause-count g c =
 pub tell_window-requires-clause-can : goal.tell_window-requires-clause-can
 tell_window-requires-clause-can g c k other below =
     let ex = c.turn.ensures.examined in
-    let plan = seen c.args.stretch.now.plan in
+    let plan = seen c.args.survey.now.plan in
     let after = c.turn.new.room in
-    let numbers = c.args.stretch.now.stripes.now in
+    let numbers = c.args.survey.now.stripes.now in
     let rooms = after.stripes.items in
     let shown : AreShown plan ex.stripes numbers after.window rooms = record { numbers_are = ex.numbers_are; each = ex.each } in
     let within : k < length ex.stripes = omega (arith, below, as_many_shown plan ex.stripes numbers after.window rooms shown) in
@@ -30,9 +30,9 @@ returns-clause-room g c = record { room = c.turn.ensures.examined.room; as_large
 pub returns-clause-looks : goal.returns-clause-looks
 returns-clause-looks g c =
     let ex = c.turn.ensures.examined in
-    let plan = seen c.args.stretch.now.plan in
+    let plan = seen c.args.survey.now.plan in
     let after = c.turn.new.room in
-    let numbers = c.args.stretch.now.stripes.now in
+    let numbers = c.args.survey.now.stripes.now in
     let shown : AreShown plan ex.stripes numbers after.window c.deref.result.now =
     subst (λ (rooms : List StripeRoom). AreShown plan ex.stripes numbers after.window rooms) (sym c.deref.ensures.value)
     (record { numbers_are = ex.numbers_are; each = ex.each }) in

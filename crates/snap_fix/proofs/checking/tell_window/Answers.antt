@@ -2,7 +2,7 @@ use Rattle.std.proofs.Common.{◌<◌, length, refl, sym, ap, subst, arith}
 use Rattle.std.proofs.lemmas.List.{take_all}
 use Rattle.stripe_examiner.specs.Findings.{events_of}
 use Rattle.stripe_examiner.specs.Looking.{facts_at}
-use Rattle.repair_scope.specs.Plan.{plan_of}
+use Rattle.repair_scope.specs.Plan.{seen}
 use Rattle.stripe_examiner.specs.Shown.{ShowsStripe}
 use Rattle.stripe_examiner.proofs.TellingLemmas.{tells_as, tells_nothing, tells_then}
 use Rattle.snap_fix.proofs.CheckLemmas.{as_many_shown, events_more, number_shown}
@@ -13,7 +13,7 @@ loop-k-init g c = λ all window shown. tells_nothing _ _ _ _ _ _ _ (record { fou
 
 pub loop-k-preserved : goal.loop-k-preserved
 loop-k-preserved g c = λ all window shown.
-    let plan = plan_of c.args.scope c.args.table.now c.args.entries.now in
+    let plan = seen c.args.plan.now in
     let k = c.loop-k.k in
     let many = as_many_shown plan all c.args.stripes.now window c.args.rooms.now shown in
     let below : k < length all = omega (arith, many, c.loop-k-test.true) in
@@ -27,12 +27,12 @@ loop-k-preserved g c = λ all window shown.
 
 pub returns-clause-told : goal.returns-clause-told
 returns-clause-told g c = λ all window shown.
-    let plan = plan_of c.args.scope c.args.table.now c.args.entries.now in
+    let plan = seen c.args.plan.now in
     let many = as_many_shown plan all c.args.stripes.now window c.args.rooms.now shown in
     (tells_as _ _ _ _ _ _ _ _ _ _ _ (ap (events_of plan) (sym (take_all c.loop-k.k all (omega (arith, many, c.loop-k-test.false))))) (c.loop-k.invariant all window shown)).told
 
 pub returns-clause-counts : goal.returns-clause-counts
 returns-clause-counts g c = λ all window shown.
-    let plan = plan_of c.args.scope c.args.table.now c.args.entries.now in
+    let plan = seen c.args.plan.now in
     let many = as_many_shown plan all c.args.stripes.now window c.args.rooms.now shown in
     (tells_as _ _ _ _ _ _ _ _ _ _ _ (ap (events_of plan) (sym (take_all c.loop-k.k all (omega (arith, many, c.loop-k-test.false))))) (c.loop-k.invariant all window shown)).counts_are

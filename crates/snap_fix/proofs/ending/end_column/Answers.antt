@@ -1,5 +1,5 @@
 use Rattle.std.proofs.Common.{◌<◌, length, refl, arith}
-use Rattle.snap_fix.specs.Handed.{seen}
+use Rattle.repair_scope.specs.Plan.{seen}
 use Rattle.file_table.specs.Table.{records_in}
 use Rattle.snap_fix.proofs.EndingColumnLemmas.{told_start, can_next, told_more, ended_not, ended_all}
 use Rattle.snap_fix.proofs.AnswerLemmas.{on_err}

@@ -1,4 +1,4 @@
-use Rattle.snap_fix.specs.Handed.{seen}
+use Rattle.repair_scope.specs.Plan.{seen}
 use Rattle.snap_fix.proofs.EndingColumnLemmas.{ToldTo}
 use Rattle.snap_fix.proofs.ending.end_column.Given as goal
 

@@ -1,6 +1,6 @@
 use Rattle.std.proofs.Common.{◌≡◌, ◌&&◌, Bool, not, refl, sym, ap, ◌∙◌}
 use Rattle.repair_scope.specs.declared.entry.Entry.{Entry}
-use Rattle.snap_fix.specs.Handed.{seen}
+use Rattle.repair_scope.specs.Plan.{seen}
 use Rattle.snap_fix.proofs.AnswerLemmas.{on_err}
 use Rattle.snap_fix.proofs.EndingRecordLemmas.{can_finish, ends_done, ends_kept, ends_not}
 use Rattle.snap_fix.proofs.ending.end_record.Goals as goal

@@ -1,5 +1,5 @@
 use Rattle.std.proofs.Common.{◌<◌, length, refl, arith}
-use Rattle.snap_fix.specs.Handed.{seen}
+use Rattle.repair_scope.specs.Plan.{seen}
 use Rattle.snap_fix.proofs.EndingAllLemmas.{all_told_start, can_column, all_told_more, all_not, all_done}
 use Rattle.snap_fix.proofs.ending.finish_all.Goals as goal
 

@@ -1,5 +1,5 @@
 use Rattle.std.proofs.Common.{map}
-use Rattle.snap_fix.specs.Handed.{seen}
+use Rattle.repair_scope.specs.Plan.{seen}
 use Rattle.snap_fix.proofs.EndingAllLemmas.{AllToldTo}
 use Rattle.snap_fix.proofs.ending.finish_all.Given as goal
 

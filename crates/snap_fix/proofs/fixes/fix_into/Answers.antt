@@ -1,6 +1,6 @@
 use Rattle.std.proofs.Common.{◌<◌, inl, length, map, refl, arith, ◌∙◌}
 use Rattle.stripe_examiner.specs.Looking.{facts_at}
-use Rattle.snap_fix.specs.Handed.{seen}
+use Rattle.repair_scope.specs.Plan.{seen}
 use Rattle.stripe_examiner.specs.Spare.{nothing}
 use Rattle.snap_fix.specs.Fixing.{fix_scene}
 use Rattle.snap_fix.proofs.FixedStripeLemmas.{fits_with}

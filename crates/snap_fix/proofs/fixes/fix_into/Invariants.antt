@@ -1,6 +1,7 @@
 use Rattle.std.proofs.Common.{◌≡◌, List, length, map, take}
 use Rattle.stripe_examiner.specs.Facts.{StripeFacts}
-use Rattle.snap_fix.specs.Handed.{ShowsIn, seen}
+use Rattle.repair_scope.specs.Plan.{seen}
+use Rattle.snap_fix.specs.Handed.{ShowsIn}
 use Rattle.stripe_examiner.specs.Spare.{IsSpareFor, SpareView}
 use Rattle.snap_fix.specs.Fixing.{fix_scene}
 use Rattle.snap_fix.specs.FixRun.{MendsInto}

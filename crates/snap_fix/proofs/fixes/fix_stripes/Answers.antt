@@ -3,7 +3,7 @@ use Rattle.std.proofs.lemmas.List.{length-drop, length-take-le}
 use Rattle.std.proofs.lemmas.List.Elements.{All-drop, All-take}
 use Rattle.snap_fix.specs.FixRun.{BreaksStripes}
 use Rattle.snap_fix.specs.Fixing.{fix_scene}
-use Rattle.snap_fix.specs.Handed.{seen}
+use Rattle.repair_scope.specs.Plan.{seen}
 use Rattle.snap_fix.specs.Windows.{window_size}
 use Rattle.snap_fix.proofs.WindowsLemmas.{fill_more, takes_all}
 use Rattle.snap_fix.proofs.FixIntoLemmas.{still_underway}

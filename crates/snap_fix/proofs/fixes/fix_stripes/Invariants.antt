@@ -1,7 +1,7 @@
 use Rattle.std.proofs.Common.{◌-◌, ◌<◌, ◌≤◌, length, map, take}
 use Rattle.snap_fix.specs.Fixing.{fix_scene}
 use Rattle.snap_fix.specs.FixRun.{FixesStripes}
-use Rattle.snap_fix.specs.Handed.{seen}
+use Rattle.repair_scope.specs.Plan.{seen}
 use Rattle.stripe_examiner.specs.Room.{IsRoomFor}
 use Rattle.snap_fix.specs.Windows.{FillWindows}
 use Rattle.snap_fix.proofs.fixes.fix_stripes.Given as goal

@@ -2,7 +2,7 @@ use Rattle.std.proofs.Common.{List, map}
 use Rattle.disk_model.specs.Folder.{FolderView}
 use Rattle.snap_fix.specs.Fixing.{fix_scene}
 use Rattle.snap_fix.specs.FixRun.{BreaksWindow, FixesWindow}
-use Rattle.snap_fix.specs.Handed.{seen}
+use Rattle.repair_scope.specs.Plan.{seen}
 use Rattle.snap_fix.proofs.AnswerLemmas.{if_ok, if_err}
 use Rattle.snap_fix.proofs.FixReadLemmas.{fix_read}
 use Rattle.snap_fix.proofs.FixWindowLemmas.{shows_all, spare_still, window_mended, window_not_mended}

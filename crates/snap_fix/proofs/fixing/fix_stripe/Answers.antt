@@ -1,6 +1,6 @@
 use Rattle.std.proofs.Common.{map, refl, sym, ◌∙◌}
 use Rattle.std.proofs.lemmas.List.{take_at}
-use Rattle.snap_fix.specs.Handed.{seen}
+use Rattle.repair_scope.specs.Plan.{seen}
 use Rattle.stripe_examiner.specs.Spare.{nothing}
 use Rattle.snap_fix.specs.Fixing.{fix_scene}
 use Rattle.snap_fix.proofs.FixedStripeLemmas.{fits_with, fixed, folder_failed, parity_for, shows_marks, shows_tried, vault_failed}

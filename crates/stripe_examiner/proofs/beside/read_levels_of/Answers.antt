@@ -18,7 +18,7 @@ loop-k-preserved g c =
     let own = c.read_searched.new.own in
     let more = levels_of_more plan c.args.survey.now.stripes.now c.loop-k.k c.loop-k.rooms own _ _ _
     (omega arith) (omega (arith, c.loop-k.auto.rooms, c.requires.rooms.as_many)) one.room.levels one.count one.places one.read so_far.read in
-    record { read = more; rooms = All-set (IsStripeRoomFor c.args.survey.now.table.now) c.loop-k.rooms c.loop-k.k own one.room so_far.rooms; levels = more.read.goes_on.levels ∙ c.requires.levels }
+    record { read = more; rooms = All-set (IsStripeRoomFor c.args.survey.now.plan.table.now) c.loop-k.rooms c.loop-k.k own one.room so_far.rooms; levels = more.read.goes_on.levels ∙ c.requires.levels }
 
 pub returns : goal.returns
 returns g c = record {

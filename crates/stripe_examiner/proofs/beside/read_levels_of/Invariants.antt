@@ -8,6 +8,6 @@ use Rattle.stripe_examiner.proofs.beside.read_levels_of.Given as goal
 abbrev pub invariant-loop-k : goal.invariant-loop-k
 invariant-loop-k g l = record {
   read : ReadsLevelsOf (plan_in l.survey) (take l.k l.survey.stripes.now) l.rooms (g.V.Vault.view l.fn.vault) (g.V.Vault.view l.vault);
-  rooms : All (IsStripeRoomFor l.survey.table.now) l.rooms;
-  levels : (g.V.Vault.view l.vault).levels ≡ l.survey.table.now.shape.levels;
+  rooms : All (IsStripeRoomFor l.survey.plan.table.now) l.rooms;
+  levels : (g.V.Vault.view l.vault).levels ≡ l.survey.plan.table.now.shape.levels;
 }

@@ -9,7 +9,7 @@ use Rattle.stripe_examiner.proofs.first_choice.make_searched.Goals as goal
 
 pub make_first-requires-clause-can : goal.make_first-requires-clause-can
 make_first-requires-clause-can c =
-    let table = c.args.survey.now.table.now in
+    let table = c.args.survey.now.plan.table.now in
     let plan = plan_in c.args.survey.now in
     let count = c.requires.can.count c.requires.searched in
     record {

@@ -12,6 +12,6 @@ abbrev pub invariant-loop-r : goal.invariant-loop-r
 invariant-loop-r l =
     record {
       long : length l.wrong ≡ 6;
-      flags : (row : Row) → (l.known ≡ true → AreRemainders l.survey.table.now.shape.block_size row (take l.levels.count l.levels.levels) l.remainders)
+      flags : (row : Row) → (l.known ≡ true → AreRemainders l.survey.plan.table.now.shape.block_size row (take l.levels.count l.levels.levels) l.remainders)
           → (k : ℕ) → k < l.r → get_or l.wrong k false ≡ is_wrong (plan_in l.survey) l.stripe (level_at l.levels k) (if l.known then Some row else None) k;
     }

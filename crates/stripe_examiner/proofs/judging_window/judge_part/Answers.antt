@@ -14,7 +14,7 @@ hash_together-requires-clause-rooms c =
 
 pub judge_in_turn-requires-clause-can : goal.judge_in_turn-requires-clause-can
 judge_in_turn-requires-clause-can c = λ k other below.
-    let table = c.args.survey.now.table.now in
+    let table = c.args.survey.now.plan.table.now in
     let plan = plan_in c.args.survey.now in
     let i = c.args.start + k in
     let stripe = number_at c.args.survey.now.stripes.now i in

@@ -15,7 +15,7 @@ use Rattle.stripe_examiner.proofs.judging_window.judge_searched.Goals as goal
 
 pub returns-in_default-clause-judged : goal.returns-in_default-clause-judged
 returns-in_default-clause-judged c =
-    let table = c.args.survey.now.table.now in
+    let table = c.args.survey.now.plan.table.now in
     let plan = plan_in c.args.survey.now in
     let levels = c.args.own.now.levels in
     let count = c.requires.can.count c.requires.searched in
@@ -29,7 +29,7 @@ returns-in_default-clause-judged c =
 
 pub returns-then-not-is_judged-clause-judged : goal.returns-then-not-is_judged-clause-judged
 returns-then-not-is_judged-clause-judged c =
-    let table = c.args.survey.now.table.now in
+    let table = c.args.survey.now.plan.table.now in
     let plan = plan_in c.args.survey.now in
     let levels = c.args.own.now.levels in
     let count = c.requires.can.count c.requires.searched in
@@ -43,7 +43,7 @@ returns-then-not-is_judged-clause-judged c =
 
 pub find-known-requires-clause-can : goal.find-known-requires-clause-can
 find-known-requires-clause-can c =
-    let table = c.args.survey.now.table.now in
+    let table = c.args.survey.now.plan.table.now in
     let plan = plan_in c.args.survey.now in
     let count = c.requires.can.count c.requires.searched in
     record {
@@ -70,7 +70,7 @@ find-known-requires-clause-first c =
 
 pub returns-then-is_judged-clause-judged : goal.returns-then-is_judged-clause-judged
 returns-then-is_judged-clause-judged c =
-    let table = c.args.survey.now.table.now in
+    let table = c.args.survey.now.plan.table.now in
     let plan = plan_in c.args.survey.now in
     let own = c.args.own.now in
     let count = c.requires.can.count c.requires.searched in
@@ -87,7 +87,7 @@ returns-then-is_judged-clause-judged c =
 
 pub returns-else-is_judged-clause-judged : goal.returns-else-is_judged-clause-judged
 returns-else-is_judged-clause-judged c =
-    let table = c.args.survey.now.table.now in
+    let table = c.args.survey.now.plan.table.now in
     let plan = plan_in c.args.survey.now in
     let own = c.args.own.now in
     let count = c.requires.can.count c.requires.searched in

@@ -13,7 +13,7 @@ use Rattle.stripe_examiner.proofs.knowing.wanted_blocks.Goals.{then-is_missing+e
 
 pub returns-then-is_full : goal.returns-then-is_full
 returns-then-is_full c =
-    let table = c.args.survey.now.table.now in
+    let table = c.args.survey.now.plan.table.now in
     let d = c.loop-d.d in
     let p : ℕ → Bool = λ e. is_marked_missing (mark_in c.args.marks.now e) in
     let f : ℕ → Wanted = λ e. wanted_by table.shape e (cell_view (column_at table.columns e) c.args.stripe) in
@@ -27,7 +27,7 @@ returns-then-is_full c =
 
 pub loop-d-preserved : goal.loop-d-preserved
 loop-d-preserved c =
-    let table = c.args.survey.now.table.now in
+    let table = c.args.survey.now.plan.table.now in
     let d = c.loop-d.d in
     let p : ℕ → Bool = λ e. is_marked_missing (mark_in c.args.marks.now e) in
     let f : ℕ → Wanted = λ e. wanted_by table.shape e (cell_view (column_at table.columns e) c.args.stripe) in

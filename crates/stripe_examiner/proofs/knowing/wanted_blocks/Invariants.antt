@@ -10,5 +10,5 @@ use Rattle.stripe_examiner.proofs.knowing.wanted_blocks.Given as goal
 abbrev pub invariant-loop-d : goal.invariant-loop-d
 invariant-loop-d l =
     l.wanted.items
-    ≡ map (λ d. wanted_by l.survey.table.now.shape d (cell_view (column_at l.survey.table.now.columns d) l.stripe))
+    ≡ map (λ d. wanted_by l.survey.plan.table.now.shape d (cell_view (column_at l.survey.plan.table.now.columns d) l.stripe))
     (filter (λ d. is_marked_missing (mark_in l.marks d)) (range_with_len 0 l.d))

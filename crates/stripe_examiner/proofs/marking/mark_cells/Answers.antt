@@ -23,7 +23,7 @@ loop-d-preserved g c =
     let old = g.P.Spare.holding c.args.spare.now in
     let mid = g.P.Spare.holding c.loop-d.spare in
     let new = g.P.Spare.holding c.mark_cell.new.spare in
-    let table = c.args.survey.now.table.now in
+    let table = c.args.survey.now.plan.table.now in
     let d = c.loop-d.d in
     let marks = slice_set c.loop-d.marks d c.mark_cell.result in
     let seen = λ (e : ℕ). cell_view (column_at table.columns e) c.args.stripe in
@@ -58,7 +58,7 @@ loop-d-preserved g c =
 
 pub returns-clause-marked : goal.returns-clause-marked
 returns-clause-marked g c =
-    let table = c.args.survey.now.table.now in
+    let table = c.args.survey.now.plan.table.now in
     let stripe = c.args.stripe in
     let plan = plan_in c.args.survey.now in
     let so_far = c.loop-d.invariant in
@@ -68,12 +68,12 @@ returns-clause-marked g c =
       each = λ d within.
           let below : d < c.loop-d.d = omega (arith, within, c.disks-d-end.ensures.count) in
           subst (λ (searched : Bool). IsMarked searched table.shape (seen_at plan stripe d) (slot_at c.args.window.now c.args.i d) (mark_in c.loop-d.marks d) (slot_at c.loop-d.window c.args.i d))
-          (c.is_searched-searched.ensures c.args.survey.now.entries.now) (so_far.marked d below);
+          c.is_searched-searched.ensures (so_far.marked d below);
     }
 
 pub returns-clause-asks : goal.returns-clause-asks
 returns-clause-asks g c =
-    let table = c.args.survey.now.table.now in
+    let table = c.args.survey.now.plan.table.now in
     let stripe = c.args.stripe in
     let plan = plan_in c.args.survey.now in
     let old = g.P.Spare.holding c.args.spare.now in
@@ -81,5 +81,5 @@ returns-clause-asks g c =
     let asks = λ (searched : Bool) (count : ℕ). AsksCells count (λ e. asks_for searched (seen_at plan stripe e) (slot_at c.args.window.now c.args.i e))
     (λ e. holds_wanted old (wanted_by table.shape e (seen_at plan stripe e))) (λ e. is_marked_given (mark_in c.loop-d.marks e)) old new in
     let all : c.loop-d.d ≡ length table.columns = omega (arith, c.disks-d-end.ensures.count, c.loop-d-test.false) in
-    subst (λ (searched : Bool). asks searched (length table.columns)) (c.is_searched-searched.ensures c.args.survey.now.entries.now)
+    subst (λ (searched : Bool). asks searched (length table.columns)) c.is_searched-searched.ensures
     (subst (λ (count : ℕ). asks c.is_searched-searched.result count) all c.loop-d.invariant.asks)

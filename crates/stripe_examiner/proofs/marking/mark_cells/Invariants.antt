@@ -12,11 +12,11 @@ abbrev pub invariant-loop-d : goal.invariant-loop-d
 invariant-loop-d g l = record {
   changes : ChangesStripe l.i l.fn.window l.window;
   marked : (e : ℕ) → e < l.d
-      → IsMarked l.searched l.survey.table.now.shape (cell_view (column_at l.survey.table.now.columns e) l.stripe)
+      → IsMarked l.searched l.survey.plan.table.now.shape (cell_view (column_at l.survey.plan.table.now.columns e) l.stripe)
       (slot_at l.fn.window l.i e) (mark_in l.marks e) (slot_at l.window l.i e);
   asks : AsksCells l.d
-      (λ e. asks_for l.searched (cell_view (column_at l.survey.table.now.columns e) l.stripe) (slot_at l.fn.window l.i e))
-      (λ e. holds_wanted (g.P.Spare.holding l.fn.spare) (wanted_by l.survey.table.now.shape e (cell_view (column_at l.survey.table.now.columns e) l.stripe)))
+      (λ e. asks_for l.searched (cell_view (column_at l.survey.plan.table.now.columns e) l.stripe) (slot_at l.fn.window l.i e))
+      (λ e. holds_wanted (g.P.Spare.holding l.fn.spare) (wanted_by l.survey.plan.table.now.shape e (cell_view (column_at l.survey.plan.table.now.columns e) l.stripe)))
       (λ e. is_marked_given (mark_in l.marks e))
       (g.P.Spare.holding l.fn.spare) (g.P.Spare.holding l.spare);
   rest : (e : ℕ) → l.d ≤ e → slot_at l.window l.i e ≡ slot_at l.fn.window l.i e;

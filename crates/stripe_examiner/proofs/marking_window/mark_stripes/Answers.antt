@@ -20,7 +20,7 @@ loop-i-init g c = record {
 
 pub mark_stripe-requires-clause-spare : goal.mark_stripe-requires-clause-spare
 mark_stripe-requires-clause-spare g c =
-    is_for_still c.args.survey.now.table.now.shape (g.P.Spare.holding c.args.spare.now) (g.P.Spare.holding c.loop-i.spare) c.loop-i.invariant.asks.asked.same c.requires.spare
+    is_for_still c.args.survey.now.plan.table.now.shape (g.P.Spare.holding c.args.spare.now) (g.P.Spare.holding c.loop-i.spare) c.loop-i.invariant.asks.asked.same c.requires.spare
 
 pub loop-i-preserved : goal.loop-i-preserved
 loop-i-preserved g c =
@@ -36,7 +36,7 @@ loop-i-preserved g c =
     let many : i < length c.loop-i.rooms = omega (arith, within, c.loop-i.auto.rooms, c.requires.rooms.as_many) in
     let same = λ (d : ℕ). so_far.later i d (omega arith) in
     record {
-      rooms = All-set (IsStripeRoomFor c.args.survey.now.table.now) c.loop-i.rooms i own one.marks.room so_far.rooms;
+      rooms = All-set (IsStripeRoomFor c.args.survey.now.plan.table.now) c.loop-i.rooms i own one.marks.room so_far.rooms;
       levels = levels_kept i c.loop-i.rooms c.args.rooms.now own c.index-rooms-k.result many one.marks.levels so_far.levels;
       large = as_large_then i before mid new so_far.large one.marks.changes;
       later = λ k d le. one.marks.changes.others k d (λ is. omega (arith, le, is)) ∙ so_far.later k d (omega (arith, le));

@@ -9,7 +9,7 @@ use Rattle.stripe_examiner.proofs.marking_window.mark_stripes.Given as goal
 -- the stripes so far are marked, and those behind them are as they were
 abbrev pub invariant-loop-i : goal.invariant-loop-i
 invariant-loop-i g l = record {
-  rooms : All (IsStripeRoomFor l.survey.table.now) l.rooms;
+  rooms : All (IsStripeRoomFor l.survey.plan.table.now) l.rooms;
   levels : (k : ℕ) (other : StripeRoom) → (get_or l.rooms k other).levels ≡ (get_or l.fn.rooms k other).levels;
   large : IsAsLarge l.fn.window l.window;
   later : (k d : ℕ) → l.i ≤ k → slot_at l.window k d ≡ slot_at l.fn.window k d;

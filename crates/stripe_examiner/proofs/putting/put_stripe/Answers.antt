@@ -26,7 +26,7 @@ wanted_blocks-requires-clause-synced c =
 
 pub put_found-requires-clause-can : goal.put_found-requires-clause-can
 put_found-requires-clause-can c =
-    let table = c.args.survey.now.table.now in
+    let table = c.args.survey.now.plan.table.now in
     let plan = plan_in c.args.survey.now in
     let marks = c.args.own.now.marks.items in
     let size = c.shape-size.result.block_size in
@@ -51,7 +51,7 @@ put_found-requires-clause-can c =
 
 pub returns-clause-put : goal.returns-clause-put
 returns-clause-put c =
-    let table = c.args.survey.now.table.now in
+    let table = c.args.survey.now.plan.table.now in
     let plan = plan_in c.args.survey.now in
     let size_is : c.shape-size.result.block_size ≡ table.shape.block_size = ap (λ (s : Shape). s.block_size) c.shape-size.ensures.shape in
     puts_found plan c.args.stripe c.args.i c.args.window.now c.put_found.new.window c.args.own.now c.shape-size.result.block_size c.len.result c.deref-2.result.now c.if-not-own.false

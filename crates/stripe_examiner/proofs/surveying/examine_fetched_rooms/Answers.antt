@@ -15,13 +15,13 @@ pub examine_read-requires-clause-can : goal.examine_read-requires-clause-can
 examine_read-requires-clause-can g c κs outlive = record {
   entries = c.requires.can.entries;
   within = c.requires.can.within;
-  fits = subst (Fits c.args.survey.now.table.now) (sym c.hash_beside.ensures.window) (fits_hashed c.args.survey.now.table.now c.args.window.now c.requires.can.fits);
+  fits = subst (Fits c.args.survey.now.plan.table.now) (sym c.hash_beside.ensures.window) (fits_hashed c.args.survey.now.plan.table.now c.args.window.now c.requires.can.fits);
   number = ap (λ (it : WindowValue). it.count) c.hash_beside.ensures.window ∙ c.requires.can.number;
 }
 
 pub returns-clause-examined : goal.returns-clause-examined
 returns-clause-examined g c =
-    let table = c.args.survey.now.table.now in
+    let table = c.args.survey.now.plan.table.now in
     let plan = plan_in c.args.survey.now in
     let numbers = c.args.survey.now.stripes.now in
     let hashed = c.hash_beside.ensures in

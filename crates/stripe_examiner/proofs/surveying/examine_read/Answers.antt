@@ -14,7 +14,7 @@ use Rattle.stripe_examiner.proofs.surveying.examine_read.Goals as goal
 
 pub judge_stripes-requires-clause-can : goal.judge_stripes-requires-clause-can
 judge_stripes-requires-clause-can g c κs outlive k other below =
-    let table = c.args.survey.now.table.now in
+    let table = c.args.survey.now.plan.table.now in
     let plan = plan_in c.args.survey.now in
     let numbers = c.args.survey.now.stripes.now in
     let read = c.args.window.now in
@@ -28,7 +28,7 @@ judge_stripes-requires-clause-can g c κs outlive k other below =
 
 pub put_stripes-requires-clause-can : goal.put_stripes-requires-clause-can
 put_stripes-requires-clause-can g c k other below =
-    let table = c.args.survey.now.table.now in
+    let table = c.args.survey.now.plan.table.now in
     let plan = plan_in c.args.survey.now in
     let numbers = c.args.survey.now.stripes.now in
     let read = c.args.window.now in
@@ -45,7 +45,7 @@ put_stripes-requires-clause-can g c k other below =
 
 pub returns-clause-examined : goal.returns-clause-examined
 returns-clause-examined g c =
-    let table = c.args.survey.now.table.now in
+    let table = c.args.survey.now.plan.table.now in
     let plan = plan_in c.args.survey.now in
     let numbers = c.args.survey.now.stripes.now in
     let read = c.args.window.now in

@@ -15,7 +15,7 @@ examine_read-requires-clause-can g c κs outlive = record {
 
 pub returns-clause-examined : goal.returns-clause-examined
 returns-clause-examined g c =
-    let table = c.args.survey.now.table.now in
+    let table = c.args.survey.now.plan.table.now in
     let plan = plan_in c.args.survey.now in
     let numbers = c.args.survey.now.stripes.now in
     let reads = c.read_beside.ensures in

@@ -3,15 +3,15 @@ use Rattle.std.specs.List.{All}
 use Rattle.std.specs.Vec.{with_items}
 use Rattle.std.proofs.lemmas.List.{with_items_is}
 use Rattle.stripe_examiner.specs.declared.room.StripeRoom.{StripeRoom}
-use Rattle.repair_scope.specs.Plan.{plan_of}
 use Rattle.stripe_examiner.specs.Room.{IsStripeRoomFor}
+use Rattle.stripe_examiner.specs.Surveyed.{plan_in}
 use Rattle.stripe_examiner.proofs.WindowShown.{room_after}
 use Rattle.stripe_examiner.proofs.surveying.examine_window.Goals as goal
 
 pub returns : goal.returns
 returns g c =
-    let table = c.args.table.now in
-    let plan = plan_of c.args.scope table c.args.entries.now in
+    let table = c.args.survey.now.plan.table.now in
+    let plan = plan_in c.args.survey.now in
     let room = c.args.room.now in
     let ex = c.examine_rooms.ensures.examined in
     let rooms = c.examine_rooms.new.all in

@@ -3,7 +3,7 @@ use Rattle.snap_report.proofs.ToldLemmas.{told_nothing}
 use Rattle.stripe_examiner.specs.Marks.{mark_in}
 use Rattle.stripe_examiner.specs.declared.marking.CellMark.{CellMark}
 use Rattle.stripe_examiner.specs.Showing.{is_damaged_mark}
-use Rattle.snap_fix.specs.Handed.{seen}
+use Rattle.repair_scope.specs.Plan.{seen}
 use Rattle.snap_fix.specs.RepairSteps.{column_outside, is_lost_by, is_repaired_by}
 use Rattle.snap_fix.proofs.RepairCellLemmas.{column_stays, column_loses}
 use Rattle.snap_fix.proofs.RepairWrittenLemmas.{can_write, column_not, column_written}

@@ -1,7 +1,7 @@
 use Rattle.std.proofs.Common.{◌<◌, false, length, map, refl, sym, arith}
 use Rattle.std.proofs.lemmas.List.{get_or-map, length-map, map-set}
 use Rattle.disk_model.specs.Folder.{quiet_folder}
-use Rattle.snap_fix.specs.Handed.{seen}
+use Rattle.repair_scope.specs.Plan.{seen}
 use Rattle.snap_fix.proofs.RepairFilesLemmas.{files_none, column_can, files_more, files_not, files_all}
 use Rattle.snap_fix.proofs.repairing.files.mend_files.Goals as goal
 

@@ -1,5 +1,5 @@
 use Rattle.std.proofs.Common.{◌≡◌, length, map}
-use Rattle.snap_fix.specs.Handed.{seen}
+use Rattle.repair_scope.specs.Plan.{seen}
 use Rattle.snap_fix.specs.Repairing.{outside}
 use Rattle.snap_fix.proofs.RepairFilesLemmas.{FilesSoFar}
 use Rattle.snap_fix.proofs.repairing.files.mend_files.Given as goal

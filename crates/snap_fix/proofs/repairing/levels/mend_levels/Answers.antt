@@ -1,7 +1,7 @@
 use Rattle.std.proofs.Common.{◌≡◌, ◌<◌, ◌≤◌, length, true, arith, refl, sym, ap, ◌∙◌}
 use Rattle.disk_model.proofs.VaultLemmas.{no_calls, calls_then}
 use Rattle.parity_writer.proofs.Keeping.{drafts_start, drafts_then}
-use Rattle.snap_fix.specs.Handed.{seen}
+use Rattle.repair_scope.specs.Plan.{seen}
 use Rattle.std.proofs.lemmas.List.{length-set}
 use Rattle.snap_fix.proofs.FlagLemmas.{flags_none, flags_skip, flags_more, flags_all}
 use Rattle.file_restorer.proofs.GoesOnLemmas.{handed_on}

@@ -1,7 +1,7 @@
 use Rattle.std.proofs.Common.{◌≡◌, ◌≤◌, length}
 use Rattle.disk_model.specs.Vault.{SomeCalls, DraftsStay}
 use Rattle.stripe_examiner.specs.Facts.{StripeFacts}
-use Rattle.snap_fix.specs.Handed.{seen}
+use Rattle.repair_scope.specs.Plan.{seen}
 use Rattle.snap_fix.specs.Repairing.{ShowsLevels, levels_outside}
 use Rattle.snap_fix.proofs.MendedLevelLemmas.{LevelsSoFar}
 use Rattle.snap_fix.proofs.FlagLemmas.{FlagsSoFar}
