@@ -95,7 +95,7 @@ rose_more readings reading before mid after rose more =
     omega (arith, counted)
 
 -- what a level gives later, it gives before, since the files stay
-given_before : (old mid : VaultView) (size stripe level : ℕ) (reading : LevelReading) → mid.tells ≡ old.tells → (IsTrue old.tells → mid.files ≡ old.files) → IsReadingOf mid size stripe level reading → IsReadingOf old size stripe level reading
+pub given_before : (old mid : VaultView) (size stripe level : ℕ) (reading : LevelReading) → mid.tells ≡ old.tells → (IsTrue old.tells → mid.files ≡ old.files) → IsReadingOf mid size stripe level reading → IsReadingOf old size stripe level reading
 given_before old mid size stripe level None tells stay is = tt
 given_before old mid size stripe level (Some bytes) tells stay is =
     (is.0, λ told. is.1 (tells ∙ told) ∙ ap (λ (files : Files). read_from (parity_of files level) (stripe * size) size) (stay told))

@@ -16,3 +16,4 @@ pub mod LevelReadingLemmas
 pub mod WholeLevelLemmas
 pub mod PutRowLemmas
 pub mod ChosenWrites
+pub mod AheadLemmas

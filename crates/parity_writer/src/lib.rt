@@ -7,7 +7,8 @@
 //!    `written`, `elsewhere`). `sum_window` makes the sums of all stripes of a window side by side, and `write_sums`
 //!    writes those of the chosen ones by the same calls (`summing.rt`).
 //! 3. After `settle` a stop leaves parity as it reads (`settled`).
-//! 4. `read_levels` reads each level's block of a stripe by one call, and keeps what came (`read`).
+//! 4. `read_levels` reads each level's block of a stripe by one call, and keeps what came (`read`). `read_ahead` reads the
+//!    levels of several stripes before these calls, where the vault can, and they answer the same (`ahead.rt`).
 //!
 //! What is kept, is kept in each image at each moment within the call too, where the vault tells its images.
 //! What parity holds is a row for each stripe that has one (`specs/Parity.antt`); when a table is sound is said in
@@ -16,6 +17,7 @@
 //! Not here: which stripes are written, and when they may be called synced.
 #![tactic(auto)]
 
+mod ahead;
 pub mod laws;
 mod lengths;
 mod levels;
@@ -24,6 +26,7 @@ mod summing;
 mod sums;
 mod writing;
 
+pub use ahead::read_ahead;
 pub use lengths::set_lengths;
 pub use levels::{LevelRead, Levels, read_levels};
 pub use settling::settle;

@@ -2,7 +2,7 @@
 use Rattle.std.specs.Prelude.{◌≡◌, ℕ, ◌*◌, ◌/◌, ◌≤◌, min, max, List, [], length, All, None, slice_index_or, slice_set}
 use Rattle.file_table.specs.Table.{TableValue}
 use Rattle.stripe_reader.specs.declared.slot.Found.TheVariants as found
-use Rattle.stripe_reader.specs.declared.window.TheConstants.{MOST_STRIPES, WINDOW_BYTES}
+use Rattle.stripe_reader.specs.declared.window.TheConstants.{COLUMN_BYTES, WINDOW_BYTES, WINDOW_STRIPES}
 use Rattle.stripe_reader.specs.Slot.{slot_given, slot_without}
 use Rattle.stripe_reader.specs.SlotValue.{SlotValue}
 
@@ -14,9 +14,10 @@ pub record WindowValue : Type 0 where
   pub lanes : List (List SlotValue)
   pub count : ℕ
 
--- how many stripes a window of a run has: sixteen, or as many as fit into 64 MiB, and at least one
+-- how many stripes a window of a run has: sixteen or a mebibyte of each column, whichever is more, but no more than fit
+-- into 64 MiB, and at least one
 abbrev pub stripe_count : ℕ → ℕ → ℕ
-stripe_count disks block_size = min MOST_STRIPES (max 1 (WINDOW_BYTES / (block_size * disks)))
+stripe_count disks block_size = min (max WINDOW_STRIPES (COLUMN_BYTES / block_size)) (max 1 (WINDOW_BYTES / (block_size * disks)))
 
 -- slots whose blocks have this size
 abbrev pub HasBlocks : ℕ → List SlotValue → Type 0

@@ -33,4 +33,4 @@ pub use parts::{for_each_chunk_mut, for_each_mut};
 pub use readers::{fetch_window, read_window};
 pub use slot::{CellRead, Found};
 pub use starts::{Place, Start, Starts};
-pub use window::{MOST_STRIPES, WINDOW_BYTES, Window, stripe_count};
+pub use window::{COLUMN_BYTES, WINDOW_BYTES, WINDOW_STRIPES, Window, stripe_count};

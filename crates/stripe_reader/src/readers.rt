@@ -17,6 +17,15 @@ use std::thread::{Threads, join_mut};
 // The most threads that read columns.
 const MOST_THREADS: u32 = 64;
 
+// How many threads read so many stripes of so many columns: of no stripes, this one alone.
+fn threads_for(stripes: usize, columns: u32) -> u32 {
+    if stripes == 0 {
+        1
+    } else {
+        columns.min(MOST_THREADS)
+    }
+}
+
 // Reads columns one after another.
 fn fetch_lanes<F: Folder>(
     table: &Table,
@@ -179,8 +188,8 @@ fn fetch_both<R: Threads + Sync, F: Folder>(
     join_mut(rt, &mut one, &mut other);
 }
 
-/// Reads these stripes of all columns into a window, side by side: a thread for each column, up to 64 of them. No
-/// block is hashed, and no memory is taken.
+/// Reads these stripes of all columns into a window, side by side: a thread for each column, up to 64 of them, and none
+/// where there are no stripes. No block is hashed, and no memory is taken.
 pub fn fetch_window<R: Threads + Sync, F: Folder>(
     rt: &R,
     folders: &mut [F],
@@ -201,7 +210,7 @@ pub fn fetch_window<R: Threads + Sync, F: Folder>(
 {
     let all = Group {
         first: 0,
-        threads: table.disks().min(MOST_THREADS),
+        threads: threads_for(stripes.len(), table.disks()),
     };
     let room = window.room;
     window.count = stripes.len() as u32;

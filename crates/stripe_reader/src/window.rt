@@ -10,21 +10,27 @@ use file_table::Table;
 use std::alloc::Global;
 use std::marker::Model;
 
-/// The most stripes of a run's window.
-pub const MOST_STRIPES: u32 = 16;
+/// The stripes of a run's window, where `COLUMN_BYTES` aren't more.
+pub const WINDOW_STRIPES: u32 = 16;
+
+/// The bytes of a column in a run's window, where `WINDOW_STRIPES` aren't more: the threads of a window are worth their
+/// start only for so much.
+pub const COLUMN_BYTES: u32 = 1_048_576;
 
 /// The most bytes of a run's window with more than one stripe.
 pub const WINDOW_BYTES: u64 = 67_108_864;
 
-/// How many stripes a run's window has: sixteen, or as many as fit into 64 MiB, and at least one.
+/// How many stripes a run's window has: sixteen or a mebibyte of each column, whichever is more, but no more than fit
+/// into 64 MiB, and at least one.
 pub fn stripe_count(disks: u32, block_size: u32) -> u32
     requires disks { 0 < disks }
     requires block_size { 0 < block_size }
     ensures value { result ≡ stripe_count_of disks block_size }
     ensures some { 0 < result }
 {
+    let wanted = (COLUMN_BYTES / block_size).max(WINDOW_STRIPES);
     let stripe = u64::from(block_size) * u64::from(disks);
-    (WINDOW_BYTES / stripe).clamp(1, u64::from(MOST_STRIPES)) as u32
+    (WINDOW_BYTES / stripe).clamp(1, u64::from(wanted)) as u32
 }
 
 /// What was read of some stripes, in buffers that are taken once: a lane for each column, and room for a digest of each

@@ -4,3 +4,4 @@ mod faults;
 mod gates;
 mod readers;
 mod scene;
+mod shares;

@@ -13,6 +13,9 @@ use std::thread::Threads;
 
 const CONFIG: &str = "blocksize 1\nparity p\ncontent content\ndata d1 d\ndata d2 e\n";
 
+/// Blocks of which a window has sixteen.
+pub const LARGE: &str = "blocksize 64\nparity p\ncontent content\ndata d1 d\ndata d2 e\n";
+
 const CHECK: &[&str] = &["snapraid", "check", "-c", "FILE"];
 
 /// Three blocks on each disk, the last of the first one shorter.
@@ -35,17 +38,18 @@ pub const SUMS: Runs = &[
     (0, 924),
 ];
 
-/// One block more than a window has.
+/// One large block more than a window has.
 pub const WIDE: &[Disk] = &[
-    &[("a", &[(1, 16384), (2, 1024)], 1)],
-    &[("b", &[(0x10, 16384), (0x20, 1024)], 1)],
+    &[("a", &[(1, 1048576), (2, 65536)], 1)],
+    &[("b", &[(0x10, 1048576), (0x20, 65536)], 1)],
 ];
 
-pub const WIDE_SUMS: Runs = &[(0x11, 16384), (0x22, 1024)];
+pub const WIDE_SUMS: Runs = &[(0x11, 1048576), (0x22, 65536)];
 
 /// A run over two disks, and what it leaves.
 #[derive(Clone, Copy)]
 pub struct Case<'a> {
+    pub config: &'a str,
     /// What is synced before; nothing where there is no disk.
     pub synced: &'a [Disk<'a>],
     pub words: &'a [&'a str],
@@ -68,6 +72,7 @@ pub struct Case<'a> {
 
 /// A first sync, at which nothing happens.
 pub const SYNCED: Case = Case {
+    config: CONFIG,
     synced: &[],
     words: SYNC,
     disks: WHOLE,
@@ -118,13 +123,14 @@ fn vault_before<R: Threads + Sync>(rt: &R, alloc: Global, case: &Case) -> Result
     if case.synced.is_empty() {
         return Ok(first);
     }
-    run_calm(rt, alloc, SYNC, case.synced, first)?.reopened()
+    run_calm(rt, alloc, case.config, SYNC, case.synced, first)?.reopened()
 }
 
 // Runs words over disks where nothing happens.
 fn run_calm<R: Threads + Sync>(
     rt: &R,
     alloc: Global,
+    config: &str,
     words: &[&str],
     disks: &[Disk],
     vault: MemVault,
@@ -138,7 +144,7 @@ fn run_calm<R: Threads + Sync>(
         fault: (0, 0),
     };
     let folders = folders(alloc, scene)?;
-    run_with(rt, alloc, words, CONFIG, folders, vault)
+    run_with(rt, alloc, words, config, folders, vault)
 }
 
 fn run_case<R: Threads + Sync>(
@@ -156,7 +162,7 @@ fn run_case<R: Threads + Sync>(
         fault: case.fault,
     };
     let folders = folders(alloc, scene)?;
-    run_with(rt, alloc, case.words, CONFIG, folders, vault)
+    run_with(rt, alloc, case.words, case.config, folders, vault)
 }
 
 // Fails where a run left something else than a case says.
@@ -190,7 +196,8 @@ fn check<R: Threads + Sync>(
     case: &Case,
     left: &Left,
 ) -> Result<(), Fail> {
-    let checked = run_calm(rt, alloc, case.next, case.later, left.reopened()?)?;
+    let again = left.reopened()?;
+    let checked = run_calm(rt, alloc, case.config, case.next, case.later, again)?;
     if checked.out.bytes() != case.checked.as_bytes() {
         return Err(Fail::new(format_args!("case {number}: next run")));
     }

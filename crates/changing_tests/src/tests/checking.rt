@@ -1,6 +1,6 @@
 // Files that change during a check. What is not there when it is read is damaged, and lost where the level does not
 // give it.
-use crate::tests::cases::{A, CHECKED, Case, K, WIDE, WIDE_SUMS, plays};
+use crate::tests::cases::{A, CHECKED, Case, K, LARGE, WIDE, WIDE_SUMS, plays};
 use crate::tests::disks::{Disk, Runs};
 use std::test::Fail;
 
@@ -96,10 +96,11 @@ fn what_changes_while_it_is_checked_is_damaged(rt: HostRuntime) -> Result<(), Fa
         },
         // between two windows
         Case {
+            config: LARGE,
             synced: WIDE,
-            disks: &[&[("a", &[(1, 16384), (2, 1024)], 1)], &[]],
+            disks: &[&[("a", &[(1, 1048576), (2, 65536)], 1)], &[]],
             script: &[(34, "a", None)],
-            out: "changed d2:b recorded 17408 1.000000005 found nothing\n\
+            out: "changed d2:b recorded 1114112 1.000000005 found nothing\n\
                   unrecoverable 16 d1:a 16\n\
                   unrecoverable 16 d2:b 16\n\
                   check: 3 findings\n",

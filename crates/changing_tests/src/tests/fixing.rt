@@ -1,6 +1,6 @@
 // Files that change during a fix. What is gone when it is to be written is lost, and what is gone when it is to be
 // finished is blocked.
-use crate::tests::cases::{A, B, CHECKED, Case, K, WIDE, WIDE_SUMS, plays};
+use crate::tests::cases::{A, B, CHECKED, Case, K, LARGE, WIDE, WIDE_SUMS, plays};
 use crate::tests::disks::{Disk, Runs};
 use std::test::Fail;
 
@@ -27,6 +27,7 @@ const SILENT: Case = Case {
 };
 
 const WIDE_FIXED: Case = Case {
+    config: LARGE,
     synced: WIDE,
     disks: WIDE,
     level: WIDE_SUMS,
@@ -155,7 +156,7 @@ fn what_changes_while_it_is_fixed_is_lost_or_blocked(rt: HostRuntime) -> Result<
         },
         // between two windows: call 34 looks at the last block
         Case {
-            left: &[("a", &[(1, 16384), (2, 1024)], 1)],
+            left: &[("a", &[(1, 1048576), (2, 65536)], 1)],
             ..WIDE_FIXED
         },
         Case {
@@ -168,11 +169,11 @@ fn what_changes_while_it_is_fixed_is_lost_or_blocked(rt: HostRuntime) -> Result<
             ..WIDE_FIXED
         },
         Case {
-            script: &[(35, "a", Some((&[(1, 16384)], 2)))],
+            script: &[(35, "a", Some((&[(1, 1048576)], 2)))],
             out: "fixed 16 d1:a 16\n\
                   restored d1:a\n\
                   fix: 1 blocks and 0 parities fixed, 0 findings left\n",
-            left: &[("a", &[(1, 16384), (2, 1024)], 1)],
+            left: &[("a", &[(1, 1048576), (2, 65536)], 1)],
             ..WIDE_FIXED
         },
         // no stripe is bad

@@ -1,5 +1,5 @@
 // Files that change during a scrub. What is not there when it is read is a changed block, which marks nothing.
-use crate::tests::cases::{CHECKED, Case, K, WIDE, WIDE_SUMS, plays};
+use crate::tests::cases::{CHECKED, Case, K, LARGE, WIDE, WIDE_SUMS, plays};
 use crate::tests::disks::Runs;
 use std::test::Fail;
 
@@ -83,10 +83,11 @@ fn what_changes_while_it_is_scrubbed_is_told(rt: HostRuntime) -> Result<(), Fail
         },
         // between two windows
         Case {
+            config: LARGE,
             synced: WIDE,
             disks: WIDE,
             script: &[(33, "a", None)],
-            out: "changed-block 16 d1:a 16 recorded 17408 1.000000005 found nothing got 0\n\
+            out: "changed-block 16 d1:a 16 recorded 1114112 1.000000005 found nothing got 0\n\
                   scrub: 17 stripes checked, 1 findings\n",
             left: &[],
             level: WIDE_SUMS,
@@ -94,12 +95,13 @@ fn what_changes_while_it_is_scrubbed_is_told(rt: HostRuntime) -> Result<(), Fail
             ..FOUND
         },
         Case {
+            config: LARGE,
             synced: WIDE,
             disks: WIDE,
-            script: &[(34, "a", Some((&[(1, 16384), (2, 500)], 1)))],
-            out: "changed-block 16 d1:a 16 recorded 17408 1.000000005 found 17408 1.000000005 got 500\n\
+            script: &[(34, "a", Some((&[(1, 1048576), (2, 500)], 1)))],
+            out: "changed-block 16 d1:a 16 recorded 1114112 1.000000005 found 1114112 1.000000005 got 500\n\
                   scrub: 17 stripes checked, 1 findings\n",
-            left: &[("a", &[(1, 16384), (2, 500)], 1)],
+            left: &[("a", &[(1, 1048576), (2, 500)], 1)],
             level: WIDE_SUMS,
             later: WIDE,
             ..FOUND

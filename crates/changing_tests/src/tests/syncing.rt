@@ -1,5 +1,5 @@
 // Files that change during a sync. A stripe that was not read whole stays pending, and its parity as it was.
-use crate::tests::cases::{A, B, Case, K, SYNCED, WHOLE, WIDE, WIDE_SUMS, plays};
+use crate::tests::cases::{A, B, Case, K, LARGE, SYNCED, WHOLE, WIDE, WIDE_SUMS, plays};
 use crate::tests::disks::{Disk, Runs};
 use std::test::Fail;
 
@@ -132,20 +132,21 @@ fn what_changes_between_two_blocks_stays_pending(rt: HostRuntime) -> Result<(), 
 const LATER: &[Disk] = &[&[("a", &[(4, 1024), (5, 1024), (6, 952)], 2), K], &[B]];
 
 const LAST_PENDING: Case = Case {
+    config: LARGE,
     disks: WIDE,
     status: 1,
     left: &[],
-    level: &[(0x11, 16384), (0, 1024)],
+    level: &[(0x11, 1048576), (0, 65536)],
     later: WIDE,
     checked: "unsynced 16\ncheck: 1 findings\n",
     ..SYNCED
 };
 
-const WIDE_FEWER: Runs = &[(1, 16384), (2, 500)];
+const WIDE_FEWER: Runs = &[(1, 1048576), (2, 500)];
 
-const WIDE_OTHERS: Runs = &[(7, 17408)];
+const WIDE_OTHERS: Runs = &[(7, 1114112)];
 
-const WIDE_MORE: Runs = &[(1, 16384), (2, 1024), (9, 1000)];
+const WIDE_MORE: Runs = &[(1, 1048576), (2, 65536), (9, 1000)];
 
 // Call 34 looks at the file for its last block, which is alone in the second window, and call 35 reads that.
 #[test]
@@ -154,40 +155,40 @@ fn what_changes_between_two_windows_stays_pending(rt: HostRuntime) -> Result<(),
         Case {
             status: 0,
             out: "sync: 17 stripes synced, 0 pending\n",
-            left: &[("a", &[(1, 16384), (2, 1024)], 1)],
+            left: &[("a", &[(1, 1048576), (2, 65536)], 1)],
             level: WIDE_SUMS,
             checked: "check: 0 findings\n",
             ..LAST_PENDING
         },
         Case {
             script: &[(34, "a", None)],
-            out: "changed-block 16 d1:a 16 recorded 17408 1.000000005 found nothing got 0\n\
+            out: "changed-block 16 d1:a 16 recorded 1114112 1.000000005 found nothing got 0\n\
                   sync: 16 stripes synced, 1 pending\n",
             ..LAST_PENDING
         },
         Case {
             script: &[(35, "a", None)],
-            out: "changed-block 16 d1:a 16 recorded 17408 1.000000005 found 17408 1.000000005 got 0\n\
+            out: "changed-block 16 d1:a 16 recorded 1114112 1.000000005 found 1114112 1.000000005 got 0\n\
                   sync: 16 stripes synced, 1 pending\n",
             ..LAST_PENDING
         },
         Case {
             script: &[(35, "a", Some((WIDE_FEWER, 1)))],
-            out: "changed-block 16 d1:a 16 recorded 17408 1.000000005 found 17408 1.000000005 got 500\n\
+            out: "changed-block 16 d1:a 16 recorded 1114112 1.000000005 found 1114112 1.000000005 got 500\n\
                   sync: 16 stripes synced, 1 pending\n",
             left: &[("a", WIDE_FEWER, 1)],
             ..LAST_PENDING
         },
         Case {
             script: &[(34, "a", Some((WIDE_OTHERS, 2)))],
-            out: "changed-block 16 d1:a 16 recorded 17408 1.000000005 found 17408 2.000000005 got 1024\n\
+            out: "changed-block 16 d1:a 16 recorded 1114112 1.000000005 found 1114112 2.000000005 got 65536\n\
                   sync: 16 stripes synced, 1 pending\n",
             left: &[("a", WIDE_OTHERS, 2)],
             ..LAST_PENDING
         },
         Case {
             script: &[(34, "a", Some((WIDE_MORE, 2)))],
-            out: "changed-block 16 d1:a 16 recorded 17408 1.000000005 found 18408 2.000000005 got 1024\n\
+            out: "changed-block 16 d1:a 16 recorded 1114112 1.000000005 found 1115112 2.000000005 got 65536\n\
                   sync: 16 stripes synced, 1 pending\n",
             left: &[("a", WIDE_MORE, 2)],
             ..LAST_PENDING

@@ -169,8 +169,9 @@ fn one_reader_reads_two_disks_at_once(rt: HostRuntime) -> Result<(), Fail> {
     Ok(())
 }
 
-// One file a stripe. A window has sixteen of them.
+// One file a stripe. A window has sixteen of them, since their blocks are of 64 KiB.
 const SEVENTEEN: Array = Array {
+    config: "blocksize 64\nparity p\ncontent content\ndata d1 d\n",
     disks: &[&[
         ("a", b"1", 1, 5),
         ("b", b"1", 1, 5),

@@ -205,8 +205,12 @@ fn any_number_of_readers_finds_the_same(rt: HostRuntime) -> Result<(), Fail> {
     each_follows(&rt, rt.alloc(), &SYNCED_FOUR, &CASES)
 }
 
-// One file a stripe. A window has sixteen of them.
+// Blocks of which a window has sixteen.
+const LARGE: &str = "blocksize 64\nparity p\ncontent content\ndata d1 d\n";
+
+// One file a stripe, and one more than a window has.
 const SEVENTEEN: Array = Array {
+    config: LARGE,
     disks: &[&[
         ("a", b"1", 1, 5),
         ("b", b"1", 1, 5),
@@ -231,6 +235,7 @@ const SEVENTEEN: Array = Array {
 
 // Some of them are changed, one is gone, and the last is rotten.
 const SOME_WRONG: Array = Array {
+    config: LARGE,
     disks: &[&[
         ("a", b"1", 1, 5),
         ("b", b"2", 1, 5),
@@ -264,7 +269,7 @@ fn findings_are_told_stripe_by_stripe(rt: HostRuntime) -> Result<(), Fail> {
         Case {
             words: FULL,
             array: SOME_WRONG,
-            damage: Damage::Byte(0, 11264, 1),
+            damage: Damage::Byte(0, 720896, 1),
             status: 1,
             out: "silent 1 d1:b 0 recorded 8611fc1b5d381b860185571bc86ac5d9 \
                   found 965f82b06ede3d8a5666cf4bdd27bec2\n\

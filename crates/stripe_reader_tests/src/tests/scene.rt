@@ -23,7 +23,7 @@ const SHAPE: Shape = Shape {
     seed: *b"abcdefghijklmnop",
 };
 
-const PENDING: Info = Info {
+pub(super) const PENDING: Info = Info {
     mark: Mark::Pending,
     last: 0,
     bad: false,
