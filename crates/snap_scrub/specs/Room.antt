@@ -1,5 +1,5 @@
 -- The memory of a scrub.
-use Rattle.std.specs.Prelude.{◌≡◌, ℕ, ◌*◌, ◌<◌, ◌≤◌, length, All}
+use Rattle.std.specs.Prelude.{◌≡◌, ℕ, ◌<◌, ◌≤◌, length, All}
 use Rattle.file_table.specs.Table.{TableValue}
 use Rattle.parity_writer.specs.Summing.{HaveSize}
 use Rattle.stripe_reader.specs.Fetched.{hashed_window}
