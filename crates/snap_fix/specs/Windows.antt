@@ -3,9 +3,9 @@ use Rattle.std.specs.Prelude.{◌≡◌, ℕ, ◌+◌, ◌*◌, ◌<◌, ◌≤�
 use Rattle.std.specs.List.{flat_map}
 use Rattle.disk_model.specs.Vault.{VaultCall, VaultDone}
 use Rattle.parity_writer.specs.LevelReading.{LevelReading}
-use Rattle.stripe_reader.specs.WindowValue.{stripe_count}
 use Rattle.stripe_examiner.specs.Facts.{StripeFacts}
 use Rattle.stripe_examiner.specs.Looking.{level_reads}
+use Rattle.stripe_examiner.specs.Room.{window_room}
 use Rattle.repair_scope.specs.Plan.{FixPlan}
 use Rattle.snap_fix.specs.Underway.{done_well, wrong_writes}
 
@@ -20,9 +20,9 @@ stripes_in windows = flat_map (λ (window : FixWindow). window.stripes) windows
 abbrev pub readings_in : List FixWindow → List (List LevelReading)
 readings_in windows = flat_map (λ (window : FixWindow). window.readings) windows
 
--- how many stripes a window of a fix has: as many as one of any run over its table
+-- how many stripes a window of a fix has: as many as one of any run over its table, but no more than the table has
 abbrev pub window_size : FixPlan → ℕ
-window_size plan = stripe_count (length plan.table.columns) plan.table.shape.block_size
+window_size plan = window_room plan.table
 
 -- the readings are one list for each stripe, and there is a stripe, and no more of them than a window has
 pub record IsFixWindow (plan : FixPlan) (window : FixWindow) : Type 0 where

@@ -95,13 +95,15 @@ fn make_all(alloc: Global, table: &Table, stripes: u32) -> Result<Vec<StripeRoom
 }
 
 impl Room {
-    /// Room for a run over a table: for a window of sixteen stripes, or of as many as have cells of at most 64 MiB, and at least for
-    /// one.
+    /// Room for a run over a table: for a window of as many stripes as any run has, but of no more than the table has, and
+    /// at least for one.
     pub fn make(alloc: Global, table: &Table) -> Result<Room, NoMemory>
         ensures { IfOk result (IsRoomFor table.now) }
     {
         let block_size = table.shape().block_size;
-        let stripes = stripe_count(table.disks(), block_size);
+        let stripes = stripe_count(table.disks(), block_size)
+            .min(table.length())
+            .max(1);
         Ok(Room {
             window: Window::make(alloc, table.disks(), stripes, block_size)?,
             stripes: make_all(alloc, table, stripes)?,
