@@ -1,4 +1,5 @@
 // Levels of several parts over a vault in memory.
+mod ahead;
 mod calls;
 mod comes_back;
 mod failing;

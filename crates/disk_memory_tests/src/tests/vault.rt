@@ -6,7 +6,7 @@ use crate::tests::steps::VaultStep::{
 };
 use crate::tests::steps::{Failing, NONE};
 use disk_memory::MemVault;
-use disk_model::{NoMemory, Vault};
+use disk_model::{Ahead, NoAhead, NoMemory, Vault};
 use std::alloc::Global;
 use std::test::Fail;
 
@@ -62,6 +62,29 @@ fn damage_from_outside_is_read(rt: HostRuntime) -> Result<(), Fail> {
         (Reads(0, 3, b"old\x09\x09\x09"), Done),
     ];
     let mut vault = damaged(rt.alloc())?;
+    plays(&mut vault, &STEPS, NONE)
+}
+
+// Plans, and takes and puts back what reads ahead. Whether there was nothing to take.
+fn takes_nothing_ahead(alloc: Global, vault: &mut MemVault) -> Result<bool, NoMemory> {
+    if vault.levels() > 0 {
+        vault.plan_ahead(0, 1, 4);
+    }
+    let taken = vault.take_ahead();
+    let mut nothing = NoAhead;
+    nothing.fetch();
+    vault.put_ahead(vec![in alloc; nothing]?);
+    Ok(taken.is_none())
+}
+
+#[test]
+fn nothing_is_read_ahead(rt: HostRuntime) -> Result<(), Fail> {
+    static STEPS: [(VaultStep, Answer); 2] = [
+        (ParityLen, Size(6)),
+        (ParityReads(1, 5, b"arity\x09"), Done),
+    ];
+    let mut vault = damaged(rt.alloc())?;
+    assert!(rt; takes_nothing_ahead(rt.alloc(), &mut vault)?);
     plays(&mut vault, &STEPS, NONE)
 }
 
