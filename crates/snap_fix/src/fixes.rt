@@ -3,10 +3,10 @@ ghost use Rattle.std.specs.Prelude.{◌≡◌, ◌++◌, ◌<◌, IfOk, IfErr, L
 ghost use Rattle.snap_fix.specs.Fixing.{AreTotals, SceneFits};
 ghost use Rattle.snap_fix.specs.FixRun.{AreAscending, BreaksStripes, CanFixStripes, FixesStripes};
 ghost use Rattle.snap_fix.specs.Handed.{beside, BreaksShown, BreaksStretch, CanExamineStretch, FixesShown, FixesStretch};
-ghost use Rattle.snap_fix.specs.Handed.{IsUnderway, ShowsIn, scene_at, seen};
+ghost use Rattle.snap_fix.specs.Handed.{IsUnderway, ShowsIn, scene_at};
 ghost use Rattle.snap_fix.specs.Mended.{Mended};
 ghost use Rattle.stripe_examiner.specs.Facts.{StripeFacts};
-ghost use Rattle.repair_scope.specs.Plan.{FixPlan};
+ghost use Rattle.repair_scope.specs.Plan.{FixPlan, seen};
 ghost use Rattle.stripe_examiner.specs.Room.{IsRoomFor};
 ghost use Rattle.snap_fix.specs.Underway.{FixUnderway};
 

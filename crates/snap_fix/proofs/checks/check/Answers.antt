@@ -11,7 +11,7 @@ use Rattle.snap_fix.proofs.CourseLemmas.{entries_begun, work_begun, read_begun}
 use Rattle.snap_fix.proofs.checks.check.Goals as goal
 
 pub tell_opening-opening-requires : goal.tell_opening-opening-requires
-tell_opening-opening-requires g c κs within = entries_begun _ _ _ _ _ _ _ c.in_ok-work.ensures.begun
+tell_opening-opening-requires g c = entries_begun _ _ _ _ _ _ _ c.in_ok-work.ensures.begun
 
 pub check_stripes-stripes-requires-clause-work : goal.check_stripes-stripes-requires-clause-work
 check_stripes-stripes-requires-clause-work g c κs within = work_begun _ _ _ _ _ _ _ c.in_ok-work.ensures.begun

@@ -55,7 +55,7 @@ none_set table progress first r below =
     ap (λ (flags : List Bool). get_or flags r false) first.written ∙ get_or-replicate table.shape.levels r false false (omega (arith, below, few))
 
 pub tell_opening-opening-requires : goal.tell_opening-opening-requires
-tell_opening-opening-requires g c κs within = entries_begun _ _ _ _ _ _ _ c.requires.began.begins.begins
+tell_opening-opening-requires g c = entries_begun _ _ _ _ _ _ _ c.requires.began.begins.begins
 
 pub fix_stripes-requires-clause-can : goal.fix_stripes-requires-clause-can
 fix_stripes-requires-clause-can g c κs within =
