@@ -26,13 +26,13 @@ pub fn repair<R: Threads + Sync, F: Folder, V: Vault, P: Spare, W: Sink>(
     mode: Mode,
     selection: &Selection,
     setup: &Setup,
-    table: &Table,
-    readers: u32,
     folders: &mut [F],
     vault: &mut V,
     spare: &mut P,
-    lines: &mut Lines<'_, W>,
+    readers: u32,
+    table: &Table,
     reports: &mut Vec<Box<dyn Report>>,
+    lines: &mut Lines<'_, W>,
 ) -> Result<FixEnd, RunFault>
     requires array { IsArray table.now (length setup.now.disks)
         (map F.view folders.old) (V.view vault.old) (P.holding spare.old) }

@@ -43,13 +43,13 @@ pub(crate) fn check_array<R: Threads + Sync, F: Folder, V: Vault, W: Sink>(
         mode,
         selection,
         &job.setup,
-        table,
-        job.readers,
         folders,
         vault,
         &mut NoSpare,
-        &mut lines,
+        job.readers,
+        table,
         reports,
+        &mut lines,
     ) {
         Ok(end) => Done {
             answer: Answer::done(end.findings, lines.failed()),

@@ -42,13 +42,13 @@ pub(crate) fn fix_array<R: Threads + Sync, F: Folder, V: Vault, W: Sink>(
         Mode::Fix,
         selection,
         &job.setup,
-        table,
-        job.readers,
         folders,
         vault,
         &mut NoSpare,
-        &mut lines,
+        job.readers,
+        table,
         reports,
+        &mut lines,
     ) {
         Ok(end) => Done {
             answer: Answer::done(end.left, lines.failed()),
