@@ -1,5 +1,5 @@
 -- Two fixes of one array: they print, find and restore the same.
-use Rattle.std.specs.Prelude.{◌≡◌, ◌≢◌, ℕ, ◌<◌, List, length, map, Bool, true, Option, None, Some, IsTrue}
+use Rattle.std.specs.Prelude.{◌≡◌, ◌≢◌, ℕ, ◌<◌, List, length, map, Bool, true, false, Option, None, Some, IsTrue}
 use Rattle.disk_model.specs.Files.{Files, parity_of}
 use Rattle.disk_model.specs.Tree.{Tree, File, file_of, path_of}
 use Rattle.file_restorer.specs.State.{record_path}
