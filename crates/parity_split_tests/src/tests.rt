@@ -1,5 +1,4 @@
 // Levels of several parts over a vault in memory.
-mod ahead;
 mod calls;
 mod comes_back;
 mod failing;
