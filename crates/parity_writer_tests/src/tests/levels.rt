@@ -3,7 +3,7 @@ ghost use Rattle.std.specs.Prelude.{◌≡◌, ◌<◌};
 
 use disk_memory::MemVault;
 use disk_model::Vault;
-use parity_writer::{LevelRead, Levels, read_ahead, read_levels};
+use parity_writer::{LevelRead, Levels, read_levels};
 use std::test::Fail;
 
 // Whether this was read of a level, with this block.
@@ -37,26 +37,5 @@ fn each_level_is_whole_short_or_unread(rt: HostRuntime) -> Result<(), Fail> {
     assert!(rt; has(&levels, 1, LevelRead::Short, b"ij\0\0"));
     assert!(rt; has(&levels, 2, LevelRead::Short, b"\0\0\0\0"));
     assert!(rt; has(&levels, 3, LevelRead::Short, b"\0\0\0\0"));
-    Ok(())
-}
-
-// The first two are enough to be read ahead, and the others are too few, or do not follow one another.
-#[test]
-fn levels_that_were_read_ahead_are_as_before(rt: HostRuntime) -> Result<(), Fail> {
-    static RUNS: [&[u32]; 5] = [&[0, 1], &[1, 2, 3], &[1], &[1, 3], &[]];
-    let alloc = rt.alloc();
-    let mut levels = Levels::make(alloc, 4)?;
-    for stripes in RUNS {
-        let mut vault = MemVault::new(alloc, 2, 0)?;
-        vault.set_parity(0, b"abcdefgh")?;
-        vault.set_parity(1, b"ijklmn")?;
-        read_ahead(&rt, &mut vault, stripes, 131_072);
-        if vault.levels() != 2 {
-            return Err(Fail::new(format_args!("another number of levels")));
-        }
-        read_levels(&mut vault, 1, &mut levels);
-        assert!(rt; has(&levels, 0, LevelRead::Bytes, b"efgh"));
-        assert!(rt; has(&levels, 1, LevelRead::Short, b"mn\0\0"));
-    }
     Ok(())
 }
