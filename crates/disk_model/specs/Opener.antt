@@ -12,20 +12,23 @@ use Rattle.disk_model.specs.declared.fault.OpenFault.TheVariants.{Failed, Memory
 pub data OpenerCall : Type 0 where
   Config : (name : List ℕ) → OpenerCall
   Open : (dirs parities contents : List (List ℕ)) → OpenerCall
+  Import : (dir : List ℕ) → OpenerCall
 
 -- a call that was made, and whether it answered `Failed`
 pub record OpenerDone : Type 0 where
   pub call : OpenerCall
   pub failed : Bool
 
--- An opener. Its count is always told, and the counts that its folders and its vault will begin with; where `tells` is true, config
--- is what a configuration holds and folders and vault are what it will open; where `tells_calls` is, calls are all calls so far.
+-- An opener. Its count is always told, and the counts that its folders, its vault and the folder to import will begin with; where
+-- `tells` is true, config is what a configuration holds, folders and vault are what it will open, and import is the folder that it
+-- will import; where `tells_calls` is, calls are all calls so far.
 pub record OpenerView : Type 1 where
   pub faults : ℕ
   pub tells : Bool
   pub config : List ℕ
   pub folders : List FolderView
   pub vault : VaultView
+  pub import : FolderView
   pub tells_calls : Bool
   pub calls : List OpenerDone
 
@@ -77,9 +80,19 @@ pub record VaultIsGiven (is_told : Bool) (parities contents : ℕ) (held given :
   pub drafts : given.drafts ≡ replicate contents Absent
   pub settled : IsSettled given
 
--- it holds the same to give
-pub record HoldsSame (old new : OpenerView) : Type 0 where
+-- it holds the same configuration, folders and vault to give
+pub record HoldsArray (old new : OpenerView) : Type 0 where
   pub config : IsTrue old.tells → new.config ≡ old.config
   pub folders : IsTrue old.tells → new.folders ≡ old.folders
   pub folder_counts : (column : ℕ) → (folder_held new column).faults ≡ (folder_held old column).faults
   pub vault : SameVault old.tells old.vault new.vault
+
+-- it holds the same folder to import
+pub record HoldsImport (old new : OpenerView) : Type 0 where
+  pub folder : IsTrue old.tells → new.import ≡ old.import
+  pub count : new.import.faults ≡ old.import.faults
+
+-- it holds the same to give
+pub record HoldsSame (old new : OpenerView) : Type 0 where
+  pub array : HoldsArray old new
+  pub import : HoldsImport old new
