@@ -7,7 +7,7 @@ ghost use Rattle.array_scan.specs.declared.listing.ListingFault.TheVariants.{Mem
 ghost use Rattle.array_scan.specs.Listings.{ListsAll, FailsListing, Gives, HavePlaces, GiveAll, IsFirstFault};
 
 use disk_model::{FileInfo, Folder, ListFault, NoMemory};
-use std::alloc::{AllocFailed, Global};
+use std::alloc::Global;
 use std::thread::{Threads, join_mut};
 
 // The most threads that list folders.
@@ -31,14 +31,6 @@ impl From<NoMemory> for ListingFault {
     ghost from_gives = { λ _ fault. fault ≡ Memory };
 
     fn from(_error: NoMemory) -> ListingFault {
-        ListingFault::Memory
-    }
-}
-
-impl<T: Drop> From<AllocFailed<T>> for ListingFault {
-    ghost from_gives = { λ _ fault. fault ≡ Memory };
-
-    fn from(_error: AllocFailed<T>) -> ListingFault {
         ListingFault::Memory
     }
 }
