@@ -14,7 +14,7 @@ use Rattle.snap_config.specs.declared.options.WordsFault.{WordsFault}
 use Rattle.snap_config.specs.declared.options.WordsFault.TheVariants.{Command, Unfit, Usage, Value}
 
 abbrev all : List CommandName
-all = names.Sync ∷ names.Scrub ∷ names.Check ∷ names.Fix ∷ names.Status ∷ names.List ∷ names.Exercise ∷ []
+all = names.Sync ∷ names.Scrub ∷ names.Check ∷ names.Fix ∷ names.Status ∷ names.List ∷ names.Dup ∷ names.Exercise ∷ []
 
 abbrev line : List Text → Result Options WordsFault
 line words = reading_among all (codes "snapraid" ∷ words)

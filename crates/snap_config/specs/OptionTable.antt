@@ -15,6 +15,7 @@ command_word commands.Check = codes "check"
 command_word commands.Fix = codes "fix"
 command_word commands.Status = codes "status"
 command_word commands.List = codes "list"
+command_word commands.Dup = codes "dup"
 command_word commands.Exercise = codes "exercise"
 
 -- the options in the order of their rows

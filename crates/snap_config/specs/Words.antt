@@ -52,6 +52,7 @@ command_of names.Check matches = checking (is_given AuditOnly matches) (selectio
 command_of names.Fix matches = commands.Fix (selection matches)
 command_of names.Status matches = commands.Status
 command_of names.List matches = commands.List
+command_of names.Dup matches = commands.Dup
 command_of names.Exercise matches = commands.Exercise (values_in matches).number
 
 abbrev pub default_conf : Text
@@ -126,6 +127,7 @@ name_of_command (commands.Audit selected) = names.Check
 name_of_command (commands.Fix selected) = names.Fix
 name_of_command commands.Status = names.Status
 name_of_command commands.List = names.List
+name_of_command commands.Dup = names.Dup
 name_of_command (commands.Exercise n) = names.Exercise
 
 -- numbers lie within their bounds

@@ -13,29 +13,32 @@ pub enum CommandName {
     Fix,
     Status,
     List,
+    Dup,
     Exercise,
 }
 
 /// The commands that are built. The word of any other is an unknown command.
-pub const BUILT_COMMANDS: [CommandName; 7] = [
+pub const BUILT_COMMANDS: [CommandName; 8] = [
     CommandName::Sync,
     CommandName::Scrub,
     CommandName::Check,
     CommandName::Fix,
     CommandName::Status,
     CommandName::List,
+    CommandName::Dup,
     CommandName::Exercise,
 ];
 
 impl CommandName {
     /// All commands, those that are not built yet among them.
-    pub const ALL: [CommandName; 7] = [
+    pub const ALL: [CommandName; 8] = [
         CommandName::Sync,
         CommandName::Scrub,
         CommandName::Check,
         CommandName::Fix,
         CommandName::Status,
         CommandName::List,
+        CommandName::Dup,
         CommandName::Exercise,
     ];
 
@@ -50,6 +53,7 @@ impl CommandName {
             CommandName::Fix => "fix",
             CommandName::Status => "status",
             CommandName::List => "list",
+            CommandName::Dup => "dup",
             CommandName::Exercise => "exercise",
         }
     }

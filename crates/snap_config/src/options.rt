@@ -130,6 +130,8 @@ pub enum Command {
     Fix(Selection),
     Status,
     List,
+    /// Tells which files hold the same.
+    Dup,
     /// Makes an array of this number in memory, and works on that alone: 0 to 999,999,999.
     Exercise(u32),
 }

@@ -131,6 +131,7 @@ fn command_of(
         CommandName::Fix => Command::Fix(selection(alloc, matches, values.patterns)?),
         CommandName::Status => Command::Status,
         CommandName::List => Command::List,
+        CommandName::Dup => Command::Dup,
         CommandName::Exercise => Command::Exercise(values.number),
     })
 }

@@ -6,7 +6,7 @@ use std::alloc::{AllocError, Global};
 use std::test::Fail;
 
 // All commands: words, the command or the refusal that they come to, and the readers or the row of the option.
-static LINES: [(&str, &str, u32); 104] = [
+static LINES: [(&str, &str, u32); 110] = [
     // the options of each command, by their names and their letters
     ("sync", "sync", 4),
     ("sync|-c|a.conf|-l|run.log|--readers|16", "sync", 16),
@@ -28,6 +28,8 @@ static LINES: [(&str, &str, u32); 104] = [
     ("fix|-d|", "fix", 4),
     ("status|-c|a", "status", 4),
     ("list|-l|x", "list", 4),
+    ("dup", "dup", 4),
+    ("dup|-c|a.conf|--log|run.log", "dup", 4),
     // an exercise, with the number behind the command and options in any place
     ("exercise|0", "exercise", 4),
     ("-c|a|exercise|999999999", "exercise", 4),
@@ -72,6 +74,7 @@ static LINES: [(&str, &str, u32); 104] = [
     ("frob", "command", 0),
     ("help", "command", 0),
     ("List", "command", 0),
+    ("dups", "command", 0),
     ("diff", "command", 0),
     // the command comes before its options, and all options that do not go with it before all values
     ("frob|-p|101", "command", 0),
@@ -94,6 +97,9 @@ static LINES: [(&str, &str, u32); 104] = [
     ("scrub|--save-every|5", "unfit", 12),
     ("status|--readers|4", "unfit", 13),
     ("list|--readers|4", "unfit", 13),
+    ("dup|-f|*", "unfit", 3),
+    ("dup|--readers|4", "unfit", 13),
+    ("dup|7", "unfit", 14),
     ("exercise|7|--readers|4", "unfit", 13),
     ("exercise|-Z", "unfit", 10),
     ("list|list", "unfit", 14),
@@ -140,6 +146,7 @@ fn name_of(command: &Command) -> &'static str {
         Command::Fix(_) => "fix",
         Command::Status => "status",
         Command::List => "list",
+        Command::Dup => "dup",
         Command::Exercise(_) => "exercise",
     }
 }
