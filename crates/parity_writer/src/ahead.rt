@@ -1,11 +1,16 @@
 // The levels of stripes in a row, read ahead side by side.
-ghost use Rattle.std.specs.Prelude.{◌≡◌, ◌≤◌, IfSome};
+ghost use Rattle.std.specs.Prelude.{◌≡◌, ◌<◌, ◌≤◌, All, IfSome, length, map};
 ghost use Rattle.std.specs.Thread.{IsSend, IsSync};
 ghost use Rattle.disk_model.specs.Vault.{IsUntouched};
+ghost use Rattle.stripe_reader.specs.Fetched.{FetchesWindow};
+ghost use Rattle.stripe_reader.specs.Held.{CanRead};
+ghost use Rattle.stripe_reader.specs.Starts.{StartsFit};
+ghost use Rattle.stripe_reader.specs.WindowValue.{Fits};
 
-use disk_model::{Ahead, Vault};
-use std::thread::Threads;
-use stripe_reader::for_each_mut;
+use disk_model::{Ahead, Folder, Vault};
+use file_table::Table;
+use std::thread::{Threads, join_mut};
+use stripe_reader::{Starts, Window, fetch_window, for_each_mut};
 
 // The fewest bytes of a level that are read ahead: below, the start of a thread costs more than it saves.
 const LEAST_BYTES: usize = 262_144;
@@ -32,20 +37,45 @@ fn plan_levels<V: Vault>(vault: &mut V, at: u64, len: usize)
     }
 }
 
-// Reads what was planned of each level in a thread of its own, where the vault can.
-fn fetch_ahead<R: Threads + Sync, V: Vault>(rt: &R, vault: &mut V)
+/// What reads the levels of stripes in a row ahead, with these bytes planned; `None` where the vault reads nothing ahead, the
+/// stripes do not follow one another, or they are too few. It goes back by `put_ahead`. Meanwhile calls come as ever, and
+/// what was read before serves them.
+pub fn take_ahead<V: Vault>(
+    vault: &mut V,
+    stripes: &[u32],
+    block_size: u32,
+) -> Option<Vec<V::Ahead>>
+    requires size { block_size ≤ 4194304 }
     ensures { IsUntouched (V.view vault.old) (V.view vault.new) }
 {
-    let threads = vault.levels().max(1) as usize;
-    let Some(mut ahead) = vault.take_ahead() else {
+    let (first, count) = run_of(stripes)?;
+    let len = count * block_size as usize;
+    if len < LEAST_BYTES {
+        return None;
+    }
+    plan_levels(vault, u64::from(first) * u64::from(block_size), len);
+    vault.take_ahead()
+}
+
+// Reads what was planned, each part in a thread of its own.
+fn fetch_ahead<R: Threads + Sync, A: Ahead>(rt: &R, ahead: &mut Option<Vec<A>>) {
+    let Some(parts) = ahead else {
         return;
     };
-    let one = |k: usize, part: &mut V::Ahead|
-        requires { IsSend V.Ahead.row }
-        ensures { k ≡ k }
+    let threads = parts.len().max(1);
+    let one = |_: usize, part: &mut A|
+        requires { IsSend A.row }
     { part.fetch() };
-    for_each_mut(rt, ahead.as_mut_slice(), threads, &one);
-    vault.put_ahead(ahead);
+    for_each_mut(rt, parts.as_mut_slice(), threads, &one);
+}
+
+/// Gives back what was taken. The calls that read these levels come as before and answer the same.
+pub fn put_ahead<V: Vault>(vault: &mut V, ahead: Option<Vec<V::Ahead>>)
+    ensures { IsUntouched (V.view vault.old) (V.view vault.new) }
+{
+    if let Some(parts) = ahead {
+        vault.put_ahead(parts);
+    }
 }
 
 /// Reads what the levels hold of so many stripes in a row ahead, those of each level in a thread of its own, where the
@@ -59,13 +89,40 @@ pub fn read_ahead<R: Threads + Sync, V: Vault>(
     requires size { block_size ≤ 4194304 }
     ensures { IsUntouched (V.view vault.old) (V.view vault.new) }
 {
-    let Some((first, count)) = run_of(stripes) else {
-        return;
-    };
-    let len = count * block_size as usize;
-    if len < LEAST_BYTES {
-        return;
+    let mut ahead = take_ahead(vault, stripes, block_size);
+    fetch_ahead(rt, &mut ahead);
+    put_ahead(vault, ahead);
+}
+
+/// Reads stripes of all columns into a window, as `fetch_window` does, and meanwhile what was planned of their levels.
+pub fn fetch_beside<R: Threads + Sync, F: Folder, A: Ahead>(
+    rt: &R,
+    folders: &mut [F],
+    table: &Table,
+    starts: &Starts,
+    stripes: &[u32],
+    window: &mut Window,
+    ahead: &mut Option<Vec<A>>,
+)
+    requires folders { length folders.old ≡ length table.now.columns }
+    requires starts { StartsFit table.now starts.now }
+    requires stripes { All (λ stripe. stripe < length table.now.infos) stripes.now }
+    requires fits { Fits table.now window.old }
+    requires room { length stripes.now ≤ window.old.room }
+    ensures fits { Fits table.now window.new }
+    ensures count { window.new.count ≡ length stripes.now }
+    ensures fetched { FetchesWindow table.now starts.now stripes.now window.old window.new
+        (map F.view folders.old) (map F.view folders.new) }
+{
+    if ahead.is_none() {
+        return fetch_window(rt, folders, table, starts, stripes, window);
     }
-    plan_levels(vault, u64::from(first) * u64::from(block_size), len);
-    fetch_ahead(rt, vault);
+    let mut levels = ||
+        requires { IsSync R.row × IsSend A.row }
+    { fetch_ahead(rt, ahead) };
+    let mut cells = ||
+        requires { IsSync R.row × IsSend F.row × CanRead table.now starts.now stripes.now window.now (length folders.now) }
+    { fetch_window(rt, folders, table, starts, stripes, window) };
+    // This thread goes on with the cells: it starts their readers.
+    join_mut(rt, &mut levels, &mut cells);
 }

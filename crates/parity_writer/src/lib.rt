@@ -8,7 +8,9 @@
 //!    writes those of the chosen ones by the same calls (`summing.rt`).
 //! 3. After `settle` a stop leaves parity as it reads (`settled`).
 //! 4. `read_levels` reads each level's block of a stripe by one call, and keeps what came (`read`). `read_ahead` reads the
-//!    levels of several stripes before these calls, where the vault can, and they answer the same (`ahead.rt`).
+//!    levels of several stripes before these calls, where the vault can, and they answer the same (`ahead.rt`). Where
+//!    windows overlap, `take_ahead` takes what reads them, `fetch_beside` lets it read beside the cells of a window, and
+//!    `put_ahead` gives it back.
 //!
 //! What is kept, is kept in each image at each moment within the call too, where the vault tells its images.
 //! What parity holds is a row for each stripe that has one (`specs/Parity.antt`); when a table is sound is said in
@@ -26,7 +28,7 @@ mod summing;
 mod sums;
 mod writing;
 
-pub use ahead::read_ahead;
+pub use ahead::{fetch_beside, put_ahead, read_ahead, take_ahead};
 pub use lengths::set_lengths;
 pub use levels::{LevelRead, Levels, read_levels};
 pub use settling::settle;
