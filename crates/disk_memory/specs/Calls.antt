@@ -6,14 +6,14 @@ use Rattle.disk_model.specs.Vault as vault
 use Rattle.disk_model.specs.Vault.{VaultCall, VaultDone}
 use Rattle.disk_model.specs.Folder as folder
 use Rattle.disk_model.specs.Folder.{FolderCall, FolderDone}
-use Rattle.disk_model.specs.Opener.{OpenerCall, OpenerDone, Config as OpenerConfig, Open as OpenerOpen}
+use Rattle.disk_model.specs.Opener.{OpenerCall, OpenerDone, Config as OpenerConfig, Open as OpenerOpen, Import as OpenerImport}
 use Rattle.disk_memory.specs.declared.past.Made.{Made}
 use Rattle.disk_memory.specs.declared.calls.VaultEntry.{VaultEntry}
 use Rattle.disk_memory.specs.declared.calls.VaultEntry.TheVariants.{ParityLen, ParityRead, ParityWrite, ParitySetLen, ParitySync, ContentSize, ContentRead, DraftBegin, DraftAppend, DraftSeal, Publish}
 use Rattle.disk_memory.specs.declared.calls.FolderEntry.{FolderEntry}
 use Rattle.disk_memory.specs.declared.calls.FolderEntry.TheVariants.{ListFiles, Look, ReadAt, Make, WriteAt, SetSize, SetStamp, Rename}
 use Rattle.disk_memory.specs.declared.calls.OpenerEntry.{OpenerEntry}
-use Rattle.disk_memory.specs.declared.calls.OpenerEntry.TheVariants.{Config, Open}
+use Rattle.disk_memory.specs.declared.calls.OpenerEntry.TheVariants.{Config, Open, Import}
 
 -- a call of a vault
 abbrev pub vault_call : VaultEntry → VaultCall
@@ -76,6 +76,7 @@ folder_calls entries = map folder_done entries
 abbrev pub opener_call : OpenerEntry → OpenerCall
 opener_call (Config name) = OpenerConfig name
 opener_call (Open places) = OpenerOpen places.dirs.items places.parities.items places.contents.items
+opener_call (Import dir) = OpenerImport dir
 
 -- with what became of it
 abbrev pub opener_done : Made OpenerEntry → OpenerDone

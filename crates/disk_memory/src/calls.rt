@@ -1,7 +1,7 @@
 // The calls of each kind of object, as its record keeps them.
 ghost use Rattle.std.specs.Prelude.{◌≡◌, position, IfSome, IfOk};
 ghost use Rattle.disk_model.specs.Folder.{Look, ReadAt, Make, WriteAt, SetSize, SetStamp, Rename};
-ghost use Rattle.disk_model.specs.Opener.{Config, Open};
+ghost use Rattle.disk_model.specs.Opener.{Config, Open, Import};
 ghost use Rattle.disk_model.specs.Vault.{VaultDone, ParityWrite, DraftAppend};
 ghost use Rattle.disk_memory.specs.declared.past.Made.{Made};
 ghost use Rattle.disk_memory.specs.declared.calls.VaultEntry.{VaultEntry};
@@ -154,6 +154,7 @@ pub fn sink_entry(alloc: Global, bytes: &[u8]) -> Option<Bytes>
 pub enum OpenerEntry {
     Config(Text),
     Open(Places),
+    Import(Text),
 }
 
 // None where memory refused it.
@@ -193,6 +194,16 @@ pub fn open_entry(alloc: Global, places: &Places) -> Option<OpenerEntry>
     let copied = copied_places(alloc, places);
     match copied {
         Ok(places) => Some(OpenerEntry::Open(places)),
+        Err(NoMemory) => None,
+    }
+}
+
+// None where memory refused it.
+pub fn import_entry(alloc: Global, dir: &str) -> Option<OpenerEntry>
+    ensures { IfSome result (λ entry. opener_call entry ≡ Import dir.now) }
+{
+    match Text::new(alloc, dir) {
+        Ok(dir) => Some(OpenerEntry::Import(dir)),
         Err(NoMemory) => None,
     }
 }
