@@ -4,5 +4,6 @@ mod KeyLemmas
 mod LinkLemmas
 mod ListingLemmas
 mod NumberingLemmas
+mod PairLemmas
 mod SameLemmas
 mod StartLemmas

@@ -1,10 +1,10 @@
 -- The duplicates of a table: which of its files hold the same, by the hashes of their blocks.
 -- Columns, and the records of each, count from 0.
-use Rattle.std.specs.Prelude.{ℕ, ◌+◌, ◌==◌, ◌&&◌, List, [], ◌∷◌, ◌++◌, map, not, slice_index_or, bytes_eq, Bool, true, false, Option, Some}
+use Rattle.std.specs.Prelude.{ℕ, ◌+◌, ◌<◌, ◌==◌, ◌&&◌, List, [], ◌∷◌, ◌++◌, length, map, not, slice_index_or, bytes_eq, Bool, true, false, Option, Some}
 use Rattle.std.specs.List.{filter}
 use Rattle.block_hash.specs.declared.Digest16.{Digest16}
 use Rattle.file_table.specs.declared.block.Block.{Block}
-use Rattle.file_table.specs.Table.{Record, Column, TableValue, no_record}
+use Rattle.file_table.specs.Table.{Record, Column, TableValue, column_at, no_record}
 use Rattle.hash_index.specs.declared.pair.Pair.{Pair}
 
 -- the hashes of blocks, in order
@@ -71,3 +71,10 @@ pairs_among (one ∷ later) = map (pair_of one) (filter (same_spot one) later) +
 -- the duplicates of a table, in their order
 abbrev pub pairs_of : TableValue → List Pair
 pairs_of table = pairs_among (spots_of table.columns)
+
+-- the two records of a pair are there
+pub record IsPairOf (columns : List Column) (pair : Pair) : Type 0 where
+  pub disk : pair.disk < length columns
+  pub rec : pair.rec < length (column_at columns pair.disk).records
+  pub other_disk : pair.other_disk < length columns
+  pub other_rec : pair.other_rec < length (column_at columns pair.other_disk).records

@@ -1,6 +1,6 @@
 // The duplicates of a table, one by one.
-ghost use Rattle.std.specs.Prelude.{◌≡◌, ◌<◌, ◌≤◌, ℕ, length, slice_index, IfOk, IfSome, None};
-ghost use Rattle.hash_index.specs.Duplicates.{pairs_of, spots_of, pair_of, spot_in};
+ghost use Rattle.std.specs.Prelude.{◌≡◌, ◌<◌, ◌≤◌, ◌^◌, ℕ, length, slice_index, All, IfOk, IfSome, None};
+ghost use Rattle.hash_index.specs.Duplicates.{IsPairOf, pairs_of, spots_of, pair_of, spot_in};
 ghost use Rattle.hash_index.specs.Linking.{link_at};
 ghost use Rattle.hash_index.specs.Listing.{Gives, IsNextLinked};
 
@@ -39,7 +39,9 @@ impl<'a> Model for Pairs<'a> {
 impl<'a> Pairs<'a> {
     /// All pairs of a table. While it is made it takes 20 bytes a record.
     pub fn new(alloc: Global, table: &'a Table) -> Result<Pairs<'a>, NoMemory>
-        ensures { IfOk result (λ pairs. pairs ≡ pairs_of table.now) }
+        ensures all { IfOk result (λ pairs. pairs ≡ pairs_of table.now) }
+        ensures within { IfOk result (λ pairs. All (IsPairOf table.now.columns) (pairs_of table.now)) }
+        ensures few { IfOk result (λ pairs. length (pairs_of table.now) ≤ 2 ^ 48) }
     {
         let records = Records::new(alloc, table)?;
         let links = links_of(alloc, &records)?;
