@@ -1,5 +1,5 @@
 -- What a check or a fix works on: a table, what is known of the files of its records when the run begins, and what is selected.
-use Rattle.std.specs.Prelude.{◌≡◌, ℕ, ◌<◌, ◌&&◌, ◌||◌, not, List, [], length, map, filter, get_or, slice_index_or, Bool, true, false, Option, None, Some}
+use Rattle.std.specs.Prelude.{◌≡◌, ℕ, ◌<◌, ◌&&◌, ◌||◌, not, List, [], length, map, filter, get_or, slice_index_or, Bool, true, false, if◌then◌else◌, Option, None, Some}
 use Rattle.std.specs.List.{range_with_len, list_any}
 use Rattle.array_scan.specs.Kept.{ListedFile, each_column}
 use Rattle.file_table.specs.Cells.{CellView, cell_in, cell_view}
@@ -81,6 +81,10 @@ pub record EntriesFit (table : TableValue) (entries : List (List Entry)) : Type 
 abbrev pub is_in_scope : FixPlan → ℕ → Bool
 is_in_scope plan stripe = not plan.scope.only_bad || (info_at plan.table.infos stripe).bad
 
+-- a record is selected where it has a block at a stripe
+abbrev pub selects_record : FixPlan → ℕ → ℕ → ℕ → Bool
+selects_record plan stripe d i = is_in_scope plan stripe && (entry_at plan d i).selected
+
 -- the cell of a column at a stripe is selected, and so is a level there
 abbrev pub has_selected : FixPlan → ℕ → Option Cell → Bool
 has_selected plan d None = false
@@ -91,6 +95,10 @@ cell_at plan stripe d = cell_in (column_at plan.table.columns d) stripe
 
 abbrev pub selects_cell : FixPlan → ℕ → ℕ → Bool
 selects_cell plan stripe d = is_in_scope plan stripe && has_selected plan d (cell_at plan stripe d)
+
+-- that cell, if it is
+abbrev pub selected_cell : FixPlan → ℕ → ℕ → Option Cell
+selected_cell plan stripe d = if selects_cell plan stripe d then cell_at plan stripe d else None
 
 abbrev pub selects_level : FixPlan → ℕ → ℕ → Bool
 selects_level plan stripe level = is_in_scope plan stripe && slice_index_or plan.scope.levels level false

@@ -24,7 +24,7 @@ pub use finding::{find_listed, find_lost};
 pub use plan::Plan;
 pub use scope::{Mode, Scope};
 pub use selecting::{
-    has_selected_cell, has_selected_level, is_as_recorded, scope_of, selects_cell, selects_level,
-    stripes_to_look_at,
+    has_selected_cell, has_selected_level, is_as_recorded, scope_of, selected_cell, selects_cell,
+    selects_level, selects_record, stripes_to_look_at,
 };
 pub use trying::{is_audit, is_searched, is_synced};

@@ -1,15 +1,16 @@
 // What a run is for.
-ghost use Rattle.std.specs.Prelude.{◌≡◌, ◌<◌, [], length, get_or, IfOk};
+ghost use Rattle.std.specs.Prelude.{◌≡◌, ◌<◌, [], length, get_or, IfOk, IfSome};
 ghost use Rattle.std.specs.List.{list_any};
 ghost use Rattle.disk_model.specs.Name.{level_names};
-ghost use Rattle.file_table.specs.Table.{Record};
+ghost use Rattle.file_table.specs.Table.{Record, column_at, record_at};
 ghost use Rattle.snap_config.specs.Matching.{matches};
-ghost use Rattle.repair_scope.specs.Plan.{EntriesFit, IsScope, seen, stripes_of, is_in_scope, selects_cell, selects_level, has_selected_cell, has_selected_level, is_looked_at};
+ghost use Rattle.repair_scope.specs.Plan.{EntriesFit, IsScope, seen, stripes_of, is_in_scope, selected_cell, selects_cell, selects_record, selects_level, has_selected_cell, has_selected_level, is_looked_at};
 ghost use Rattle.repair_scope.specs.Selected.{selects as selects_by, is_named, means_disk, means_path, is_as_recorded, means_all, means_level};
 
 use crate::plan::Plan;
 use crate::scope::{Mode, Scope};
 use disk_model::{Meta, NoMemory, Path, Text};
+use file_table::Cell;
 use snap_config::{Pattern, Selection, matches};
 use std::alloc::Global;
 
@@ -119,6 +120,38 @@ fn is_in_scope(plan: &Plan<'_>, stripe: u32) -> bool
     !plan.scope.only_bad || plan.table.info(stripe).bad
 }
 
+/// Whether a record of a column is selected, where a stripe has a block of it.
+pub fn selects_record(plan: &Plan<'_>, stripe: u32, d: u32, rec: u32) -> bool
+    requires entries { EntriesFit plan.now.table.now plan.now.entries.now }
+    requires stripe { stripe < length plan.now.table.now.infos }
+    requires column { d < length plan.now.table.now.columns }
+    requires rec { rec < length (column_at plan.now.table.now.columns d).records }
+    ensures { result ≡ selects_record (seen plan.now) stripe d rec }
+{
+    is_in_scope(plan, stripe) && plan.entries.at(d, rec).selected
+}
+
+/// The cell of a column at a stripe, if it is selected. A stripe that is not in scope is not searched for one.
+pub fn selected_cell(plan: &Plan<'_>, stripe: u32, d: u32) -> Option<Cell>
+    requires entries { EntriesFit plan.now.table.now plan.now.entries.now }
+    requires stripe { stripe < length plan.now.table.now.infos }
+    requires column { d < length plan.now.table.now.columns }
+    ensures value { result ≡ selected_cell (seen plan.now) stripe d }
+    ensures rec { IfSome result (λ cell. cell.rec < length (column_at plan.now.table.now.columns d).records) }
+    ensures block { IfSome result (λ cell.
+        cell.index < length (record_at plan.now.table.now.columns d cell.rec).blocks) }
+{
+    if !is_in_scope(plan, stripe) {
+        return None;
+    }
+    let cell = plan.table.cell(stripe, d)?;
+    if plan.entries.at(d, cell.rec).selected {
+        Some(cell)
+    } else {
+        None
+    }
+}
+
 /// Whether the cell of a column at a stripe is selected.
 pub fn selects_cell(plan: &Plan<'_>, stripe: u32, d: u32) -> bool
     requires entries { EntriesFit plan.now.table.now plan.now.entries.now }
@@ -126,13 +159,7 @@ pub fn selects_cell(plan: &Plan<'_>, stripe: u32, d: u32) -> bool
     requires column { d < length plan.now.table.now.columns }
     ensures { result ≡ selects_cell (seen plan.now) stripe d }
 {
-    if !is_in_scope(plan, stripe) {
-        return false;
-    }
-    match plan.table.cell(stripe, d) {
-        Some(cell) => plan.entries.at(d, cell.rec).selected,
-        None => false,
-    }
+    selected_cell(plan, stripe, d).is_some()
 }
 
 /// Whether a level is selected at a stripe.
