@@ -2,7 +2,9 @@
 use Rattle.std.specs.Prelude.{◌≡◌, ◌≢◌, ◌<◌, ◌≤◌, ◌⊎◌, ℕ, List, [], length, Option, Some}
 use Rattle.block_hash.specs.Hash.{hash}
 use Rattle.block_hash.specs.declared.Digest16.{Digest16}
-use Rattle.file_table.specs.Table.{TableValue}
+use Rattle.file_table.specs.Cells.{cell_in}
+use Rattle.file_table.specs.Table.{TableValue, column_at, record_at}
+use Rattle.file_table.specs.declared.block.Cell.{Cell}
 use Rattle.file_table.specs.declared.shape.Shape.{Shape}
 use Rattle.stripe_reader.specs.Slot.{slot_given}
 use Rattle.stripe_reader.specs.SlotValue.{SlotValue}
@@ -17,6 +19,12 @@ pub record CanPut (i d long : ℕ) (window : WindowValue) : Type 0 where
   pub lane : d < length window.lanes
   pub size : long ≤ window.block_size
   pub most : long ≤ 4194304
+
+-- this is the cell of a column at a stripe of a table
+pub record IsCellAt (table : TableValue) (stripe d : ℕ) (cell : Cell) : Type 0 where
+  pub is : cell_in (column_at table.columns d) stripe ≡ Some cell
+  pub rec_within : cell.rec < length (column_at table.columns d).records
+  pub block_within : cell.index < length (record_at table.columns d cell.rec).blocks
 
 -- the cell of a column at a stripe of a table, whose window has a place for it, can be marked
 pub record CanMarkCell (table : TableValue) (stripe i d : ℕ) (window : WindowValue) : Type 0 where

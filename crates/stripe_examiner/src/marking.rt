@@ -1,5 +1,5 @@
-// Which cells of a stripe are damaged, and what the spare gives of them.
-ghost use Rattle.std.specs.Prelude.{◌≡◌, ◌<◌, ◌≤◌, Some, IsTrue, is_some, length, true};
+// What is found in the cells of a stripe, which of them are damaged, and what the spare gives of these.
+ghost use Rattle.std.specs.Prelude.{◌≡◌, ◌<◌, ◌≤◌, ℕ, Some, IsTrue, is_some, length, true};
 ghost use Rattle.block_hash.specs.Hash.{hash as hash_of};
 ghost use Rattle.file_table.specs.Cells.{cell_seen};
 ghost use Rattle.file_table.specs.Table.{column_at, record_at};
@@ -7,17 +7,20 @@ ghost use Rattle.parity_writer.specs.Sound.{real_length};
 ghost use Rattle.stripe_reader.specs.WindowValue.{slot_at};
 ghost use Rattle.stripe_examiner.specs.AskedCell.{AsksBlock, AsksCell, AsksMarked, is_marked_given};
 ghost use Rattle.stripe_examiner.specs.Facts.{agrees as agrees_with, hash_or_none};
-ghost use Rattle.stripe_examiner.specs.MarkedCell.{CanMarkCell, CanPut, ChangesSlot, ShowsAnswer};
+ghost use Rattle.stripe_examiner.specs.MarkedCell.{CanMarkCell, CanPut, ChangesSlot, IsCellAt, ShowsAnswer};
 ghost use Rattle.stripe_examiner.specs.Marks.{CanExamine, IsMarked, MarksCells};
 ghost use Rattle.repair_scope.specs.Plan.{seen_in};
+ghost use Rattle.stripe_examiner.specs.Shown.{IsFound, found_at};
 ghost use Rattle.stripe_examiner.specs.Spare.{IsSpareFor, holds_block};
 ghost use Rattle.stripe_examiner.specs.Surveyed.{plan_in};
 
 use crate::spare::Spare;
 use crate::survey::Survey;
+use crate::telling::cell_finding;
 use block_hash::{Digest16, digest};
 use file_table::{Cell, Shape, Table};
 use repair_scope::is_searched;
+use snap_report::events::Event;
 use stripe_reader::Window;
 
 /// What became of the cell of a column.
@@ -111,18 +114,20 @@ fn mark_damaged<P: Spare>(
     CellMark::Missing
 }
 
-// Marks the cell of a column.
+// Marks this cell of a column.
 fn mark_cell<P: Spare>(
     searched: bool,
     table: &Table,
     stripe: u32,
     i: u32,
     d: u32,
+    cell: Cell,
     window: &mut Window,
     spare: &mut P,
     block: &mut [u8],
 ) -> CellMark
     requires can { CanMarkCell table.now stripe i d window.old }
+    requires cell { IsCellAt table.now stripe d cell }
     requires block { length block.old ≡ table.now.shape.block_size }
     requires spare { IsSpareFor table.now.shape (P.holding spare.old) }
     ensures block { length block.new ≡ length block.old }
@@ -132,9 +137,6 @@ fn mark_cell<P: Spare>(
     ensures asks { AsksCell searched table.now stripe d (slot_at window.old i d)
         (is_marked_given result) (P.holding spare.old) (P.holding spare.new) }
 {
-    let Some(cell) = table.cell(stripe, d) else {
-        return CellMark::Right;
-    };
     let recorded = cell_hash(table, d, cell);
     let came = window.digest(i, d);
     if came.is_some() && agrees(recorded, came) {
@@ -145,23 +147,60 @@ fn mark_cell<P: Spare>(
     mark_damaged(asked, table.shape(), i, d, window, spare, block)
 }
 
-/// Marks the cells of a stripe of a window that was read: a missing one has no bytes then, and one
-/// whose block the spare gave has that. The spare is asked where the stripe's damaged blocks are
-/// searched for.
+// Notes what is found in the cell of a column, and marks it: it is looked up once for both.
+fn mark_column<P: Spare>(
+    survey: &Survey<'_>,
+    searched: bool,
+    stripe: u32,
+    i: u32,
+    d: u32,
+    window: &mut Window,
+    found: &mut Option<Event>,
+    spare: &mut P,
+    block: &mut [u8],
+) -> CellMark
+    requires can { CanExamine (plan_in survey.now) stripe i window.old }
+    requires column { d < length survey.now.plan.table.now.columns }
+    requires block { length block.old ≡ survey.now.plan.table.now.shape.block_size }
+    requires spare { IsSpareFor survey.now.plan.table.now.shape (P.holding spare.old) }
+    ensures block { length block.new ≡ length block.old }
+    ensures found { IsFound (plan_in survey.now) stripe (slot_at window.old i d) d found.new }
+    ensures mark { IsMarked searched survey.now.plan.table.now.shape (seen_in survey.now.plan.table.now stripe d)
+        (slot_at window.old i d) result (slot_at window.new i d) }
+    ensures changes { ChangesSlot i d window.old window.new }
+    ensures asks { AsksCell searched survey.now.plan.table.now stripe d (slot_at window.old i d)
+        (is_marked_given result) (P.holding spare.old) (P.holding spare.new) }
+{
+    let table = survey.plan.table;
+    let Some(cell) = table.cell(stripe, d) else {
+        *found = None;
+        return CellMark::Right;
+    };
+    *found = cell_finding(&survey.plan, stripe, i, window, d, cell);
+    mark_cell(searched, table, stripe, i, d, cell, window, spare, block)
+}
+
+/// Notes of the cells of a stripe of a window that was read what is found in them, and marks them: a missing one has no bytes
+/// then, and one whose block the spare gave has that. The spare is asked where the stripe's damaged blocks are searched for.
 pub fn mark_cells<P: Spare>(
     survey: &Survey<'_>,
     stripe: u32,
     i: u32,
     window: &mut Window,
+    found: &mut [Option<Event>],
     marks: &mut [CellMark],
     spare: &mut P,
     block: &mut [u8],
 )
     requires can { CanExamine (plan_in survey.now) stripe i window.old }
+    requires found { length found.old ≡ length survey.now.plan.table.now.columns }
     requires marks { length marks.old ≡ length survey.now.plan.table.now.columns }
     requires block { length block.old ≡ survey.now.plan.table.now.shape.block_size }
     requires spare { IsSpareFor survey.now.plan.table.now.shape (P.holding spare.old) }
     ensures block { length block.new ≡ length block.old }
+    ensures count { length found.new ≡ length found.old }
+    ensures found { (d : ℕ) → d < length survey.now.plan.table.now.columns →
+        IsFound (plan_in survey.now) stripe (slot_at window.old i d) d (found_at found.new d) }
     ensures marked { MarksCells (plan_in survey.now) stripe i window.old marks.new window.new }
     ensures asks { AsksMarked (plan_in survey.now) stripe i
         window.old marks.new (P.holding spare.old) (P.holding spare.new) }
@@ -169,6 +208,17 @@ pub fn mark_cells<P: Spare>(
     let table = survey.plan.table;
     let searched = is_searched(&survey.plan, stripe);
     for d in 0..table.disks() {
-        marks[d as usize] = mark_cell(searched, table, stripe, i, d, window, spare, block);
+        let k = d as usize;
+        marks[k] = mark_column(
+            survey,
+            searched,
+            stripe,
+            i,
+            d,
+            window,
+            &mut found[k],
+            spare,
+            block,
+        );
     }
 }

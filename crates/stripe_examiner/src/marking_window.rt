@@ -1,11 +1,9 @@
 // The stripes of a window, marked one after another.
-ghost use Rattle.std.specs.Prelude.{◌≡◌, ◌<◌, ℕ, length};
-ghost use Rattle.stripe_reader.specs.WindowValue.{slot_at};
+ghost use Rattle.std.specs.Prelude.{◌≡◌, length};
 ghost use Rattle.stripe_examiner.specs.AskedCell.{AsksMarked};
 ghost use Rattle.stripe_examiner.specs.MarkedWindow.{AsksForMarked, MarksIn, MarksStripes};
 ghost use Rattle.stripe_examiner.specs.Marks.{CanExamine};
 ghost use Rattle.stripe_examiner.specs.Room.{AreRoomsFor, IsStripeRoomFor};
-ghost use Rattle.stripe_examiner.specs.Shown.{IsFound, found_at};
 ghost use Rattle.stripe_examiner.specs.Spare.{IsSpareFor};
 ghost use Rattle.stripe_examiner.specs.Surveyed.{CanMark, plan_in};
 
@@ -13,29 +11,7 @@ use crate::marking::mark_cells;
 use crate::room::StripeRoom;
 use crate::spare::Spare;
 use crate::survey::Survey;
-use crate::telling::cell_finding;
-use snap_report::events::Event;
 use stripe_reader::Window;
-
-// Notes what is found in the reading of the selected cells of a stripe, column by column.
-fn note_cells(
-    survey: &Survey<'_>,
-    stripe: u32,
-    i: u32,
-    window: &Window,
-    found: &mut [Option<Event>],
-)
-    requires can { CanExamine (plan_in survey.now) stripe i window.now }
-    requires count { length found.old ≡ length survey.now.plan.table.now.columns }
-    ensures count { length found.new ≡ length found.old }
-    ensures found { (d : ℕ) → d < length survey.now.plan.table.now.columns →
-        IsFound (plan_in survey.now) stripe (slot_at window.now i d) d (found_at found.new d) }
-{
-    let plan = &survey.plan;
-    for d in 0..plan.table.disks() {
-        found[d as usize] = cell_finding(plan, stripe, i, window, d);
-    }
-}
 
 // Notes what is found in the cells of a stripe, and marks them.
 fn mark_stripe<P: Spare>(
@@ -56,8 +32,8 @@ fn mark_stripe<P: Spare>(
     ensures asks { AsksMarked (plan_in survey.now) stripe i window.old own.new.marks.items
         (P.holding spare.old) (P.holding spare.new) }
 {
-    note_cells(survey, stripe, i, window, &mut own.found);
-    mark_cells(survey, stripe, i, window, &mut own.marks, spare, block);
+    let (found, marks) = (&mut own.found, &mut own.marks);
+    mark_cells(survey, stripe, i, window, found, marks, spare, block);
 }
 
 /// Notes of each stripe of a window what is found in its cells, and marks them, stripe after stripe.

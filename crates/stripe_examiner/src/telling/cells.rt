@@ -1,5 +1,5 @@
 // What is found in the cells of a stripe, told.
-ghost use Rattle.std.specs.Prelude.{◌≡◌, ◌<◌, List, [], length, None, if◌then◌else◌, IfSome};
+ghost use Rattle.std.specs.Prelude.{◌≡◌, ◌<◌, List, [], length, IfSome};
 ghost use Rattle.std.specs.Option.{option_to_list};
 ghost use Rattle.file_table.specs.Cells.{cell_seen};
 ghost use Rattle.file_table.specs.Table.{Column, column_at, record_at};
@@ -8,8 +8,9 @@ ghost use Rattle.snap_report.specs.Told.{Told};
 ghost use Rattle.stripe_reader.specs.WindowValue.{slot_at};
 ghost use Rattle.stripe_examiner.specs.Counts.{AreCounts};
 ghost use Rattle.stripe_examiner.specs.Findings.{read_event, silent_event, cell_events, lost_events, unsynced_events, all_lost_events};
+ghost use Rattle.stripe_examiner.specs.MarkedCell.{IsCellAt};
 ghost use Rattle.stripe_examiner.specs.Marks.{CanExamine, mark_in, is_marked_missing};
-ghost use Rattle.repair_scope.specs.Plan.{EntriesFit, seen, cell_at, selects_cell as selects_cell_at};
+ghost use Rattle.repair_scope.specs.Plan.{EntriesFit, seen};
 
 use super::{entry_of, tell_found};
 use crate::counts::Counts;
@@ -18,29 +19,12 @@ use block_hash::Digest16;
 use disk_model::Sink;
 use file_table::{Cell, Table};
 use repair_scope::{
-    Entry, Plan, has_selected_cell, is_as_recorded, is_audit, is_synced, selects_cell,
+    Entry, Plan, has_selected_cell, is_as_recorded, is_audit, is_synced, selected_cell,
+    selects_record,
 };
 use snap_report::events::Event;
 use snap_report::{Lines, Report};
 use stripe_reader::{CellRead, Found, Window};
-
-// The cell of a column at a stripe, if it is selected.
-fn selected_cell(plan: &Plan<'_>, stripe: u32, d: u32) -> Option<Cell>
-    requires entries { EntriesFit plan.now.table.now plan.now.entries.now }
-    requires within { stripe < length plan.now.table.now.infos }
-    requires column { d < length plan.now.table.now.columns }
-    ensures value { result ≡ (if selects_cell_at (seen plan.now) stripe d
-        then cell_at (seen plan.now) stripe d else None) }
-    ensures rec { IfSome result (λ cell. cell.rec < length (column_at plan.now.table.now.columns d).records) }
-    ensures block { IfSome result (λ cell.
-        cell.index < length (record_at plan.now.table.now.columns d cell.rec).blocks) }
-{
-    if selects_cell(plan, stripe, d) {
-        plan.table.cell(stripe, d)
-    } else {
-        None
-    }
-}
 
 // That a stripe with a selected cell is pending, where parity is looked at.
 fn unsynced(plan: &Plan<'_>, stripe: u32) -> Option<Event>
@@ -142,15 +126,25 @@ fn read_finding(
     )
 }
 
-/// What is found in the reading of the cell of a column, if it is selected.
-pub fn cell_finding(plan: &Plan<'_>, stripe: u32, i: u32, window: &Window, d: u32) -> Option<Event>
+/// What is found in the reading of this cell of a column, if it is selected.
+pub fn cell_finding(
+    plan: &Plan<'_>,
+    stripe: u32,
+    i: u32,
+    window: &Window,
+    d: u32,
+    cell: Cell,
+) -> Option<Event>
     requires can { CanExamine (seen plan.now) stripe i window.now }
     requires column { d < length plan.now.table.now.columns }
+    requires cell { IsCellAt plan.now.table.now stripe d cell }
     ensures value { option_to_list result
         ≡ cell_events (seen plan.now) stripe (slot_at window.now i d) d }
     ensures fits { IfSome result (λ event. EventFits plan.now.table.now.columns event) }
 {
-    let cell = selected_cell(plan, stripe, d)?;
+    if !selects_record(plan, stripe, d, cell.rec) {
+        return None;
+    }
     let entry = entry_of(plan, d, cell.rec);
     read_finding(
         plan.table,

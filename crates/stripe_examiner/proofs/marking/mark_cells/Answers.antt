@@ -1,4 +1,4 @@
-use Rattle.std.proofs.Common.{rules, ◌≡◌, ◌≢◌, inl, inr, ℕ, ◌<◌, Bool, length, sym, ap, ◌∙◌, subst, arith}
+use Rattle.std.proofs.Common.{rules, ◌≡◌, ◌≢◌, inl, inr, ℕ, ◌<◌, Bool, length, sym, ap, ◌∙◌, None, subst, arith}
 use Rattle.std.specs.Prelude.{slice_set}
 use Rattle.std.proofs.lemmas.Bool.{cases_lt}
 use Rattle.std.proofs.lemmas.List.{get_or-set_same, get_or-set_other}
@@ -12,6 +12,7 @@ use Rattle.stripe_examiner.specs.AskedCell.{AsksCells, asks_for, holds_wanted, i
 use Rattle.stripe_examiner.specs.Facts.{wanted_by}
 use Rattle.stripe_examiner.specs.Marks.{IsMarked, mark_in}
 use Rattle.repair_scope.specs.Plan.{seen_at}
+use Rattle.stripe_examiner.specs.Shown.{IsFound, found_at}
 use Rattle.stripe_examiner.specs.Surveyed.{plan_in}
 use Rattle.stripe_examiner.proofs.AskingLemmas.{block_as, cells_more, holds_still}
 use Rattle.stripe_examiner.proofs.marking.mark_cells.Goals as goal
@@ -19,42 +20,58 @@ use Rattle.stripe_examiner.proofs.marking.mark_cells.Goals as goal
 pub loop-d-preserved : goal.loop-d-preserved
 loop-d-preserved g c =
     let so_far = c.loop-d.invariant in
-    let one = c.mark_cell.ensures in
+    let one = c.mark_column.ensures in
     let old = g.P.Spare.holding c.args.spare.now in
     let mid = g.P.Spare.holding c.loop-d.spare in
-    let new = g.P.Spare.holding c.mark_cell.new.spare in
+    let new = g.P.Spare.holding c.mark_column.new.spare in
     let table = c.args.survey.now.plan.table.now in
     let d = c.loop-d.d in
-    let marks = slice_set c.loop-d.marks d c.mark_cell.result in
+    let marks = slice_set c.loop-d.marks d c.mark_column.result in
     let seen = λ (e : ℕ). cell_view (column_at table.columns e) c.args.stripe in
     let asked = λ (e : ℕ). asks_for c.is_searched-searched.result (seen e) (slot_at c.args.window.now c.args.i e) in
     let held = λ (e : ℕ). holds_wanted old (wanted_by table.shape e (seen e)) in
-    let after = c.mark_cell.new.window in
+    let after = c.mark_column.new.window in
     let is_marked = λ (e : ℕ) (before : SlotValue) (mark : CellMark) (slot : SlotValue). IsMarked c.is_searched-searched.result table.shape (seen e) before mark slot in
     let within : d < length c.loop-d.marks = omega (arith, c.loop-d.auto.marks, c.requires.marks, c.disks-d-end.ensures.count, c.loop-d-test.true) in
+    let noted = c.mark_column.new.found in
+    let place : d < length c.loop-d.found = omega (arith, c.loop-d.auto.found, c.requires.found, c.disks-d-end.ensures.count, c.loop-d-test.true) in
+    let is_found = IsFound (plan_in c.args.survey.now) c.args.stripe in
     record {
+      found = λ e below. elim (cases_lt e d) [
+        | inl near ↦
+            let other : e ≢ d = λ same. omega (arith, near, same) in
+            subst (is_found (slot_at c.args.window.now c.args.i e) e) (sym (get_or-set_other c.loop-d.found d e noted None other)) (so_far.found e near)
+        | inr far ↦
+            let here : d ≡ e = omega (arith, below, far) in
+            subst (λ (k : ℕ). is_found (slot_at c.args.window.now c.args.i k) k (found_at (slice_set c.loop-d.found d noted) k)) here
+            (subst (is_found (slot_at c.args.window.now c.args.i d) d) (sym (get_or-set_same c.loop-d.found d noted None place))
+            (subst (λ (slot : SlotValue). is_found slot d noted) (so_far.rest d (omega arith)) one.found))
+      ];
       changes = search rules;
       marked = λ e below. elim (cases_lt e d) [
         | inl near ↦
             let other : e ≢ d = λ same. omega (arith, near, same) in
-            subst (λ mark. is_marked e (slot_at c.args.window.now c.args.i e) mark (slot_at after c.args.i e)) (sym (get_or-set_other c.loop-d.marks d e c.mark_cell.result Right other))
+            subst (λ mark. is_marked e (slot_at c.args.window.now c.args.i e) mark (slot_at after c.args.i e)) (sym (get_or-set_other c.loop-d.marks d e c.mark_column.result Right other))
             (subst (λ slot. is_marked e (slot_at c.args.window.now c.args.i e) (mark_in c.loop-d.marks e) slot) (sym (one.changes.others c.args.i e (inr other))) (so_far.marked e near))
         | inr far ↦
             let here : e ≡ d = omega (arith, below, far) in
             subst (λ (k : ℕ). is_marked k (slot_at c.args.window.now c.args.i k) (mark_in marks k) (slot_at after c.args.i k)) (sym here)
-            (subst (λ mark. is_marked d (slot_at c.args.window.now c.args.i d) mark (slot_at after c.args.i d)) (sym (get_or-set_same c.loop-d.marks d c.mark_cell.result Right within))
-            (subst (λ slot. is_marked d slot c.mark_cell.result (slot_at after c.args.i d)) (so_far.rest d (omega arith)) one.mark))
+            (subst (λ mark. is_marked d (slot_at c.args.window.now c.args.i d) mark (slot_at after c.args.i d)) (sym (get_or-set_same c.loop-d.marks d c.mark_column.result Right within))
+            (subst (λ slot. is_marked d slot c.mark_column.result (slot_at after c.args.i d)) (so_far.rest d (omega arith)) one.mark))
       ];
       asks = cells_more asked held (λ e. is_marked_given (mark_in c.loop-d.marks e)) (λ e. is_marked_given (mark_in marks e)) d old mid new
-          (λ e below. ap (λ mark. is_marked_given mark) (get_or-set_other c.loop-d.marks d e c.mark_cell.result Right (λ same. omega (arith, below, same))))
+          (λ e below. ap (λ mark. is_marked_given mark) (get_or-set_other c.loop-d.marks d e c.mark_column.result Right (λ same. omega (arith, below, same))))
           so_far.asks
           (block_as _ _ _ (asked d) (held d) (is_marked_given (mark_in marks d)) mid new
           (ap (λ (slot : SlotValue). asks_for c.is_searched-searched.result (seen d) slot) (so_far.rest d (omega arith)))
           (holds_still old mid _ _ so_far.asks.same)
-          (ap (λ mark. is_marked_given mark) (sym (get_or-set_same c.loop-d.marks d c.mark_cell.result Right within)))
+          (ap (λ mark. is_marked_given mark) (sym (get_or-set_same c.loop-d.marks d c.mark_column.result Right within)))
           one.asks);
       rest = search rules;
     }
+
+pub returns-clause-found : goal.returns-clause-found
+returns-clause-found g c = λ d below. c.loop-d.invariant.found d (omega (arith, below, c.disks-d-end.ensures.count, c.loop-d-test.false))
 
 pub returns-clause-marked : goal.returns-clause-marked
 returns-clause-marked g c =

@@ -5,11 +5,14 @@ use Rattle.stripe_reader.specs.WindowValue.{slot_at}
 use Rattle.stripe_examiner.specs.AskedCell.{AsksCells, asks_for, holds_wanted, is_marked_given}
 use Rattle.stripe_examiner.specs.Facts.{wanted_by}
 use Rattle.stripe_examiner.specs.Marks.{ChangesStripe, IsMarked, mark_in}
+use Rattle.stripe_examiner.specs.Shown.{IsFound, found_at}
+use Rattle.stripe_examiner.specs.Surveyed.{plan_in}
 use Rattle.stripe_examiner.proofs.marking.mark_cells.Given as goal
 
--- the columns so far are marked, and the others are as they were
+-- what is found in the columns so far is noted, they are marked, and the others are as they were
 abbrev pub invariant-loop-d : goal.invariant-loop-d
 invariant-loop-d g l = record {
+  found : (e : ℕ) → e < l.d → IsFound (plan_in l.survey) l.stripe (slot_at l.fn.window l.i e) e (found_at l.found e);
   changes : ChangesStripe l.i l.fn.window l.window;
   marked : (e : ℕ) → e < l.d
       → IsMarked l.searched l.survey.plan.table.now.shape (cell_view (column_at l.survey.plan.table.now.columns e) l.stripe)

@@ -17,13 +17,13 @@ returns-clause-marks g c =
     let own = c.args.own.now in
     let window = c.args.window.now in
     let marks = c.mark_cells.new.marks in
-    let found = c.note_cells.new.found in
+    let found = c.mark_cells.new.found in
     let cells = c.mark_cells.ensures.marked in
     let marks_are : (with_items own.marks marks).items ≡ marks = with_items_is own.marks marks (cells.as_many ∙ sym c.requires.room.marks ∙ sym own.marks.ok.0) in
-    let found_are : (with_items own.found found).items ≡ found = with_items_is own.found found (c.note_cells.ensures.count ∙ ap (λ (xs : List (Option Event)). length xs) c.deref_mut.ensures.value ∙ sym own.found.ok.0) in
+    let found_are : (with_items own.found found).items ≡ found = with_items_is own.found found (c.mark_cells.ensures.count ∙ ap (λ (xs : List (Option Event)). length xs) c.deref_mut.ensures.value ∙ sym own.found.ok.0) in
     record {
       room = record {
-        found = ap (λ (xs : List (Option Event)). length xs) found_are ∙ c.note_cells.ensures.count ∙ ap (λ (xs : List (Option Event)). length xs) c.deref_mut.ensures.value ∙ c.requires.room.found;
+        found = ap (λ (xs : List (Option Event)). length xs) found_are ∙ c.mark_cells.ensures.count ∙ ap (λ (xs : List (Option Event)). length xs) c.deref_mut.ensures.value ∙ c.requires.room.found;
         marks = ap (λ (xs : List CellMark). length xs) marks_are ∙ cells.as_many;
         levels = c.requires.room.levels;
         remainders = c.requires.room.remainders;
@@ -34,7 +34,7 @@ returns-clause-marks g c =
         cells = subst (λ (all : List CellMark). HasMarks plan c.args.stripe c.args.i window all c.mark_cells.new.window) (sym marks_are)
             (has_marks plan c.args.stripe c.args.i window c.mark_cells.new.window marks cells);
         found = λ d below.
-            subst (λ (all : List (Option Event)). IsFound plan c.args.stripe (slot_at window c.args.i d) d (found_at all d)) (sym found_are) (c.note_cells.ensures.found d below);
+            subst (λ (all : List (Option Event)). IsFound plan c.args.stripe (slot_at window c.args.i d) d (found_at all d)) (sym found_are) (c.mark_cells.ensures.found d below);
       };
       changes = cells.changes;
     }
