@@ -26,7 +26,7 @@ use Rattle.snap_scrub.specs.Looking.{AreFound, Scene, LooksAt, LooksAtOne, Looks
 use Rattle.snap_scrub.specs.Marks.{verdict_by, verdict_of, at_most}
 use Rattle.snap_scrub.specs.Reading.{ScrubReading, HasLevels}
 use Rattle.snap_scrub.proofs.ReadingLemmas.{levels_none, levels_then, levels_untouched}
-use Rattle.snap_scrub.proofs.TellingLemmas.{told_as}
+use Rattle.stripe_findings.proofs.TellingLemmas.{told_as}
 
 -- one of some
 pub some_sums : (all : List Sums) (i : ℕ) → i < length all → Sums

@@ -1,5 +1,5 @@
 -- Events told, one after another.
-use Rattle.std.proofs.Common.{◌≡◌, ℕ, ◌+◌, List, [], ◌∷◌, ◌++◌, sym, ap, ◌∙◌, subst}
+use Rattle.std.proofs.Common.{◌≡◌, ℕ, ◌+◌, List, [], ◌∷◌, ◌++◌, ap, ◌∙◌}
 use Rattle.std.specs.List.{range_with_len, flat_map}
 use Rattle.std.proofs.lemmas.Grind.{flat_map-append}
 use Rattle.std.proofs.lemmas.List.{append-nil}
@@ -11,6 +11,7 @@ use Rattle.snap_report.specs.declared.pages.Lines.{Lines}
 use Rattle.snap_report.specs.Report.{ReportView}
 use Rattle.snap_report.specs.Told.{Told}
 use Rattle.stripe_findings.proofs.SlotLemmas.{range_more}
+use Rattle.stripe_findings.proofs.TellingLemmas.{told_as}
 
 -- the events of the first numbers, and of one more
 pub events_more : (at : ℕ → List Event) (n : ℕ) → flat_map at (range_with_len 0 (n + 1)) ≡ flat_map at (range_with_len 0 n) ++ at n
@@ -20,15 +21,10 @@ events_more at n =
     ∙ ap (λ (events : List Event). flat_map at (range_with_len 0 n) ++ events) (append-nil (at n))
 
 module _ {W R : Type 0} (view : W → SinkView) (standing : R → ReportView) (stands : R → List Event → Type 0) where
-  -- the same events
-  pub told_as : (columns : List Column) (events same : List Event) (old new : Lines W) (olds news : List R) → events ≡ same
-      → Told view standing stands columns same old new olds news → Told view standing stands columns events old new olds news
-  told_as columns events same old new olds news is told = subst (λ (es : List Event). Told view standing stands columns es old new olds news) (sym is) told
-
   -- those of one number more
   pub told_more : (columns : List Column) (at : ℕ → List Event) (n : ℕ) (old mid new : Lines W) (olds mids news : List R)
       → Told view standing stands columns (flat_map at (range_with_len 0 n)) old mid olds mids
       → Told view standing stands columns (at n) mid new mids news
       → Told view standing stands columns (flat_map at (range_with_len 0 (n + 1))) old new olds news
   told_more columns at n old mid new olds mids news before here =
-      told_as columns _ _ old new olds news (events_more at n) (told_then view standing stands columns (flat_map at (range_with_len 0 n)) (at n) old mid new olds mids news before here)
+      told_as view standing stands columns _ _ old new olds news (events_more at n) (told_then view standing stands columns (flat_map at (range_with_len 0 n)) (at n) old mid new olds mids news before here)

@@ -1,57 +1,18 @@
 // What is found in the cells of a stripe, told.
-ghost use Rattle.std.specs.Prelude.{◌<◌, ◌≤◌, length};
+ghost use Rattle.std.specs.Prelude.{◌<◌, length};
 ghost use Rattle.snap_report.specs.Told.{Told};
-ghost use Rattle.stripe_findings.specs.Findings.{events_at, stripe_events};
+ghost use Rattle.stripe_findings.specs.Findings.{stripe_events};
 ghost use Rattle.stripe_findings.specs.Reading.{reading_at};
 ghost use Rattle.stripe_reader.specs.Held.{HoldsStripes};
 ghost use Rattle.snap_scrub.specs.Looking.{AreFound};
 
-use crate::found::{both, nothing, one};
+use crate::found::{both, found_of, nothing};
 use crate::verdict::Found;
 use disk_model::Sink;
 use file_table::Table;
-use snap_report::{Lines, Report, tell};
-use stripe_findings::finding;
+use snap_report::{Lines, Report};
+use stripe_findings::tell_cell;
 use stripe_reader::Window;
-
-// Tells what is found in the cell of a column.
-fn tell_cell<W: Sink>(
-    table: &Table,
-    stripes: &[u32],
-    window: &Window,
-    i: u32,
-    d: u32,
-    lines: &mut Lines<'_, W>,
-    reports: &mut Vec<Box<dyn Report>>,
-) -> Found
-    requires holds { HoldsStripes table.now stripes.now window.now }
-    requires stripe { i < length stripes.now }
-    requires column { d < length table.now.columns }
-    ensures told { Told W.view standing stands table.now.columns
-        (events_at table.now (reading_at stripes.now window.now i) d)
-        lines.old lines.new reports.old.items reports.new.items }
-    ensures found { AreFound (events_at table.now (reading_at stripes.now window.now i) d) result }
-    ensures most { result.count ≤ 1 }
-{
-    let stripe = stripes[i as usize];
-    let Some(cell) = table.cell(stripe, d) else {
-        return nothing();
-    };
-    match finding(
-        table,
-        stripe,
-        d,
-        cell,
-        window.cell(i, d),
-        window.digest(i, d),
-    ) {
-        None => nothing(),
-        Some(event) => {
-            tell(reports, lines, table, &event);
-            one(&event)
-        }
-    }
-}
 
 /// Tells what is found in the cells of a stripe of a window, column by column.
 pub(crate) fn tell_cells<W: Sink>(
@@ -72,7 +33,7 @@ pub(crate) fn tell_cells<W: Sink>(
     let mut found = nothing();
     for d in 0..table.disks() {
         let here = tell_cell(table, stripes, window, i, d, lines, reports);
-        found = both(found, here);
+        found = both(found, found_of(here));
     }
     found
 }

@@ -1,5 +1,6 @@
 // What was found in a stripe.
-ghost use Rattle.std.specs.Prelude.{◌≡◌, ◌+◌, ◌<◌, ◌++◌, ◌∷◌, ◌^◌, [], List};
+ghost use Rattle.std.specs.Prelude.{◌≡◌, ◌+◌, ◌<◌, ◌≤◌, ◌++◌, ◌∷◌, ◌^◌, [], List};
+ghost use Rattle.std.specs.Option.{option_to_list};
 ghost use Rattle.snap_report.specs.declared.events.Event.{Event};
 ghost use Rattle.snap_scrub.specs.Looking.{AreFound};
 ghost use Rattle.snap_scrub.specs.Marks.{verdict_by, makes_bad as makes_bad_by};
@@ -32,6 +33,17 @@ pub(crate) fn one(event: &Event) -> Found
     Found {
         count: 1,
         bad: makes_bad(event),
+    }
+}
+
+/// What was found in one place, if anything was.
+pub(crate) fn found_of(event: Option<Event>) -> Found
+    ensures found { AreFound (option_to_list event) result }
+    ensures few { result.count ≤ 1 }
+{
+    match event {
+        None => nothing(),
+        Some(event) => one(&event),
     }
 }
 

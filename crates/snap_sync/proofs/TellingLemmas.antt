@@ -1,7 +1,7 @@
 -- Events told, cell after cell and stripe after stripe.
-use Rattle.std.proofs.Common.{◌≡◌, ℕ, ◌+◌, List, sym, subst}
+use Rattle.std.proofs.Common.{ℕ, ◌+◌, List}
 use Rattle.disk_model.specs.Sink.{SinkView}
-use Rattle.file_table.specs.Table.{Column, TableValue}
+use Rattle.file_table.specs.Table.{TableValue}
 use Rattle.snap_report.proofs.ToldLemmas.{told_then}
 use Rattle.snap_report.specs.declared.events.Event.{Event}
 use Rattle.snap_report.specs.declared.pages.Lines.{Lines}
@@ -12,20 +12,16 @@ use Rattle.stripe_findings.specs.Findings.{events_at, stripe_events, events_of}
 use Rattle.stripe_findings.specs.Reading.{StripeReading, reading_at}
 use Rattle.stripe_findings.proofs.SlotLemmas.{readings_to}
 use Rattle.stripe_findings.proofs.FindingLemmas.{events_to, events_to-more, events_of-more}
+use Rattle.stripe_findings.proofs.TellingLemmas.{told_as}
 
 module _ {W R : Type 0} (view : W → SinkView) (standing : R → ReportView) (stands : R → List Event → Type 0) where
-  -- the same events
-  pub told_as : (columns : List Column) (events same : List Event) (old new : Lines W) (olds news : List R) → events ≡ same
-      → Told view standing stands columns same old new olds news → Told view standing stands columns events old new olds news
-  told_as columns events same old new olds news is told = subst (λ (es : List Event). Told view standing stands columns es old new olds news) (sym is) told
-
   -- one cell more of a stripe
   pub told_cell_more : (table : TableValue) (reading : StripeReading) (d : ℕ) (old mid new : Lines W) (olds mids news : List R)
       → Told view standing stands table.columns (events_to table reading d) old mid olds mids
       → Told view standing stands table.columns (events_at table reading d) mid new mids news
       → Told view standing stands table.columns (events_to table reading (d + 1)) old new olds news
   told_cell_more table reading d old mid new olds mids news before here =
-      told_as table.columns _ _ old new olds news (events_to-more table reading d)
+      told_as view standing stands table.columns _ _ old new olds news (events_to-more table reading d)
       (told_then view standing stands table.columns (events_to table reading d) (events_at table reading d) old mid new olds mids news before here)
 
   -- one stripe more of a window
@@ -34,5 +30,5 @@ module _ {W R : Type 0} (view : W → SinkView) (standing : R → ReportView) (s
       → Told view standing stands table.columns (stripe_events table (reading_at stripes window i)) mid new mids news
       → Told view standing stands table.columns (events_of table (readings_to stripes window (i + 1))) old new olds news
   told_stripe_more table stripes window i old mid new olds mids news before here =
-      told_as table.columns _ _ old new olds news (events_of-more table stripes window i)
+      told_as view standing stands table.columns _ _ old new olds news (events_of-more table stripes window i)
       (told_then view standing stands table.columns (events_of table (readings_to stripes window i)) (stripe_events table (reading_at stripes window i)) old mid new olds mids news before here)

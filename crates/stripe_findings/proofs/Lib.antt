@@ -1,3 +1,4 @@
 pub mod SlotLemmas
 pub mod FindingLemmas
 pub mod ReadLemmas
+pub mod TellingLemmas

@@ -1,10 +1,11 @@
-use Rattle.std.proofs.Common.{rules, ◌≡◌, length, ap, arith}
+use Rattle.std.proofs.Common.{rules, ◌≡◌, length, sym, ap, arith}
 use Rattle.std.specs.List.{range_with_len, flat_map}
 use Rattle.snap_report.proofs.ToldLemmas.{told_nothing}
 use Rattle.stripe_findings.specs.Findings.{events_at}
 use Rattle.stripe_findings.specs.Reading.{reading_at}
 use Rattle.snap_scrub.proofs.FoundLemmas.{found_as}
-use Rattle.snap_scrub.proofs.TellingLemmas.{events_more, told_as, told_more}
+use Rattle.stripe_findings.proofs.TellingLemmas.{told_as}
+use Rattle.snap_scrub.proofs.TellingLemmas.{events_more, told_more}
 use Rattle.snap_scrub.proofs.cells.tell_cells.Goals as goal
 
 pub loop-d-init : goal.loop-d-init
@@ -17,8 +18,8 @@ loop-d-preserved g c =
     let d = c.loop-d.d in
     record {
       told = told_more _ _ _ _ at d _ _ _ _ _ _ c.loop-d.invariant.told c.tell_cell-here.ensures.told;
-      found = found_as _ _ _ (events_more at d) (c.both-found.ensures.found _ _ c.loop-d.invariant.found c.tell_cell-here.ensures.found);
-      few = omega (arith, c.loop-d.invariant.few, c.tell_cell-here.ensures.most, c.both-found.ensures.count);
+      found = found_as _ _ _ (events_more at d) (c.both-found.ensures.found _ _ c.loop-d.invariant.found (found_as _ _ _ (sym c.tell_cell-here.ensures.value) c.found_of.ensures.found));
+      few = omega (arith, c.loop-d.invariant.few, c.found_of.ensures.few, c.both-found.ensures.count);
     }
 
 pub returns-clause-told : goal.returns-clause-told

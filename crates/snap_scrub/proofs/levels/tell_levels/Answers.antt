@@ -5,7 +5,8 @@ use Rattle.snap_report.proofs.ToldLemmas.{told_nothing}
 use Rattle.snap_scrub.specs.Levels.{kept_events, kept_events_at}
 use Rattle.snap_scrub.proofs.FoundLemmas.{found_as}
 use Rattle.snap_scrub.proofs.LevelLemmas.{sum_in}
-use Rattle.snap_scrub.proofs.TellingLemmas.{events_more, told_as, told_more}
+use Rattle.stripe_findings.proofs.TellingLemmas.{told_as}
+use Rattle.snap_scrub.proofs.TellingLemmas.{events_more, told_more}
 use Rattle.snap_scrub.proofs.levels.tell_levels.Goals as goal
 
 pub loop-r-init : goal.loop-r-init

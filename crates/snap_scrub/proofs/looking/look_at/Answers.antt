@@ -13,7 +13,7 @@ use Rattle.snap_scrub.proofs.FoundLemmas.{found_as}
 use Rattle.snap_scrub.proofs.LevelLemmas.{levels_say, row_of_window}
 use Rattle.snap_scrub.proofs.LookingLemmas.{some_sums, unread_events, unread_due, read_due, read_events}
 use Rattle.snap_scrub.proofs.ReadingLemmas.{levels_unread, levels_read}
-use Rattle.snap_scrub.proofs.TellingLemmas.{told_as}
+use Rattle.stripe_findings.proofs.TellingLemmas.{told_as}
 use Rattle.snap_scrub.proofs.looking.look_at.Goals as goal
 
 pub returns-then-found-gt0-clause-looks : goal.returns-then-found-gt0-clause-looks

@@ -3,7 +3,8 @@ use Rattle.stripe_findings.specs.Findings.{events_of}
 use Rattle.snap_sync.specs.Closing.{verified_in}
 use Rattle.snap_sync.specs.Work.{more_findings}
 use Rattle.stripe_findings.proofs.SlotLemmas.{readings_to}
-use Rattle.snap_sync.proofs.TellingLemmas.{told_as, told_stripe_more}
+use Rattle.stripe_findings.proofs.TellingLemmas.{told_as}
+use Rattle.snap_sync.proofs.TellingLemmas.{told_stripe_more}
 use Rattle.snap_sync.proofs.LookingLemmas.{one_at_most, chosen_more, synced_more, findings_more}
 use Rattle.snap_sync.proofs.judging.look_over.Goals as goal
 

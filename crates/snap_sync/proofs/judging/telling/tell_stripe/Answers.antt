@@ -4,7 +4,8 @@ use Rattle.snap_report.proofs.ToldLemmas.{told_nothing}
 use Rattle.stripe_findings.specs.Findings.{events_at}
 use Rattle.stripe_findings.specs.Reading.{reading_at}
 use Rattle.stripe_findings.proofs.FindingLemmas.{events_to, events_to-more}
-use Rattle.snap_sync.proofs.TellingLemmas.{told_as, told_cell_more}
+use Rattle.stripe_findings.proofs.TellingLemmas.{told_as}
+use Rattle.snap_sync.proofs.TellingLemmas.{told_cell_more}
 use Rattle.snap_sync.proofs.judging.telling.tell_stripe.Goals as goal
 
 pub loop-d-init : goal.loop-d-init
@@ -17,9 +18,9 @@ loop-d-preserved g c =
     let d = c.loop-d.d in
     let more = ap length (events_to-more table reading d) ∙ length-append (events_to table reading d) (events_at table reading d) in
     record {
-      told = told_cell_more _ _ _ table reading d _ _ _ _ _ _ c.loop-d.invariant.told c.tell_cell-count.ensures.told;
-      count = omega (arith, more, c.loop-d.invariant.count, c.tell_cell-count.ensures.count);
-      few = omega (arith, c.loop-d.invariant.few, c.tell_cell-count.ensures.most);
+      told = told_cell_more _ _ _ table reading d _ _ _ _ _ _ c.loop-d.invariant.told c.tell_cell.ensures.told;
+      count = omega (arith, more, c.loop-d.invariant.count, c.count_of-count.ensures.value ∙ ap length c.tell_cell.ensures.value);
+      few = omega (arith, c.loop-d.invariant.few, c.count_of-count.ensures.most);
     }
 
 pub returns-clause-told : goal.returns-clause-told
