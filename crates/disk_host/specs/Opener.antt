@@ -1,9 +1,10 @@
 -- An opener of which nothing is known but its count.
 use Rattle.std.specs.Prelude.{ℕ, [], false}
+use Rattle.disk_model.specs.Folder.{quiet_folder}
 use Rattle.disk_model.specs.Vault.{quiet_vault}
 use Rattle.disk_model.specs.Opener.{OpenerView}
 
--- one that tells only what is always told; its folders and its vault begin with a count of 0
+-- one that tells only what is always told; its folders, its vault and a folder to import begin with a count of 0
 abbrev pub quiet_opener : ℕ → OpenerView
 quiet_opener faults = record {
   faults = faults;
@@ -11,6 +12,7 @@ quiet_opener faults = record {
   config = [];
   folders = [];
   vault = quiet_vault 0 0 [];
+  import = quiet_folder 0 false;
   tells_calls = false;
   calls = [];
 }

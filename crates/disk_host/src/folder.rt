@@ -41,6 +41,20 @@ impl<R: Files> DiskFolder<R> {
         ensures { result.faults ≡ 0 }
     {
         let keeps_stamps = keeps_stamps(&rt, dir.as_str());
+        DiskFolder::keeping(alloc, rt, dir, keeps_stamps)
+    }
+
+    /// One that is only to be read. Nothing is asked of the system yet: whether stamps are kept there can take a write to
+    /// learn, so they are taken not to be.
+    pub fn to_read(alloc: Global, rt: R, dir: Text) -> DiskFolder<R>
+        ensures { result.faults ≡ 0 }
+    {
+        DiskFolder::keeping(alloc, rt, dir, false)
+    }
+
+    fn keeping(alloc: Global, rt: R, dir: Text, keeps_stamps: bool) -> DiskFolder<R>
+        ensures { result.faults ≡ 0 }
+    {
         DiskFolder {
             rt,
             dir,

@@ -84,6 +84,16 @@ fn folders_of<R: Files + Clone>(
     Ok(folders)
 }
 
+fn folder_to_read<R: Files + AllocGlobal + Clone>(
+    rt: &R,
+    dir: &str,
+) -> Result<DiskFolder<R>, NoMemory>
+    ensures { IfOk result (λ folder. folder.faults ≡ 0) }
+{
+    let alloc = rt.alloc();
+    Ok(DiskFolder::to_read(alloc, rt.clone()?, Text::new(alloc, dir)?))
+}
+
 fn parities_of<R: Files>(alloc: Global, names: &[Text]) -> Result<Vec<ParityFile<R>>, NoMemory>
 where
     R::File: FileExt,
@@ -205,6 +215,14 @@ where
         ) {
             (Ok(folders), Ok(vault)) => Ok(Opened { folders, vault }),
             _ => Err(OpenFault::Memory),
+        }
+    }
+
+    // It may be a data folder too, or stand in one, since it is only read. Where there is none, its listing fails.
+    fn import(&mut self, dir: &str) -> Result<DiskFolder<R>, OpenFault> {
+        match folder_to_read(&self.rt, dir) {
+            Ok(folder) => Ok(folder),
+            Err(NoMemory) => Err(OpenFault::Memory),
         }
     }
 }
