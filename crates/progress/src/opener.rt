@@ -100,4 +100,8 @@ where
             vault: MeteredVault::new(vault, self.meter),
         })
     }
+
+    fn import(&mut self, dir: &str) -> Result<Self::Folder, OpenFault> {
+        Ok(MeteredFolder::new(self.opener.import(dir)?, self.meter))
+    }
 }
