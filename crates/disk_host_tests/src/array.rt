@@ -2,7 +2,7 @@
 use crate::answer::{Answer, is_done};
 use crate::causes::are_causes;
 use crate::folder::folder_step;
-use crate::outside::{config_step, opener_faults};
+use crate::outside::{config_step, import_step, opener_faults};
 use crate::system::{Host, Plan};
 use crate::vault::{ahead_step, copy_step, level_step, vault_faults};
 use crate::words::place_of;
@@ -26,6 +26,7 @@ pub enum Part {
     Ahead,
     Copy,
     Config,
+    Import,
     OpenerFaults,
     VaultFaults,
     OpenerCauses,
@@ -44,6 +45,7 @@ pub fn part_of(verb: &str) -> Option<Part> {
         "ahead" => Some(Part::Ahead),
         "copy" => Some(Part::Copy),
         "config" => Some(Part::Config),
+        "import" => Some(Part::Import),
         "opener-faults" => Some(Part::OpenerFaults),
         "vault-faults" => Some(Part::VaultFaults),
         "opener-causes" => Some(Part::OpenerCauses),
@@ -74,6 +76,7 @@ impl Array {
             Part::Ahead => ahead_step(alloc, &mut self.vault, step),
             Part::Copy => copy_step(alloc, &mut self.vault, step),
             Part::Config => Some(config_step(alloc, &mut self.opener, step)),
+            Part::Import => Some(import_step(&mut self.opener, &mut self.folders, step)),
             Part::OpenerFaults => Some(opener_faults(&self.opener)),
             Part::VaultFaults => Some(vault_faults(&self.vault)),
             Part::OpenerCauses => are_causes(alloc, self.opener.failures(), step),

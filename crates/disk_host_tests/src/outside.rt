@@ -1,8 +1,8 @@
 // Steps of an opener, and of what text goes to: a configuration that is read, lines that are written.
-use crate::answer::Answer;
+use crate::answer::{Answer, done};
 use crate::system::Host;
 use crate::words::first_of;
-use disk_host::{DiskOpener, LogSink, StreamSink};
+use disk_host::{DiskFolder, DiskOpener, LogSink, StreamSink};
 use disk_model::{OpenFault, Opener, Sink, Text};
 use std::alloc::Global;
 use std::fs;
@@ -11,6 +11,19 @@ use std::fs;
 pub fn config_step(alloc: Global, opener: &mut DiskOpener<Host>, name: &str) -> Answer {
     match opener.config(alloc, name) {
         Ok(bytes) => Answer::Number(bytes.len() as u64),
+        Err(OpenFault::Memory) => Answer::OutOfMemory,
+        Err(OpenFault::Failed) => Answer::Failed,
+    }
+}
+
+/// A folder that is only to be read is the last one from then on.
+pub fn import_step(
+    opener: &mut DiskOpener<Host>,
+    folders: &mut Vec<DiskFolder<Host>>,
+    dir: &str,
+) -> Answer {
+    match opener.import(dir) {
+        Ok(folder) => done(folders.push(folder)),
         Err(OpenFault::Memory) => Answer::OutOfMemory,
         Err(OpenFault::Failed) => Answer::Failed,
     }

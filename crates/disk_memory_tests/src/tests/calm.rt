@@ -97,6 +97,23 @@ fn a_calm_opener_gives_its_objects_once(rt: HostRuntime) -> Result<(), Fail> {
     Ok(())
 }
 
+fn is_imported(opener: &mut CalmOpener) -> bool {
+    opener.import("i").is_ok()
+}
+
+#[test]
+fn a_calm_opener_gives_a_folder_to_import_once(rt: HostRuntime) -> Result<(), Fail> {
+    let alloc = rt.alloc();
+    let mut opener = opener(alloc)?;
+    assert!(rt; !is_imported(&mut opener));
+    opener.set_import(CalmFolder::new(alloc, true));
+    assert!(rt; is_given(alloc, &mut opener, &["c"])?);
+    assert!(rt; is_imported(&mut opener));
+    assert!(rt; !is_imported(&mut opener));
+    assert_eq!(rt; opener.faults(), 2);
+    Ok(())
+}
+
 #[test]
 fn a_calm_vault_holds_parity_and_content(rt: HostRuntime) -> Result<(), Fail> {
     static STEPS: [(VaultStep, Answer); 9] = [

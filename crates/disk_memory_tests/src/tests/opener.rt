@@ -75,6 +75,24 @@ fn open(
     }
 }
 
+// The folder to import, or none where the call fails.
+fn import(opener: &mut Array) -> Result<Option<MemFolder>, NoMemory> {
+    match opener.import("i") {
+        Ok(folder) => Ok(Some(folder)),
+        Err(OpenFault::Failed) => Ok(None),
+        Err(OpenFault::Memory) => Err(NoMemory),
+    }
+}
+
+fn is_imported(opener: &mut Array) -> Result<bool, NoMemory> {
+    Ok(import(opener)?.is_some())
+}
+
+fn looked(alloc: Global, folder: &mut MemFolder) -> Result<Answer, Fail> {
+    let path = Path::new(alloc, "a")?;
+    Ok(of_file(alloc, folder, &path, FileStep::Look(false)))
+}
+
 fn is_given(alloc: Global, opener: &mut Array, copies: &[&str]) -> Result<bool, NoMemory> {
     Ok(open(alloc, opener, copies)?.is_some())
 }
@@ -105,29 +123,49 @@ fn what_is_given_is_as_it_was(rt: HostRuntime) -> Result<(), Fail> {
     let Some(mut opened) = open(alloc, &mut opener(alloc)?, &["c"])? else {
         return Err(Fail::new("nothing is given"));
     };
-    let path = Path::new(alloc, "a")?;
     let looked = match opened.folders.get_mut(0) {
-        Some(folder) => of_file(alloc, folder, &path, FileStep::Look(false)),
+        Some(folder) => looked(alloc, folder)?,
         None => Answer::Missing,
     };
     assert_eq!(rt; looked, Answer::Failed);
     plays(&mut opened.vault, &STEPS, NONE)
 }
 
-// It has the two calls.
-fn round(alloc: Global, opener: &mut Array) -> Result<(bool, bool), NoMemory> {
+#[test]
+fn an_opener_gives_a_folder_to_import_once(rt: HostRuntime) -> Result<(), Fail> {
+    let alloc = rt.alloc();
+    let mut opener = opener(alloc)?;
+    assert!(rt; !is_imported(&mut opener)?);
+    opener.set_import(MemFolder::new(alloc, true));
+    opener.set_import(folder(alloc)?);
+    assert!(rt; is_given(alloc, &mut opener, &["c"])?);
+    assert!(rt; is_imported(&mut opener)?);
+    assert!(rt; !is_imported(&mut opener)?);
+    assert_eq!(rt; opener.faults(), 2);
+    Ok(())
+}
+
+// It has the three calls.
+fn round(alloc: Global, opener: &mut Array) -> Result<(bool, bool, bool), NoMemory> {
     let read = config(alloc, opener) == Answer::Done;
-    Ok((read, is_given(alloc, opener, &["c"])?))
+    Ok((read, is_given(alloc, opener, &["c"])?, is_imported(opener)?))
+}
+
+// One with a folder to import.
+fn with_import(alloc: Global) -> Result<Array, Fail> {
+    let mut opener = opener(alloc)?;
+    opener.set_import(folder(alloc)?);
+    Ok(opener)
 }
 
 fn fails_at(alloc: Global, call: u64) -> Result<Array, Fail> {
-    let mut opener = opener(alloc)?;
+    let mut opener = with_import(alloc)?;
     opener.fail_at(call)?;
     Ok(opener)
 }
 
 fn stops_after(alloc: Global, calls: u64) -> Result<Array, Fail> {
-    let mut opener = opener(alloc)?;
+    let mut opener = with_import(alloc)?;
     opener.stop_after(calls);
     Ok(opener)
 }
@@ -135,15 +173,21 @@ fn stops_after(alloc: Global, calls: u64) -> Result<Array, Fail> {
 #[test]
 fn each_call_fails_where_it_is_told_to(rt: HostRuntime) -> Result<(), Fail> {
     let alloc = rt.alloc();
-    for call in 1..3u64 {
+    for call in 1..4u64 {
         let mut opener = fails_at(alloc, call)?;
-        assert_eq!(rt; round(alloc, &mut opener)?, (call != 1, call != 2));
-        assert_eq!(rt; round(alloc, &mut opener)?, (true, call == 2));
+        assert_eq!(rt;
+            round(alloc, &mut opener)?,
+            (call != 1, call != 2, call != 3)
+        );
+        assert_eq!(rt; round(alloc, &mut opener)?, (true, call == 2, call == 3));
     }
-    for calls in 0..3u64 {
+    for calls in 0..4u64 {
         let mut opener = stops_after(alloc, calls)?;
-        assert_eq!(rt; round(alloc, &mut opener)?, (calls > 0, calls > 1));
-        assert_eq!(rt; opener.faults(), 2 - calls);
+        assert_eq!(rt;
+            round(alloc, &mut opener)?,
+            (calls > 0, calls > 1, calls > 2)
+        );
+        assert_eq!(rt; opener.faults(), 3 - calls);
     }
     Ok(())
 }
