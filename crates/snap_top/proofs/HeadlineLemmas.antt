@@ -284,10 +284,10 @@ module _ {O F V W : Type 0} (opener_view : O → OpenerView) (folder_view : F �
       let same : HoldsSame (begun run).opener (ended run).opener = step.unopened none in
       let told = over.tells.tells in
       record {
-        config = same.config told ∙ over.config;
-        trees = ap trees_of (same.folders told) ∙ over.trees;
-        copies = ap length (same.vault.drafts told) ∙ over.copies;
-        files = same.vault.files told ∙ over.files;
+        config = same.array.config told ∙ over.config;
+        trees = ap trees_of (same.array.folders told) ∙ over.trees;
+        copies = ap length (same.array.vault.drafts told) ∙ over.copies;
+        files = same.array.vault.files told ∙ over.files;
       }
 
   -- ---- what stands at the end of a run

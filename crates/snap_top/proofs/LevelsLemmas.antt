@@ -140,10 +140,13 @@ goes_on_by setup old new done goes = record { later = goes.later; tells = goes.t
 
 pub holds_by : (setup : Option SetupValue) (old new : OpenerView) → HoldsSame old new → HoldsSame (opener_by setup old) (opener_by setup new)
 holds_by setup old new same = record {
-  config = same.config;
-  folders = same.folders;
-  folder_counts = same.folder_counts;
-  vault = same_vault setup old.tells old.vault new.vault same.vault;
+  array = record {
+    config = same.array.config;
+    folders = same.array.folders;
+    folder_counts = same.array.folder_counts;
+    vault = same_vault setup old.tells old.vault new.vault same.array.vault;
+  };
+  import = record { folder = same.import.folder; count = same.import.count };
 }
 
 abbrev says_by : (by : Option SetupValue) (opener : OpenerView) (log : Option (List ℕ)) (setup : SetupValue) → Says opener log setup → Says (opener_by by opener) log setup

@@ -68,30 +68,39 @@ same_vault_then told_old told_mid old mid new tells one two = record {
 
 pub holds_start : (opener : OpenerView) → HoldsSame opener opener
 holds_start opener = record {
-  config = λ told. refl;
-  folders = λ told. refl;
-  folder_counts = λ column. refl;
-  vault = record {
-    faults = refl;
-    levels = λ told. refl;
-    drafts = λ told. refl;
-    tells = λ told. refl;
-    files = λ told. refl;
-    staged = λ told. refl;
-    tells_calls = λ told. refl;
-    calls = λ told. refl;
-    tells_images = λ told. refl;
-    moment = λ told. refl;
-    since = λ told t files. (λ left. left, λ left. left);
+  array = record {
+    config = λ told. refl;
+    folders = λ told. refl;
+    folder_counts = λ column. refl;
+    vault = record {
+      faults = refl;
+      levels = λ told. refl;
+      drafts = λ told. refl;
+      tells = λ told. refl;
+      files = λ told. refl;
+      staged = λ told. refl;
+      tells_calls = λ told. refl;
+      calls = λ told. refl;
+      tells_images = λ told. refl;
+      moment = λ told. refl;
+      since = λ told t files. (λ left. left, λ left. left);
+    };
   };
+  import = record { folder = λ told. refl; count = refl };
 }
 
 pub holds_then : (old mid new : OpenerView) → mid.tells ≡ old.tells → HoldsSame old mid → HoldsSame mid new → HoldsSame old new
 holds_then old mid new tells one two = record {
-  config = λ told. two.config (tells ∙ told) ∙ one.config told;
-  folders = λ told. two.folders (tells ∙ told) ∙ one.folders told;
-  folder_counts = λ column. two.folder_counts column ∙ one.folder_counts column;
-  vault = same_vault_then old.tells mid.tells old.vault mid.vault new.vault tells one.vault two.vault;
+  array = record {
+    config = λ told. two.array.config (tells ∙ told) ∙ one.array.config told;
+    folders = λ told. two.array.folders (tells ∙ told) ∙ one.array.folders told;
+    folder_counts = λ column. two.array.folder_counts column ∙ one.array.folder_counts column;
+    vault = same_vault_then old.tells mid.tells old.vault mid.vault new.vault tells one.array.vault two.array.vault;
+  };
+  import = record {
+    folder = λ told. two.import.folder (tells ∙ told) ∙ one.import.folder told;
+    count = two.import.count ∙ one.import.count;
+  };
 }
 
 -- ---- what was opened
@@ -103,20 +112,20 @@ same_told is_told held other told same = subst (λ b. SameVault b held other) to
 pub images_given : (parities contents : ℕ) (old mid : OpenerView) (given : VaultView) → HoldsSame old mid → mid.tells ≡ old.tells → VaultIsGiven mid.tells parities contents mid.vault given
     → IsTrue old.tells → SameImages old.vault.images given.images
 images_given parities contents old mid given same tells is told =
-    same_images old.vault given (same_told old.tells old.vault given told (same_vault_then old.tells mid.tells old.vault mid.vault given tells same.vault is.same))
+    same_images old.vault given (same_told old.tells old.vault given told (same_vault_then old.tells mid.tells old.vault mid.vault given tells same.array.vault is.same))
 
 state_given : (parities contents : ℕ) (old mid : OpenerView) (given : VaultView) → HoldsSame old mid → mid.tells ≡ old.tells → VaultIsGiven mid.tells parities contents mid.vault given
     → StateIsGiven old.tells parities contents (state_of old.vault) (state_of given)
 state_given parities contents old mid given same tells is =
-    let whole = same_vault_then old.tells mid.tells old.vault mid.vault given tells same.vault is.same in
+    let whole = same_vault_then old.tells mid.tells old.vault mid.vault given tells same.array.vault is.same in
     record { faults = whole.faults; whole = λ told. same_state old.vault given (same_told old.tells old.vault given told whole); levels = is.levels; drafts = is.drafts }
 
 folder_given : (old mid : OpenerView) (column : ℕ) (given : FolderView) → HoldsSame old mid → mid.tells ≡ old.tells
     → FolderIsGiven mid.tells (folder_held mid column) given → FolderIsGiven old.tells (folder_held old column) given
 folder_given old mid column given same tells is = record {
-  faults = is.faults ∙ same.folder_counts column;
+  faults = is.faults ∙ same.array.folder_counts column;
   is_open = is.is_open;
-  whole = λ told. is.whole (tells ∙ told) ∙ ap (λ folders. get_or folders column (quiet_folder 0 false)) (same.folders told);
+  whole = λ told. is.whole (tells ∙ told) ∙ ap (λ folders. get_or folders column (quiet_folder 0 false)) (same.array.folders told);
 }
 
 -- the lists that a vector's length counts
@@ -140,7 +149,7 @@ opened_given view fs vault x texts command readers setup old mid new configured 
       known = known;
       calls = goes_on_by (Some setup) old new _ (goes_on_then old mid new (reads_config configured.asked.conf false ∷ []) (opens_places setup false ∷ []) first second.goes_on);
       columns = many ∙ columns;
-      just = λ told. many ∙ just (tells ∙ told) ∙ ap length (same.folders told);
+      just = λ told. many ∙ just (tells ∙ told) ∙ ap length (same.array.folders told);
       each = λ d below. folder_given old mid d _ same tells (each d (omega (arith, below, many)));
       state = record {
         faults = faults_by split state.faults;

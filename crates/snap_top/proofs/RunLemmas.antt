@@ -248,7 +248,7 @@ refused_runs standing stands view texts seed moment old new items out reports wh
     kept = kept;
     folders = ap (map view) none;
     no_vault = refl;
-    vault = kept.vault;
+    vault = kept.array.vault;
     out = refl;
     untold = refl;
   });
@@ -271,7 +271,7 @@ exercised_runs standing stands view texts seed moment opener items out out_new r
     kept = holds_start opener;
     folders = ap (map view) none;
     no_vault = refl;
-    vault = (holds_start opener).vault;
+    vault = (holds_start opener).array.vault;
     untold = refl;
   });
   reports = all_given_nothing standing stands reports;
