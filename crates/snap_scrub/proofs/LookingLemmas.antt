@@ -7,7 +7,7 @@ use Rattle.std.proofs.lemmas.List.{append-nil, map-append, length-append}
 use Rattle.std.proofs.lemmas.List.Elements.{All-nil, All-cons, All-append}
 use Rattle.std.proofs.lemmas.List.FromFn.{map-range_with_len_more}
 use Rattle.disk_model.specs.Sink.{SinkView}
-use Rattle.disk_model.specs.Vault.{IsUntouched}
+use Rattle.disk_model.specs.Vault.{VaultView, IsUntouched}
 use Rattle.file_table.specs.Table.{TableValue}
 use Rattle.snap_report.specs.Report.{ReportView}
 use Rattle.snap_report.specs.Told.{Told}
@@ -22,10 +22,10 @@ use Rattle.parity_writer.specs.declared.summing.Sums.{Sums}
 use Rattle.snap_scrub.specs.declared.verdict.Verdict.{Verdict}
 use Rattle.snap_scrub.specs.declared.verdict.Found.{Found}
 use Rattle.snap_scrub.specs.Findings.{level_events, scrub_events, events_of}
-use Rattle.snap_scrub.specs.Looking.{AreFound, Scene, LooksAt, LooksAtOne, LooksInto}
+use Rattle.snap_scrub.specs.Looking.{AreFound, Scene, LooksAt, LooksAtOne, LooksInto, scene}
 use Rattle.snap_scrub.specs.Marks.{verdict_by, verdict_of, at_most}
 use Rattle.snap_scrub.specs.Reading.{ScrubReading, HasLevels}
-use Rattle.snap_scrub.proofs.ReadingLemmas.{levels_none, levels_then, levels_untouched}
+use Rattle.snap_scrub.proofs.ReadingLemmas.{levels_between, levels_left, levels_none, levels_then}
 use Rattle.stripe_findings.proofs.TellingLemmas.{told_as}
 
 -- one of some
@@ -62,6 +62,14 @@ module _ {W R : Type 0} (view : W → SinkView) (standing : R → ReportView) (s
     due = All-nil (HasLevels table);
     levels = levels_none table s.vault;
     told = told_nothing view standing stands table.columns s.lines s.reports;
+  }
+
+  -- of a vault that stays untouched
+  pub looks_left : (old new : VaultView) (lines : Lines W) (reports : List R) → IsUntouched old new → LooksAt view standing stands table [] (scene old lines reports) (scene new lines reports)
+  looks_left old new lines reports same = record {
+    due = All-nil (HasLevels table);
+    levels = levels_left table old new same;
+    told = told_nothing view standing stands table.columns lines reports;
   }
 
   pub looks_then : (xs ys : List ScrubReading) (old mid new : Scene W R) → LooksAt view standing stands table xs old mid → LooksAt view standing stands table ys mid new → LooksAt view standing stands table (xs ++ ys) old new
@@ -114,21 +122,13 @@ module _ {W R : Type 0} (view : W → SinkView) (standing : R → ReportView) (s
         findings_are = omega (arith, more_is, into.findings_are, one.found_are.count, count);
       }
 
-  -- of a vault that was untouched before the first stripe
-  pub into_untouched : (stripes : List ℕ) (window : WindowValue) (count : ℕ) (verdicts : List Verdict) (findings : ℕ) (old mid new : Scene W R) → IsUntouched old.vault mid.vault
-      → old.lines ≡ mid.lines → old.reports ≡ mid.reports
-      → LooksInto view standing stands table stripes window count verdicts findings mid new → LooksInto view standing stands table stripes window count verdicts findings old new
-  into_untouched stripes window count verdicts findings old mid new same lines reports into = record {
-    readings = into.readings;
-    cells_are = into.cells_are;
-    looks = record {
-      due = into.looks.due;
-      levels = levels_untouched table into.readings old.vault mid.vault new.vault same into.looks.levels;
-      told = subst (λ (it : Lines W). Told view standing stands table.columns (events_of table into.readings) it new.lines old.reports new.reports) (sym lines)
-          (subst (λ (its : List R). Told view standing stands table.columns (events_of table into.readings) mid.lines new.lines its new.reports) (sym reports) into.looks.told);
-    };
-    verdicts_are = into.verdicts_are;
-    findings_are = into.findings_are;
+  -- of a vault that is untouched before the first stripe and behind the last one
+  pub looks_between : (readings : List ScrubReading) (old mid turned new : VaultView) (lines told : Lines W) (reports stand : List R) → IsUntouched old mid → IsUntouched turned new
+      → LooksAt view standing stands table readings (scene mid lines reports) (scene turned told stand) → LooksAt view standing stands table readings (scene old lines reports) (scene new told stand)
+  looks_between readings old mid turned new lines told reports stand before behind looks = record {
+    due = looks.due;
+    levels = levels_between table readings old mid turned new before behind looks.levels;
+    told = looks.told;
   }
 
   -- a window with the same slots

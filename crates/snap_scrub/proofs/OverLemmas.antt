@@ -5,9 +5,11 @@ use Rattle.std.proofs.lemmas.Grind.{flat_map-append}
 use Rattle.std.proofs.lemmas.List.{map-append, length-append, length-drop, length-take-le, take_all, take-append-le}
 use Rattle.disk_model.specs.Folder.{FolderView}
 use Rattle.disk_model.specs.Sink.{SinkView}
+use Rattle.disk_model.specs.Vault.{VaultView, IsUntouched}
 use Rattle.file_table.specs.Table.{TableValue}
 use Rattle.snap_report.specs.Report.{ReportView}
 use Rattle.snap_report.specs.declared.events.Event.{Event}
+use Rattle.snap_report.specs.declared.pages.Lines.{Lines}
 use Rattle.stripe_findings.specs.Reading.{StripeReading, AreRead, reading_at, readings_in, stripes_of}
 use Rattle.stripe_findings.proofs.ReadLemmas.{are_read_start, are_read_then, stripes_of_window, take_then, window_are_read}
 use Rattle.stripe_reader.specs.Columns.{ReadsWindow}
@@ -15,10 +17,10 @@ use Rattle.stripe_reader.specs.Starts.{recorded_starts}
 use Rattle.stripe_reader.specs.WindowValue.{WindowValue}
 use Rattle.snap_scrub.specs.declared.verdict.Verdict.{Verdict}
 use Rattle.snap_scrub.specs.Findings.{scrub_events, events_of}
-use Rattle.snap_scrub.specs.Looking.{Scene, LooksInto, LooksOver}
+use Rattle.snap_scrub.specs.Looking.{Scene, LooksInto, LooksOver, scene}
 use Rattle.snap_scrub.specs.Marks.{verdict_of, at_most}
 use Rattle.snap_scrub.specs.Reading.{ScrubReading, cells_of}
-use Rattle.snap_scrub.proofs.LookingLemmas.{looks_none, looks_then}
+use Rattle.snap_scrub.proofs.LookingLemmas.{looks_left, looks_then}
 
 -- what was written through a whole slice of a list
 pub whole_back : {X : Type 0} (len : ℕ) (items new : List X) → length new ≡ len → take len (new ++ drop (length new) items) ≡ new
@@ -53,13 +55,14 @@ module _ {X : Type 0} (items new lent : List X) (first n : ℕ) (same : lent ≡
       ∙ take_all (first + n) (take first items ++ new) (omega (arith, both))
 
 module _ {W R : Type 0} (view : W → SinkView) (standing : R → ReportView) (stands : R → List Event → Type 0) (table : TableValue) where
-  -- before the first window
-  pub over_none : (stripes : List ℕ) (verdicts : List Verdict) (folders : List FolderView) (s : Scene W R) → stripes ≡ [] → verdicts ≡ [] → LooksOver view standing stands table stripes verdicts 0 folders folders s s
-  over_none stripes verdicts folders s no_stripes no_verdicts = record {
+  -- before the first window, of a vault that stayed untouched
+  pub over_none : (stripes : List ℕ) (verdicts : List Verdict) (folders : List FolderView) (old new : VaultView) (lines : Lines W) (reports : List R) → IsUntouched old new → stripes ≡ [] → verdicts ≡ []
+      → LooksOver view standing stands table stripes verdicts 0 folders folders (scene old lines reports) (scene new lines reports)
+  over_none stripes verdicts folders old new lines reports same no_stripes no_verdicts = record {
     readings = [];
     numbers = sym no_stripes;
     read = are_read_start table folders;
-    looks = looks_none view standing stands table s;
+    looks = looks_left view standing stands table old new lines reports same;
     verdicts_are = no_verdicts;
     findings_are = refl;
   }

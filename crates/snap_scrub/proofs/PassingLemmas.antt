@@ -4,9 +4,11 @@ use Rattle.std.proofs.lemmas.List.{append-nil, length-take-le, take_all}
 use Rattle.std.specs.Prelude.{min}
 use Rattle.disk_model.specs.Folder.{FolderView}
 use Rattle.disk_model.specs.Sink.{SinkView}
+use Rattle.disk_model.specs.Vault.{VaultView, IsUntouched}
 use Rattle.file_table.specs.Table.{TableValue}
 use Rattle.snap_report.specs.Report.{ReportView}
 use Rattle.snap_report.specs.declared.events.Event.{Event}
+use Rattle.snap_report.specs.declared.pages.Lines.{Lines}
 use Rattle.stripe_findings.proofs.ReadLemmas.{length_after}
 use Rattle.stripe_reader.specs.Columns.{ReadsWindow}
 use Rattle.stripe_reader.specs.Fetched.{FetchesWindow, hashed_window}
@@ -14,7 +16,7 @@ use Rattle.stripe_reader.specs.Starts.{StartsValue, recorded_starts}
 use Rattle.stripe_reader.specs.WindowValue.{WindowValue}
 use Rattle.snap_scrub.specs.declared.beginning.Work.{Work}
 use Rattle.snap_scrub.specs.declared.verdict.Verdict.{Verdict}
-use Rattle.snap_scrub.specs.Looking.{LooksInto, LooksOver, Scene}
+use Rattle.snap_scrub.specs.Looking.{LooksInto, LooksOver, Scene, scene}
 use Rattle.snap_scrub.specs.Marks.{at_most}
 use Rattle.snap_scrub.specs.Room.{IsEnoughFor, IsRoomFor, IsWorkFor}
 use Rattle.snap_scrub.specs.Windows.{IsReady, KeepsWork, LooksNear, Turns, stripes_near, stripes_next}
@@ -111,16 +113,17 @@ module _ (table : TableValue) (work : Work) (done : ℕ) (turned : Work) (ready 
   swapped_is swapped swap = swap ∙ ap (λ (it : Work). let w : Work = record it { room = record it.room { near = turned.room.far; far = it.room.near } } in w) turns.rest
 
 module _ {W R : Type 0} (view : W → SinkView) (standing : R → ReportView) (stands : R → List Event → Type 0) (table : TableValue) where
-  -- before the first window
-  pub underway_none : (old work : Work) (olds news : List FolderView) (s : Scene W R) → work ≡ record old { room = record old.room { near = work.room.near } } → IsReady table work 0
+  -- before the first window, of a vault that stayed untouched while that was fetched
+  pub underway_none : (old work : Work) (olds news : List FolderView) (before after : VaultView) (lines : Lines W) (reports : List R) → work ≡ record old { room = record old.room { near = work.room.near } } → IsReady table work 0
       → FetchesWindow table (recorded_starts table) (stripes_near work 0) old.room.near work.room.near olds news
-      → IsUnderway view standing stands table work 0 0 olds news s s
-  underway_none old work olds news s rest ready fetched = record {
+      → IsUntouched before after
+      → IsUnderway view standing stands table work 0 0 olds news (scene before lines reports) (scene after lines reports)
+  underway_none old work olds news before after lines reports rest ready fetched same = record {
     ready = ready;
     before = old.room.near;
     mids = olds;
     fetched = fetched;
-    looks = over_none view standing stands table [] [] olds s refl refl;
+    looks = over_none view standing stands table [] [] olds before after lines reports same refl refl;
   }
 
   -- one window more

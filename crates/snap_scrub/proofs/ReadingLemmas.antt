@@ -77,6 +77,16 @@ levels_untouched table readings old mid new same read = record {
   drafts = drafts_untouched old mid new same read.drafts;
 }
 
+-- none of a vault that stays untouched
+pub levels_left : (table : TableValue) (old new : VaultView) → IsUntouched old new → LevelsAreRead table [] old new
+levels_left table old new same = levels_untouched table [] old new new same (levels_none table new)
+
+-- some, of a vault that is untouched before them and behind them
+pub levels_between : (table : TableValue) (readings : List ScrubReading) (old mid turned new : VaultView) → IsUntouched old mid → IsUntouched turned new → LevelsAreRead table readings mid turned → LevelsAreRead table readings old new
+levels_between table readings old mid turned new before behind read =
+    levels_untouched table readings old mid new before
+    (subst (λ (all : List ScrubReading). LevelsAreRead table all mid new) (append-nil readings) (levels_then table readings [] mid turned new read (levels_left table turned new behind)))
+
 -- a stripe whose levels are not read
 pub levels_unread : (table : TableValue) (cells : StripeReading) (v : VaultView) → LevelsAreRead table ((let it : ScrubReading = record { cells = cells; levels = [] } in it) ∷ []) v v
 levels_unread table cells v =

@@ -1,5 +1,6 @@
 // The stripes of a scrub, window after window.
 ghost use Rattle.std.specs.Prelude.{◌≡◌, length, map};
+ghost use Rattle.disk_model.specs.Vault.{IsUntouched};
 ghost use Rattle.stripe_reader.specs.Fetched.{FetchesWindow, IsUnhashedWindow};
 ghost use Rattle.stripe_reader.specs.Starts.{recorded_starts};
 ghost use Rattle.snap_scrub.specs.Looking.{LooksOver, scene};
@@ -10,17 +11,18 @@ use crate::beginning::Work;
 use crate::turning::{Round, turn};
 use disk_model::{Folder, Sink, Vault};
 use file_table::Table;
+use parity_writer::{fetch_beside, put_ahead, take_ahead};
 use snap_report::{Lines, Report};
 use std::mem::swap;
 use std::thread::Threads;
-use stripe_reader::fetch_window;
 
-// Fetches the first window into the near room.
-fn fetch_first<R: Threads + Sync, F: Folder>(
+// Fetches the first window into the near room, and reads what the levels hold of its stripes ahead.
+fn fetch_first<R: Threads + Sync, F: Folder, V: Vault>(
     rt: &R,
     table: &Table,
     work: &mut Work,
     folders: &mut [F],
+    vault: &mut V,
 )
     requires work { IsWorkFor table.now work.old }
     requires enough { IsEnoughFor (length work.old.stripes.items) work.old.room }
@@ -30,11 +32,15 @@ fn fetch_first<R: Threads + Sync, F: Folder>(
     ensures fetched { FetchesWindow table.now (recorded_starts table.now)
         (stripes_near work.new 0) work.old.room.near work.new.room.near
         (map F.view folders.old) (map F.view folders.new) }
+    ensures vault { IsUntouched (V.view vault.old) (V.view vault.new) }
 {
     let room = &mut work.room;
     let count = work.stripes.len().min(room.near.room() as usize);
     let stripes = &work.stripes[..count];
-    fetch_window(rt, folders, table, &room.starts, stripes, &mut room.near);
+    let mut levels = take_ahead(vault, stripes, table.shape().block_size);
+    let (starts, near) = (&room.starts, &mut room.near);
+    fetch_beside(rt, folders, table, starts, stripes, near, &mut levels);
+    put_ahead(vault, levels);
 }
 
 // Hashes and looks at the stripes of the near window, which stands after so many, and meanwhile fetches the next ones
@@ -113,7 +119,7 @@ pub(crate) fn look_over<R: Threads + Sync, F: Folder, V: Vault, W: Sink>(
         (map F.view folders.old) (map F.view folders.new)
         (scene (V.view vault.old) lines.old reports.old.items) (scene (V.view vault.new) lines.new reports.new.items) }
 {
-    fetch_first(rt, table, work, folders);
+    fetch_first(rt, table, work, folders, vault);
     let mut findings = 0u64;
     let mut done = 0;
     while done < work.stripes.len() {

@@ -1,4 +1,4 @@
-// One window is hashed and looked at while the next one is fetched.
+// One window is hashed and looked at while the next one is fetched, with the levels of its stripes.
 ghost use Rattle.std.specs.Prelude.{◌≡◌, length, map, take};
 ghost use Rattle.std.specs.Thread.{IsSend, IsSync};
 ghost use Rattle.stripe_reader.specs.Fetched.{FetchesWindow};
@@ -12,9 +12,9 @@ use crate::verdict::Verdict;
 use crate::windows::look_window;
 use disk_model::{Folder, Sink, Vault};
 use file_table::Table;
+use parity_writer::{fetch_beside, put_ahead, take_ahead};
 use snap_report::{Lines, Report};
 use std::thread::{Threads, join_mut};
-use stripe_reader::fetch_window;
 
 /// One round of a scrub: the stripes that are looked at, those that are fetched ahead meanwhile, and how many threads
 /// hash and sum at most.
@@ -26,7 +26,8 @@ pub(crate) struct Round<'a> {
     pub threads: u32,
 }
 
-/// Hashes and looks at the stripes of the near window, and meanwhile fetches the stripes ahead into the far one.
+/// Hashes and looks at the stripes of the near window, and meanwhile fetches the stripes ahead into the far one, and reads
+/// what the levels hold of them ahead of the calls of the next round.
 pub(crate) fn turn<R: Threads + Sync, F: Folder, V: Vault, W: Sink>(
     rt: &R,
     round: &Round<'_>,
@@ -49,9 +50,11 @@ pub(crate) fn turn<R: Threads + Sync, F: Folder, V: Vault, W: Sink>(
 {
     let (table, starts, ahead) = (round.table, &room.starts, round.ahead);
     let (near, far, check) = (&mut room.near, &mut room.far, &mut room.check);
+    let mut levels = take_ahead(vault, ahead, table.shape().block_size);
     let mut fetching = ||
-        requires { IsSync R.row × IsSend F.row × CanRead table.now starts.now ahead.now far.now (length folders.now) }
-    { fetch_window(rt, folders, table, starts, ahead, far) };
+        requires { IsSync R.row × IsSend F.row × IsSend V.Ahead.row ×
+            CanRead table.now starts.now ahead.now far.now (length folders.now) }
+    { fetch_beside(rt, folders, table, starts, ahead, far, &mut levels) };
     let mut looking = || -> u64
         requires { IsSync R.row × CanLook round.now.table.now round.now.stripes.now near.now check.now verdicts.now ×
             ((V.view vault.now).levels ≡ round.now.table.now.shape.levels) }
@@ -61,5 +64,6 @@ pub(crate) fn turn<R: Threads + Sync, F: Folder, V: Vault, W: Sink>(
             (scene (V.view vault.exit.now) lines.exit.now reports.exit.now.items) }
     { look_window(rt, round, near, check, vault, lines, reports, verdicts) };
     let ((), findings) = join_mut(rt, &mut fetching, &mut looking);
+    put_ahead(vault, levels);
     findings
 }

@@ -1,7 +1,5 @@
 // The stripes of a window, which was read for them.
 ghost use Rattle.std.specs.Prelude.{◌≡◌, ℕ, ◌<◌, ◌≤◌, length, take};
-ghost use Rattle.std.specs.Thread.{IsSync};
-ghost use Rattle.disk_model.specs.Vault.{IsUntouched};
 ghost use Rattle.stripe_reader.specs.Fetched.{IsUnhashedWindow, hashed_window};
 ghost use Rattle.stripe_reader.specs.Held.{HoldsStripes};
 ghost use Rattle.snap_scrub.specs.Looking.{LooksInto, scene};
@@ -16,9 +14,9 @@ use crate::turning::Round;
 use crate::verdict::Verdict;
 use disk_model::{Sink, Vault};
 use file_table::Table;
-use parity_writer::{read_ahead, sum_window};
+use parity_writer::sum_window;
 use snap_report::{Lines, Report};
-use std::thread::{Threads, join_mut};
+use std::thread::Threads;
 use stripe_reader::{Window, hash_window};
 
 /// Stripes of a table that were read into a window: their numbers, and the window that holds them.
@@ -68,36 +66,8 @@ fn hash_near<R: Threads + Sync>(rt: &R, round: &Round<'_>, window: &mut Window)
     hash_window(rt, round.table.shape(), round.threads, window);
 }
 
-// Hashes the blocks of a window that was fetched, and meanwhile reads the levels of its stripes ahead.
-fn hash_beside<R: Threads + Sync, V: Vault>(
-    rt: &R,
-    round: &Round<'_>,
-    window: &mut Window,
-    vault: &mut V,
-)
-    requires holds { HoldsStripes round.now.table.now round.now.stripes.now window.old }
-    requires unhashed { IsUnhashedWindow window.old }
-    ensures hashed { window.new ≡ hashed_window round.now.table.now.shape window.old }
-    ensures holds { HoldsStripes round.now.table.now round.now.stripes.now window.new }
-    ensures vault { IsUntouched (V.view vault.old) (V.view vault.new) }
-{
-    let (stripes, block_size) = (round.stripes, round.table.shape().block_size);
-    let mut hashing = ||
-        requires { IsSync R.row × HoldsStripes round.now.table.now round.now.stripes.now window.now ×
-            IsUnhashedWindow window.now }
-        ensures { (window.exit.now ≡ hashed_window round.entry.now.table.now.shape window.entry.now) ×
-            HoldsStripes round.entry.now.table.now round.entry.now.stripes.now window.exit.now }
-    { hash_near(rt, round, window) };
-    let mut reading = ||
-        requires { IsSync R.row × (block_size ≤ 4194304) }
-        ensures { IsUntouched (V.view vault.entry.now) (V.view vault.exit.now) }
-    { read_ahead(rt, vault, stripes, block_size) };
-    // This thread goes on with the hashes: it starts those that help it.
-    join_mut(rt, &mut reading, &mut hashing);
-}
-
-/// Hashes the blocks of a window that was fetched, and meanwhile reads the levels of its stripes ahead. Then makes the
-/// sums of its stripes, looks at these stripes, keeps the verdict on each, and counts the findings.
+/// Hashes the blocks of a window that was fetched, makes the sums of its stripes, looks at these stripes, keeps the verdict
+/// on each, and counts the findings.
 pub(crate) fn look_window<R: Threads + Sync, V: Vault, W: Sink>(
     rt: &R,
     round: &Round<'_>,
@@ -116,7 +86,7 @@ pub(crate) fn look_window<R: Threads + Sync, V: Vault, W: Sink>(
         (length round.now.stripes.now) (take (length round.now.stripes.now) verdicts.new) result
         (scene (V.view vault.old) lines.old reports.old.items) (scene (V.view vault.new) lines.new reports.new.items) }
 {
-    hash_beside(rt, round, window, vault);
+    hash_near(rt, round, window);
     let levels = round.table.shape().levels;
     let sums = check.sums.as_mut_slice();
     sum_window(rt, window, levels, round.threads, sums);

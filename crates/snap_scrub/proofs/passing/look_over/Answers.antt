@@ -1,14 +1,15 @@
 use Rattle.std.proofs.Common.{length, sym, ap, ◌∙◌, arith}
 use Rattle.std.proofs.lemmas.List.{length-map}
+use Rattle.disk_model.proofs.UntouchedLemmas.{same_levels}
 use Rattle.snap_scrub.proofs.PassingLemmas.{underway_none, underway_more, underway_all}
 use Rattle.snap_scrub.proofs.passing.look_over.Goals as goal
 
 pub loop-done-init : goal.loop-done-init
 loop-done-init g c = record {
-  under = underway_none _ _ _ c.args.table.now c.args.work.now c.fetch_first.new.work _ _ _ c.fetch_first.ensures.rest c.fetch_first.ensures.ready c.fetch_first.ensures.fetched;
+  under = underway_none _ _ _ c.args.table.now c.args.work.now c.fetch_first.new.work _ _ _ _ _ _ c.fetch_first.ensures.rest c.fetch_first.ensures.ready c.fetch_first.ensures.fetched c.fetch_first.ensures.vault;
   kept = record { stripes = ap (λ it. it.stripes) c.fetch_first.ensures.rest; room = c.fetch_first.ensures.ready.is_work.room; verdicts = ap (λ it. length it.verdicts.items) c.fetch_first.ensures.rest };
   folders = sym (length-map c.fetch_first.new.folders g.F.Folder.view) ∙ c.fetch_first.ensures.fetched.read.folders ∙ length-map c.args.folders.now g.F.Folder.view ∙ c.requires.folders;
-  levels = c.requires.levels;
+  levels = same_levels _ _ c.fetch_first.ensures.vault ∙ c.requires.levels;
 }
 
 pub turn_window-more-requires-clause-ready : goal.turn_window-more-requires-clause-ready
