@@ -4,9 +4,11 @@ use Rattle.std.specs.Prelude.{min}
 use Rattle.std.proofs.lemmas.List.{append-nil, length-drop, length-map, length-take-le, take_all}
 use Rattle.disk_model.specs.Folder.{FolderView}
 use Rattle.disk_model.specs.Sink.{SinkView}
+use Rattle.disk_model.specs.Vault.{VaultView, IsUntouched}
 use Rattle.file_table.specs.Table.{TableValue}
 use Rattle.snap_report.specs.Report.{ReportView}
 use Rattle.snap_report.specs.declared.events.Event.{Event}
+use Rattle.snap_report.specs.declared.pages.Lines.{Lines}
 use Rattle.stripe_reader.specs.Columns.{ReadsWindow}
 use Rattle.stripe_reader.specs.Fetched.{FetchesWindow, hashed_front, hashed_window}
 use Rattle.stripe_reader.specs.Starts.{StartsValue}
@@ -17,8 +19,10 @@ use Rattle.snap_fix.specs.Checking.{ChecksStripes, IsWorkFor, KeepsWork, plan_fo
 use Rattle.snap_fix.specs.CheckWindows.{IsReady, UsesRoom, stripes_near, stripes_next}
 use Rattle.stripe_examiner.specs.Counts.{AreCounts}
 use Rattle.stripe_examiner.specs.Facts.{StripeFacts}
-use Rattle.stripe_examiner.specs.Looking.{AreRead, LooksAt, LooksInto, Scene, numbers_of}
+use Rattle.stripe_examiner.specs.Looking.{AreRead, LooksAt, LooksInto, Scene, numbers_of, scene}
 use Rattle.stripe_examiner.specs.Room.{IsRoomFor}
+use Rattle.stripe_examiner.specs.Spare.{SpareView}
+use Rattle.stripe_examiner.proofs.AheadLemmas.{levels_left}
 use Rattle.stripe_examiner.proofs.LookingLemmas.{looks_none}
 use Rattle.snap_fix.proofs.CheckLemmas.{checked_more, keeps_then}
 use Rattle.snap_fix.proofs.ReadLemmas.{read_none, read_then, read_window}
@@ -89,9 +93,9 @@ module _ (table : TableValue) (first : Work) (near far : WindowValue) (olds news
     unhashed = fetched.unhashed;
   }
 
-  pub checking_none : {W R : Type 0} (view : W → SinkView) (standing : R → ReportView) (stands : R → List Event → Type 0) (counts : Counts) (s : Scene W R) → AreCounts [] counts
-      → IsChecking view standing stands table first begun far 0 counts olds news s s
-  checking_none view standing stands counts s none = record {
+  pub checking_none : {W R : Type 0} (view : W → SinkView) (standing : R → ReportView) (stands : R → List Event → Type 0) (counts : Counts) (old new : VaultView) (spare : SpareView) (lines : Lines W) (reports : List R) → IsUntouched old new → AreCounts [] counts
+      → IsChecking view standing stands table first begun far 0 counts olds news (scene old spare lines reports) (scene new spare lines reports)
+  checking_none view standing stands counts old new spare lines reports same none = record {
     ready = ready_begun;
     kept = record { rest = refl; room = room_begun };
     stripes = [];
@@ -100,16 +104,18 @@ module _ (table : TableValue) (first : Work) (near far : WindowValue) (olds news
     mids = olds;
     fetched = subst (λ (n : ℕ). ReadsWindow table first.starts (take n first.stripes.items) first.room.window (hashed_window table.shape near) olds news) (sym near_count) fetched.read;
     read = read_none (plan_for table first) first.starts olds;
-    looks = looks_none view standing stands (plan_for table first) counts s none;
+    looks =
+        let left = looks_none view standing stands (plan_for table first) counts (scene new spare lines reports) none in
+        record { are = left.are; levels = levels_left (plan_for table first) old new same; spare = left.spare; told = left.told; counts_are = left.counts_are };
   }
 
-pub checking_begun : {W R : Type 0} (view : W → SinkView) (standing : R → ReportView) (stands : R → List Event → Type 0) (table : TableValue) (first work : Work) (far : WindowValue) (counts : Counts) (olds news : List FolderView) (s : Scene W R)
-    → IsWorkFor table first → Fits table far → far.room ≡ first.room.window.room → work ≡ record first { room = record first.room { window = work.room.window } }
+pub checking_begun : {W R : Type 0} (view : W → SinkView) (standing : R → ReportView) (stands : R → List Event → Type 0) (table : TableValue) (first work : Work) (far : WindowValue) (counts : Counts) (olds news : List FolderView) (old new : VaultView) (spare : SpareView) (lines : Lines W) (reports : List R)
+    → IsUntouched old new → IsWorkFor table first → Fits table far → far.room ≡ first.room.window.room → work ≡ record first { room = record first.room { window = work.room.window } }
     → FetchesWindow table first.starts (take (min (length first.stripes.items) first.room.window.room) first.stripes.items) first.room.window work.room.window olds news
-    → AreCounts [] counts → IsChecking view standing stands table first work far 0 counts olds news s s
-checking_begun view standing stands table first work far counts olds news s is fits as_large rest fetched none =
-    subst (λ (it : Work). IsChecking view standing stands table first it far 0 counts olds news s s) (sym rest)
-    (checking_none table first work.room.window far olds news is fits as_large fetched view standing stands counts s none)
+    → AreCounts [] counts → IsChecking view standing stands table first work far 0 counts olds news (scene old spare lines reports) (scene new spare lines reports)
+checking_begun view standing stands table first work far counts olds news old new spare lines reports same is fits as_large rest fetched none =
+    subst (λ (it : Work). IsChecking view standing stands table first it far 0 counts olds news (scene old spare lines reports) (scene new spare lines reports)) (sym rest)
+    (checking_none table first work.room.window far olds news is fits as_large fetched view standing stands counts old new spare lines reports same none)
 
 -- ---- one window was looked at, and the next one was fetched
 

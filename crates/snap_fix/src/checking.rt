@@ -1,6 +1,8 @@
-// The stripes of a check, window by window: one is examined while the next one is fetched, and told behind both.
+// The stripes of a check, window by window: one is examined while the next one is fetched, with what the levels hold of its
+// stripes, and told behind both.
 ghost use Rattle.std.specs.Prelude.{◌≡◌, ℕ, ◌<◌, ◌≤◌, List, length, map, take, min, get_or, slice_index_or};
 ghost use Rattle.std.specs.Thread.{IsSend, IsSync};
+ghost use Rattle.disk_model.specs.Vault.{IsUntouched};
 ghost use Rattle.snap_report.specs.Told.{Told};
 ghost use Rattle.snap_fix.specs.Checking.{AreShown, IsWorkFor, KeepsWork, ChecksStripes, plan_for};
 ghost use Rattle.snap_fix.specs.CheckWindows.{IsReady, UsesRoom, stripes_near, stripes_next};
@@ -22,12 +24,13 @@ use crate::beginning::Work;
 use crate::plan::Task;
 use disk_model::{Folder, Sink, Vault};
 use file_table::Table;
+use parity_writer::{fetch_beside, put_ahead};
 use repair_scope::Plan;
 use snap_report::{Lines, Report};
 use std::mem::swap;
 use std::thread::{Threads, join_mut};
-use stripe_examiner::{Counts, Room, Spare, StripeRoom, Survey, examine_fetched, tell_stripe};
-use stripe_reader::{Starts, Window, fetch_window};
+use stripe_examiner::{Counts, Room, Spare, StripeRoom, Survey, examine_fetched, take_levels_ahead, tell_stripe};
+use stripe_reader::{Starts, Window};
 
 // Tells what is found in the stripes of a window that was examined, one stripe after another.
 fn tell_window<W: Sink>(
@@ -56,7 +59,8 @@ fn tell_window<W: Sink>(
     counts
 }
 
-// Examines stripes that were fetched into the window of a room, and meanwhile fetches the stripes ahead into the far window.
+// Examines stripes that were fetched into the window of a room, and meanwhile fetches the stripes ahead into the far window, and
+// reads their levels ahead of the calls that take them.
 fn turn<R: Threads + Sync, F: Folder, V: Vault, P: Spare>(
     rt: &R,
     survey: &Survey<'_>,
@@ -79,15 +83,20 @@ fn turn<R: Threads + Sync, F: Folder, V: Vault, P: Spare>(
         (V.view vault.old) (V.view vault.new) (P.holding spare.old) (P.holding spare.new) }
 {
     let table = survey.plan.table;
+    let mut levels = take_levels_ahead(&survey.plan, ahead, vault);
     let mut fetching = ||
-        requires { IsSync R.row × IsSend F.row × CanRead table.now starts.now ahead.now far.now (length folders.now) }
-    { fetch_window(rt, folders, table, starts, ahead, far) };
+        requires { IsSync R.row × IsSend F.row × IsSend V.Ahead.row ×
+            CanRead table.now starts.now ahead.now far.now (length folders.now) }
+    { fetch_beside(rt, folders, table, starts, ahead, far, &mut levels) };
     let mut examining = ||
         requires { IsSync R.row × CanExamineFetched (plan_in survey.now) survey.now.stripes.now room.now ×
             ((V.view vault.now).levels ≡ survey.now.plan.table.now.shape.levels) ×
             IsSpareFor survey.now.plan.table.now.shape (P.holding spare.now) }
+        ensures { ExaminesFetched (plan_in survey.entry.now) survey.entry.now.stripes.now room.entry.now room.exit.now
+            (V.view vault.entry.now) (V.view vault.exit.now) (P.holding spare.entry.now) (P.holding spare.exit.now) }
     { examine_fetched(rt, survey, room, vault, spare) };
     join_mut(rt, &mut fetching, &mut examining);
+    put_ahead(vault, levels);
 }
 
 // Looks at stripes that were fetched into the window of a room: they are examined, while the stripes ahead are fetched into the far
@@ -123,23 +132,32 @@ fn look_at<R: Threads + Sync, F: Folder, V: Vault, P: Spare, W: Sink>(
     tell_window(plan, stripes, &room.stripes, lines, reports)
 }
 
-// Fetches the first window.
-fn fetch_first<R: Threads + Sync, F: Folder>(
+// Fetches the first window, and reads the levels of its stripes ahead.
+fn fetch_first<R: Threads + Sync, F: Folder, V: Vault>(
     rt: &R,
     table: &Table,
     work: &mut Work,
     folders: &mut [F],
+    vault: &mut V,
 )
     requires work { IsWorkFor table.now work.old }
     requires folders { length folders.old ≡ length table.now.columns }
     ensures rest { work.new ≡ record work.old { room = record work.old.room { window = work.new.room.window } } }
     ensures fetched { FetchesWindow table.now work.old.starts (take (min (length work.old.stripes.items) work.old.room.window.room) work.old.stripes.items)
         work.old.room.window work.new.room.window (map F.view folders.old) (map F.view folders.new) }
+    ensures vault { IsUntouched (V.view vault.old) (V.view vault.new) }
 {
-    let room = &mut work.room;
-    let count = work.stripes.len().min(room.window.room() as usize);
+    let count = work.stripes.len().min(work.room.window.room() as usize);
     let stripes = &work.stripes[..count];
-    fetch_window(rt, folders, table, &work.starts, stripes, &mut room.window);
+    let plan = Plan {
+        scope: work.scope,
+        table,
+        entries: &work.entries,
+    };
+    let mut levels = take_levels_ahead(&plan, stripes, vault);
+    let (starts, window) = (&work.starts, &mut work.room.window);
+    fetch_beside(rt, folders, table, starts, stripes, window, &mut levels);
+    put_ahead(vault, levels);
 }
 
 // Examines the stripes of the window that was fetched, which stands after so many, and meanwhile fetches the next ones. Then what is
@@ -221,7 +239,7 @@ pub(crate) fn check_stripes<R: Threads + Sync, F: Folder, V: Vault, P: Spare, W:
         (scene (V.view vault.old) (P.holding spare.old) lines.old reports.old.items)
         (scene (V.view vault.new) (P.holding spare.new) lines.new reports.new.items) }
 {
-    fetch_first(rt, task.table, work, folders);
+    fetch_first(rt, task.table, work, folders, vault);
     let mut counts = Counts::NONE;
     let mut done = 0;
     while done < work.stripes.len() {

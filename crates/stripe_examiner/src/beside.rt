@@ -1,4 +1,5 @@
-// The cells of a window are read beside the levels of its stripes, and these are read ahead of the calls that take them.
+// The cells of a window are read or hashed beside the levels of its stripes, and these are read ahead of the calls that
+// take them.
 ghost use Rattle.std.specs.Prelude.{◌≡◌, ◌<◌, ◌≤◌, All, length, map, true};
 ghost use Rattle.std.specs.Thread.{IsSend, IsSync};
 ghost use Rattle.disk_model.specs.Vault.{IsUntouched};
@@ -17,8 +18,8 @@ use crate::room::StripeRoom;
 use crate::survey::Survey;
 use disk_model::{Folder, Vault};
 use file_table::Table;
-use parity_writer::{Levels, read_ahead, read_levels};
-use repair_scope::is_searched;
+use parity_writer::{Levels, read_ahead, read_levels, take_ahead};
+use repair_scope::{Plan, is_searched};
 use std::thread::{Threads, join_mut};
 use stripe_reader::{Starts, Window, hash_window, read_window};
 
@@ -67,20 +68,33 @@ fn read_levels_of<V: Vault>(survey: &Survey<'_>, vault: &mut V, rooms: &mut [Str
     }
 }
 
-// The stripes whose levels are read ahead: none where no recovery is tried of the first and of the last, as in an audit.
-fn stripes_ahead<'s>(survey: &Survey<'s>) -> &'s [u32]
-    requires { All (λ stripe. stripe < length survey.now.plan.table.now.infos) survey.now.stripes.now }
+// The stripes whose levels are read ahead: none where no recovery is tried of the first or of the last, as in an audit.
+fn stripes_ahead<'s>(plan: &Plan<'_>, stripes: &'s [u32]) -> &'s [u32]
+    requires { All (λ stripe. stripe < length plan.now.table.now.infos) stripes.now }
 {
-    let stripes = survey.stripes;
     let Some(last) = stripes.len().checked_sub(1) else {
         return stripes;
     };
-    let plan = &survey.plan;
     if is_searched(plan, stripes[0]) && is_searched(plan, stripes[last]) {
         stripes
     } else {
         &stripes[..0]
     }
+}
+
+/// What reads the levels of stripes ahead, where a recovery of their blocks is tried: all that is known of the vault stays
+/// as it is. It is for `parity_writer::fetch_beside`, and goes back by `parity_writer::put_ahead`.
+pub fn take_levels_ahead<V: Vault>(
+    plan: &Plan<'_>,
+    stripes: &[u32],
+    vault: &mut V,
+) -> Option<Vec<V::Ahead>>
+    requires { All (λ stripe. stripe < length plan.now.table.now.infos) stripes.now }
+    ensures { IsUntouched (V.view vault.old) (V.view vault.new) }
+{
+    // A table has blocks of at most 4 MiB.
+    let block_size = plan.table.shape().block_size;
+    take_ahead(vault, stripes_ahead(plan, stripes), block_size)
 }
 
 // Reads levels ahead: all that is known of the vault stays as it is.
@@ -90,7 +104,7 @@ fn read_stripes_ahead<R: Threads + Sync, V: Vault>(rt: &R, survey: &Survey<'_>, 
 {
     // A table has blocks of at most 4 MiB.
     let block_size = survey.plan.table.shape().block_size;
-    read_ahead(rt, vault, stripes_ahead(survey), block_size);
+    read_ahead(rt, vault, stripes_ahead(&survey.plan, survey.stripes), block_size);
 }
 
 // Reads the levels of stripes ahead, and then takes them one stripe after another.
@@ -143,8 +157,8 @@ pub(crate) fn read_beside<R: Threads + Sync, F: Folder, V: Vault>(
     join_mut(rt, &mut levels, &mut cells);
 }
 
-/// Hashes the cells that were fetched into a window, and meanwhile reads the levels of its stripes, where a recovery of their blocks
-/// is tried.
+/// Hashes the cells that were fetched into a window, and meanwhile takes the levels of its stripes, where a recovery of their
+/// blocks is tried. They may have been read ahead while the cells were fetched.
 pub(crate) fn hash_beside<R: Threads + Sync, V: Vault>(
     rt: &R,
     survey: &Survey<'_>,
@@ -169,10 +183,10 @@ pub(crate) fn hash_beside<R: Threads + Sync, V: Vault>(
         ensures { window.exit.now ≡ hashed_window shape.entry.now window.entry.now }
     { hash_window(rt, *shape, threads, window) };
     let mut levels = ||
-        requires { IsSync R.row × All (λ stripe. stripe < length survey.now.plan.table.now.infos) survey.now.stripes.now ×
+        requires { All (λ stripe. stripe < length survey.now.plan.table.now.infos) survey.now.stripes.now ×
             ((V.view vault.now).levels ≡ survey.now.plan.table.now.shape.levels) ×
             AreRoomsFor survey.now.plan.table.now (length survey.now.stripes.now) rooms.now }
-    { take_levels_of(rt, survey, vault, rooms) };
+    { read_levels_of(survey, vault, rooms) };
     // This thread goes on with the hashes: it starts those that help it.
     join_mut(rt, &mut levels, &mut hashes);
 }

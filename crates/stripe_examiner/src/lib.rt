@@ -2,7 +2,8 @@
 //!
 //! Start at `surveying.rt`: a window of stripes is examined, by what `survey.rt` holds, and the room of each of them (`room.rt`) shows
 //! then what is found in it.
-//! 1. Its cells are read beside the levels of its stripes, which are read ahead of the calls that take them (`beside.rt`).
+//! 1. Its cells are read beside the levels of its stripes, which are read ahead of the calls that take them (`beside.rt`); or
+//!    the cells were fetched, and the levels read ahead meanwhile by what `take_levels_ahead` gives.
 //! 2. Stripe after stripe it is noted what is found in the cells, and they are marked (`marking_window.rt`, `marking.rt`, which asks
 //!    the spare for the blocks of damaged ones).
 //! 3. The stripes are judged side by side (`judging_window.rt`): the missing blocks are searched for by what is left of the levels
@@ -37,6 +38,7 @@ mod survey;
 mod surveying;
 mod telling;
 
+pub use beside::take_levels_ahead;
 pub use counts::Counts;
 pub use marking::CellMark;
 pub use places::place_all;

@@ -1,15 +1,16 @@
 use Rattle.std.proofs.Common.{arith, refl, sym, ◌∙◌}
 use Rattle.std.proofs.lemmas.List.{length-map}
+use Rattle.disk_model.proofs.UntouchedLemmas.{same_levels}
 use Rattle.stripe_examiner.proofs.AskingLemmas.{is_for_still}
 use Rattle.snap_fix.proofs.CheckWindowLemmas.{checking_all, checking_begun, checking_more}
 use Rattle.snap_fix.proofs.checking.check_stripes.Goals as goal
 
 pub loop-done-init : goal.loop-done-init
 loop-done-init g c = record {
-  under = checking_begun _ _ _ c.args.task.now.table.now c.args.work.now c.fetch_first.new.work c.args.far.now _ _ _ _
-      c.requires.work c.requires.far.0 c.requires.far.1 c.fetch_first.ensures.rest c.fetch_first.ensures.fetched (record { found = refl; left = refl });
+  under = checking_begun _ _ _ c.args.task.now.table.now c.args.work.now c.fetch_first.new.work c.args.far.now _ _ _ _ _ _ _ _
+      c.fetch_first.ensures.vault c.requires.work c.requires.far.0 c.requires.far.1 c.fetch_first.ensures.rest c.fetch_first.ensures.fetched (record { found = refl; left = refl });
   folders = sym (length-map c.fetch_first.new.folders g.F.Folder.view) ∙ c.fetch_first.ensures.fetched.read.folders ∙ length-map c.args.folders.now g.F.Folder.view ∙ c.requires.folders;
-  levels = c.requires.levels;
+  levels = same_levels _ _ c.fetch_first.ensures.vault ∙ c.requires.levels;
 }
 
 pub check_window-more-requires-clause-ready : goal.check_window-more-requires-clause-ready
