@@ -18,7 +18,6 @@ use Rattle.file_restorer.specs.Finishing.{CanFinish, FinishesNot, FinishesRecord
 use Rattle.file_restorer.specs.FinishSteps.{BreaksBy, FinishesBy, IsReady}
 use Rattle.file_restorer.specs.State.{StepMakes, stands, state_in}
 use Rattle.file_restorer.proofs.FinishWholeLemmas.{stands_whole}
-use Rattle.file_restorer.proofs.FolderCallLemmas.{step_gone}
 
 -- ---- where a call is due, the file is not kept as it is
 
@@ -125,9 +124,11 @@ module _ (table : TableValue) (d i : ℕ) (listed : Option Meta) (starts : Start
     pub is_ready : IsValid table → IsReady path listed meta start state folder
     is_ready valid = here (λ p m s t. IsReady p listed m s t folder) (ready_there valid)
 
-    makes_there : (new : FolderView) → StepMakes (IsFinishCall state.lost listed start state path meta) [] true folder new
-        → StepMakes (IsFinishCall state_there.lost listed start_there state_there path_there meta_there) [] true folder new
-    makes_there new makes = there (λ p m s t. StepMakes (IsFinishCall t.lost listed s t p m) [] true folder new) makes
+    makes_there : (new : FolderView)
+        → StepMakes (IsFinishCall state.lost listed start state path meta) (finish_calls state.lost listed start state path meta) true folder new
+        → StepMakes (IsFinishCall state_there.lost listed start_there state_there path_there meta_there)
+        (finish_calls state_there.lost listed start_there state_there path_there meta_there) true folder new
+    makes_there new makes = there (λ p m s t. StepMakes (IsFinishCall t.lost listed s t p m) (finish_calls t.lost listed s t p m) true folder new) makes
 
     -- it was finished
     pub is_finished : (finish : Finish) (new : FolderView)
@@ -152,10 +153,10 @@ module _ (table : TableValue) (d i : ℕ) (listed : Option Meta) (starts : Start
         }
 
     -- it was gone
-    pub is_gone : (fault : FileFault) (new : FolderView) → fault ≡ Missing → BreaksBy fault (IsFinishCall state.lost listed start state path meta) folder new
+    pub is_gone : (fault : FileFault) (new : FolderView) → fault ≡ Missing → BreaksBy fault (IsFinishCall state.lost listed start state path meta) (finish_calls state.lost listed start state path meta) folder new
         → FinishesRecord table d i listed Gone starts states folder starts states new
     is_gone fault new missing broke =
-        let finds = subst (λ (f : FileFault). BreaksBy f (IsFinishCall state.lost listed start state path meta) folder new) missing broke in
+        let finds = subst (λ (f : FileFault). BreaksBy f (IsFinishCall state.lost listed start state path meta) (finish_calls state.lost listed start state path meta) folder new) missing broke in
         let not_told : IsTrue folder.tells → ⊥ = λ told. let clash : true ≡ false = sym told ∙ finds.untold in cc in
         record {
           is = inr (refl, finds.untold, there (λ p m s t. finish_of m listed s t folder.keeps ≢ Kept) (not_kept path listed meta start state folder.keeps finds.last.0 finds.last.1));
@@ -163,8 +164,7 @@ module _ (table : TableValue) (d i : ℕ) (listed : Option Meta) (starts : Start
           states_fit = can.states_fit;
           other_starts = λ k j other. refl;
           other_states = λ k j other. refl;
-          makes = step_gone (IsFinishCall state_there.lost listed start_there state_there path_there meta_there) []
-              (finish_calls state_there.lost listed start_there state_there path_there meta_there) (makes_there new finds.makes);
+          makes = makes_there new finds.makes;
           holds = λ told. absurd (not_told told);
           whole = λ told kept. absurd (not_told told);
           others = λ told. absurd (not_told told);
@@ -172,8 +172,8 @@ module _ (table : TableValue) (d i : ℕ) (listed : Option Meta) (starts : Start
         }
 
     -- a call of it failed
-    pub is_failed : (fault : FileFault) (new : FolderView) → fault ≡ Failed → BreaksBy fault (IsFinishCall state.lost listed start state path meta) folder new
+    pub is_failed : (fault : FileFault) (new : FolderView) → fault ≡ Failed → BreaksBy fault (IsFinishCall state.lost listed start state path meta) (finish_calls state.lost listed start state path meta) folder new
         → FinishesNot table d i listed starts states folder new
     is_failed fault new failed broke =
-        let fails = subst (λ (f : FileFault). BreaksBy f (IsFinishCall state.lost listed start state path meta) folder new) failed broke in
+        let fails = subst (λ (f : FileFault). BreaksBy f (IsFinishCall state.lost listed start state path meta) (finish_calls state.lost listed start state path meta) folder new) failed broke in
         there (λ p m s t. StepFails (IsFinishCall t.lost listed s t p m) folder new) fails

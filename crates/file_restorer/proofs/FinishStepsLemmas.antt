@@ -24,7 +24,7 @@ use Rattle.file_restorer.specs.Finishing.{HoldsFinished, IsFinishCall, IsWholeCa
 use Rattle.file_restorer.specs.FinishSteps.{BreaksBy, FinishesBy, FitsSize, IsLostCall, IsPlaced, IsPutCall, IsReady, IsSizeCall, SetsUp, SizesBy, Stands}
 use Rattle.file_restorer.specs.Order.{FolderWrites, put_calls, set_up_calls}
 use Rattle.file_restorer.specs.State.{StepMakes, stands}
-use Rattle.file_restorer.proofs.FinishCallsLemmas.{breaks_one, breaks_then, breaks_wider, when_ok}
+use Rattle.file_restorer.proofs.FinishCallsLemmas.{breaks_before, breaks_one, breaks_then, breaks_wider, when_ok}
 use Rattle.file_restorer.proofs.FolderCallLemmas.{others_same, step_none, step_then, step_wider, step_write}
 use Rattle.file_restorer.proofs.FolderFailsLemmas.{fails_one}
 use Rattle.file_restorer.proofs.OrderLemmas.{writes_none, writes_one, writes_then}
@@ -56,10 +56,11 @@ sets_up_back path place touched result old new formed placed lost wrote = when_o
 
 pub breaks_back : {T : Type 0} (path : List ℕ) (place : Place) (touched : Bool) (result : Result T FileFault) (old new : FolderView) → IsFolder new → IsPlaced path place touched old
     → place ≡ Lost → IsFolderWrite (Rename path false) (done_answer result) old new → MissingExactly result old (path_of path true)
-    → IfErr result (λ fault. BreaksBy fault (IsPutCall place touched path) old new)
+    → IfErr result (λ fault. BreaksBy fault (IsPutCall place touched path) (put_calls place touched path) old new)
 breaks_back path place touched result old new formed placed lost wrote missing =
-    breaks_one (λ _. Done) result (IsPutCall place touched path) (Rename path false) (path_of path true) old new formed wrote missing (λ told. (placed.tree told).lost lost) refl
-    (ap (λ (p : Place). stands p touched) lost, inl (lost, refl))
+    subst (λ (p : Place). IfErr result (λ fault. BreaksBy fault (IsPutCall place touched path) (put_calls p touched path) old new)) (sym lost)
+    (breaks_one (λ _. Done) result (IsPutCall place touched path) (Rename path false) (path_of path true) old new formed wrote missing (λ told. (placed.tree told).lost lost) refl
+    (ap (λ (p : Place). stands p touched) lost, inl (lost, refl)))
 
 -- it is made
 nowhere : (place : Place) (touched : Bool) → stands place touched ≡ false → (place ≡ Plain) ⊎ (place ≡ Nowhere) → (place ≡ Nowhere) × (touched ≡ false)
@@ -108,6 +109,13 @@ size_set path before size result old new formed other wrote = when_ok (λ _. Don
       wrote = subst (λ (b : Bool). FolderWrites (if b then [] else SetSize path size ∷ []) old new) (sym other) (writes_one (SetSize path size) refl made);
     })
 
+pub breaks_size : {T : Type 0} (path : List ℕ) (before size : ℕ) (result : Result T FileFault) (old new : FolderView) → IsFolder new → (before == size) ≡ false
+    → IsFolderWrite (SetSize path size) (done_answer result) old new → MissingExactly result old path → (IsTrue old.tells → file_of old.tree path ≢ None)
+    → IfErr result (λ fault. BreaksBy fault (IsSizeCall path before size) (size_calls before size path) old new)
+breaks_size path before size result old new formed other wrote missing there =
+    subst (λ (b : Bool). IfErr result (λ fault. BreaksBy fault (IsSizeCall path before size) (if b then [] else SetSize path size ∷ []) old new)) (sym other)
+    (breaks_one (λ _. Done) result (IsSizeCall path before size) (SetSize path size) path old new formed wrote missing there refl (other, refl))
+
 -- ---- the calls of a whole file
 
 module _ (path : List ℕ) (listed : Option Meta) (meta : Meta) (start : Start) (state : FileState) where
@@ -127,15 +135,27 @@ module _ (path : List ℕ) (listed : Option Meta) (meta : Meta) (start : Start) 
   of_size : (call : FolderCall) → Size call → Whole call
   of_size call is = inr (inr (inl is))
 
+  abbrev puts : List FolderCall
+  puts = put_calls start.place state.touched path
+
+  abbrev sizes : List FolderCall
+  sizes = size_calls state.size meta.size path
+
+  abbrev stamps : List FolderCall
+  stamps = if is_stamped meta listed start state then SetStamp path meta.stamp ∷ [] else []
+
   -- a file is not put under its path
-  pub whole_not_set_up : (fault : FileFault) (old new : FolderView) → BreaksBy fault Put old new → BreaksBy fault Whole old new
-  whole_not_set_up fault old new broke = breaks_wider fault Put Whole old new of_put broke
+  pub whole_not_set_up : (fault : FileFault) (old new : FolderView) → BreaksBy fault Put puts old new → BreaksBy fault Whole (whole_calls listed start state path meta) old new
+  whole_not_set_up fault old new broke =
+      breaks_before fault Whole (puts ++ sizes) stamps old new
+      (breaks_before fault Whole puts sizes old new (breaks_wider fault Put Whole puts old new of_put broke))
 
   -- its size is not set
-  pub whole_not_sized : (fault : FileFault) (old mid new : FolderView) → SetsUp path start.place state.touched old mid → BreaksBy fault Size mid new → BreaksBy fault Whole old new
+  pub whole_not_sized : (fault : FileFault) (old mid new : FolderView) → SetsUp path start.place state.touched old mid → BreaksBy fault Size sizes mid new
+      → BreaksBy fault Whole (whole_calls listed start state path meta) old new
   whole_not_sized fault old mid new sets broke =
-      breaks_then fault Whole (put_calls start.place state.touched path) old mid new
-      (step_wider Put Whole (put_calls start.place state.touched path) false of_put sets.makes) (breaks_wider fault Size Whole mid new of_size broke)
+      breaks_before fault Whole (puts ++ sizes) stamps old new
+      (breaks_then fault Whole puts sizes old mid new (step_wider Put Whole puts false of_put sets.makes) (breaks_wider fault Size Whole sizes mid new of_size broke))
 
 -- ---- the file stands whole, but for its stamp
 
@@ -190,12 +210,15 @@ of_stamp path listed meta start state due = inr (inr (inr (due, refl)))
 pub whole_not_stamped : (fault : FileFault) (path : List ℕ) (listed : Option Meta) (meta : Meta) (start : Start) (state : FileState) (changed : Bool) (old mid new : FolderView) → IsFolder new
     → IsFit path listed meta start state old mid → changed ≡ is_changed meta start state → (changed || not (same_stamp meta.stamp listed)) ≡ true
     → IsFolderWrite (SetStamp path meta.stamp) (file_answer {T = Bool} answers.Kept (Err fault)) mid new → MissingExactly {T = Bool} (Err fault) mid path
-    → BreaksBy fault (IsWholeCall listed start state path meta) old new
+    → BreaksBy fault (IsWholeCall listed start state path meta) (whole_calls listed start state path meta) old new
 whole_not_stamped fault path listed meta start state changed old mid new formed fit changed_is needed wrote missing =
     let Whole = IsWholeCall listed start state path meta in
-    breaks_then fault Whole (put_calls start.place state.touched path ++ size_calls state.size meta.size path) old mid new fit.makes
+    let calls = put_calls start.place state.touched path ++ size_calls state.size meta.size path in
+    let due = stamp_due listed meta start state changed changed_is needed in
+    subst (λ (b : Bool). BreaksBy fault Whole (calls ++ (if b then SetStamp path meta.stamp ∷ [] else [])) old new) (sym due)
+    (breaks_then fault Whole calls (SetStamp path meta.stamp ∷ []) old mid new fit.makes
     (breaks_one {T = Bool} answers.Kept (Err fault) Whole (SetStamp path meta.stamp) path mid new formed wrote missing (fit_there path listed meta start state old mid fit) refl
-    (of_stamp path listed meta start state (stamp_due listed meta start state changed changed_is needed)))
+    (of_stamp path listed meta start state due)))
 
 -- ---- it is finished
 
@@ -290,10 +313,11 @@ lost_kept path meta start state old absent = record {
 
 pub lost_not_renamed : (fault : FileFault) (path : List ℕ) (start : Start) (state : FileState) (old new : FolderView) → IsFolder new → IsPlaced path start.place state.touched old
     → stands start.place state.touched ≡ true → IsFolderWrite (Rename path true) (done_answer {T = Unit {0}} (Err fault)) old new → MissingExactly {T = Unit {0}} (Err fault) old (path_of path false)
-    → BreaksBy fault (IsLostCall start state path) old new
+    → BreaksBy fault (IsLostCall start state path) (lost_calls start state path) old new
 lost_not_renamed fault path start state old new formed placed standing wrote missing =
-    breaks_one {T = Unit {0}} (λ _. Done) (Err fault) (IsLostCall start state path) (Rename path true) (path_of path false) old new formed wrote missing
-    (λ told. (placed.tree told).plain standing) refl (standing, refl)
+    subst (λ (b : Bool). BreaksBy fault (IsLostCall start state path) (if b then Rename path true ∷ [] else []) old new) (sym standing)
+    (breaks_one {T = Unit {0}} (λ _. Done) (Err fault) (IsLostCall start state path) (Rename path true) (path_of path false) old new formed wrote missing
+    (λ told. (placed.tree told).plain standing) refl (standing, refl))
 
 -- ---- a file with or without one
 

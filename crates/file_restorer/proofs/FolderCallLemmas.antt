@@ -1,5 +1,5 @@
 -- Calls of a folder, one after another, and the two names of a record that they touch.
-use Rattle.std.proofs.Common.{◌≡◌, Bool, true, false, ◌||◌, List, [], ◌∷◌, ◌++◌, All, refl, sym, ap, ap₂, ◌∙◌, subst, arith, Option, None, Some, ℕ, get_or, length, if◌then◌else◌}
+use Rattle.std.proofs.Common.{◌≡◌, Bool, true, false, ◌||◌, List, [], ◌∷◌, ◌++◌, All, refl, sym, ap, ap₂, ◌∙◌, append_assoc, subst, arith, Option, None, Some, ℕ, get_or, length, if◌then◌else◌}
 use Rattle.std.proofs.lemmas.List.{append-nil, map-append}
 use Rattle.std.proofs.lemmas.List.Elements.{All-append, All-cons, All-nil}
 use Rattle.std.proofs.lemmas.List.Folds.{list_any-append}
@@ -10,7 +10,7 @@ use Rattle.disk_model.specs.Stopped.{MayBeLeft}
 use Rattle.disk_model.specs.Tree.{Tree, File, file_of, path_of}
 use Rattle.disk_model.specs.Writing.{ChangesFile, IsFolderWrite, made, or_added, moved, renamed}
 use Rattle.disk_model.specs.declared.answer.Answer.{Answer}
-use Rattle.disk_model.specs.declared.answer.Answer.TheVariants.{Failed, Missing, Saw, Bytes}
+use Rattle.disk_model.specs.declared.answer.Answer.TheVariants.{Failed, OutOfMemory, Missing, Done, Saw, Bytes, Kept}
 use Rattle.disk_model.specs.declared.meta.Stamp.{Stamp}
 use Rattle.disk_model.proofs.AnsweredLemmas.{write_is_left, left_then, left_later, left_is_tree}
 use Rattle.disk_model.proofs.TreeLemmas.{set_other, gone_other, own_name}
@@ -19,7 +19,7 @@ use Rattle.stripe_reader.specs.Column.{ReadsBy}
 use Rattle.stripe_reader.specs.FolderCalls.{AreCellCalls, AreColumnCalls, AreFetchCalls}
 use Rattle.stripe_reader.specs.Reading.{CellReading, NoBlock, Nowhere, Beyond, Unread, Gone, Part, Whole, Task, Known, Fetch}
 use Rattle.stripe_reader.proofs.FolderLemmas.{goes_on_then}
-use Rattle.file_restorer.specs.State.{AnyCall, AreStepCalls, WellCall, FolderMakes, FolderMakesBy, OthersStay, StepMakes}
+use Rattle.file_restorer.specs.State.{AnyCall, AreStepCalls, StopsAtMissing, WellCall, FolderMakes, FolderMakesBy, OthersStay, StepMakes, calls_made, has_missing}
 
 -- ---- which calls
 
@@ -125,10 +125,42 @@ pub makes_each : (P : List FolderDone → Type 0) (Q : FolderDone → Type 0) {o
 makes_each P Q each one = record { done = one.done; each = each one.done one.are; goes_on = one.goes_on; left = one.left }
 
 pub no_step : (P : FolderCall → Type 0) → AreStepCalls P [] false []
-no_step P = record { each = All-nil (WellCall P); found = refl; just = λ none. refl }
+no_step P = record {
+  each = All-nil (WellCall P);
+  found = refl;
+  just = λ none. refl;
+  stops = λ gone. absurd (let clash : false ≡ true = gone in cc);
+}
 
 pub step_none : (P : FolderCall → Type 0) (v : FolderView) → StepMakes P [] false v v
 step_none P v = makes_by_none (AreStepCalls P [] false) v (no_step P)
+
+-- behind calls that were made, of which each found its file
+stops_then : (ones others : List FolderCall) (first more : List FolderDone) → calls_made first ≡ ones → has_missing first ≡ false
+    → StopsAtMissing others more → StopsAtMissing (ones ++ others) (first ++ more)
+stops_then ones others first more made found stops =
+    let behind = stops.call ∷ stops.rest in
+    record {
+      front = first ++ stops.front;
+      found = list_any-append (λ (done : FolderDone). is_missing done.answer) first stops.front ∙ ap₂ (λ (a b : Bool). a || b) found stops.found;
+      call = stops.call;
+      rest = stops.rest;
+      calls_are = ap₂ (λ (a b : List FolderCall). a ++ b) (sym made) stops.calls_are
+          ∙ sym (append_assoc (calls_made first) (calls_made stops.front) behind)
+          ∙ ap (λ (calls : List FolderCall). calls ++ behind) (sym (map-append (λ (done : FolderDone). done.call) first stops.front));
+      done_is = ap (λ (done : List FolderDone). first ++ done) stops.done_is ∙ sym (append_assoc first stops.front (record { call = stops.call; answer = Missing } ∷ []));
+    }
+
+-- those that were not made may be more
+stops_before : (calls more : List FolderCall) (done : List FolderDone) → StopsAtMissing calls done → StopsAtMissing (calls ++ more) done
+stops_before calls more done stops = record {
+  front = stops.front;
+  found = stops.found;
+  call = stops.call;
+  rest = stops.rest ++ more;
+  calls_are = ap (λ (all : List FolderCall). all ++ more) stops.calls_are ∙ append_assoc (calls_made stops.front) (stops.call ∷ stops.rest) more;
+  done_is = stops.done_is;
+}
 
 -- after calls of which each found its file
 step_calls_then : (P : FolderCall → Type 0) (ones others : List FolderCall) (missing : Bool) (first more : List FolderDone) → AreStepCalls P ones false first
@@ -137,6 +169,7 @@ step_calls_then P ones others missing first more one two = record {
   each = All-append (WellCall P) first more one.each two.each;
   found = list_any-append (λ (done : FolderDone). is_missing done.answer) first more ∙ ap₂ (λ (a b : Bool). a || b) one.found two.found;
   just = λ none. map-append (λ (done : FolderDone). done.call) first more ∙ ap₂ (λ (a b : List FolderCall). a ++ b) (one.just refl) (two.just none);
+  stops = λ gone. stops_then ones others first more (one.just refl) one.found (two.stops gone);
 }
 
 pub step_then : (P : FolderCall → Type 0) (missing : Bool) {ones others : List FolderCall} {old mid new : FolderView} → StepMakes P ones false old mid → StepMakes P others missing mid new
@@ -144,10 +177,15 @@ pub step_then : (P : FolderCall → Type 0) (missing : Bool) {ones others : List
 step_then P missing {ones = ones} {others = others} one two =
     makes_by_then (AreStepCalls P ones false) (AreStepCalls P others missing) (AreStepCalls P (ones ++ others) missing) (step_calls_then P ones others missing) one two
 
--- where a file was gone, nothing is said of which calls were to be made
-pub step_gone : (P : FolderCall → Type 0) (ones others : List FolderCall) {old new : FolderView} → StepMakes P ones true old new → StepMakes P others true old new
-step_gone P ones others one = makes_by_wider (AreStepCalls P ones true) (AreStepCalls P others true)
-    (λ done are. record { each = are.each; found = are.found; just = λ none. absurd (let clash : true ≡ false = none in cc) }) one
+-- where a file was gone, more calls may have been to be made
+pub step_before : (P : FolderCall → Type 0) (calls more : List FolderCall) {old new : FolderView} → StepMakes P calls true old new → StepMakes P (calls ++ more) true old new
+step_before P calls more one = makes_by_wider (AreStepCalls P calls true) (AreStepCalls P (calls ++ more) true)
+    (λ done are. record {
+      each = are.each;
+      found = are.found;
+      just = λ none. absurd (let clash : true ≡ false = none in cc);
+      stops = λ gone. stops_before calls more done (are.stops gone);
+    }) one
 
 pub step_calls_wider : (P Q : FolderCall → Type 0) (calls : List FolderCall) (missing : Bool) → ((call : FolderCall) → P call → Q call) → (done : List FolderDone)
     → AreStepCalls P calls missing done → AreStepCalls Q calls missing done
@@ -155,6 +193,7 @@ step_calls_wider P Q calls missing wider done are = record {
   each = λ k none within. well_wider P Q wider (get_or done k none) (are.each k none within);
   found = are.found;
   just = are.just;
+  stops = are.stops;
 }
 
 pub step_wider : (P Q : FolderCall → Type 0) (calls : List FolderCall) (missing : Bool) {old new : FolderView} → ((call : FolderCall) → P call → Q call) → StepMakes P calls missing old new
@@ -164,12 +203,32 @@ step_wider P Q calls missing wider one = makes_by_wider (AreStepCalls P calls mi
 pub step_makes : (P : FolderCall → Type 0) (calls : List FolderCall) (missing : Bool) {old new : FolderView} → StepMakes P calls missing old new → FolderMakes (WellCall P) old new
 step_makes P calls missing one = makes_each (AreStepCalls P calls missing) (WellCall P) (λ done are. are.each) one
 
+-- one call, which found no file
+missing_answer : (answer : Answer) → (is_missing answer || false) ≡ true → answer ≡ Missing
+missing_answer Failed is = absurd (let clash : false ≡ true = is in cc)
+missing_answer OutOfMemory is = absurd (let clash : false ≡ true = is in cc)
+missing_answer Missing is = refl
+missing_answer Done is = absurd (let clash : false ≡ true = is in cc)
+missing_answer (Saw meta) is = absurd (let clash : false ≡ true = is in cc)
+missing_answer (Bytes n) is = absurd (let clash : false ≡ true = is in cc)
+missing_answer (Kept kept) is = absurd (let clash : false ≡ true = is in cc)
+
+stops_one : (call : FolderCall) (answer : Answer) → (is_missing answer || false) ≡ true → StopsAtMissing (call ∷ []) (record { call = call; answer = answer } ∷ [])
+stops_one call answer is = record {
+  front = [];
+  found = refl;
+  call = call;
+  rest = [];
+  calls_are = refl;
+  done_is = ap (λ (it : Answer). record { call = call; answer = it } ∷ []) (missing_answer answer is);
+}
+
 -- one call that writes and did not fail
 pub step_write : (P : FolderCall → Type 0) (missing : Bool) {call : FolderCall} {answer : Answer} {old new : FolderView} → IsFolder new → IsFolderWrite call answer old new
     → is_failure answer ≡ false → (is_missing answer || false) ≡ missing → P call → StepMakes P (call ∷ []) missing old new
 step_write P missing {call = call} {answer = answer} {old = old} {new = new} formed wrote well found is = record {
   done = record { call = call; answer = answer } ∷ [];
-  are = record { each = All-cons (WellCall P) _ [] (is, unbroken call answer well) (All-nil (WellCall P)); found = found; just = λ none. refl };
+  are = record { each = All-cons (WellCall P) _ [] (is, unbroken call answer well) (All-nil (WellCall P)); found = found; just = λ none. refl; stops = λ gone. stops_one call answer (found ∙ gone) };
   goes_on = wrote.called.goes_on;
   left = λ told tree. write_is_left call answer old new told formed wrote;
 }

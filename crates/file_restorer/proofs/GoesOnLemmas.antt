@@ -17,9 +17,9 @@ use Rattle.stripe_reader.specs.declared.starts.Place.{Place}
 use Rattle.stripe_reader.specs.declared.starts.Place.TheVariants.{Lost, Nowhere}
 use Rattle.file_restorer.specs.declared.state.FileState.{FileState}
 use Rattle.file_restorer.specs.Mending.{IsSetUpCall, IsBlockCall, CanSetUp, GoesOnBy, SetsUp, WritesBytes, EndsBy}
-use Rattle.file_restorer.specs.Order.{FolderWrites, put_calls, set_up_calls}
+use Rattle.file_restorer.specs.Order.{FolderWrites, block_calls, put_calls, set_up_calls}
 use Rattle.file_restorer.specs.State.{Write, HoldsRecord, StaysPlace, StepMakes, stands}
-use Rattle.file_restorer.proofs.FolderCallLemmas.{others_same, others_then, others_changed, others_made, others_renamed, step_gone, step_none, step_then, step_wider, step_write}
+use Rattle.file_restorer.proofs.FolderCallLemmas.{others_same, others_then, others_changed, others_made, others_renamed, step_before, step_none, step_then, step_wider, step_write}
 use Rattle.file_restorer.proofs.FolderFailsLemmas.{fails_one, step_fails_then, step_fails_wider}
 use Rattle.file_restorer.proofs.MendedRecordLemmas.{plain_start, touched_state, written_state, lost_there, plain_there, renamed_back, made_anew, written_more}
 use Rattle.file_restorer.proofs.OrderLemmas.{writes_none, writes_one, writes_then}
@@ -98,10 +98,10 @@ module _ (path : List ℕ) (start : Start) (state : FileState) (old : FolderView
   }
 
   -- nothing is known of the files
-  pub goes_untold : (P : FolderCall → Type 0) (start_new : Start) (state_new : FileState) (new : FolderView) → old.tells ≡ false → StepMakes P [] true old new
+  pub goes_untold : (P : FolderCall → Type 0) (calls : List FolderCall) (start_new : Start) (state_new : FileState) (new : FolderView) → old.tells ≡ false → StepMakes P calls true old new
       → start_new.size ≡ start.size → StaysPlace start.place start_new.place → state_new.size ≡ state.size → state_new.lost ≡ state.lost → (state.touched ≡ true → state_new.touched ≡ true)
-      → GoesOnBy P [] true [] path start state old start_new state_new new
-  goes_untold P start_new state_new new untold makes size stood state_size lost stays = record {
+      → GoesOnBy P calls true [] path start state old start_new state_new new
+  goes_untold P calls start_new state_new new untold makes size stood state_size lost stays = record {
     makes = makes;
     same_size = size;
     stood = stood;
@@ -117,16 +117,17 @@ module _ (path : List ℕ) (start : Start) (state : FileState) (old : FolderView
 
 -- ---- the answers of the two functions
 
--- the same calls are of a wider kind
-pub ends_wider : (P Q : FolderCall → Type 0) → ((call : FolderCall) → P call → Q call) → (fault : FileFault) (path : List ℕ) (start : Start) (state : FileState) (old : FolderView)
-    (start_new : Start) (state_new : FileState) (new : FolderView) → EndsBy fault P path start state old start_new state_new new → EndsBy fault Q path start state old start_new state_new new
-ends_wider P Q wider Failed path start state old start_new state_new new ends = step_fails_wider P Q wider ends
-ends_wider P Q wider Missing path start state old start_new state_new new ends =
+-- the same calls are of a wider kind, and more were not made
+pub ends_wider : (P Q : FolderCall → Type 0) (calls more : List FolderCall) → ((call : FolderCall) → P call → Q call) → (fault : FileFault) (path : List ℕ) (start : Start) (state : FileState)
+    (old : FolderView) (start_new : Start) (state_new : FileState) (new : FolderView) → EndsBy fault P calls path start state old start_new state_new new
+    → EndsBy fault Q (calls ++ more) path start state old start_new state_new new
+ends_wider P Q calls more wider Failed path start state old start_new state_new new ends = step_fails_wider P Q wider ends
+ends_wider P Q calls more wider Missing path start state old start_new state_new new ends =
     let goes_on = ends.goes_on in
     record {
       untold = ends.untold;
       goes_on = record {
-        makes = step_wider P Q [] true wider goes_on.makes;
+        makes = step_before Q calls more (step_wider P Q calls true wider goes_on.makes);
         same_size = goes_on.same_size;
         stood = goes_on.stood;
         size = goes_on.size;
@@ -140,18 +141,21 @@ ends_wider P Q wider Missing path start state old start_new state_new new ends =
 module _ (path : List ℕ) (start : Start) (state : FileState) (old : FolderView) (can : CanSetUp path start state old) where
   -- the file under the other name was gone, or renaming it failed
   pub rename_ends : (fault : FileFault) (new : FolderView) → IsFolder new → start.place ≡ Lost → IsFolderWrite (Rename path false) (done_answer {T = Unit {0}} (Err fault)) old new
-      → MissingExactly {T = Unit {0}} (Err fault) old (path_of path true) → EndsBy fault (IsSetUpCall start.place path) path start state old start state new
+      → MissingExactly {T = Unit {0}} (Err fault) old (path_of path true)
+      → EndsBy fault (IsSetUpCall start.place path) (put_calls start.place state.touched path) path start state old start state new
   rename_ends Failed new formed lost call missing = fails_one (IsSetUpCall start.place path) (Rename path false) old new (inl (lost, refl)) refl formed call
   rename_ends Missing new formed lost call missing =
       let untold = not_told old.tells (λ told. let far = can.so_far told in lost_there start state far.writes path far.first old.tree far.holds lost (missing told)) in
       record {
         untold = untold;
-        goes_on = goes_untold path start state old (IsSetUpCall start.place path) start state new untold
-            (step_gone (IsSetUpCall start.place path) (Rename path false ∷ []) [] (step_write (IsSetUpCall start.place path) true formed call refl refl (inl (lost, refl)))) refl (inl refl) refl refl (λ touched. touched);
+        goes_on = goes_untold path start state old (IsSetUpCall start.place path) (put_calls start.place state.touched path) start state new untold
+            (subst (λ (place : Place). StepMakes (IsSetUpCall start.place path) (put_calls place state.touched path) true old new) (sym lost)
+            (step_write (IsSetUpCall start.place path) true formed call refl refl (inl (lost, refl)))) refl (inl refl) refl refl (λ touched. touched);
       }
 
   -- making it failed
-  pub make_fails : (new : FolderView) → IsFolder new → start.place ≡ Nowhere → IsFolderWrite (Make path) answers.Failed old new → EndsBy Failed (IsSetUpCall start.place path) path start state old start state new
+  pub make_fails : (new : FolderView) → IsFolder new → start.place ≡ Nowhere → IsFolderWrite (Make path) answers.Failed old new
+      → EndsBy Failed (IsSetUpCall start.place path) (put_calls start.place state.touched path) path start state old start state new
   make_fails new formed nowhere call = fails_one (IsSetUpCall start.place path) (Make path) old new (inr (nowhere, refl)) refl formed call
 
   module _ (start_mid : Start) (state_mid : FileState) (mid : FolderView) (set : SetsUp path start state old start_mid state_mid mid) (at : ℕ) (bytes : List ℕ) where
@@ -194,12 +198,12 @@ module _ (path : List ℕ) (start : Start) (state : FileState) (old : FolderView
 
     -- the file was gone, or the write failed
     pub write_ends : (fault : FileFault) (new : FolderView) → IsFolder new → IsFolderWrite (WriteAt path at bytes) (done_answer {T = Unit {0}} (Err fault)) mid new
-        → MissingExactly {T = Unit {0}} (Err fault) mid path → EndsBy fault Block path start state old start_mid state_mid new
+        → MissingExactly {T = Unit {0}} (Err fault) mid path → EndsBy fault Block (block_calls start.place state.touched path at bytes) path start state old start_mid state_mid new
     write_ends Failed new formed call missing = step_fails_then Block puts old mid new set_makes (fails_one Block (WriteAt path at bytes) mid new (inl refl) refl formed call)
     write_ends Missing new formed call missing = record {
       untold = untold;
-      goes_on = goes_untold path start state old Block start_mid state_mid new untold
-          (step_gone Block (puts ++ WriteAt path at bytes ∷ []) [] (step_then Block true set_makes (step_write Block true formed call refl refl (inl refl))))
+      goes_on = goes_untold path start state old Block (block_calls start.place state.touched path at bytes) start_mid state_mid new untold
+          (step_then Block true set_makes (step_write Block true formed call refl refl (inl refl)))
           set.goes_on.same_size set.goes_on.stood set.goes_on.size set.goes_on.same_lost set.goes_on.stays_touched;
     }
       where

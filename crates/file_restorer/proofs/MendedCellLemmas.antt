@@ -18,7 +18,6 @@ use Rattle.file_restorer.specs.Breaking.{StepFails}
 use Rattle.file_restorer.specs.Mending.{IsBlockCall, CanSetUp, CanWrite, WritesBytes, FindsNone, EndsBy, MendsCell, MendsNot, block_start, cell_path, with_write, with_place}
 use Rattle.file_restorer.specs.State.{Write, HoldsBy, HoldsRecord, HoldsColumn, place_by, place_in, place_then, stands, state_in}
 use Rattle.file_restorer.specs.Order.{block_calls}
-use Rattle.file_restorer.proofs.FolderCallLemmas.{step_gone}
 use Rattle.file_restorer.proofs.RecordPathsLemmas.{ArePaths, table_paths}
 use Rattle.file_restorer.proofs.MendedColumnLemmas.{column_goes_on, apart_now}
 
@@ -51,9 +50,9 @@ pub record Mends (table : TableValue) (d : ℕ) (cell : Cell) (bytes : List ℕ)
     (starts_new : StartsValue) (states_new : List (List FileState)) : Type 0 where
   pub written : WritesBytes path at bytes start state folder start_new state_new folder_new
       → MendsCell table d cell bytes true starts states folder starts_new states_new folder_new
-  pub none : (fault : FileFault) → fault ≡ Missing → EndsBy fault (IsBlockCall start.place path at bytes) path start state folder start_new state_new folder_new
+  pub none : (fault : FileFault) → fault ≡ Missing → EndsBy fault (IsBlockCall start.place path at bytes) (block_calls start.place state.touched path at bytes) path start state folder start_new state_new folder_new
       → MendsCell table d cell bytes false starts states folder starts_new states_new folder_new
-  pub failed : (fault : FileFault) → fault ≡ Failed → EndsBy fault (IsBlockCall start.place path at bytes) path start state folder start_new state_new folder_new
+  pub failed : (fault : FileFault) → fault ≡ Failed → EndsBy fault (IsBlockCall start.place path at bytes) (block_calls start.place state.touched path at bytes) path start state folder start_new state_new folder_new
       → MendsNot table d cell bytes starts folder folder_new
 
 module _ (table : TableValue) (d : ℕ) (cell : Cell) (bytes : List ℕ) (starts : StartsValue) (states : List (List FileState)) (folder : FolderView)
@@ -107,6 +106,9 @@ module _ (table : TableValue) (d : ℕ) (cell : Cell) (bytes : List ℕ) (starts
       abbrev BlockGiven : FolderCall → Type 0
       BlockGiven = IsBlockCall start_given.place path_given at_given bytes
 
+      abbrev calls_given : List FolderCall
+      calls_given = block_calls start_given.place state_given.touched path_given at_given bytes
+
       -- a fact of what the call was given is one of the cell
       of_cell : (P : List ℕ → ℕ → Start → FileState → Type 0) → P path_given at_given start_given state_given → P path (block_start table cell) start state
       of_cell P given =
@@ -158,10 +160,10 @@ module _ (table : TableValue) (d : ℕ) (cell : Cell) (bytes : List ℕ) (starts
           }
 
       -- its file was gone
-      mends_none : FindsNone BlockGiven path_given start_given state_given folder start_new state_new folder_new
+      mends_none : FindsNone BlockGiven calls_given path_given start_given state_given folder start_new state_new folder_new
           → MendsCell table d cell bytes false starts states folder starts_new states_new folder_new
       mends_none given =
-          let finds = of_cell (λ p n s t. FindsNone (IsBlockCall s.place p n bytes) p s t folder start_new state_new folder_new) given in
+          let finds = of_cell (λ p n s t. FindsNone (IsBlockCall s.place p n bytes) (block_calls s.place t.touched p n bytes) p s t folder start_new state_new folder_new) given in
           let clash : ¬ (IsTrue folder.tells) = λ told. absurd (let same : IsTrue false = subst IsTrue finds.untold told in cc) in
           record {
             place = start_new.place;
@@ -175,7 +177,7 @@ module _ (table : TableValue) (d : ℕ) (cell : Cell) (bytes : List ℕ) (starts
             stays_touched = finds.goes_on.stays_touched;
             there = λ told. absurd (clash told);
             wrote = λ is. absurd (let none : false ≡ true = is in cc);
-            makes = step_gone Block [] (block_calls start.place state.touched path (block_start table cell) bytes) finds.goes_on.makes;
+            makes = finds.goes_on.makes;
             holds = λ first writes same free tree held told. absurd (clash (subst IsTrue same told));
           }
 
@@ -186,6 +188,6 @@ module _ (table : TableValue) (d : ℕ) (cell : Cell) (bytes : List ℕ) (starts
       pub mends : Mends table d cell bytes starts states folder path_given at_given start_given state_given start_new state_new folder_new starts_new states_new
       mends = record {
         written = mends_written;
-        none = λ fault is ends. mends_none (subst (λ (f : FileFault). EndsBy f BlockGiven path_given start_given state_given folder start_new state_new folder_new) is ends);
-        failed = λ fault is ends. mends_not (subst (λ (f : FileFault). EndsBy f BlockGiven path_given start_given state_given folder start_new state_new folder_new) is ends);
+        none = λ fault is ends. mends_none (subst (λ (f : FileFault). EndsBy f BlockGiven calls_given path_given start_given state_given folder start_new state_new folder_new) is ends);
+        failed = λ fault is ends. mends_not (subst (λ (f : FileFault). EndsBy f BlockGiven calls_given path_given start_given state_given folder start_new state_new folder_new) is ends);
       }

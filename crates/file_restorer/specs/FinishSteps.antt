@@ -1,5 +1,5 @@
 -- The steps of a finish, each on the file of one record: it is put under its path, then its size is set, then its stamp.
-use Rattle.std.specs.Prelude.{◌≡◌, ◌≢◌, ℕ, ◌==◌, List, [], Bool, true, false, Option, None, Some, IsTrue}
+use Rattle.std.specs.Prelude.{◌≡◌, ◌≢◌, ℕ, ◌==◌, List, Bool, true, false, Option, None, Some, IsTrue}
 use Rattle.disk_model.specs.Folder.{FolderView, FolderCall, SetSize, Rename, TreeBy, TreeStays}
 use Rattle.disk_model.specs.Path.{IsRecordPath}
 use Rattle.disk_model.specs.Stamp.{IsStamp}
@@ -59,16 +59,16 @@ IsLostCall start state path call = (stands start.place state.touched ≡ true) �
 
 -- ---- what it ends with
 
--- there are such calls, only such were made, and one of them found its file gone, which does not happen where the
--- folder tells its files
-pub record FindsNoFile (P : FolderCall → Type 0) (old new : FolderView) : Type 0 where
+-- of these calls the first ones were made, only such, and the last of them found its file gone, which does not happen where
+-- the folder tells its files
+pub record FindsNoFile (P : FolderCall → Type 0) (calls : List FolderCall) (old new : FolderView) : Type 0 where
   pub untold : old.tells ≡ false
-  pub makes : StepMakes P [] true old new
+  pub makes : StepMakes P calls true old new
   pub last : (call : FolderCall) × P call
 
-abbrev pub BreaksBy : FileFault → (FolderCall → Type 0) → FolderView → FolderView → Type 0
-BreaksBy Failed = StepFails
-BreaksBy Missing = FindsNoFile
+abbrev pub BreaksBy : FileFault → (FolderCall → Type 0) → List FolderCall → FolderView → FolderView → Type 0
+BreaksBy Failed P calls = StepFails P
+BreaksBy Missing P calls = FindsNoFile P calls
 
 -- a file with these bytes stands under the path, and this one under its other name
 pub record Stands (path bytes : List ℕ) (lost : Option File) (before later : Tree) : Type 0 where

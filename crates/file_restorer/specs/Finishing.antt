@@ -152,8 +152,8 @@ pub record CanFinish (table : TableValue) (d i : ℕ) (listed : Option Meta) (st
   pub fits : IsTrue folder.tells
       → FitsTree (record_path (records_in table d) i) listed (start_in (starts_at starts.columns d) i) (state_in states d i) folder.tree
 
--- The file of the record was finished, or one of the calls for it found it gone, which does not happen where the folder
--- tells its files.
+-- The file of the record was finished, or the last call that was made for it found it gone, which does not happen where the
+-- folder tells its files.
 pub record FinishesRecord (table : TableValue) (d i : ℕ) (listed : Option Meta) (finish : Finish) (starts : StartsValue)
     (states : List (List FileState)) (folder : FolderView) (starts_new : StartsValue)
     (states_new : List (List FileState)) (folder_new : FolderView) : Type 0 where

@@ -71,8 +71,8 @@ pub record CanSetUp (path : List ℕ) (start : Start) (state : FileState) (folde
   pub may : stands start.place state.touched ≡ false → MayHold folder path
   pub so_far : IsTrue folder.tells → IsWrittenSoFar path start state folder.tree
 
--- Such calls were made: one of them found no file, or none did and they are just these. What the folder holds of the record
--- goes on by these writes. All other names hold what they held.
+-- Such calls were made: just these where each found its file, and else these up to the one that found none. What the folder holds
+-- of the record goes on by these writes. All other names hold what they held.
 pub record GoesOnBy (P : FolderCall → Type 0) (calls : List FolderCall) (missing : Bool) (added : List Write) (path : List ℕ)
     (start : Start) (state : FileState) (folder : FolderView) (start_new : Start) (state_new : FileState) (folder_new : FolderView) : Type 0 where
   pub makes : StepMakes P calls missing folder folder_new
@@ -101,15 +101,17 @@ pub record WritesBytes (path : List ℕ) (at : ℕ) (bytes : List ℕ) (start : 
   pub touched : state_new.touched ≡ true
   pub wrote : FolderWrites (block_calls start.place state.touched path at bytes) folder folder_new
 
--- one of these calls found its file gone, which does not happen where the folder tells its files
-pub record FindsNone (P : FolderCall → Type 0) (path : List ℕ) (start : Start) (state : FileState) (folder : FolderView)
-    (start_new : Start) (state_new : FileState) (folder_new : FolderView) : Type 0 where
+-- the last call that was made of these found its file gone, which does not happen where the folder tells its files
+pub record FindsNone (P : FolderCall → Type 0) (calls : List FolderCall) (path : List ℕ) (start : Start) (state : FileState)
+    (folder : FolderView) (start_new : Start) (state_new : FileState) (folder_new : FolderView) : Type 0 where
   pub untold : folder.tells ≡ false
-  pub goes_on : GoesOnBy P [] true [] path start state folder start_new state_new folder_new
+  pub goes_on : GoesOnBy P calls true [] path start state folder start_new state_new folder_new
 
-abbrev pub EndsBy : FileFault → (FolderCall → Type 0) → List ℕ → Start → FileState → FolderView → Start → FileState → FolderView → Type 0
-EndsBy Failed P path start state folder start_new state_new folder_new = StepFails P folder folder_new
-EndsBy Missing P path start state folder start_new state_new folder_new = FindsNone P path start state folder start_new state_new folder_new
+abbrev pub EndsBy : FileFault → (FolderCall → Type 0) → List FolderCall → List ℕ → Start → FileState → FolderView → Start → FileState → FolderView
+    → Type 0
+EndsBy Failed P calls path start state folder start_new state_new folder_new = StepFails P folder folder_new
+EndsBy Missing P calls path start state folder start_new state_new folder_new =
+    FindsNone P calls path start state folder start_new state_new folder_new
 
 -- ---- of a column
 
@@ -134,8 +136,8 @@ pub record CanWrite (table : TableValue) (d : ℕ) (cell : Cell) (bytes : List �
   pub is_open : folder.closed ≡ false
   pub underway : IsTrue folder.tells → IsUnderway table d cell.rec starts states folder.tree
 
--- The block was written, or one of the calls for it found its file gone, which does not happen where the folder tells
--- its files.
+-- The block was written, or the last call that was made for it found its file gone, which does not happen where the folder
+-- tells its files.
 pub record MendsCell (table : TableValue) (d : ℕ) (cell : Cell) (bytes : List ℕ) (written : Bool)
     (starts : StartsValue) (states : List (List FileState)) (folder : FolderView)
     (starts_new : StartsValue) (states_new : List (List FileState)) (folder_new : FolderView) : Type 0 where

@@ -1,11 +1,12 @@
 -- What a fix did to the files of a column's records, and what its folder holds then.
-use Rattle.std.specs.Prelude.{◌≡◌, ◌≢◌, ◌⊎◌, ℕ, ◌+◌, ◌<◌, max, List, [], ◌∷◌, length, get_or, slice_index_or, Bool, true, false, Option, None, Some, IsTrue, All, map}
+use Rattle.std.specs.Prelude.{◌≡◌, ◌≢◌, ◌⊎◌, ℕ, ◌+◌, ◌<◌, max, List, [], ◌∷◌, ◌++◌, length, get_or, slice_index_or, Bool, true, false, Option, None, Some, IsTrue, All, map}
 use Rattle.std.specs.List.{list_any}
 use Rattle.disk_model.specs.Answer.{is_missing}
 use Rattle.disk_model.specs.Bytes.{put}
 use Rattle.disk_model.specs.Folder.{FolderView, FolderCall, FolderDone, FolderGoesOn}
 use Rattle.disk_model.specs.Stopped.{MayBeLeft}
 use Rattle.disk_model.specs.Tree.{Tree, File, IsTree, file_of, path_of}
+use Rattle.disk_model.specs.declared.answer.Answer.TheVariants.{Missing}
 use Rattle.file_table.specs.Table.{Record, no_record}
 use Rattle.snap_report.specs.Answer.{broke_folder}
 use Rattle.stripe_reader.specs.Starts.{StartsValue, no_start, start_in, starts_at}
@@ -148,11 +149,22 @@ has_missing done = list_any (λ (one : FolderDone). is_missing one.answer) done
 abbrev pub calls_made : List FolderDone → List FolderCall
 calls_made done = map (λ (one : FolderDone). one.call) done
 
--- Such calls, of which none failed, and one found no file or none did. Where none did, they are just these, in this order.
+-- Of these calls the first ones were made, in this order, and the last that was made is the only one that found no file.
+pub record StopsAtMissing (calls : List FolderCall) (done : List FolderDone) : Type 0 where
+  pub front : List FolderDone
+  pub found : has_missing front ≡ false
+  pub call : FolderCall
+  pub rest : List FolderCall
+  pub calls_are : calls ≡ calls_made front ++ call ∷ rest
+  pub done_is : done ≡ front ++ record { call = call; answer = Missing } ∷ []
+
+-- Such calls, of which none failed, and one found no file or none did. Where none did, they are just these, in this order. Where one
+-- did, they are these up to that one.
 pub record AreStepCalls (P : FolderCall → Type 0) (calls : List FolderCall) (missing : Bool) (done : List FolderDone) : Type 0 where
   pub each : All (WellCall P) done
   pub found : has_missing done ≡ missing
   pub just : missing ≡ false → calls_made done ≡ calls
+  pub stops : missing ≡ true → StopsAtMissing calls done
 
 -- Calls of which this holds were made of a folder. Where it tells its files, what it holds then is among what a stop
 -- within these calls may leave.
@@ -162,7 +174,7 @@ pub record FolderMakesBy (P : List FolderDone → Type 0) (old new : FolderView)
   pub goes_on : FolderGoesOn old new done
   pub left : IsTrue old.tells → IsTree old.tree → MayBeLeft old.keeps done old.tree new.tree
 
--- a step on a file was made by such calls: one of them found no file, or none did and they are just these
+-- a step on a file was made by such calls: just these where each found its file, and else these up to the one that found none
 abbrev pub StepMakes : (FolderCall → Type 0) → List FolderCall → Bool → FolderView → FolderView → Type 0
 StepMakes P calls missing old new = FolderMakesBy (AreStepCalls P calls missing) old new
 

@@ -2,8 +2,9 @@
 ghost use Rattle.std.specs.Prelude.{◌≡◌, ◌≢◌, ◌||◌, not, true, None, IfOk, IfErr, IsTrue};
 ghost use Rattle.disk_model.specs.Tree.{file_of};
 ghost use Rattle.disk_model.specs.declared.meta.Meta.{Meta};
-ghost use Rattle.file_restorer.specs.Finishing.{CanFinish, FinishesRecord, FinishesNot, IsWholeCall, IsFinishCall, finish_of, lost_finish, whole_finish, finish_calls, lost_calls, whole_calls, same_stamp as same_stamp_by, is_changed as is_changed_by, stamped_finish as stamped_finish_by};
+ghost use Rattle.file_restorer.specs.Finishing.{CanFinish, FinishesRecord, FinishesNot, IsWholeCall, IsFinishCall, finish_of, lost_finish, whole_finish, finish_calls, lost_calls, size_calls, whole_calls, same_stamp as same_stamp_by, is_changed as is_changed_by, stamped_finish as stamped_finish_by};
 ghost use Rattle.file_restorer.specs.FinishSteps.{IsPlaced, IsReady, IsPutCall, IsSizeCall, IsLostCall, BreaksBy, SetsUp, FitsSize, FinishesBy};
+ghost use Rattle.file_restorer.specs.Order.{put_calls};
 ghost use Rattle.file_restorer.specs.State.{stands as stands_by};
 
 use crate::state::{FileState, States};
@@ -65,7 +66,8 @@ fn set_up<F: Folder>(
     ensures set_up { IfOk result (λ _. SetsUp path.now place touched
         (F.view folder.old) (F.view folder.new)) }
     ensures broke { IfErr result (λ fault.
-        BreaksBy fault (IsPutCall place touched path.now) (F.view folder.old) (F.view folder.new)) }
+        BreaksBy fault (IsPutCall place touched path.now) (put_calls place touched path.now)
+        (F.view folder.old) (F.view folder.new)) }
 {
     if stands(place, touched) {
         return Ok(());
@@ -86,7 +88,7 @@ fn fit_size<F: Folder>(folder: &mut F, path: &Path, before: u64, size: u64) -> R
     ensures sized { IfOk result (λ _. FitsSize path.now before size
         (F.view folder.old) (F.view folder.new)) }
     ensures broke { IfErr result (λ fault.
-        BreaksBy fault (IsSizeCall path.now before size)
+        BreaksBy fault (IsSizeCall path.now before size) (size_calls before size path.now)
         (F.view folder.old) (F.view folder.new)) }
 {
     if before == size {
@@ -110,7 +112,7 @@ fn finish_whole<F: Folder>(
         (IsWholeCall listed start state path.now meta) (whole_calls listed start state path.now meta)
         meta start state path.now (F.view folder.old) (F.view folder.new)) }
     ensures broke { IfErr result (λ fault. BreaksBy fault (IsWholeCall listed start state path.now meta)
-        (F.view folder.old) (F.view folder.new)) }
+        (whole_calls listed start state path.now meta) (F.view folder.old) (F.view folder.new)) }
 {
     set_up(folder, path, start.place, state.touched)?;
     fit_size(folder, path, state.size, meta.size)?;
@@ -152,7 +154,7 @@ fn finish_lost<F: Folder>(
         finish (IsLostCall start state path.now) (lost_calls start state path.now) meta start state path.now
         (F.view folder.old) (F.view folder.new)) }
     ensures broke { IfErr result (λ fault. BreaksBy fault (IsLostCall start state path.now)
-        (F.view folder.old) (F.view folder.new)) }
+        (lost_calls start state path.now) (F.view folder.old) (F.view folder.new)) }
 {
     if !stands(start.place, state.touched) {
         return Ok(Finish::Kept);
@@ -177,7 +179,8 @@ fn finish_file<F: Folder>(
         (finish_calls state.lost listed start state path.now meta)
         meta start state path.now (F.view folder.old) (F.view folder.new)) }
     ensures broke { IfErr result (λ fault. BreaksBy fault
-        (IsFinishCall state.lost listed start state path.now meta) (F.view folder.old) (F.view folder.new)) }
+        (IsFinishCall state.lost listed start state path.now meta)
+        (finish_calls state.lost listed start state path.now meta) (F.view folder.old) (F.view folder.new)) }
 {
     if state.lost {
         finish_lost(folder, path, start, state)

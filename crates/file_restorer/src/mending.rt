@@ -1,6 +1,7 @@
 // A block of a file, written anew.
 ghost use Rattle.std.specs.Prelude.{◌≡◌, ◌+◌, ◌<◌, ◌^◌, length, IfOk, IfErr};
 ghost use Rattle.file_restorer.specs.Mending.{CanWrite, MendsCell, MendsNot, CanSetUp, SetsUp, WritesBytes, EndsBy, IsSetUpCall, IsBlockCall};
+ghost use Rattle.file_restorer.specs.Order.{block_calls, put_calls};
 
 use crate::state::{FileState, States};
 use disk_model::{Failed, FileFault, Folder, Path};
@@ -17,7 +18,8 @@ fn set_up<F: Folder>(
     requires { CanSetUp path.now start.old state.old (F.view folder.old) }
     ensures set_up { IfOk result (λ _. SetsUp path.now
         start.old state.old (F.view folder.old) start.new state.new (F.view folder.new)) }
-    ensures fault { IfErr result (λ fault. EndsBy fault (IsSetUpCall start.old.place path.now) path.now
+    ensures fault { IfErr result (λ fault. EndsBy fault
+        (IsSetUpCall start.old.place path.now) (put_calls start.old.place state.old.touched path.now) path.now
         start.old state.old (F.view folder.old) start.new state.new (F.view folder.new)) }
 {
     match start.place {
@@ -52,7 +54,9 @@ fn write_bytes<F: Folder>(
     requires fits { at + length bytes.now < 2 ^ 64 }
     ensures written { IfOk result (λ _. WritesBytes path.now at bytes.now
         start.old state.old (F.view folder.old) start.new state.new (F.view folder.new)) }
-    ensures fault { IfErr result (λ fault. EndsBy fault (IsBlockCall start.old.place path.now at bytes.now) path.now
+    ensures fault { IfErr result (λ fault. EndsBy fault
+        (IsBlockCall start.old.place path.now at bytes.now)
+        (block_calls start.old.place state.old.touched path.now at bytes.now) path.now
         start.old state.old (F.view folder.old) start.new state.new (F.view folder.new)) }
 {
     set_up(folder, path, start, state)?;

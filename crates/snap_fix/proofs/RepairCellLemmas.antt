@@ -74,10 +74,10 @@ module _ {W R : Type 0} (view : W → SinkView) (standing : R → ReportView) (s
         let gone_not : is_gone plan mended d ≡ false = ap (λ (b : Bool). b && not (answer_of mended d)) (repaired_not false mended shown) in
         makes_by_none (AreMendCalls plan old.starts d mended) folder (record {
           place = Nowhere;
-          stood = λ is cell cell_is. absurd (let clash : true ≡ false = sym is ∙ not_written mended shown in cc);
+          stood = λ is cell cell_is. absurd (let clash : true ≡ false = sym is ∙ repaired_not false mended shown in cc);
           touched = false;
           are = subst (λ (b : Bool). AreStepCalls Mend (if b then calls_of_cell plan d mended.facts Nowhere false (cell_at plan mended.facts.stripe d) else []) (is_gone plan mended d) [])
-              (sym (not_written mended shown))
+              (sym (repaired_not false mended shown))
               (subst (λ (missing : Bool). AreStepCalls Mend [] missing []) (sym gone_not) (no_step Mend));
         })
 

@@ -27,8 +27,8 @@ use Rattle.file_restorer.specs.Mending.{StatesFit, IsBlockCall, CanWrite, block_
 use Rattle.repair_scope.specs.Plan.{FixPlan, cell_at, entry_at, selects_cell}
 use Rattle.snap_fix.specs.RepairSteps.{ColumnOutside, IsMendedAs, CanMendColumn, MendsColumn, MendsNotColumn, WritesBlockOf, WritesNotBlockOf, is_repaired_by, is_lost_by}
 use Rattle.file_restorer.specs.Order.{FolderWrites, block_calls}
-use Rattle.file_restorer.specs.State.{AreStepCalls, Write, HoldsTold, FolderMakesBy, KeepsStarts, StaysPlace, StepMakes, has_some, size_after, state_in}
-use Rattle.snap_fix.specs.Underway.{AreMendCalls, IsMendCall, SetsUpOneOf, calls_of_cell, written_calls}
+use Rattle.file_restorer.specs.State.{AreStepCalls, StopsAtMissing, Write, HoldsTold, FolderMakesBy, KeepsStarts, StaysPlace, StepMakes, has_some, size_after, state_in}
+use Rattle.snap_fix.specs.Underway.{AreMendCalls, IsMendCall, SetsUpOneOf, calls_of_cell, repair_calls}
 use Rattle.file_restorer.proofs.FolderCallLemmas.{makes_by_wider, well_wider}
 use Rattle.file_restorer.proofs.FolderFailsLemmas.{step_fails_wider}
 use Rattle.snap_fix.proofs.MendedFactsLemmas.{and_parts, block_known, repaired_shown, lost_shown, writes_same, writes_more, loses_by}
@@ -151,18 +151,15 @@ module _ {W R : Type 0} (view : W → SinkView) (standing : R → ReportView) (s
       abbrev block_here : List FolderCall
       block_here = block_calls place touched (cell_path plan.table d cell) (block_start plan.table cell) bytes
 
-      written_by : (written : Bool) (mended : Mended) → Shown written mended → is_written plan mended d ≡ written
-      written_by written mended shown = ap₂ (λ (b answer : Bool). b && answer) (repaired_of mended.facts shown.stripe_is shown.shows) shown.answer_is
-
       gone_by : (written : Bool) (mended : Mended) → Shown written mended → is_gone plan mended d ≡ not written
       gone_by written mended shown = ap₂ (λ (repaired answer : Bool). repaired && not answer) (repaired_of mended.facts shown.stripe_is shown.shows) shown.answer_is
 
-      -- they are just the calls of the block
-      block_is : (written : Bool) (mended : Mended) → Shown written mended → written ≡ true → written_calls plan d mended place touched ≡ block_here
-      block_is written mended shown did =
-          ap (λ (b : Bool). if b then calls_of_cell plan d mended.facts place touched (cell_at plan mended.facts.stripe d) else []) (written_by written mended shown ∙ did)
-          ∙ ap (calls_of_cell plan d mended.facts place touched) (cell_of mended.facts shown.stripe_is)
-          ∙ ap (λ (bs : List ℕ). block_calls place touched (cell_path plan.table d cell) (block_start plan.table cell) bs) (sym (bytes_are ∙ block_of mended.facts shown.stripe_is shown.shows))
+      -- they are the calls of the block
+      block_is : (facts : StripeFacts) → facts.stripe ≡ stripe → ShowsFacts plan facts i marks known window → repair_calls plan d facts place touched ≡ block_here
+      block_is facts is shows =
+          ap (λ (b : Bool). if b then calls_of_cell plan d facts place touched (cell_at plan facts.stripe d) else []) (repaired_of facts is shows)
+          ∙ ap (calls_of_cell plan d facts place touched) (cell_of facts is)
+          ∙ ap (λ (bs : List ℕ). block_calls place touched (cell_path plan.table d cell) (block_start plan.table cell) bs) (sym (bytes_are ∙ block_of facts is shows))
 
       stood_here : (mended : Mended) → mended.facts.stripe ≡ stripe → (other : Cell) → cell_at plan mended.facts.stripe d ≡ Some other
           → StaysPlace (start_in (starts_at old.starts.columns d) other.rec).place place
@@ -171,14 +168,11 @@ module _ {W R : Type 0} (view : W → SinkView) (standing : R → ReportView) (s
           let same : cell ≡ other = cc in
           subst (λ (c : Cell). StaysPlace (start_in (starts_at old.starts.columns d) c.rec).place place) same (inl refl)
 
-      was_done : (written : Bool) → not written ≡ false → written ≡ true
-      was_done true is = refl
-      was_done false is = absurd (let clash : true ≡ false = is in cc)
-
       calls_of : (written : Bool) (mended : Mended) → Shown written mended → (new : FolderView) → StepMakes Block block_here (not written) old.folder new
           → FolderMakesBy (AreMendCalls plan old.starts d mended) old.folder new
       calls_of written mended shown new makes =
           let gone = gone_by written mended shown in
+          let just_these = sym (block_is mended.facts shown.stripe_is shown.shows) in
           makes_by_wider (AreStepCalls Block block_here (not written)) (AreMendCalls plan old.starts d mended) (λ done are. record {
             place = place;
             stood = λ is other other_is. stood_here mended shown.stripe_is other other_is;
@@ -186,7 +180,8 @@ module _ {W R : Type 0} (view : W → SinkView) (standing : R → ReportView) (s
             are = record {
               each = λ k none within. well_wider Block (IsMendCall plan old.starts d (mended ∷ [])) (call_of mended shown.stripe_is shown.shows) (get_or done k none) (are.each k none within);
               found = are.found ∙ sym gone;
-              just = λ none. are.just (sym gone ∙ none) ∙ sym (block_is written mended shown (was_done written (sym gone ∙ none)));
+              just = λ none. are.just (sym gone ∙ none) ∙ just_these;
+              stops = λ missed. subst (λ (calls : List FolderCall). StopsAtMissing calls done) just_these (are.stops (sym gone ∙ missed));
             };
           }) makes
 

@@ -13,7 +13,7 @@ use Rattle.snap_fix.specs.Mended.{Mended, is_gone}
 use Rattle.file_restorer.specs.Mending.{with_place}
 use Rattle.repair_scope.specs.Plan.{FixPlan}
 use Rattle.file_restorer.specs.State.{FolderMakesBy, StaysPlace, KeepsStarts}
-use Rattle.snap_fix.specs.Underway.{AreMendCalls, IsMendCall, SetsUpCell, SetsUpOneOf, written_calls}
+use Rattle.snap_fix.specs.Underway.{AreMendCalls, IsMendCall, SetsUpCell, SetsUpOneOf, repair_calls}
 use Rattle.file_restorer.proofs.FolderCallLemmas.{makes_by_wider, step_calls_wider}
 
 -- ---- places
@@ -116,7 +116,7 @@ mend_calls_before plan before after d mended stood done are = record {
   place = are.place;
   stood = λ is cell cell_is. stays_then _ _ _ (stood d cell.rec).1 (are.stood is cell cell_is);
   touched = are.touched;
-  are = step_calls_wider (IsMendCall plan after d (mended ∷ [])) (IsMendCall plan before d (mended ∷ [])) (written_calls plan d mended are.place are.touched)
+  are = step_calls_wider (IsMendCall plan after d (mended ∷ [])) (IsMendCall plan before d (mended ∷ [])) (repair_calls plan d mended.facts are.place are.touched)
       (is_gone plan mended d) (mend_call_before plan before after d (mended ∷ []) stood) done are.are;
 }
 

@@ -17,7 +17,7 @@ use Rattle.stripe_reader.specs.declared.starts.Place.{Place}
 use Rattle.stripe_reader.specs.declared.starts.Place.TheVariants.{Lost, Nowhere}
 use Rattle.file_restorer.specs.declared.state.FileState.{FileState}
 use Rattle.stripe_examiner.specs.Facts.{StripeFacts}
-use Rattle.snap_fix.specs.Mended.{Mended, is_gone, is_repaired, is_written, is_wrong_level, has_lost, column_writes, writes_of}
+use Rattle.snap_fix.specs.Mended.{Mended, is_gone, is_repaired, is_wrong_level, has_lost, column_writes, writes_of}
 use Rattle.stripe_examiner.specs.Showing.{known_block, block_or_none}
 use Rattle.file_restorer.specs.Mending.{IsFree, block_start, cell_path}
 use Rattle.file_restorer.specs.Order.{FolderWrites, block_calls, is_writing}
@@ -92,19 +92,20 @@ calls_of_cell plan d facts place touched None = []
 calls_of_cell plan d facts place touched (Some cell) =
     block_calls place touched (cell_path plan.table d cell) (block_start plan.table cell) (block_or_none (known_block facts d))
 
--- those of a stripe, where the block is written
-abbrev pub written_calls : FixPlan → ℕ → Mended → Place → Bool → List FolderCall
-written_calls plan d mended place touched =
-    if is_written plan mended d then calls_of_cell plan d mended.facts place touched (cell_at plan mended.facts.stripe d) else []
+-- those of a stripe, where the block is to be written
+abbrev pub repair_calls : FixPlan → ℕ → StripeFacts → Place → Bool → List FolderCall
+repair_calls plan d facts place touched =
+    if is_repaired plan facts d then calls_of_cell plan d facts place touched (cell_at plan facts.stripe d) else []
 
--- The calls that write the cell of a column in a stripe anew. Where it is written, they are just its calls, and each found its file,
--- which stood in this place then. One of them found no file exactly where the cell was to be written and its file was gone.
+-- The calls that write the cell of a column in a stripe anew, whose file stood in this place then. Where it is written, they are just
+-- its calls, and each found its file. One of them found no file exactly where the cell was to be written and its file was gone: they
+-- are its calls up to that one.
 pub record AreMendCalls (plan : FixPlan) (starts : StartsValue) (d : ℕ) (mended : Mended) (done : List FolderDone) : Type 0 where
   pub place : Place
-  pub stood : is_written plan mended d ≡ true → (cell : Cell) → cell_at plan mended.facts.stripe d ≡ Some cell
+  pub stood : is_repaired plan mended.facts d ≡ true → (cell : Cell) → cell_at plan mended.facts.stripe d ≡ Some cell
       → StaysPlace (start_in (starts_at starts.columns d) cell.rec).place place
   pub touched : Bool
-  pub are : AreStepCalls (IsMendCall plan starts d (mended ∷ [])) (written_calls plan d mended place touched) (is_gone plan mended d) done
+  pub are : AreStepCalls (IsMendCall plan starts d (mended ∷ [])) (repair_calls plan d mended.facts place touched) (is_gone plan mended d) done
 
 -- those of stripes, one after another
 abbrev pub AreAllMendCalls : FixPlan → StartsValue → ℕ → List Mended → List FolderDone → Type 0

@@ -1,16 +1,11 @@
-use Rattle.std.proofs.Common.{refl}
 use Rattle.std.proofs.lemmas.Bool.{eq-eqb, ne_eqb}
-use Rattle.disk_model.specs.Folder.{SetSize}
-use Rattle.disk_model.specs.declared.answer.Answer.TheVariants.{Done}
-use Rattle.file_restorer.specs.FinishSteps.{IsSizeCall}
-use Rattle.file_restorer.proofs.FinishCallsLemmas.{breaks_one}
-use Rattle.file_restorer.proofs.FinishStepsLemmas.{size_kept, size_set}
+use Rattle.file_restorer.proofs.FinishStepsLemmas.{breaks_size, size_kept, size_set}
 use Rattle.file_restorer.proofs.finishing.fit_size.Goals as goal
 
 pub returns-clause-broke : goal.returns-clause-broke
 returns-clause-broke g c =
-    breaks_one (λ _. Done) c.set_size.result (IsSizeCall c.args.path.now c.args.before c.args.size) (SetSize c.args.path.now c.args.size) c.args.path.now (g.F.Folder.view c.args.folder.now)
-    (g.F.Folder.view c.set_size.new.self) (g.F.Folder.well_formed _) c.set_size.ensures.call c.set_size.ensures.missing c.requires refl (ne_eqb c.args.before c.args.size c.if-before-size.false, refl)
+    breaks_size c.args.path.now c.args.before c.args.size c.set_size.result (g.F.Folder.view c.args.folder.now) (g.F.Folder.view c.set_size.new.self) (g.F.Folder.well_formed _)
+    (ne_eqb c.args.before c.args.size c.if-before-size.false) c.set_size.ensures.call c.set_size.ensures.missing c.requires
 
 pub returns-clause-sized : goal.returns-clause-sized
 returns-clause-sized g c =

@@ -1,9 +1,22 @@
-use Rattle.std.proofs.Common.{Bool, sym, subst}
+use Rattle.std.proofs.Common.{Bool, sym, ap, ◌∙◌, subst}
 use Rattle.disk_model.specs.Answer.{plain}
 use Rattle.disk_model.specs.Folder.{Make}
 use Rattle.disk_model.specs.Writing.{IsFolderWrite}
-use Rattle.file_restorer.proofs.GoesOnLemmas.{handed_on, sets_up_renamed, sets_up_made, rename_ends, make_fails}
+use Rattle.stripe_reader.specs.declared.starts.Place.{Place}
+use Rattle.file_restorer.specs.State.{stands}
+use Rattle.file_restorer.proofs.GoesOnLemmas.{handed_on, sets_up_nothing, sets_up_renamed, sets_up_made, rename_ends, make_fails}
 use Rattle.file_restorer.proofs.mending.set_up.Goals as goal
+
+pub returns-in-Plain-clause-set_up : goal.returns-in-Plain-clause-set_up
+returns-in-Plain-clause-set_up g c =
+    let touched = c.args.state.now.touched in
+    sets_up_nothing c.args.path.now c.args.start.now c.args.state.now (g.F.Folder.view c.args.folder.now) (ap (λ (place : Place). stands place touched) c.in-Plain.is)
+
+pub returns-else-not-state-clause-set_up : goal.returns-else-not-state-clause-set_up
+returns-else-not-state-clause-set_up g c =
+    let touched = c.args.state.now.touched in
+    sets_up_nothing c.args.path.now c.args.start.now c.args.state.now (g.F.Folder.view c.args.folder.now)
+    (ap (λ (place : Place). stands place touched) c.in-Nowhere.is ∙ c.if-not-state.false)
 
 pub returns-in_err-rename-in-Lost-clause-fault : goal.returns-in_err-rename-in-Lost-clause-fault
 returns-in_err-rename-in-Lost-clause-fault g c =
