@@ -11,12 +11,12 @@ use Rattle.snap_report.specs.Answer.{is_reading}
 use Rattle.file_restorer.specs.FinishSteps.{BreaksBy}
 use Rattle.file_restorer.specs.State.{StepMakes}
 use Rattle.file_restorer.proofs.FolderCallLemmas.{step_before, step_then, step_wider, step_write}
-use Rattle.file_restorer.proofs.FolderFailsLemmas.{fails_one, step_fails_then, step_fails_wider}
+use Rattle.file_restorer.proofs.FolderFailsLemmas.{fails_one, step_fails_before, step_fails_then, step_fails_wider}
 
 -- after calls that went well
 pub breaks_then : (fault : FileFault) (P : FolderCall → Type 0) (ones others : List FolderCall) (old mid new : FolderView) → StepMakes P ones false old mid → BreaksBy fault P others mid new
     → BreaksBy fault P (ones ++ others) old new
-breaks_then Failed P ones others old mid new one two = step_fails_then P ones old mid new one two
+breaks_then Failed P ones others old mid new one two = step_fails_then P ones others old mid new one two
 breaks_then Missing P ones others old mid new one two = record {
   untold = sym one.goes_on.tells ∙ two.untold;
   makes = step_then P true one two.makes;
@@ -25,7 +25,7 @@ breaks_then Missing P ones others old mid new one two = record {
 
 -- before calls that were not made
 pub breaks_before : (fault : FileFault) (P : FolderCall → Type 0) (calls more : List FolderCall) (old new : FolderView) → BreaksBy fault P calls old new → BreaksBy fault P (calls ++ more) old new
-breaks_before Failed P calls more old new breaks = breaks
+breaks_before Failed P calls more old new breaks = step_fails_before P calls more breaks
 breaks_before Missing P calls more old new breaks = record {
   untold = breaks.untold;
   makes = step_before P calls more breaks.makes;
@@ -35,7 +35,7 @@ breaks_before Missing P calls more old new breaks = record {
 -- the same calls are of a wider kind
 pub breaks_wider : (fault : FileFault) (P Q : FolderCall → Type 0) (calls : List FolderCall) (old new : FolderView) → ((call : FolderCall) → P call → Q call) → BreaksBy fault P calls old new
     → BreaksBy fault Q calls old new
-breaks_wider Failed P Q calls old new wider breaks = step_fails_wider P Q wider breaks
+breaks_wider Failed P Q calls old new wider breaks = step_fails_wider P Q calls wider breaks
 breaks_wider Missing P Q calls old new wider breaks = record {
   untold = breaks.untold;
   makes = step_wider P Q calls true wider breaks.makes;

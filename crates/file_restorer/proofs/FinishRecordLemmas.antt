@@ -176,4 +176,4 @@ module _ (table : TableValue) (d i : ℕ) (listed : Option Meta) (starts : Start
         → FinishesNot table d i listed starts states folder new
     is_failed fault new failed broke =
         let fails = subst (λ (f : FileFault). BreaksBy f (IsFinishCall state.lost listed start state path meta) (finish_calls state.lost listed start state path meta) folder new) failed broke in
-        there (λ p m s t. StepFails (IsFinishCall t.lost listed s t p m) folder new) fails
+        there (λ p m s t. StepFails (IsFinishCall t.lost listed s t p m) (finish_calls t.lost listed s t p m) folder new) fails

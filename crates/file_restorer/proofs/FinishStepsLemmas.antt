@@ -83,9 +83,12 @@ sets_up_new path place touched old new formed placed absent either wrote =
     } in subst (λ (p : Place). SetsUp path p touched old new) (sym is.0) sets
 
 pub breaks_new : (path : List ℕ) (place : Place) (touched : Bool) (old new : FolderView) → IsFolder new → stands place touched ≡ false → (place ≡ Plain) ⊎ (place ≡ Nowhere)
-    → IsFolderWrite (Make path) answers.Failed old new → StepFails (IsPutCall place touched path) old new
+    → IsFolderWrite (Make path) answers.Failed old new → StepFails (IsPutCall place touched path) (put_calls place touched path) old new
 breaks_new path place touched old new formed absent either wrote =
-    fails_one (IsPutCall place touched path) (Make path) old new (absent, inr ((nowhere place touched absent either).0, refl)) refl formed wrote
+    let is = nowhere place touched absent either in
+    subst (λ (p : Place). StepFails (IsPutCall place touched path) (put_calls p touched path) old new) (sym is.0)
+    (subst (λ (b : Bool). StepFails (IsPutCall place touched path) (if b then [] else Make path ∷ []) old new) (sym is.1)
+    (fails_one (IsPutCall place touched path) (Make path) old new (absent, inr (is.0, refl)) refl formed wrote))
 
 -- ---- its size is set
 

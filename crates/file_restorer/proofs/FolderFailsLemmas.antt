@@ -2,6 +2,7 @@
 use Rattle.std.proofs.Common.{◌≡◌, inl, inr, ℕ, ◌<◌, ◌||◌, cond, List, [], ◌∷◌, ◌++◌, All, Bool, true, false, IsTrue, get_or, refl, sym, ap, ap₂, ◌∙◌, subst, arith, append_assoc}
 use Rattle.std.specs.List.{list_any}
 use Rattle.std.proofs.lemmas.Bool.{cases_lt}
+use Rattle.std.proofs.lemmas.List.{map-append}
 use Rattle.std.proofs.lemmas.List.Elements.{All-append, All-cons, All-nil}
 use Rattle.std.proofs.lemmas.List.Folds.{list_any-append}
 use Rattle.disk_model.specs.Answer.{is_missing}
@@ -15,13 +16,14 @@ use Rattle.snap_report.specs.Answer.{Gained, broke_folder, is_reading}
 use Rattle.stripe_reader.specs.Columns.{folder_at}
 use Rattle.stripe_reader.proofs.FolderLemmas.{goes_on_then}
 use Rattle.file_restorer.specs.Breaking.{FailsInColumn, FolderFails, StepFails}
-use Rattle.file_restorer.specs.State.{AnyCall, WellCall, FolderMakes, StepMakes}
+use Rattle.file_restorer.specs.State.{AnyCall, WellCall, FolderMakes, StepMakes, calls_made}
 use Rattle.file_restorer.proofs.FolderCallLemmas.{makes_any, makes_each, makes_none, well_wider}
 
 -- ---- of one folder
 
 -- one call failed
-pub fails_one : (P : FolderCall → Type 0) (call : FolderCall) (old new : FolderView) → P call → is_reading call ≡ false → IsFolder new → IsFolderWrite call Failed old new → StepFails P old new
+pub fails_one : (P : FolderCall → Type 0) (call : FolderCall) (old new : FolderView) → P call → is_reading call ≡ false → IsFolder new → IsFolderWrite call Failed old new
+    → StepFails P (call ∷ []) old new
 fails_one P call old new is writes formed wrote = record {
   fails = record {
     rose = wrote.called.cause cc;
@@ -31,6 +33,8 @@ fails_one P call old new is writes formed wrote = record {
     left = λ told tree. write_is_left call Failed old new told formed wrote;
   };
   found = refl;
+  rest = [];
+  calls_are = refl;
 }
 
 -- after others that went well
@@ -56,9 +60,11 @@ fails_then P old mid new one two =
     }
 
 -- after the calls of a step of which each found its file
-pub step_fails_then : (P : FolderCall → Type 0) (calls : List FolderCall) (old mid new : FolderView) → StepMakes P calls false old mid → StepFails P mid new → StepFails P old new
-step_fails_then P calls old mid new one two =
+pub step_fails_then : (P : FolderCall → Type 0) (ones others : List FolderCall) (old mid new : FolderView) → StepMakes P ones false old mid → StepFails P others mid new
+    → StepFails P (ones ++ others) old new
+step_fails_then P ones others old mid new one two =
     let last = two.fails.fails in
+    let behind = last.call ∷ two.rest in
     record {
       fails = record {
         rose = let later = one.goes_on.later in let rose = two.fails.rose in omega (arith, later, rose);
@@ -78,7 +84,20 @@ step_fails_then P calls old mid new one two =
             left_then old.keeps one.done two.fails.done old.tree mid.tree new.tree first (subst (λ (keeps : Stamp → Bool). MayBeLeft keeps two.fails.done mid.tree new.tree) one.goes_on.keeps more);
       };
       found = list_any-append (λ (done : FolderDone). is_missing done.answer) one.done last.front ∙ ap₂ (λ (a b : Bool). a || b) one.are.found two.found;
+      rest = two.rest;
+      calls_are = ap₂ (λ (a b : List FolderCall). a ++ b) (sym (one.are.just refl)) two.calls_are
+          ∙ sym (append_assoc (calls_made one.done) (calls_made last.front) behind)
+          ∙ ap (λ (calls : List FolderCall). calls ++ behind) (sym (map-append (λ (done : FolderDone). done.call) one.done last.front));
     }
+
+-- before calls that were not made
+pub step_fails_before : (P : FolderCall → Type 0) (calls more : List FolderCall) {old new : FolderView} → StepFails P calls old new → StepFails P (calls ++ more) old new
+step_fails_before P calls more one = record {
+  fails = one.fails;
+  found = one.found;
+  rest = one.rest ++ more;
+  calls_are = ap (λ (all : List FolderCall). all ++ more) one.calls_are ∙ append_assoc (calls_made one.fails.fails.front) (one.fails.fails.call ∷ one.rest) more;
+}
 
 -- of a wider kind
 pub fails_wider : (P Q : FolderCall → Type 0) {old new : FolderView} → ((call : FolderCall) → P call → Q call) → FolderFails P old new → FolderFails Q old new
@@ -99,8 +118,8 @@ fails_wider P Q wider one =
       left = one.left;
     }
 
-pub step_fails_wider : (P Q : FolderCall → Type 0) {old new : FolderView} → ((call : FolderCall) → P call → Q call) → StepFails P old new → StepFails Q old new
-step_fails_wider P Q wider one =
+pub step_fails_wider : (P Q : FolderCall → Type 0) (calls : List FolderCall) {old new : FolderView} → ((call : FolderCall) → P call → Q call) → StepFails P calls old new → StepFails Q calls old new
+step_fails_wider P Q calls wider one =
     let last = one.fails.fails in
     record {
       fails = record {
@@ -118,6 +137,8 @@ step_fails_wider P Q wider one =
         left = one.fails.left;
       };
       found = one.found;
+      rest = one.rest;
+      calls_are = one.calls_are;
     }
 
 -- they are such calls all the same

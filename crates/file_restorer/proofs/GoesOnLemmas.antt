@@ -16,11 +16,12 @@ use Rattle.stripe_reader.specs.declared.starts.Start.{Start}
 use Rattle.stripe_reader.specs.declared.starts.Place.{Place}
 use Rattle.stripe_reader.specs.declared.starts.Place.TheVariants.{Lost, Nowhere}
 use Rattle.file_restorer.specs.declared.state.FileState.{FileState}
+use Rattle.file_restorer.specs.Breaking.{StepFails}
 use Rattle.file_restorer.specs.Mending.{IsSetUpCall, IsBlockCall, CanSetUp, GoesOnBy, SetsUp, WritesBytes, EndsBy}
 use Rattle.file_restorer.specs.Order.{FolderWrites, block_calls, put_calls, set_up_calls}
 use Rattle.file_restorer.specs.State.{Write, HoldsRecord, StaysPlace, StepMakes, stands}
 use Rattle.file_restorer.proofs.FolderCallLemmas.{others_same, others_then, others_changed, others_made, others_renamed, step_before, step_none, step_then, step_wider, step_write}
-use Rattle.file_restorer.proofs.FolderFailsLemmas.{fails_one, step_fails_then, step_fails_wider}
+use Rattle.file_restorer.proofs.FolderFailsLemmas.{fails_one, step_fails_before, step_fails_then, step_fails_wider}
 use Rattle.file_restorer.proofs.MendedRecordLemmas.{plain_start, touched_state, written_state, lost_there, plain_there, renamed_back, made_anew, written_more}
 use Rattle.file_restorer.proofs.OrderLemmas.{writes_none, writes_one, writes_then}
 
@@ -121,7 +122,7 @@ module _ (path : List ℕ) (start : Start) (state : FileState) (old : FolderView
 pub ends_wider : (P Q : FolderCall → Type 0) (calls more : List FolderCall) → ((call : FolderCall) → P call → Q call) → (fault : FileFault) (path : List ℕ) (start : Start) (state : FileState)
     (old : FolderView) (start_new : Start) (state_new : FileState) (new : FolderView) → EndsBy fault P calls path start state old start_new state_new new
     → EndsBy fault Q (calls ++ more) path start state old start_new state_new new
-ends_wider P Q calls more wider Failed path start state old start_new state_new new ends = step_fails_wider P Q wider ends
+ends_wider P Q calls more wider Failed path start state old start_new state_new new ends = step_fails_before Q calls more (step_fails_wider P Q calls wider ends)
 ends_wider P Q calls more wider Missing path start state old start_new state_new new ends =
     let goes_on = ends.goes_on in
     record {
@@ -143,7 +144,9 @@ module _ (path : List ℕ) (start : Start) (state : FileState) (old : FolderView
   pub rename_ends : (fault : FileFault) (new : FolderView) → IsFolder new → start.place ≡ Lost → IsFolderWrite (Rename path false) (done_answer {T = Unit {0}} (Err fault)) old new
       → MissingExactly {T = Unit {0}} (Err fault) old (path_of path true)
       → EndsBy fault (IsSetUpCall start.place path) (put_calls start.place state.touched path) path start state old start state new
-  rename_ends Failed new formed lost call missing = fails_one (IsSetUpCall start.place path) (Rename path false) old new (inl (lost, refl)) refl formed call
+  rename_ends Failed new formed lost call missing =
+      subst (λ (place : Place). StepFails (IsSetUpCall start.place path) (put_calls place state.touched path) old new) (sym lost)
+      (fails_one (IsSetUpCall start.place path) (Rename path false) old new (inl (lost, refl)) refl formed call)
   rename_ends Missing new formed lost call missing =
       let untold = not_told old.tells (λ told. let far = can.so_far told in lost_there start state far.writes path far.first old.tree far.holds lost (missing told)) in
       record {
@@ -154,9 +157,12 @@ module _ (path : List ℕ) (start : Start) (state : FileState) (old : FolderView
       }
 
   -- making it failed
-  pub make_fails : (new : FolderView) → IsFolder new → start.place ≡ Nowhere → IsFolderWrite (Make path) answers.Failed old new
+  pub make_fails : (new : FolderView) → IsFolder new → start.place ≡ Nowhere → state.touched ≡ false → IsFolderWrite (Make path) answers.Failed old new
       → EndsBy Failed (IsSetUpCall start.place path) (put_calls start.place state.touched path) path start state old start state new
-  make_fails new formed nowhere call = fails_one (IsSetUpCall start.place path) (Make path) old new (inr (nowhere, refl)) refl formed call
+  make_fails new formed nowhere untouched call =
+      subst (λ (place : Place). StepFails (IsSetUpCall start.place path) (put_calls place state.touched path) old new) (sym nowhere)
+      (subst (λ (touched : Bool). StepFails (IsSetUpCall start.place path) (put_calls Nowhere touched path) old new) (sym untouched)
+      (fails_one (IsSetUpCall start.place path) (Make path) old new (inr (nowhere, refl)) refl formed call))
 
   module _ (start_mid : Start) (state_mid : FileState) (mid : FolderView) (set : SetsUp path start state old start_mid state_mid mid) (at : ℕ) (bytes : List ℕ) where
     abbrev Block : FolderCall → Type 0
@@ -199,7 +205,7 @@ module _ (path : List ℕ) (start : Start) (state : FileState) (old : FolderView
     -- the file was gone, or the write failed
     pub write_ends : (fault : FileFault) (new : FolderView) → IsFolder new → IsFolderWrite (WriteAt path at bytes) (done_answer {T = Unit {0}} (Err fault)) mid new
         → MissingExactly {T = Unit {0}} (Err fault) mid path → EndsBy fault Block (block_calls start.place state.touched path at bytes) path start state old start_mid state_mid new
-    write_ends Failed new formed call missing = step_fails_then Block puts old mid new set_makes (fails_one Block (WriteAt path at bytes) mid new (inl refl) refl formed call)
+    write_ends Failed new formed call missing = step_fails_then Block puts (WriteAt path at bytes ∷ []) old mid new set_makes (fails_one Block (WriteAt path at bytes) mid new (inl refl) refl formed call)
     write_ends Missing new formed call missing = record {
       untold = untold;
       goes_on = goes_untold path start state old Block (block_calls start.place state.touched path at bytes) start_mid state_mid new untold

@@ -53,7 +53,7 @@ pub record Mends (table : TableValue) (d : ℕ) (cell : Cell) (bytes : List ℕ)
   pub none : (fault : FileFault) → fault ≡ Missing → EndsBy fault (IsBlockCall start.place path at bytes) (block_calls start.place state.touched path at bytes) path start state folder start_new state_new folder_new
       → MendsCell table d cell bytes false starts states folder starts_new states_new folder_new
   pub failed : (fault : FileFault) → fault ≡ Failed → EndsBy fault (IsBlockCall start.place path at bytes) (block_calls start.place state.touched path at bytes) path start state folder start_new state_new folder_new
-      → MendsNot table d cell bytes starts folder folder_new
+      → MendsNot table d cell bytes starts states folder folder_new
 
 module _ (table : TableValue) (d : ℕ) (cell : Cell) (bytes : List ℕ) (starts : StartsValue) (states : List (List FileState)) (folder : FolderView)
     (valid : IsValid table) (can : CanWrite table d cell bytes starts states folder) where
@@ -182,8 +182,8 @@ module _ (table : TableValue) (d : ℕ) (cell : Cell) (bytes : List ℕ) (starts
           }
 
       -- a call failed
-      mends_not : StepFails BlockGiven folder folder_new → MendsNot table d cell bytes starts folder folder_new
-      mends_not given = of_cell (λ p n s t. StepFails (IsBlockCall s.place p n bytes) folder folder_new) given
+      mends_not : StepFails BlockGiven calls_given folder folder_new → MendsNot table d cell bytes starts states folder folder_new
+      mends_not given = of_cell (λ p n s t. StepFails (IsBlockCall s.place p n bytes) (block_calls s.place t.touched p n bytes) folder folder_new) given
 
       pub mends : Mends table d cell bytes starts states folder path_given at_given start_given state_given start_new state_new folder_new starts_new states_new
       mends = record {

@@ -9,7 +9,7 @@ use Rattle.disk_model.specs.declared.answer.Answer.TheVariants.{Failed}
 use Rattle.disk_model.specs.Vault.{plain_done, VaultView, VaultCall, VaultDone, GoesOn, ParityLen, ParityRead, ParityWrite, ParitySetLen, ParitySync, ContentSize, ContentRead, DraftBegin, DraftAppend, DraftSeal, Publish}
 use Rattle.snap_report.specs.Answer.{is_reading}
 use Rattle.stripe_reader.specs.Columns.{folder_at}
-use Rattle.file_restorer.specs.State.{WellCall, FolderMakesBy, has_missing}
+use Rattle.file_restorer.specs.State.{WellCall, FolderMakesBy, calls_made, has_missing}
 
 -- ---- of a vault
 
@@ -66,10 +66,13 @@ pub record FolderFails (P : FolderCall → Type 0) (old new : FolderView) : Type
   pub goes_on : FolderGoesOn old new done
   pub left : IsTrue old.tells → IsTree old.tree → MayBeLeft old.keeps done old.tree new.tree
 
--- The same of the calls for one file: each before the one that failed found its file.
-pub record StepFails (P : FolderCall → Type 0) (old new : FolderView) : Type 0 where
+-- The same of the calls for one file: the first ones of these were made, in this order, up to the one that failed, and each before it
+-- found its file.
+pub record StepFails (P : FolderCall → Type 0) (calls : List FolderCall) (old new : FolderView) : Type 0 where
   pub fails : FolderFails P old new
   pub found : has_missing fails.fails.front ≡ false
+  pub rest : List FolderCall
+  pub calls_are : calls ≡ calls_made fails.fails.front ++ fails.fails.call ∷ rest
 
 -- ---- of the folders of all columns, which are come to one after another
 

@@ -67,8 +67,8 @@ pub record FindsNoFile (P : FolderCall → Type 0) (calls : List FolderCall) (ol
   pub last : (call : FolderCall) × P call
 
 abbrev pub BreaksBy : FileFault → (FolderCall → Type 0) → List FolderCall → FolderView → FolderView → Type 0
-BreaksBy Failed P calls = StepFails P
-BreaksBy Missing P calls = FindsNoFile P calls
+BreaksBy Failed = StepFails
+BreaksBy Missing = FindsNoFile
 
 -- a file with these bytes stands under the path, and this one under its other name
 pub record Stands (path bytes : List ℕ) (lost : Option File) (before later : Tree) : Type 0 where

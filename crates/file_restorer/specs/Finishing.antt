@@ -186,4 +186,6 @@ pub record FinishesRecord (table : TableValue) (d i : ℕ) (listed : Option Meta
 abbrev pub FinishesNot : TableValue → ℕ → ℕ → Option Meta → StartsValue → List (List FileState) → FolderView → FolderView → Type 0
 FinishesNot table d i listed starts states folder folder_new =
     StepFails (IsFinishCall (state_in states d i).lost listed (start_in (starts_at starts.columns d) i) (state_in states d i)
+    (record_path (records_in table d) i) (record_at table.columns d i).meta)
+    (finish_calls (state_in states d i).lost listed (start_in (starts_at starts.columns d) i) (state_in states d i)
     (record_path (records_in table d) i) (record_at table.columns d i).meta) folder folder_new

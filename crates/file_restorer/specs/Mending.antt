@@ -109,7 +109,7 @@ pub record FindsNone (P : FolderCall → Type 0) (calls : List FolderCall) (path
 
 abbrev pub EndsBy : FileFault → (FolderCall → Type 0) → List FolderCall → List ℕ → Start → FileState → FolderView → Start → FileState → FolderView
     → Type 0
-EndsBy Failed P calls path start state folder start_new state_new folder_new = StepFails P folder folder_new
+EndsBy Failed P calls path start state folder start_new state_new folder_new = StepFails P calls folder folder_new
 EndsBy Missing P calls path start state folder start_new state_new folder_new =
     FindsNone P calls path start state folder start_new state_new folder_new
 
@@ -166,7 +166,8 @@ pub record MendsCell (table : TableValue) (d : ℕ) (cell : Cell) (bytes : List 
       (mended_writes table cell bytes written writes) first folder_new
 
 -- its calls were made up to one that failed, and each before that found its file
-abbrev pub MendsNot : TableValue → ℕ → Cell → List ℕ → StartsValue → FolderView → FolderView → Type 0
-MendsNot table d cell bytes starts folder folder_new =
+abbrev pub MendsNot : TableValue → ℕ → Cell → List ℕ → StartsValue → List (List FileState) → FolderView → FolderView → Type 0
+MendsNot table d cell bytes starts states folder folder_new =
     StepFails (IsBlockCall (start_in (starts_at starts.columns d) cell.rec).place (cell_path table d cell) (block_start table cell) bytes)
-    folder folder_new
+    (block_calls (start_in (starts_at starts.columns d) cell.rec).place (state_in states d cell.rec).touched (cell_path table d cell)
+    (block_start table cell) bytes) folder folder_new

@@ -80,8 +80,8 @@ pub fn mend_cell<F: Folder>(
     requires { CanWrite table.now d cell bytes.now starts.old states.old (F.view folder.old) }
     ensures mended { IfOk result (λ written. MendsCell table.now d cell bytes.now written
         starts.old states.old (F.view folder.old) starts.new states.new (F.view folder.new)) }
-    ensures failed { IfErr result (λ _. MendsNot table.now d cell bytes.now starts.old
-        (F.view folder.old) (F.view folder.new)) }
+    ensures failed { IfErr result (λ _. MendsNot table.now d cell bytes.now
+        starts.old states.old (F.view folder.old) (F.view folder.new)) }
 {
     let at = cell.index as u64 * table.shape().block_size as u64;
     let start = &mut starts.columns[d as usize][cell.rec as usize];

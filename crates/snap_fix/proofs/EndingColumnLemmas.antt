@@ -23,6 +23,7 @@ use Rattle.stripe_examiner.specs.Counts.{AreCounts}
 use Rattle.snap_fix.specs.Ending.{AreFinishCalls, CanFinishFile, FinishesFile, FinishesThis, HoldsEnd, IsDone, StandsEnd, column_news, finish_at, is_finished, news_of, record_calls, record_news, state_at, states_at}
 use Rattle.snap_fix.specs.EndingSteps.{CanEndColumn, CanEndRecord, EndsColumn, EndsNotColumn, EndsNotRecord, EndsRecord, column_outside}
 use Rattle.file_restorer.specs.Finishing.{FitsTree, HoldsFinished, IsFinishCall, SameNames, StandsWhole, bytes_now, finish_calls, finish_of, was_gone}
+use Rattle.file_restorer.specs.Breaking.{StepFails}
 use Rattle.file_restorer.specs.Mending.{StatesFit}
 use Rattle.file_restorer.specs.Order.{FolderWrites}
 use Rattle.repair_scope.specs.Plan.{FixPlan, entry_at}
@@ -336,7 +337,8 @@ module _ (plan : FixPlan) (d : ℕ) (first : StartsValue) (firsts : List (List F
             mid = mid;
             first = makes_by_wider (AreFinishCalls plan d starts_of states_of so_far.done n) (AreFinishCalls plan d starts_of states_of done n)
                 (λ calls. finish_calls_as plan d starts_of states_of so_far.done done n calls (λ i below. first_done plan d starts_of states_of folder so_far.done n i so_far.long below)) so_far.makes;
-            fails = step_fails_wider This (FinishesThis plan d n starts_of states_of) this_next broke.fails;
+            fails = subst (λ (calls : List FolderCall). StepFails (FinishesThis plan d n starts_of states_of) calls mid new) same_calls
+                (step_fails_wider This (FinishesThis plan d n starts_of states_of) (record_calls plan d (starts_at starts.columns d) (states_at states d) n) this_next broke.fails);
           };
           rest = events_after (record_news plan d done) n (length (records_in plan.table d));
           events = events_split (record_news plan d done) n (length (records_in plan.table d)) within;

@@ -18,6 +18,7 @@ use Rattle.file_restorer.specs.declared.state.FileState.{FileState}
 use Rattle.stripe_examiner.specs.Counts.{AreCounts}
 use Rattle.snap_fix.specs.Ending.{FinishesThis, finish_news, is_finished, news_of, states_at}
 use Rattle.snap_fix.specs.EndingSteps.{CanEndRecord, EndsNotRecord, EndsRecord, column_outside}
+use Rattle.file_restorer.specs.Breaking.{StepFails}
 use Rattle.file_restorer.specs.Finishing.{CanFinish, FinishesNot, FinishesRecord, FitsTree, IsFinishCall, finish_calls, finish_of, was_gone}
 use Rattle.file_restorer.specs.Order.{FolderWrites}
 use Rattle.repair_scope.specs.Plan.{FixPlan, entry_at}
@@ -134,6 +135,10 @@ module _ (plan : FixPlan) (d i : ℕ) (starts : StartsValue) (states : List (Lis
         → listed ≡ (entry_at plan d i).listed → FinishesNot plan.table d i listed starts states folder folder_new
         → EndsNotRecord view standing stands plan d i (column_outside starts states folder lines reports) (column_outside starts_new states_new folder_new lines reports)
     ends_not listed folder_new starts_new states_new finished same broke = record {
-      fails = step_fails_wider (CallBy listed) (FinishesThis plan d i (starts_at starts.columns d) (states_at states d)) (call_of listed finished same) broke;
+      fails =
+          let This = FinishesThis plan d i (starts_at starts.columns d) (states_at states d) in
+          subst (λ (b : Bool). StepFails This (if b then calls_by (entry_at plan d i).listed else []) folder folder_new) (sym finished)
+          (subst (λ (l : Option Meta). StepFails This (calls_by l) folder folder_new) same
+          (step_fails_wider (CallBy listed) This (calls_by listed) (call_of listed finished same) broke));
       told = told_nothing view standing stands plan.table.columns lines reports;
     }

@@ -4,7 +4,7 @@ use Rattle.std.specs.Prelude.{count_by}
 use Rattle.std.specs.List.{range_with_len}
 use Rattle.std.proofs.lemmas.Bool.{cases_eq, cases_lt}
 use Rattle.std.proofs.lemmas.List.{append-nil, length-set, get_or-set_same, get_or-set_other, get_or_append_left, get_or-append_right, get_or-replicate, get_or_push}
-use Rattle.disk_model.specs.Folder.{FolderView, FolderCall}
+use Rattle.disk_model.specs.Folder.{FolderView}
 use Rattle.disk_model.specs.Sink.{SinkView}
 use Rattle.snap_report.specs.Report.{ReportView}
 use Rattle.snap_report.specs.Told.{Told}
@@ -15,7 +15,6 @@ use Rattle.stripe_reader.specs.Starts.{StartsFit, starts_at}
 use Rattle.stripe_reader.specs.WindowValue.{WindowValue}
 use Rattle.stripe_examiner.specs.declared.marking.CellMark.{CellMark}
 use Rattle.snap_fix.specs.declared.repairing.Repaired.{Repaired}
-use Rattle.file_restorer.specs.Breaking.{StepFails}
 use Rattle.stripe_examiner.specs.Counts.{AreCounts}
 use Rattle.stripe_examiner.specs.Facts.{StripeFacts}
 use Rattle.snap_fix.specs.Mended.{Mended, answer_of, cell_news, is_repaired, is_written}
@@ -24,13 +23,12 @@ use Rattle.repair_scope.specs.Plan.{FixPlan}
 use Rattle.snap_fix.specs.Repairing.{FilesOutside, CanMend, MendsFiles, MendsNotFiles}
 use Rattle.snap_fix.specs.RepairSteps.{column_outside, IsMendedAs, CanMendColumn, MendsColumn, MendsNotColumn}
 use Rattle.file_restorer.specs.State.{FolderMakesBy, KeepsStarts}
-use Rattle.snap_fix.specs.Underway.{AreMendCalls, IsFixable, IsColumnUnderway, IsMendCall}
+use Rattle.snap_fix.specs.Underway.{AreMendCalls, FailsInMend, IsFixable, IsColumnUnderway}
 use Rattle.stripe_examiner.specs.Showing.{ShowsFacts}
-use Rattle.file_restorer.proofs.FolderFailsLemmas.{step_fails_wider}
 use Rattle.snap_fix.proofs.MendedCounts.{count_to-more}
 use Rattle.snap_fix.proofs.RepairCellLemmas.{none_written}
 use Rattle.snap_fix.proofs.RepairLemmas.{underway_same}
-use Rattle.snap_fix.proofs.StartsKeptLemmas.{keeps_starts_same, keeps_starts_then, makes_before, mend_call_before}
+use Rattle.snap_fix.proofs.StartsKeptLemmas.{fails_before, keeps_starts_same, keeps_starts_then, makes_before}
 use Rattle.stripe_examiner.proofs.TellingLemmas.{Joins, events_to, events_to-more, told_as}
 
 module _ {W R : Type 0} (view : W → SinkView) (standing : R → ReportView) (stands : R → List Event → Type 0)
@@ -221,26 +219,26 @@ module _ {W R : Type 0} (view : W → SinkView) (standing : R → ReportView) (s
       broke = λ facts is shows.
           let mended : Mended = record { facts = facts; answers = answers } in
           let shown : AreMendedAs so_far.answers mended = first_shown facts is shows in
-          let Call : ℕ → FolderCall → Type 0 = λ k. IsMendCall plan old.starts k (mended ∷ []) in (
+          (
             answers,
             λ k below tells goes. fit mended shown refl k below tells goes (cases_lt k d),
             told_as view standing stands plan.table.columns (events_to (cell_news plan mended) d) (events_to (cell_news plan mended) d ++ []) old.lines new.lines old.reports new.reports
                 (sym (append-nil (events_to (cell_news plan mended) d)))
                 (told_then view standing stands plan.table.columns (events_to (cell_news plan mended) d) [] old.lines mid.lines new.lines old.reports mid.reports new.reports
                 (so_far.told mended shown) fails.told),
-            let here = subst (StepFails (Call d) (folder_at old.folders d)) (sym here_new)
-                (subst (λ (v : FolderView). StepFails (Call d) v folder_new) was
-                (step_fails_wider (IsMendCall plan mid.starts d (mended ∷ [])) (Call d) (mend_call_before plan old.starts mid.starts d (mended ∷ []) so_far.stood) (fails.fails mended is shows))) in
+            let here = subst (FailsInMend plan old.starts d mended (folder_at old.folders d)) (sym here_new)
+                (subst (λ (v : FolderView). FailsInMend plan old.starts d mended v folder_new) was
+                (fails_before plan old.starts mid.starts d mended so_far.stood (fails.fails mended is shows))) in
                 record {
                   in_column = record {
                     within = within;
                     before = λ k near.
                         subst (FolderMakesBy (AreMendCalls plan old.starts k mended) (folder_at old.folders k)) (sym (other_new k (λ same. omega (arith, same, near))))
                         ((so_far.done k near).makes mended shown);
-                    here = here.fails;
+                    here = here.fails.fails;
                     behind = λ k past below. other_new k (λ same. omega (arith, same, past)) ∙ (so_far.left k (omega (arith, past))).same_folder;
                   };
-                  found = here.found;
+                  here = here;
                 },
           );
     }

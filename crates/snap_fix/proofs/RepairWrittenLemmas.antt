@@ -23,6 +23,7 @@ use Rattle.stripe_examiner.specs.Facts.{StripeFacts, damaged_at}
 use Rattle.stripe_examiner.specs.Marks.{mark_in}
 use Rattle.snap_fix.specs.Mended.{Mended, is_gone, is_repaired, is_written, is_of, loses, column_writes, writes_in, answer_of, cell_news, mended_event, is_blocked_cell}
 use Rattle.stripe_examiner.specs.Showing.{known_block, block_or_none, ShowsFacts, is_damaged_mark, is_given_mark}
+use Rattle.file_restorer.specs.Breaking.{StepFails}
 use Rattle.file_restorer.specs.Mending.{StatesFit, IsBlockCall, CanWrite, block_start, cell_path, mended_writes, with_state}
 use Rattle.repair_scope.specs.Plan.{FixPlan, cell_at, entry_at, selects_cell}
 use Rattle.snap_fix.specs.RepairSteps.{ColumnOutside, IsMendedAs, CanMendColumn, MendsColumn, MendsNotColumn, WritesBlockOf, WritesNotBlockOf, is_repaired_by, is_lost_by}
@@ -190,8 +191,15 @@ module _ {W R : Type 0} (view : W → SinkView) (standing : R → ReportView) (s
           → MendsNotColumn view standing stands plan stripe i d window marks known old new
       column_not new fails = record {
         told = fails.told;
-        fails = λ mended is shows. step_fails_wider (IsBlockCall place (cell_path plan.table d cell) (block_start plan.table cell) bytes)
-            (IsMendCall plan old.starts d (mended ∷ [])) (call_of mended is shows) fails.fails;
+        fails = λ mended is shows.
+            let Mend = IsMendCall plan old.starts d (mended ∷ []) in
+            record {
+              place = place;
+              stood = λ other other_is. stood_here mended is other other_is;
+              touched = touched;
+              fails = subst (λ (calls : List FolderCall). StepFails Mend calls old.folder new.folder) (sym (block_is mended.facts is shows))
+                  (step_fails_wider Block Mend block_here (call_of mended is shows) fails.fails);
+            };
       }
 
       -- it was written, or its file was gone

@@ -13,8 +13,9 @@ use Rattle.snap_fix.specs.Mended.{Mended, is_gone}
 use Rattle.file_restorer.specs.Mending.{with_place}
 use Rattle.repair_scope.specs.Plan.{FixPlan}
 use Rattle.file_restorer.specs.State.{FolderMakesBy, StaysPlace, KeepsStarts}
-use Rattle.snap_fix.specs.Underway.{AreMendCalls, IsMendCall, SetsUpCell, SetsUpOneOf, repair_calls}
+use Rattle.snap_fix.specs.Underway.{AreMendCalls, FailsInMend, IsMendCall, SetsUpCell, SetsUpOneOf, repair_calls}
 use Rattle.file_restorer.proofs.FolderCallLemmas.{makes_by_wider, step_calls_wider}
+use Rattle.file_restorer.proofs.FolderFailsLemmas.{step_fails_wider}
 
 -- ---- places
 
@@ -118,6 +119,16 @@ mend_calls_before plan before after d mended stood done are = record {
   touched = are.touched;
   are = step_calls_wider (IsMendCall plan after d (mended ∷ [])) (IsMendCall plan before d (mended ∷ [])) (repair_calls plan d mended.facts are.place are.touched)
       (is_gone plan mended d) (mend_call_before plan before after d (mended ∷ []) stood) done are.are;
+}
+
+pub fails_before : (plan : FixPlan) (before after : StartsValue) (d : ℕ) (mended : Mended) → KeepsStarts before after → {old new : FolderView}
+    → FailsInMend plan after d mended old new → FailsInMend plan before d mended old new
+fails_before plan before after d mended stood one = record {
+  place = one.place;
+  stood = λ cell cell_is. stays_then _ _ _ (stood d cell.rec).1 (one.stood cell cell_is);
+  touched = one.touched;
+  fails = step_fails_wider (IsMendCall plan after d (mended ∷ [])) (IsMendCall plan before d (mended ∷ [])) (repair_calls plan d mended.facts one.place one.touched)
+      (mend_call_before plan before after d (mended ∷ []) stood) one.fails;
 }
 
 pub makes_before : (plan : FixPlan) (before after : StartsValue) (d : ℕ) (mended : Mended) → KeepsStarts before after → {old new : FolderView}

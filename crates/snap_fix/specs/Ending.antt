@@ -237,7 +237,7 @@ FailsInFinish disk plan starts states finishes olds news =
     (λ (d : ℕ). FinishesOne plan d starts states) olds news
 
 -- A column whose folder failed while its files were finished: those of the first so many records were finished, and
--- just that was told, and then calls for the next one were made up to the one that failed; each before that found its file.
+-- just that was told, and then the calls for the next one were made up to the one that failed; each before that found its file.
 pub record FailsAtRecord (plan : FixPlan) (d : ℕ) (starts : List Start) (states : List FileState) (done : List Finish)
     (told : List Event) (old new : FolderView) : Type 0 where
   pub n : ℕ
@@ -245,7 +245,7 @@ pub record FailsAtRecord (plan : FixPlan) (d : ℕ) (starts : List Start) (state
   pub told_is : told ≡ flat_map (record_news plan d done) (range_with_len 0 n)
   pub mid : FolderView
   pub first : FolderMakesBy (AreFinishCalls plan d starts states done n) old mid
-  pub fails : StepFails (FinishesThis plan d n starts states) mid new
+  pub fails : StepFails (FinishesThis plan d n starts states) (record_calls plan d starts states n) mid new
 
 -- the same by the starts and the states of all columns
 abbrev pub FailsInRecord : ℕ → FixPlan → StartsValue → List (List FileState) → List (List Finish) → List Event

@@ -87,7 +87,8 @@ pub record EndsRecord {W R : Type 0} (view : W → SinkView) (standing : R → R
 -- its calls were made up to one that failed, and nothing was told
 pub record EndsNotRecord {W R : Type 0} (view : W → SinkView) (standing : R → ReportView) (stands : R → List Event → Type 0)
     (plan : FixPlan) (d i : ℕ) (old new : ColumnOutside W R) : Type 0 where
-  pub fails : StepFails (FinishesThis plan d i (starts_at old.starts.columns d) (states_at old.states d)) old.folder new.folder
+  pub fails : StepFails (FinishesThis plan d i (starts_at old.starts.columns d) (states_at old.states d))
+      (record_calls plan d (starts_at old.starts.columns d) (states_at old.states d) i) old.folder new.folder
   pub told : Told view standing stands plan.table.columns [] old.lines new.lines old.reports new.reports
 
 -- ---- one column

@@ -34,7 +34,7 @@ use Rattle.file_restorer.specs.Order.{FolderWrites, block_calls}
 use Rattle.repair_scope.specs.Plan.{FixPlan, cell_at, selects_cell}
 use Rattle.snap_fix.specs.Repairing.{LevelsOutside}
 use Rattle.file_restorer.specs.State.{Write, HoldsTold, FolderMakesBy, KeepsStarts, StaysPlace, StepMakes, size_after, state_in}
-use Rattle.snap_fix.specs.Underway.{AreMendCalls, IsFixable, IsColumnUnderway, IsMendCall, done_well}
+use Rattle.snap_fix.specs.Underway.{AreMendCalls, FailsInMend, IsFixable, IsColumnUnderway, done_well}
 use Rattle.stripe_examiner.specs.Showing.{ShowsFacts, is_damaged_mark, is_given_mark}
 
 -- ---- one cell
@@ -117,7 +117,7 @@ pub record MendsNotColumn {W R : Type 0} (view : W → SinkView) (standing : R �
     (old new : ColumnOutside W R) : Type 0 where
   pub told : Told view standing stands plan.table.columns [] old.lines new.lines old.reports new.reports
   pub fails : (mended : Mended) → mended.facts.stripe ≡ stripe → ShowsFacts plan mended.facts i marks known window
-      → StepFails (IsMendCall plan old.starts d (mended ∷ [])) old.folder new.folder
+      → FailsInMend plan old.starts d mended old.folder new.folder
 
 -- The block of a cell was written, and that told; or its file was gone, and that it is lost was.
 pub record WritesBlockOf {W R : Type 0} (view : W → SinkView) (standing : R → ReportView) (stands : R → List Event → Type 0)
@@ -152,7 +152,8 @@ pub record WritesNotBlockOf {W R : Type 0} (view : W → SinkView) (standing : R
     (table : TableValue) (d : ℕ) (cell : Cell) (bytes : List ℕ) (old new : ColumnOutside W R) : Type 0 where
   pub told : Told view standing stands table.columns [] old.lines new.lines old.reports new.reports
   pub fails : StepFails (IsBlockCall (start_in (starts_at old.starts.columns d) cell.rec).place (cell_path table d cell) (block_start table cell) bytes)
-      old.folder new.folder
+      (block_calls (start_in (starts_at old.starts.columns d) cell.rec).place (state_in old.states d cell.rec).touched
+      (cell_path table d cell) (block_start table cell) bytes) old.folder new.folder
 
 -- ---- one level
 

@@ -25,8 +25,8 @@ use Rattle.stripe_examiner.specs.Marks.{row_if}
 use Rattle.snap_fix.specs.Mended.{Mended, AnswersFit, all_cell_news, all_level_news, cell_news, is_wrong_level, level_news, written_in, wrong_in}
 use Rattle.file_restorer.specs.Mending.{StatesFit}
 use Rattle.repair_scope.specs.Plan.{FixPlan}
-use Rattle.file_restorer.specs.State.{FolderMakesBy, KeepsStarts, has_missing}
-use Rattle.snap_fix.specs.Underway.{AreFixable, AreMendCalls, AreUnderway, FixUnderway, IsMendCall, KeepsLevels, AddsZeros, IsMendedLevel, HoldsWrong, done_well, wrong_writes}
+use Rattle.file_restorer.specs.State.{FolderMakesBy, KeepsStarts}
+use Rattle.snap_fix.specs.Underway.{AreFixable, AreMendCalls, AreUnderway, FailsInMend, FixUnderway, IsMendCall, KeepsLevels, AddsZeros, IsMendedLevel, HoldsWrong, done_well, wrong_writes}
 use Rattle.stripe_examiner.specs.Showing.{ShowsFacts}
 
 -- ---- files
@@ -56,11 +56,11 @@ pub record CanMend (plan : FixPlan) (stripe i : ℕ) (window : WindowValue) (mar
   pub underway : FixUnderway plan folders starts states
 
 -- The folder of a column failed while the cells of a stripe were written: of each before it the calls for its cell were
--- made, and of it those up to the one that failed, each of which found its file.
+-- made, and of it those up to the one that failed, in their order, and each before that one found its file.
 pub record FailsInCell (disk : ℕ) (plan : FixPlan) (starts : StartsValue) (mended : Mended) (olds news : List FolderView) : Type 0 where
   pub in_column : FailsInColumn disk (length plan.table.columns) (λ (d : ℕ). AreMendCalls plan starts d mended)
       (λ (d : ℕ). IsMendCall plan starts d (mended ∷ [])) olds news
-  pub found : has_missing in_column.here.fails.front ≡ false
+  pub here : FailsInMend plan starts disk mended (folder_at olds disk) (folder_at news disk)
 
 -- All known blocks of the stripe were written: whichever its facts, and whatever the fix did before, it goes on with this stripe.
 pub record MendsFiles {W R : Type 0} (view : W → SinkView) (standing : R → ReportView) (stands : R → List Event → Type 0)

@@ -19,6 +19,7 @@ use Rattle.file_restorer.specs.declared.state.FileState.{FileState}
 use Rattle.stripe_examiner.specs.Facts.{StripeFacts}
 use Rattle.snap_fix.specs.Mended.{Mended, is_gone, is_repaired, is_wrong_level, has_lost, column_writes, writes_of}
 use Rattle.stripe_examiner.specs.Showing.{known_block, block_or_none}
+use Rattle.file_restorer.specs.Breaking.{StepFails}
 use Rattle.file_restorer.specs.Mending.{IsFree, block_start, cell_path}
 use Rattle.file_restorer.specs.Order.{FolderWrites, block_calls, is_writing}
 use Rattle.repair_scope.specs.Plan.{FixPlan, cell_at, entry_at}
@@ -106,6 +107,14 @@ pub record AreMendCalls (plan : FixPlan) (starts : StartsValue) (d : ℕ) (mende
       → StaysPlace (start_in (starts_at starts.columns d) cell.rec).place place
   pub touched : Bool
   pub are : AreStepCalls (IsMendCall plan starts d (mended ∷ [])) (repair_calls plan d mended.facts place touched) (is_gone plan mended d) done
+
+-- Calls for the cell of a column in a stripe, whose file stood in this place then: they are its calls up to one that failed, and each
+-- before that found its file.
+pub record FailsInMend (plan : FixPlan) (starts : StartsValue) (d : ℕ) (mended : Mended) (old new : FolderView) : Type 0 where
+  pub place : Place
+  pub stood : (cell : Cell) → cell_at plan mended.facts.stripe d ≡ Some cell → StaysPlace (start_in (starts_at starts.columns d) cell.rec).place place
+  pub touched : Bool
+  pub fails : StepFails (IsMendCall plan starts d (mended ∷ [])) (repair_calls plan d mended.facts place touched) old new
 
 -- those of stripes, one after another
 abbrev pub AreAllMendCalls : FixPlan → StartsValue → ℕ → List Mended → List FolderDone → Type 0

@@ -64,7 +64,7 @@ returns g c =
     let old = g.F.Folder.view c.args.folder.now in
     let end = g.F.Folder.view c.write_bytes.new.folder in
     let is_mended : Bool → Type 0 = λ written. MendsCell c.args.table.now c.args.d c.args.cell c.args.bytes.now written starts states old starts_after states_after end in
-    let is_not : Failed → Type 0 = λ failed. MendsNot c.args.table.now c.args.d c.args.cell c.args.bytes.now starts old end in
+    let is_not : Failed → Type 0 = λ failed. MendsNot c.args.table.now c.args.d c.args.cell c.args.bytes.now starts states old end in
     let ends = mends c.args.table.now c.args.d c.args.cell c.args.bytes.now starts states old c.shape.ensures.valid can
     c.path.result.now (c.args.cell.index * c.shape.result.block_size) c.index_mut-start.result.now c.index_mut-state.result.now
     c.path.ensures (ap (λ (s : Shape). c.args.cell.index * s.block_size) c.shape.ensures.shape)

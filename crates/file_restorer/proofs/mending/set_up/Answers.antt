@@ -34,5 +34,5 @@ returns-else-is_err-clause-set_up g c =
 
 pub returns-then-is_err-clause-fault : goal.returns-then-is_err-clause-fault
 returns-then-is_err-clause-fault g c =
-    make_fails _ _ _ _ c.requires _ (g.F.Folder.well_formed _) c.in-Nowhere.is
+    make_fails _ _ _ _ c.requires _ (g.F.Folder.well_formed _) c.in-Nowhere.is c.if-not-state.true
     (subst (λ (failed : Bool). IsFolderWrite (Make c.args.path.now) (plain failed) (g.F.Folder.view c.args.folder.now) (g.F.Folder.view c.make.new.self)) (sym c.if-is_err.ensures.value) c.make.ensures.call)
