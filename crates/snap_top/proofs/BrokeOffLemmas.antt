@@ -1,5 +1,5 @@
 -- What a run did that broke off, or ended early.
-use Rattle.std.proofs.Common.{◌==◌, if◌then◌else◌, ◌≡◌, ◌⊎◌, inl, inr, ℕ, ◌≤◌, Option, List, [], Bool, true, false, IsTrue, refl, sym, ap, ◌∙◌, subst, arith}
+use Rattle.std.proofs.Common.{◌==◌, if◌then◌else◌, ◌≡◌, ◌⊎◌, inl, inr, ⊎_elim, ℕ, ◌≤◌, Option, List, [], Bool, true, false, IsTrue, refl, sym, ap, ◌∙◌, subst, arith}
 use Rattle.disk_model.specs.Cause.{Rose, RoseBy}
 use Rattle.disk_model.specs.Folder.{FolderView}
 use Rattle.disk_model.specs.Sink.{SinkView}
@@ -162,6 +162,8 @@ broken_early : (command : Command) (fault : RunFault) (named : Option TableValue
     → DoesCommand command task table before after (broken_left fault named counted told) did → did ≡ reads_only → after.out ≡ before.out
 broken_early commands.List fault named counted told task table before after did does quiet = absurd (not_done fault 0 does.prints.failed does.prints.answer_is)
 broken_early commands.Status fault named counted told task table before after did does quiet = absurd (not_done fault (bad_in table.infos) does.prints.failed does.prints.answer_is)
+broken_early commands.Dup fault named counted told task table before after did does quiet =
+    ⊎_elim (λ alone. absurd (not_done fault 0 alone.prints.failed alone.prints.answer_is)) (λ idle. ap (λ (w : World). w.out) idle.others) does
 broken_early (commands.Sync way) fault named counted told task table before after did does quiet =
     by (sync_broke fault task way table before after (broken_left fault named counted told) did does)
   where

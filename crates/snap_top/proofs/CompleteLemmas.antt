@@ -42,7 +42,8 @@ use Rattle.snap_report.specs.declared.events.Event.{Event}
 use Rattle.snap_top.specs.Array.{Matches, DiffersIn}
 use Rattle.snap_top.specs.Complete.{BreaksVault, BreaksFolder, HasContentOrNone, MayBegin, AreHeld, IsSmooth, held_vault, left_vault}
 use Rattle.snap_exercise.specs.Exercise.{is_well}
-use Rattle.snap_top.specs.Does.{DoesCommand}
+use Rattle.snap_top.specs.Does.{DoesCommand, PrintsOrStays}
+use Rattle.snap_top.specs.Dup.{dup_text}
 use Rattle.snap_top.specs.Exercising.{Exercises}
 use Rattle.snap_config.specs.declared.options.SyncWay.{SyncWay}
 use Rattle.snap_scrub.specs.Marks.{scrubbed}
@@ -54,7 +55,7 @@ use Rattle.snap_top.specs.Known.{unknown_in}
 use Rattle.snap_top.specs.Opening.{SaysNot, asked_by, IsConfigured, IsWordsFault, is_failure, IsUnknown}
 use Rattle.snap_top.specs.Run.{Entry, Exit, Goes, IsRun, IsRefused, Ran, IsAnswered, ReadsCopies, LoadsFrom, BeginsWith}
 use Rattle.snap_top.specs.Views.{World, world_of, view_of, folder_at}
-use Rattle.snap_top.proofs.RefusalLemmas.{done_is_no_refusal, check_not_refused, fix_not_refused, scrub_not_refused}
+use Rattle.snap_top.proofs.RefusalLemmas.{done_is_no_refusal, check_not_refused, fix_not_refused, printing_not_refused, scrub_not_refused}
 use Rattle.snap_top.proofs.RunLemmas.{any_later}
 use Rattle.snap_top.proofs.ScrubLemmas.{scrub_broke}
 use Rattle.snap_top.specs.declared.end.Difference.{Difference}
@@ -174,6 +175,7 @@ refused_is_sync commands.List task table start after left did does two =
     absurd (done_is_no_refusal 0 does.prints.failed (subst (λ a. (answer_status a ≡ 2) ⊎ (answer_status a ≡ 5)) does.prints.answer_is (inl two)))
 refused_is_sync commands.Status task table start after left did does two =
     absurd (done_is_no_refusal _ does.prints.failed (subst (λ a. (answer_status a ≡ 2) ⊎ (answer_status a ≡ 5)) does.prints.answer_is (inl two)))
+refused_is_sync commands.Dup task table start after left did does two = absurd (printing_not_refused (dup_text table) 0 start after left did does (inl two))
 refused_is_sync (commands.Sync way) task table start after left did does two = (way, refl, by left.answer two does)
   where
     by : (answer : Answer) → answer_status answer ≡ 2 → SyncsBy answer task way table start after left did → SyncRefuses task way table start after left did
@@ -242,6 +244,11 @@ pub vault_broke : (command : Command) (task : Task) (table : TableValue) (start 
     → VaultBroke (view_of start.vault) (view_of after.vault) × SomeCalls (view_of start.vault) (view_of after.vault)
 vault_broke commands.List task table start after left did does broken = absurd (done_is_no_break 0 does.prints.failed (sym does.prints.answer_is ∙ broken))
 vault_broke commands.Status task table start after left did does broken = absurd (done_is_no_break _ does.prints.failed (sym does.prints.answer_is ∙ broken))
+vault_broke commands.Dup task table start after left did does broken = absurd (by does)
+  where
+    by : PrintsOrStays (dup_text table) 0 start after left did → ⊥
+    by (inl alone) = done_is_no_break 0 alone.prints.failed (sym alone.prints.answer_is ∙ broken)
+    by (inr idle) = let clash : Broken Memory ≡ Broken Vault = sym (ap (λ (l : Left). l.answer) idle.left_is) ∙ broken in cc
 vault_broke (commands.Sync way) task table start after left did does broken =
     let breaks : SyncBreaks task way table start after left did = subst (λ a. SyncsBy a task way table start after left did) broken does in
     (breaks.course.vault.broke refl, breaks.course.vault.calls)

@@ -42,6 +42,7 @@ not_exercised texts asked n read works asks =
 pub changes_on_array : (command : Command) → ChangesFiles command → WorksOnArray command
 changes_on_array commands.List changes = absurd changes
 changes_on_array commands.Status changes = absurd changes
+changes_on_array commands.Dup changes = absurd changes
 changes_on_array (commands.Sync way) changes = tt
 changes_on_array (commands.Scrub way) changes = tt
 changes_on_array (commands.Check selection) changes = absurd changes
@@ -53,6 +54,7 @@ changes_on_array (commands.Exercise n) changes = absurd changes
 pub works_or_exercises : (command : Command) → WorksOnArray command ⊎ ((n : ℕ) × (command ≡ commands.Exercise n))
 works_or_exercises commands.List = inl tt
 works_or_exercises commands.Status = inl tt
+works_or_exercises commands.Dup = inl tt
 works_or_exercises (commands.Sync way) = inl tt
 works_or_exercises (commands.Scrub way) = inl tt
 works_or_exercises (commands.Check selection) = inl tt

@@ -5,6 +5,7 @@ pub mod CameLemmas
 pub mod CheckedLemmas
 pub mod CompleteLemmas
 pub mod DoneLemmas
+pub mod DupLemmas
 pub mod EmptyLemmas
 pub mod EndedLemmas
 pub mod EndsSoundLemmas

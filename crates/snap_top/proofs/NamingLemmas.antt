@@ -50,7 +50,8 @@ use Rattle.snap_report.specs.declared.answer.RunFault.TheVariants as runs
 use Rattle.snap_report.specs.declared.events.Event.{Event}
 use Rattle.snap_top.specs.Check.{CheckRun}
 use Rattle.snap_top.specs.Checking.{CheckEnds, ChecksBy}
-use Rattle.snap_top.specs.Does.{DoesCommand}
+use Rattle.snap_top.specs.Does.{DoesCommand, StaysIdle}
+use Rattle.snap_top.specs.Dup.{dup_text}
 use Rattle.snap_top.specs.End.{status_of}
 use Rattle.snap_top.specs.Ended.{IsEndStatus}
 use Rattle.snap_fix.specs.Restored.{IsDamagedCell}
@@ -324,11 +325,20 @@ module _ (rows : RowsAreKnown) (genuine_facts : FactsAreGenuine) (before : Entry
         let done : IsDoneAnswer to.answer = ⊎_elim (λ done. done) (λ ended. absurd (only_read to.ran.did reads ended)) to.how in
         by_answer to.setup to.answer to.named to.told to.ran to.answer to.named to.ran.goes.0 one mode selection command status to.status_is done does
 
+    -- a command that stays idle does not go to its end
+    ends_not_idle : StaysIdle one.start (world_of exit.after) left to.ran.did → ⊥
+    ends_not_idle idle = ⊎_elim (λ done. subst IsDoneAnswer (ap (λ (l : Left). l.answer) idle.left_is) done) (λ ended. only_read to.ran.did idle.did_is ended) to.how
+
     pub by_command : (command : Command) → to.ran.task.command ≡ command → DoesCommand command to.ran.task one.table one.start (world_of exit.after) left to.ran.did → EndsAsAsked command before exit status
     by_command commands.List command does =
         ended_printed before exit tells to.setup (Answered to.answer to.named) to.told to.ran left one commands.List command (λ (table : TableValue). list_text table.columns) (λ (table : TableValue). 0) status to.status_is does
     by_command commands.Status command does =
         ended_printed before exit tells to.setup (Answered to.answer to.named) to.told to.ran left one commands.Status command status_text (λ (table : TableValue). bad_in table.infos) status to.status_is does
+    by_command commands.Dup command does =
+        ⊎_elim
+        (λ alone. ended_printed before exit tells to.setup (Answered to.answer to.named) to.told to.ran left one commands.Dup command dup_text (λ (table : TableValue). 0) status to.status_is alone)
+        (λ idle. absurd (ends_not_idle idle))
+        does
     by_command (commands.Sync way) command does = tt
     by_command (commands.Check selection) command does = in_mode modes.Check selection command does
     by_command (commands.Audit selection) command does = in_mode modes.Audit selection command does

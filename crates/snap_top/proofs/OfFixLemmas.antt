@@ -31,7 +31,8 @@ use Rattle.snap_report.specs.declared.events.Event.{Event}
 use Rattle.snap_sync.specs.Part.{SyncRun}
 use Rattle.snap_sync.specs.Soundness.{AreSound, IsLoadedFrom}
 use Rattle.snap_top.specs.Checking.{ChecksBy}
-use Rattle.snap_top.specs.Does.{DoesCommand}
+use Rattle.snap_top.specs.Does.{DoesCommand, PrintsOrStays}
+use Rattle.snap_top.specs.Dup.{dup_text}
 use Rattle.snap_top.specs.Fix.{AllFixed, FixRun, FixesOver, IsGenuineFix}
 use Rattle.snap_top.specs.Fixing.{FixBroke, FixCourse, FixEnds, FixesBy, fix_of as run_fixed}
 use Rattle.snap_top.specs.Moment.{IsFixOf, IsScrubOf, IsSyncOf}
@@ -108,6 +109,9 @@ check_did (answers.Broken (runs.Folder disk)) mode selection task table before a
 check_did (answers.Broken runs.Vault) mode selection task table before after left did does = absurd does
 check_did (answers.Broken runs.Memory) mode selection task table before after left did does = does.did_is
 
+pub printing_did : (text : List ℕ) (counted : ℕ) (before after : World) (left : Left) (did : Did) → PrintsOrStays text counted before after left did → did ≡ reads_only
+printing_did text counted before after left did does = ⊎_elim (λ alone. alone.did_is) (λ idle. idle.did_is) does
+
 abbrev WentOn : Command → Task → TableValue → World → World → Left → Did → Type 0
 WentOn command task table before after left did =
     HasCourse command task table before after left did ⊎ (HasFixCourse command task table before after did ⊎ HasScrubCourse command task table before after left did)
@@ -116,6 +120,7 @@ pub command_did : (command : Command) (task : Task) (table : TableValue) (before
     → (did ≡ reads_only) ⊎ WentOn command task table before after left did
 command_did commands.List task table before after left did does = inl does.did_is
 command_did commands.Status task table before after left did does = inl does.did_is
+command_did commands.Dup task table before after left did does = inl (printing_did (dup_text table) 0 before after left did does)
 command_did (commands.Sync way) task table before after left did does = ⊎_elim
     (λ read. inl read)
     (λ course. inr (inl (record { way = way; command_is = refl; failed = course.0; course = course.1 })))

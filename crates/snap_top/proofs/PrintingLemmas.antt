@@ -1,4 +1,4 @@
--- What a run leaves that was asked to list the files, or for the status.
+-- What a run leaves that was asked to list the files or the duplicates, or for the status.
 use Rattle.std.proofs.Common.{◌≡◌, ℕ, List, Bool, false, sym, ap, ◌∙◌, subst}
 use Rattle.disk_model.proofs.VaultLemmas.{no_calls}
 use Rattle.disk_model.specs.Sink.{SinkView}

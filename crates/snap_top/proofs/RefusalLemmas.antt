@@ -15,7 +15,8 @@ use Rattle.snap_report.specs.declared.answer.RunFault.TheVariants.{Folder, Vault
 use Rattle.snap_report.specs.declared.events.Event.{Event}
 use Rattle.snap_top.specs.Checking.{ChecksBy}
 use Rattle.snap_top.specs.Complete.{RefusalsTouchNothing}
-use Rattle.snap_top.specs.Does.{DoesCommand}
+use Rattle.snap_top.specs.Does.{DoesCommand, PrintsOrStays}
+use Rattle.snap_top.specs.Dup.{dup_text}
 use Rattle.snap_top.specs.Exercising.{Exercises}
 use Rattle.snap_top.specs.Fixing.{FixesBy}
 use Rattle.snap_config.specs.declared.options.ScrubWay.{ScrubWay}
@@ -106,12 +107,21 @@ scrub_not_refused (Broken (Folder disk)) way task table start after left did doe
 scrub_not_refused (Broken Vault) way task table start after left did does refused = no_refusal 3 (omega arith) (omega arith) refused
 scrub_not_refused (Broken Memory) way task table start after left did does refused = no_refusal 4 (omega arith) (omega arith) refused
 
+-- nor is a command that prints a text, or has no memory for it
+pub printing_not_refused : (text : List ℕ) (counted : ℕ) (start after : World) (left : Left) (did : Did) → PrintsOrStays text counted start after left did
+    → (answer_status left.answer ≡ 2) ⊎ (answer_status left.answer ≡ 5) → ⊥
+printing_not_refused text counted start after left did (inl alone) refused =
+    done_is_no_refusal counted alone.prints.failed (subst (λ (a : Answer). (answer_status a ≡ 2) ⊎ (answer_status a ≡ 5)) alone.prints.answer_is refused)
+printing_not_refused text counted start after left did (inr idle) refused =
+    no_refusal 4 (omega arith) (omega arith) (subst (λ (l : Left). (answer_status l.answer ≡ 2) ⊎ (answer_status l.answer ≡ 5)) idle.left_is refused)
+
 command_untouched : (command : Command) (task : Task) (table : TableValue) (start after : World) (left : Left) (did : Did) → DoesCommand command task table start after left did
     → (answer_status left.answer ≡ 2) ⊎ (answer_status left.answer ≡ 5) → Untouched start after did
 command_untouched commands.List task table start after left did does refused =
     absurd (done_is_no_refusal 0 does.prints.failed (subst (λ a. (answer_status a ≡ 2) ⊎ (answer_status a ≡ 5)) does.prints.answer_is refused))
 command_untouched commands.Status task table start after left did does refused =
     absurd (done_is_no_refusal _ does.prints.failed (subst (λ a. (answer_status a ≡ 2) ⊎ (answer_status a ≡ 5)) does.prints.answer_is refused))
+command_untouched commands.Dup task table start after left did does refused = absurd (printing_not_refused (dup_text table) 0 start after left did does refused)
 command_untouched (commands.Sync way) task table start after left did does refused = sync_untouched left.answer task way table start after left did does refused
 command_untouched (commands.Scrub way) task table start after left did does refused = absurd (scrub_not_refused left.answer way task table start after left did does refused)
 command_untouched (commands.Check selection) task table start after left did does refused = absurd (check_not_refused left.answer modes.Check selection task table start after left did does refused)

@@ -19,6 +19,7 @@ use Rattle.snap_report.specs.declared.events.Event.{Event}
 use Rattle.repair_scope.specs.declared.scope.Mode.TheVariants as modes
 use Rattle.snap_sync.specs.Part.{SyncRun}
 use Rattle.snap_top.specs.Does.{DoesCommand}
+use Rattle.snap_top.specs.Dup.{dup_text}
 use Rattle.snap_top.specs.End.{ending_status, status_of}
 use Rattle.snap_top.specs.Ended.{has_ended}
 use Rattle.snap_top.specs.Fix.{FixRun}
@@ -46,7 +47,7 @@ use Rattle.snap_top.proofs.ExercisingLemmas.{changes_on_array, not_exercised}
 use Rattle.snap_top.proofs.LostLemmas.{FactsAreGenuine}
 use Rattle.snap_top.proofs.MomentLemmas.{CopiesAreOfPartSyncs, FixKeepsSound, LayoutIsOfTrees, reading_did, run_did_is, sound_reading, sound_run, stands_same}
 use Rattle.snap_top.proofs.NamingLemmas.{RowsAreKnown, checks_end}
-use Rattle.snap_top.proofs.OfFixLemmas.{HasFix, HasScrub, HasSync, check_did, run_did}
+use Rattle.snap_top.proofs.OfFixLemmas.{HasFix, HasScrub, HasSync, check_did, printing_did, run_did}
 use Rattle.snap_top.proofs.OfScrubLemmas.{ScrubKeepsSound, ScrubKeepsValid}
 use Rattle.snap_top.proofs.OfSyncLemmas.{KeepsItsStripes, given_folders}
 use Rattle.snap_top.proofs.PartLemmas.{PendingIsFound, ReadIsGiven, ReadIsPartSync, VerifiedIsFullSync, ended_in_part, ended_run}
@@ -161,6 +162,8 @@ module _ (says : BelowSays) (before : Entry) (exit : Exit) (tells : TellsAll bef
     ends_of : (command : Command) → ran.task.command ≡ command → DoesSo command → has_ended ran.did ≡ true → EndsBy ran.did before exit status
     ends_of commands.List command does ended = absurd (only_read ran.did does.did_is ended)
     ends_of commands.Status command does ended = absurd (only_read ran.did does.did_is ended)
+    ends_of commands.Dup command does ended =
+        absurd (only_read ran.did (printing_did (dup_text one.table) 0 one.start (world_of exit.after) left ran.did does) ended)
     ends_of (commands.Sync way) command does ended =
         let part = part_of way command (sync_is_done answer ran.task way one.table one.start (world_of exit.after) left ran.did does ended) in
         subst (λ (did : Did). EndsBy did before exit status) (sym part.1) (part.0, refl)
@@ -179,6 +182,7 @@ module _ (says : BelowSays) (before : Entry) (exit : Exit) (tells : TellsAll bef
     done_of : (command : Command) → ran.task.command ≡ command → ChangesFiles command → IsDoneAnswer answer → has_ended ran.did ≡ true
     done_of commands.List command changes done = absurd changes
     done_of commands.Status command changes done = absurd changes
+    done_of commands.Dup command changes done = absurd changes
     done_of (commands.Sync way) command changes done = ap has_ended (part_of way command done).1
     done_of (commands.Scrub way) command changes done = ap has_ended (scrubbed_of way command done).1
     done_of (commands.Check selection) command changes done = absurd changes

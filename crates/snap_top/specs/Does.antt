@@ -1,5 +1,5 @@
 -- What each command does, once its table is there: one line for each.
-use Rattle.std.specs.Prelude.{◌≡◌, ℕ, List, [], IsTrue, None, Option}
+use Rattle.std.specs.Prelude.{◌≡◌, ◌⊎◌, ℕ, List, [], IsTrue, None, Option}
 use Rattle.disk_model.specs.Vault.{ChangesBy, Holds}
 use Rattle.file_table.specs.Table.{TableValue}
 use Rattle.snap_config.specs.declared.options.Command.{Command}
@@ -10,9 +10,12 @@ use Rattle.snap_report.specs.ListText.{list_text}
 use Rattle.snap_report.specs.Report.{ReportView, AllGiven}
 use Rattle.snap_report.specs.StatusText.{status_text, bad_in}
 use Rattle.snap_report.specs.declared.answer.Answer.{Answer}
+use Rattle.snap_report.specs.declared.answer.Answer.TheVariants.{Broken}
+use Rattle.snap_report.specs.declared.answer.RunFault.TheVariants.{Memory}
 use Rattle.snap_report.specs.declared.events.Event.{Event}
 use Rattle.repair_scope.specs.declared.scope.Mode.TheVariants as modes
 use Rattle.snap_top.specs.Checking.{ChecksBy}
+use Rattle.snap_top.specs.Dup.{dup_text}
 use Rattle.snap_top.specs.Fixing.{FixesBy}
 use Rattle.snap_top.specs.Scrubbing.{ScrubsBy}
 use Rattle.snap_top.specs.Syncing.{SyncsBy}
@@ -26,10 +29,21 @@ pub record PrintsAlone (text : List ℕ) (counted : ℕ) (before after : World) 
   pub left_is : left ≡ record { answer = left.answer; named = None; counted = counted; told = [] }
   pub prints : Prints text counted before.out after.out left.answer
 
+-- it has not the memory that it needs, and touches nothing
+pub record StaysIdle (before after : World) (left : Left) (did : Did) : Type 0 where
+  pub did_is : did ≡ reads_only
+  pub others : after ≡ before
+  pub left_is : left ≡ record { answer = Broken Memory; named = None; counted = 0; told = [] }
+
+-- it prints a text so, or has no memory for it
+abbrev pub PrintsOrStays : List ℕ → ℕ → World → World → Left → Did → Type 0
+PrintsOrStays text counted before after left did = PrintsAlone text counted before after left did ⊎ StaysIdle before after left did
+
 -- By the command, from this table: what it did to the files of the vault, what else it touched, and its own relation.
 abbrev pub DoesCommand : Command → Task → TableValue → World → World → Left → Did → Type 0
 DoesCommand commands.List task table before after left did = PrintsAlone (list_text table.columns) 0 before after left did
 DoesCommand commands.Status task table before after left did = PrintsAlone (status_text table) (bad_in table.infos) before after left did
+DoesCommand commands.Dup task table before after left did = PrintsOrStays (dup_text table) 0 before after left did
 DoesCommand (commands.Sync way) task table before after left did = SyncsBy left.answer task way table before after left did
 DoesCommand (commands.Check selection) task table before after left did = ChecksBy left.answer modes.Check selection task table before after left did
 DoesCommand (commands.Audit selection) task table before after left did = ChecksBy left.answer modes.Audit selection task table before after left did

@@ -5,6 +5,7 @@ pub mod Check
 pub mod Checking
 pub mod Complete
 pub mod Does
+pub mod Dup
 pub mod End
 pub mod Ended
 pub mod Exercising

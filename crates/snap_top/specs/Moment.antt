@@ -101,6 +101,7 @@ BreaksBehind before exit (scrubs failed run) is = Unit {0}
 abbrev pub ChangesNothing : Command → Type 0
 ChangesNothing commands.List = Unit {0}
 ChangesNothing commands.Status = Unit {0}
+ChangesNothing commands.Dup = Unit {0}
 ChangesNothing (commands.Check selection) = Unit {0}
 ChangesNothing (commands.Audit selection) = Unit {0}
 ChangesNothing (commands.Exercise n) = Unit {0}

@@ -23,6 +23,7 @@ use Rattle.snap_report.specs.StatusText.{bad_in, status_text}
 use Rattle.snap_report.specs.Telling.{Tells, between}
 use Rattle.snap_report.specs.declared.events.Event.{Event}
 use Rattle.snap_top.specs.Check.{CheckRun, ChecksOver}
+use Rattle.snap_top.specs.Dup.{dup_text}
 use Rattle.snap_top.specs.Ended.{IsEndStatus, WentToItsEnd}
 use Rattle.snap_top.specs.Loading.{Loading}
 use Rattle.snap_top.specs.Lost.{NamesLost, NamesPending}
@@ -90,11 +91,12 @@ pub record EndsAudited (before : Entry) (exit : Exit) (status : ℕ) : Type 0 wh
 abbrev pub EndsAsAsked : Command → Entry → Exit → ℕ → Type 0
 EndsAsAsked commands.List before exit status = EndsPrinted commands.List (λ (table : TableValue). list_text table.columns) (λ (table : TableValue). 0) before exit status
 EndsAsAsked commands.Status before exit status = EndsPrinted commands.Status status_text (λ (table : TableValue). bad_in table.infos) before exit status
+EndsAsAsked commands.Dup before exit status = EndsPrinted commands.Dup dup_text (λ (table : TableValue). 0) before exit status
 EndsAsAsked (commands.Check selection) before exit status = EndsChecked before exit status
 EndsAsAsked (commands.Audit selection) before exit status = EndsAudited before exit status
 EndsAsAsked _ before exit status = Unit {0}
 
--- So a list, a status, a check and an audit end that were asked for and went to their ends, whatever the output did.
+-- So a list, a status, a list of duplicates, a check and an audit end that were asked for and went to their ends, whatever the output did.
 abbrev pub ChecksEnd : Entry → Exit → ℕ → Type 0
 ChecksEnd before exit status = TellsAll before → WentToItsEnd before exit status
     → (asked : Options) → asked_by before.texts ≡ Ok asked → EndsAsAsked asked.command before exit status

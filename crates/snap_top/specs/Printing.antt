@@ -1,4 +1,4 @@
--- What a run leaves that was asked to list the files, or for the status.
+-- What a run leaves that was asked to list the files or the duplicates, or for the status.
 use Rattle.std.specs.Prelude.{◌≡◌, ℕ, List, Bool, false, IsTrue}
 use Rattle.disk_model.specs.Cause.{Rose}
 use Rattle.disk_model.specs.Vault.{copies_of}

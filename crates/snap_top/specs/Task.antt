@@ -36,6 +36,7 @@ task_of job = record { command = job.command; readers = job.readers; setup = set
 abbrev pub WorksOnArray : Command → Type 0
 WorksOnArray commands.List = Unit {0}
 WorksOnArray commands.Status = Unit {0}
+WorksOnArray commands.Dup = Unit {0}
 WorksOnArray (commands.Sync way) = Unit {0}
 WorksOnArray (commands.Check selection) = Unit {0}
 WorksOnArray (commands.Audit selection) = Unit {0}

@@ -11,6 +11,7 @@ ghost use Rattle.snap_top.specs.Syncing.{IsOpened};
 ghost use Rattle.snap_top.specs.Views.{world_view};
 
 use crate::checking::check_array;
+use crate::dup::list_pairs;
 use crate::fixing::fix_array;
 use crate::job::{Done, Job};
 use crate::scrubbing::scrub_array;
@@ -24,7 +25,7 @@ use std::alloc::Global;
 use std::thread::Threads;
 
 /// The commands that are built.
-pub const COMMANDS: [CommandName; 7] = BUILT_COMMANDS;
+pub const COMMANDS: [CommandName; 8] = BUILT_COMMANDS;
 
 // Prints the files of a table, and answers whether a write failed.
 fn print_list<W: Sink>(table: &Table, out: &mut W) -> bool
@@ -98,6 +99,10 @@ pub(crate) fn carry_out<R: Threads + Sync, F: Folder, V: Vault, W: Sink>(
         },
         Command::Status => Done {
             answer: status(&table, out),
+            named: None,
+        },
+        Command::Dup => Done {
+            answer: list_pairs(alloc, &table, out),
             named: None,
         },
         Command::Sync(way) => {

@@ -26,6 +26,7 @@
 
 mod checking;
 mod commands;
+mod dup;
 mod empty;
 mod end;
 mod exercising;

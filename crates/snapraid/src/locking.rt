@@ -49,7 +49,7 @@ fn let_in(command: &Command) -> Beside {
     match command {
         Command::Sync(_) | Command::Scrub(_) | Command::Fix(_) => Beside::Nobody,
         Command::Check(_) | Command::Audit(_) => Beside::Readers,
-        Command::List | Command::Status | Command::Exercise(_) => Beside::Anybody,
+        Command::List | Command::Status | Command::Dup | Command::Exercise(_) => Beside::Anybody,
     }
 }
 

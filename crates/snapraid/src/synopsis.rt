@@ -5,7 +5,7 @@ use snap_top::COMMANDS;
 use std::alloc::Global;
 
 const ANY: &str =
-    "snapraid: usage: snapraid sync|scrub|check|fix|list|status|exercise [OPTION].., see 'man snapraid'\n";
+    "snapraid: usage: snapraid sync|scrub|check|fix|list|status|dup|exercise [OPTION].., see 'man snapraid'\n";
 
 /// Prints how the command among the words is called, or which commands there are, where the words are refused.
 pub fn print_synopsis<W: Sink>(alloc: Global, words: &[String], err: &mut W) {
@@ -49,6 +49,7 @@ fn synopsis(command: Option<CommandName>) -> &'static str {
         Some(CommandName::Exercise) =>
             "snapraid: usage: snapraid exercise NUMBER [-c FILE] [-l FILE]\n",
         Some(CommandName::Status) => "snapraid: usage: snapraid status [-c FILE] [-l FILE]\n",
+        Some(CommandName::Dup) => "snapraid: usage: snapraid dup [-c FILE] [-l FILE]\n",
         None => ANY,
     }
 }
