@@ -35,6 +35,7 @@ no_fix texts config asks = record { asked = asks.asked; words = asks.words; is_n
 quiet_no_fix : (command : Command) → ChangesNothing command → IsNoFix command
 quiet_no_fix commands.List quiet = tt
 quiet_no_fix commands.Status quiet = tt
+quiet_no_fix commands.Dup quiet = tt
 quiet_no_fix (commands.Check _) quiet = tt
 quiet_no_fix (commands.Audit _) quiet = tt
 quiet_no_fix (commands.Sync _) quiet = absurd quiet

@@ -106,7 +106,7 @@ fn ask_for_no_change(alloc: Global, words: &[String]) -> bool
     match read_words_among(alloc, &COMMANDS, words) {
         Ok(asked) => matches!(
             asked.command,
-            Command::List | Command::Status | Command::Check(_) | Command::Audit(_)
+            Command::List | Command::Status | Command::Dup | Command::Check(_) | Command::Audit(_)
         ),
         Err(_) => false,
     }
