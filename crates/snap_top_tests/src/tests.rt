@@ -2,6 +2,7 @@
 mod configuration;
 mod contents;
 mod damage;
+mod duplicates;
 mod exercise;
 mod faults;
 mod matching;

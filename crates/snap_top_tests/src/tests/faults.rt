@@ -1,5 +1,5 @@
-// Each call of a list and of a status failing in turn, and failures beside others.
-use crate::tests::usual::{KEPT, REFUSED, STATUS};
+// Each call of a list, of a status and of a list of duplicates failing in turn, and failures beside others.
+use crate::tests::usual::{DUP, KEPT, REFUSED, STATUS};
 use snap_top_memory::arrays::{Failing, NONE};
 use snap_top_memory::cases::{Case, plays};
 use snap_top_memory::contents::ONE_FILE;
@@ -22,6 +22,12 @@ const SHOWN: Case = Case {
     ..LISTED
 };
 
+const PAIRED: Case = Case {
+    words: DUP,
+    out: "dup: 0 pairs\n",
+    ..LISTED
+};
+
 const UNOPENED: Ended = (3, "", "snapraid: configuration or opening failed\n");
 
 const NO_VAULT: Ended = (3, "", "snapraid: parity or content failed\n");
@@ -29,7 +35,7 @@ const NO_VAULT: Ended = (3, "", "snapraid: parity or content failed\n");
 // The configuration is read, and all is opened. The content is asked for its size and read. All lines are written at once.
 // No folder is asked for anything, and nothing is written to the other stream.
 #[test]
-fn each_call_of_a_list_and_of_a_status_fails(rt: HostRuntime) -> Result<(), Fail> {
+fn each_call_of_what_prints_a_table_fails(rt: HostRuntime) -> Result<(), Fail> {
     static LISTS: Turns = Turns {
         before: None,
         whole: LISTED,
@@ -39,6 +45,11 @@ fn each_call_of_a_list_and_of_a_status_fails(rt: HostRuntime) -> Result<(), Fail
         before: None,
         whole: SHOWN,
         next: SHOWN,
+    };
+    static PAIRS: Turns = Turns {
+        before: None,
+        whole: PAIRED,
+        next: PAIRED,
     };
     static OBJECTS: [Calls; 5] = [
         Calls {
@@ -64,7 +75,8 @@ fn each_call_of_a_list_and_of_a_status_fails(rt: HostRuntime) -> Result<(), Fail
     ];
     let alloc = rt.alloc();
     each_call_fails(&rt, alloc, &LISTS, &OBJECTS, WRITTEN)?;
-    each_call_fails(&rt, alloc, &SHOWS, &OBJECTS, WRITTEN)
+    each_call_fails(&rt, alloc, &SHOWS, &OBJECTS, WRITTEN)?;
+    each_call_fails(&rt, alloc, &PAIRS, &OBJECTS, WRITTEN)
 }
 
 // A standard error that fails changes no status of a run that is refused or aborted.

@@ -4,6 +4,8 @@ use snap_top_memory::contents::ONE_FILE;
 
 pub const STATUS: &[&str] = &["snapraid", "status", "-c", "FILE"];
 
+pub const DUP: &[&str] = &["snapraid", "dup", "-c", "FILE"];
+
 /// A list over the content of one file that was synced, which prints nothing.
 pub const KEPT: Case = Case {
     put: &[Some(ONE_FILE)],

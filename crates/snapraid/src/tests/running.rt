@@ -47,7 +47,7 @@ static CONTENT: [u8; 127] = [
 
 #[test]
 fn lists_a_synced_file(rt: HostRuntime) -> Result<(), Fail> {
-    static CASES: [Case; 3] = [
+    static CASES: [Case; 4] = [
         Case {
             command: "list",
             status: 0,
@@ -59,6 +59,12 @@ fn lists_a_synced_file(rt: HostRuntime) -> Result<(), Fail> {
             status: 0,
             out: "files 1\nbytes 10\nstripes 1\nsynced 1\npending 0\nfresh 1\nbad 0\noldest 100\n\
                   disk d1 files 1 blocks 1 free 0\n",
+            err: "",
+        },
+        Case {
+            command: "dup",
+            status: 0,
+            out: "dup: 0 pairs\n",
             err: "",
         },
         Case {
