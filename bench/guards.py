@@ -16,7 +16,7 @@ from tracing import Tamper, traced
 REFUSED = "snapraid: configuration or opening failed\nsnapraid: "
 TAKEN = REFUSED + "lock '{room}/conf': another run has locked it\n"
 WRITERS = ("sync", "scrub -p full", "fix")
-READERS = ("list", "status")
+READERS = ("list", "status", "dup")
 
 
 def changed(array, before, but=()):
@@ -321,7 +321,7 @@ SAME_FILES = [
 
 SCENES = [
     *((f"a second run that writes, or checks, beside a {first}", beside(first, (*WRITERS, "check"), True)) for first in WRITERS),
-    *((f"a list and a status beside a {first}", beside(first, READERS, False)) for first in WRITERS),
+    *((f"a list, a status and a dup beside a {first}", beside(first, READERS, False)) for first in WRITERS),
     ("a second check beside a check", beside("check", ("check", "check -a", *READERS), False)),
     ("a run that writes beside a check", beside("check", WRITERS, True)),
     ("the log of a run that is refused", refused_leaves_log),

@@ -17,7 +17,7 @@ _snapraid_options() {
         scrub) echo "$all $planned --readers" ;;
         check) echo "$all $chosen -a --audit-only --readers" ;;
         fix) echo "$all $chosen --readers" ;;
-        list | status | exercise) echo "$all" ;;
+        list | status | dup | exercise) echo "$all" ;;
         *) echo "$all $chosen -a --audit-only $planned $forced --readers" ;;
     esac
 }
@@ -48,7 +48,7 @@ _snapraid() {
         elif _snapraid_takes_value "$value"; then
             option=$value
         else
-            case $value in sync | scrub | check | fix | list | status | exercise) command=$value ;; esac
+            case $value in sync | scrub | check | fix | list | status | dup | exercise) command=$value ;; esac
         fi
         i=$((i + 1))
     done
@@ -76,7 +76,7 @@ _snapraid() {
     if [[ $word == -* ]]; then
         mapfile -t COMPREPLY < <(compgen -W "$(_snapraid_options "$command")" -- "$word")
     elif [ -z "$command" ]; then
-        mapfile -t COMPREPLY < <(compgen -W "sync scrub check fix list status exercise" -- "$word")
+        mapfile -t COMPREPLY < <(compgen -W "sync scrub check fix list status dup exercise" -- "$word")
     fi
 }
 

@@ -8,7 +8,7 @@ function __snapraid_command
             set skip 0
         else if contains -- $word -c --conf -l --log -f --filter -d --filter-disk -p --plan -o --older-than --save-every --readers
             set skip 1
-        else if contains -- $word sync scrub check fix list status exercise
+        else if contains -- $word sync scrub check fix list status dup exercise
             echo $word
             return 0
         end
@@ -48,6 +48,7 @@ complete -c snapraid -n 'not __snapraid_command' -a check -d 'report what is dam
 complete -c snapraid -n 'not __snapraid_command' -a fix -d 'restore files and parity'
 complete -c snapraid -n 'not __snapraid_command' -a list -d 'print the files of the table'
 complete -c snapraid -n 'not __snapraid_command' -a status -d 'print counts of the table'
+complete -c snapraid -n 'not __snapraid_command' -a dup -d 'print which files hold the same'
 complete -c snapraid -n 'not __snapraid_command' -a exercise -d 'try it on an array in memory'
 
 complete -c snapraid -s c -l conf -r -F -d 'the configuration'
