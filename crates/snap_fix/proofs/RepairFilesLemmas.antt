@@ -218,8 +218,7 @@ module _ {W R : Type 0} (view : W → SinkView) (standing : R → ReportView) (s
       folders = many_new ∙ so_far.folders;
       broke = λ facts is shows.
           let mended : Mended = record { facts = facts; answers = answers } in
-          let shown : AreMendedAs so_far.answers mended = first_shown facts is shows in
-          (
+          let shown : AreMendedAs so_far.answers mended = first_shown facts is shows in (
             answers,
             λ k below tells goes. fit mended shown refl k below tells goes (cases_lt k d),
             told_as view standing stands plan.table.columns (events_to (cell_news plan mended) d) (events_to (cell_news plan mended) d ++ []) old.lines new.lines old.reports new.reports

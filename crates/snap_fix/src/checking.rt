@@ -29,7 +29,9 @@ use repair_scope::Plan;
 use snap_report::{Lines, Report};
 use std::mem::swap;
 use std::thread::{Threads, join_mut};
-use stripe_examiner::{Counts, Room, Spare, StripeRoom, Survey, examine_fetched, take_levels_ahead, tell_stripe};
+use stripe_examiner::{
+    Counts, Room, Spare, StripeRoom, Survey, examine_fetched, take_levels_ahead, tell_stripe,
+};
 use stripe_reader::{Starts, Window};
 
 // Tells what is found in the stripes of a window that was examined, one stripe after another.

@@ -104,7 +104,12 @@ fn read_stripes_ahead<R: Threads + Sync, V: Vault>(rt: &R, survey: &Survey<'_>, 
 {
     // A table has blocks of at most 4 MiB.
     let block_size = survey.plan.table.shape().block_size;
-    read_ahead(rt, vault, stripes_ahead(&survey.plan, survey.stripes), block_size);
+    read_ahead(
+        rt,
+        vault,
+        stripes_ahead(&survey.plan, survey.stripes),
+        block_size,
+    );
 }
 
 // Reads the levels of stripes ahead, and then takes them one stripe after another.
