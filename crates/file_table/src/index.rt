@@ -58,6 +58,11 @@ impl Index {
         ensures { MatchOption result (All (λ (spot : Spot). spot.position ≢ position) self.now)
             (λ place. Contains self.now (record { position = position; place = place })) }
     {
+        // Where no position below it is free, a block's spot stands at the number of its position.
+        let first = position as usize;
+        if first < self.spots.len() && self.spots[first].position == position {
+            return Some(self.spots[first].place);
+        }
         match number_of(&self.spots, position) {
             Ok(number) => Some(self.spots[number].place),
             Err(_) => None,
