@@ -1,7 +1,7 @@
 -- A check that goes from window to window.
 use Rattle.std.proofs.Common.{◌≡◌, ℕ, ◌+◌, ◌-◌, ◌≤◌, List, [], ◌++◌, length, take, drop, refl, sym, ap, ◌∙◌, subst, arith}
 use Rattle.std.specs.Prelude.{min}
-use Rattle.std.proofs.lemmas.List.{append-nil, length-drop, length-map, length-take-le, take_all}
+use Rattle.std.proofs.lemmas.List.{append-nil, length-drop, length-take-le, take_all}
 use Rattle.disk_model.specs.Folder.{FolderView}
 use Rattle.disk_model.specs.Sink.{SinkView}
 use Rattle.disk_model.specs.Vault.{VaultView, IsUntouched}
@@ -10,7 +10,7 @@ use Rattle.snap_report.specs.Report.{ReportView}
 use Rattle.snap_report.specs.declared.events.Event.{Event}
 use Rattle.snap_report.specs.declared.pages.Lines.{Lines}
 use Rattle.stripe_reader.specs.Columns.{ReadsWindow}
-use Rattle.stripe_reader.specs.Fetched.{FetchesWindow, hashed_front, hashed_window}
+use Rattle.stripe_reader.specs.Fetched.{FetchesWindow, hashed_window}
 use Rattle.stripe_reader.specs.Starts.{StartsValue}
 use Rattle.stripe_reader.specs.WindowValue.{Fits, WindowValue}
 use Rattle.snap_fix.specs.declared.beginning.Work.{Work}
@@ -22,6 +22,7 @@ use Rattle.stripe_examiner.specs.Facts.{StripeFacts}
 use Rattle.stripe_examiner.specs.Looking.{AreRead, LooksAt, LooksInto, Scene, numbers_of, scene}
 use Rattle.stripe_examiner.specs.Room.{IsRoomFor}
 use Rattle.stripe_examiner.specs.Spare.{SpareView}
+use Rattle.stripe_reader.proofs.HashedLemmas.{lanes_hashed}
 use Rattle.stripe_examiner.proofs.AheadLemmas.{levels_left}
 use Rattle.stripe_examiner.proofs.LookingLemmas.{looks_none}
 use Rattle.snap_fix.proofs.CheckLemmas.{checked_more, keeps_then}
@@ -43,9 +44,6 @@ pub record IsChecking {W R : Type 0} (view : W → SinkView) (standing : R → R
 -- so many of those behind others
 part_long : (xs : List ℕ) (at n : ℕ) → at + n ≤ length xs → length (take n (drop at xs)) ≡ n
 part_long xs at n within = length-take-le n (drop at xs) (omega (arith, within, length-drop at xs))
-
-lanes_hashed : (table : TableValue) (window : WindowValue) → length (hashed_window table.shape window).lanes ≡ length window.lanes
-lanes_hashed table window = length-map window.lanes (hashed_front table.shape window.count)
 
 -- the stripes of the two windows, as the code cuts them out
 pub near_as : (work : Work) (xs : List ℕ) (done count : ℕ) → xs ≡ work.stripes.items → count ≡ work.room.window.count
@@ -76,7 +74,7 @@ module _ (table : TableValue) (first : Work) (near far : WindowValue) (olds news
   room_begun = record {
     some = omega (arith, is.room.some, fetched.read.room);
     just = fetched.read.room ∙ is.room.just;
-    window = record { lanes = sym (lanes_hashed table near) ∙ fetched.read.lanes ∙ is.room.window.lanes; block_size = fetched.read.block_size ∙ is.room.window.block_size };
+    window = record { lanes = sym (lanes_hashed table.shape near) ∙ fetched.read.lanes ∙ is.room.window.lanes; block_size = fetched.read.block_size ∙ is.room.window.block_size };
     block = is.room.block;
     as_many = is.room.as_many ∙ sym fetched.read.room;
     each = is.room.each;
@@ -164,7 +162,7 @@ module _ {W R : Type 0} (view : W → SinkView) (standing : R → ReportView) (s
       → (under : IsChecking view standing stands table first work far done counts olds news old new) → length news ≡ length table.columns
       → length under.before.lanes ≡ length under.mids
   before_lanes work far done counts olds news old new under folders =
-      omega (arith, under.fetched.lanes, lanes_hashed table work.room.window, under.ready.is_work.room.window.lanes, under.fetched.folders, folders)
+      omega (arith, under.fetched.lanes, lanes_hashed table.shape work.room.window, under.ready.is_work.room.window.lanes, under.fetched.folders, folders)
 
   -- one window more
   pub checking_more : (work turned swapped : Work) (far next_far last : WindowValue) (done count : ℕ) (one more both : Counts) (olds mids news : List FolderView) (old mid new : Scene W R)

@@ -20,7 +20,8 @@ use Rattle.snap_scrub.specs.Looking.{LooksInto, LooksOver, Scene, scene}
 use Rattle.snap_scrub.specs.Marks.{at_most}
 use Rattle.snap_scrub.specs.Room.{IsEnoughFor, IsRoomFor, IsWorkFor}
 use Rattle.snap_scrub.specs.Windows.{IsReady, KeepsWork, LooksNear, Turns, stripes_near, stripes_next}
-use Rattle.snap_scrub.proofs.HashedLemmas.{fits_after, fits_hashed}
+use Rattle.stripe_reader.proofs.HashedLemmas.{fits_hashed}
+use Rattle.snap_scrub.proofs.HashedLemmas.{fits_after}
 use Rattle.snap_scrub.proofs.OverLemmas.{over_none, over_more, slice_is, written_slice}
 use Rattle.snap_scrub.proofs.LookingLemmas.{into_none}
 
@@ -89,7 +90,7 @@ module _ (table : TableValue) (work : Work) (done : ℕ) (turned : Work) (ready 
   room_after = record {
     starts = ready.is_work.room.starts;
     near = fits_after table (recorded_starts table) (stripes_next work done) work.room.far turned.room.far mids news fetched ready.is_work.room.far;
-    far = fits_hashed table work.room.near ready.is_work.room.near;
+    far = fits_hashed table table.shape work.room.near ready.is_work.room.near;
     check = turns.check.room;
     near_sums = omega (arith, ready.is_work.room.far_sums, fetched.read.room, turns.check.as_many);
     far_sums = omega (arith, ready.is_work.room.near_sums, turns.check.as_many);
@@ -140,7 +141,7 @@ module _ {W R : Type 0} (view : W → SinkView) (standing : R → ReportView) (s
       let near = hashed_window table.shape work.room.near in
       let read = under.fetched.read in
       let over = over_more view standing stands table all done here (take done work.verdicts.items) (take (done + here) turned.verdicts.items) one more both under.before near looks.verdicts olds under.mids mids old mid new
-      both_is (fits_hashed table work.room.near ready.is_work.room.near).lanes (sym read.folders ∙ folders) (sym (length_after all done here ready.within)) looks.follow under.looks read looks.looks in
+      both_is (fits_hashed table table.shape work.room.near ready.is_work.room.near).lanes (sym read.folders ∙ folders) (sym (length_after all done here ready.within)) looks.follow under.looks read looks.looks in
       subst (λ (it : Work). IsUnderway view standing stands table it (done + count) both olds news old new) (sym (swapped_is table work done turned ready turns mids news fetched swapped swap))
       (subst (λ (n : ℕ). IsUnderway view standing stands table (after table work done turned ready turns mids news fetched) (done + n) both olds news old new) (sym count_is) (record {
         ready = ready_after table work done turned ready turns mids news fetched;
@@ -160,7 +161,7 @@ module _ {W R : Type 0} (view : W → SinkView) (standing : R → ReportView) (s
       let read : ReadsWindow table (recorded_starts table) (take 0 (drop done all)) under.before near under.mids news
       = subst (λ (n : ℕ). ReadsWindow table (recorded_starts table) (take n (drop done all)) under.before near under.mids news) none under.fetched.read in
       let over = over_more view standing stands table all done 0 (take done work.verdicts.items) (take done work.verdicts.items) findings 0 findings under.before near [] olds under.mids news old new new
-      (omega (arith, under.looks.findings_are)) (fits_hashed table work.room.near under.ready.is_work.room.near).lanes (sym under.fetched.read.folders ∙ folders) refl (sym (append-nil (take done work.verdicts.items))) under.looks read
+      (omega (arith, under.looks.findings_are)) (fits_hashed table table.shape work.room.near under.ready.is_work.room.near).lanes (sym under.fetched.read.folders ∙ folders) refl (sym (append-nil (take done work.verdicts.items))) under.looks read
       (into_none view standing stands table (take 0 (drop done all)) near [] new refl) in
       subst (λ (its : List Verdict). LooksOver view standing stands table first.stripes.items its findings olds news old new) (take_all done work.verdicts.items (omega (arith, behind, under.ready.is_work.verdicts)))
       (subst (λ (its : List ℕ). LooksOver view standing stands table its (take done work.verdicts.items) findings olds news old new) (take_all (done + 0) all (omega (arith, behind)) ∙ ap (λ its. its.items) kept.stripes) over)

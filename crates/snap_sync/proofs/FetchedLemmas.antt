@@ -1,6 +1,5 @@
 -- A turn of a sync as if the near window had had its digests before, and as if the far one had been read with them.
 use Rattle.std.proofs.Common.{◌≡◌, ℕ, List, length, map, take, All, Bool, Option, Result, refl, sym, ap, ◌∙◌, subst}
-use Rattle.std.proofs.lemmas.List.{length-map}
 use Rattle.disk_model.specs.Folder.{FolderView}
 use Rattle.disk_model.specs.Sink.{SinkView}
 use Rattle.disk_model.specs.declared.fault.Failed.{Failed}
@@ -11,10 +10,10 @@ use Rattle.snap_report.specs.Report.{ReportView}
 use Rattle.snap_report.specs.declared.events.Event.{Event}
 use Rattle.stripe_findings.specs.Reading.{StripeReading, is_verified}
 use Rattle.stripe_reader.specs.Columns.{ReadsWindow}
-use Rattle.stripe_reader.specs.Fetched.{FetchesWindow, IsUnhashedWindow, hashed_front, hashed_window}
-use Rattle.stripe_reader.specs.Held.{HoldsStripes}
+use Rattle.stripe_reader.specs.Fetched.{FetchesWindow, IsUnhashedWindow, hashed_window}
 use Rattle.stripe_reader.specs.Starts.{StartsValue}
 use Rattle.stripe_reader.specs.WindowValue.{WindowValue, Fits}
+use Rattle.stripe_reader.proofs.HashedLemmas.{fits_hashed, lanes_hashed}
 use Rattle.snap_sync.specs.declared.beginning.Work.{Work}
 use Rattle.snap_sync.specs.declared.judging.Counts.{Counts}
 use Rattle.snap_sync.specs.Closing.{closed}
@@ -24,19 +23,10 @@ use Rattle.snap_sync.proofs.StaysLemmas.{differs-closed}
 use Rattle.snap_sync.proofs.TasksLemmas.{reads_window-by_closed}
 use Rattle.snap_sync.proofs.WorkLemmas.{Judges, ReadsFar, sums_again, swapped_of}
 
--- ---- a window with its digests fits as before
-
-lanes_hashed : (shape : Shape) (window : WindowValue) → length (hashed_window shape window).lanes ≡ length window.lanes
-lanes_hashed shape window = length-map window.lanes (hashed_front shape window.count)
-
-pub fits_hashed : (table : TableValue) (shape : Shape) (window : WindowValue) → Fits table window → Fits table (hashed_window shape window)
-fits_hashed table shape window fits = record { lanes = lanes_hashed shape window ∙ fits.lanes; block_size = fits.block_size }
+-- ---- a window fits where it did with its digests
 
 fits_without : (table : TableValue) (shape : Shape) (window : WindowValue) → Fits table (hashed_window shape window) → Fits table window
 fits_without table shape window fits = record { lanes = sym (lanes_hashed shape window) ∙ fits.lanes; block_size = fits.block_size }
-
-pub holds_hashed : (table : TableValue) (stripes : List ℕ) (window after : WindowValue) → after ≡ hashed_window table.shape window → HoldsStripes table stripes window → HoldsStripes table stripes after
-holds_hashed table stripes window after is holds = subst (HoldsStripes table stripes) (sym is) (record { fits = fits_hashed table table.shape window holds.fits; count = holds.count; within = holds.within })
 
 -- ---- work whose windows have their digests
 

@@ -1,12 +1,11 @@
--- The rooms of the stripes of a window stand at the front of all rooms, and a window that is hashed fits as before.
+-- The rooms of the stripes of a window stand at the front of all rooms.
 use Rattle.std.proofs.Common.{◌≡◌, ℕ, ◌+◌, ◌<◌, ◌≤◌, List, ◌++◌, length, drop, get_or, sym, ap, ◌∙◌, subst, arith}
 use Rattle.std.specs.List.{All}
 use Rattle.std.proofs.lemmas.List.{get_or-drop, get_or-map, get_or_append_left, length-drop, length-map}
 use Rattle.std.proofs.lemmas.List.Elements.{All-append}
 use Rattle.disk_model.specs.Vault.{VaultView}
 use Rattle.file_table.specs.Table.{TableValue}
-use Rattle.stripe_reader.specs.Fetched.{hashed_front, hashed_window}
-use Rattle.stripe_reader.specs.WindowValue.{Fits, WindowValue}
+use Rattle.stripe_reader.specs.WindowValue.{WindowValue}
 use Rattle.stripe_examiner.specs.declared.room.StripeRoom.{StripeRoom}
 use Rattle.stripe_examiner.specs.Facts.{StripeFacts}
 use Rattle.stripe_examiner.specs.Looking.{LevelsAreRead, facts_at, no_facts, numbers_of}
@@ -58,6 +57,3 @@ levels_as_read plan numbers stripes olds old new many are levels reads =
       reads.are k other within ∙ sym (levels k other within),
     ))
     reads.read
-
-pub fits_hashed : (table : TableValue) (window : WindowValue) → Fits table window → Fits table (hashed_window table.shape window)
-fits_hashed table window fits = record { lanes = length-map window.lanes (hashed_front table.shape window.count) ∙ fits.lanes; block_size = fits.block_size }

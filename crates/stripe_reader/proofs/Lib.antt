@@ -8,5 +8,6 @@ pub mod ReadingsLemmas
 pub mod PutLemmas
 pub mod HashingLemmas
 pub mod FrontLemmas
+pub mod HashedLemmas
 pub mod LaneLemmas
 pub mod PartLemmas

@@ -1,7 +1,7 @@
 use Rattle.std.proofs.Common.{ap, ◌∙◌}
 use Rattle.file_table.specs.declared.shape.Shape.{Shape}
 use Rattle.stripe_reader.specs.Fetched.{hashed_window}
-use Rattle.snap_scrub.proofs.HashedLemmas.{holds_hashed}
+use Rattle.stripe_reader.proofs.HashedLemmas.{holds_hashed}
 use Rattle.snap_scrub.proofs.windows.hash_near.Goals as goal
 
 pub returns-clause-hashed : goal.returns-clause-hashed

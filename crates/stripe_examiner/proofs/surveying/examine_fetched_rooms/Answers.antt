@@ -4,7 +4,8 @@ use Rattle.stripe_reader.specs.Fetched.{hashed_window}
 use Rattle.stripe_reader.specs.WindowValue.{Fits, WindowValue}
 use Rattle.stripe_examiner.specs.Marks.{slots_at}
 use Rattle.stripe_examiner.specs.Surveyed.{plan_in}
-use Rattle.stripe_examiner.proofs.FrontLemmas.{all_rooms, fits_hashed, levels_as_read, shown_in_front}
+use Rattle.stripe_reader.proofs.HashedLemmas.{fits_hashed}
+use Rattle.stripe_examiner.proofs.FrontLemmas.{all_rooms, levels_as_read, shown_in_front}
 use Rattle.stripe_examiner.proofs.WindowShown.{fits_as_large}
 use Rattle.stripe_examiner.proofs.surveying.examine_fetched_rooms.Goals as goal
 
@@ -15,7 +16,7 @@ pub examine_read-requires-clause-can : goal.examine_read-requires-clause-can
 examine_read-requires-clause-can g c κs outlive = record {
   entries = c.requires.can.entries;
   within = c.requires.can.within;
-  fits = subst (Fits c.args.survey.now.plan.table.now) (sym c.hash_beside.ensures.window) (fits_hashed c.args.survey.now.plan.table.now c.args.window.now c.requires.can.fits);
+  fits = subst (Fits c.args.survey.now.plan.table.now) (sym c.hash_beside.ensures.window) (fits_hashed c.args.survey.now.plan.table.now c.args.survey.now.plan.table.now.shape c.args.window.now c.requires.can.fits);
   number = ap (λ (it : WindowValue). it.count) c.hash_beside.ensures.window ∙ c.requires.can.number;
 }
 
@@ -37,7 +38,7 @@ returns-clause-examined g c =
       asked = ex.asked;
       rooms_are = all_rooms table (length numbers) c.examine_read.new.rooms all ex.rooms_are c.requires.can.as_many c.requires.can.each;
       fits = fits_as_large table (hashed_window table.shape c.args.window.now) c.examine_read.new.window
-          (rw (sym hashed.window) ex.large) (fits_hashed table c.args.window.now c.requires.can.fits);
+          (rw (sym hashed.window) ex.large) (fits_hashed table table.shape c.args.window.now c.requires.can.fits);
       as_large = ex.large.room ∙ ap (λ (it : WindowValue). it.room) hashed.window;
     }
 
