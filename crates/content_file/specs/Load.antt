@@ -8,6 +8,7 @@ use Rattle.disk_model.specs.Files.{Stays, content_of}
 use Rattle.disk_model.specs.Vault.{VaultView, VaultCall, VaultDone, plain_done, SomeCalls, ChangesBy, DraftsStay, ContentSize, ContentRead, copies_of}
 use Rattle.file_table.specs.Table.{TableValue}
 use Rattle.file_table.specs.Valid.{IsValid}
+use Rattle.content_file.specs.Save.{piece_size}
 use Rattle.content_file.specs.Spelling.{spelling, IsContent}
 use Rattle.content_file.specs.Flaw.{Damage}
 use Rattle.content_file.specs.FirstFlaw.{first_flaw}
@@ -21,7 +22,7 @@ use Rattle.content_file.specs.declared.loading.LoadFault.TheVariants as loads
 
 -- how many bytes of a copy are read at once, at most
 abbrev pub most_read : ℕ
-most_read = 65536
+most_read = piece_size
 
 -- a call that reads a piece of a copy, or its size
 abbrev pub IsReadOf : ℕ → VaultCall → Type 0

@@ -19,6 +19,10 @@ HasSaved copies bytes files = (copy : ℕ) → copy < copies → content_of file
 abbrev pub HasNoDraft : VaultView → Type 0
 HasNoDraft v = (copy : ℕ) → draft_of v copy ≡ Absent
 
+-- how many bytes of a copy are read, or written to a draft, at once
+abbrev pub piece_size : ℕ
+piece_size = 65536
+
 -- bytes in pieces of a size, of which the last may be shorter: the n-th, and how many they are
 abbrev pub piece_of : ℕ → List ℕ → ℕ → List ℕ
 piece_of size bytes n = take size (drop (n * size) bytes)

@@ -35,5 +35,5 @@ pub use decoding::decode;
 pub use digest::TableDigest;
 pub use encoder::Encoder;
 pub use fault::{Damage, DecodeFault, Flaw};
-pub use loading::{LoadFault, load};
+pub use loading::{LoadFault, PIECE, load};
 pub use saving::save;

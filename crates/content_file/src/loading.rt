@@ -11,8 +11,8 @@ use disk_model::{Failed, Vault};
 use file_table::Table;
 use std::alloc::Global;
 
-// How many bytes of a copy are read at once.
-const PIECE: usize = 65_536;
+/// How many bytes of a copy are read at once, and how many a command writes to a draft at once.
+pub const PIECE: usize = 65_536;
 
 /// Why no table was loaded.
 #[derive(Drop)]

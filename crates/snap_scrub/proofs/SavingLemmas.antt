@@ -3,7 +3,7 @@ use Rattle.std.proofs.Common.{◌≡◌, ◌≢◌, ℕ, ◌+◌, List, [], ◌�
 use Rattle.std.specs.Prelude.{sum_by, is_err, Result, Ok, Err, IsOk, OnOk}
 use Rattle.std.specs.List.{flat_map}
 use Rattle.std.proofs.lemmas.List.{append-nil}
-use Rattle.content_file.specs.Save.{MaySave, HasNoDraft, piecewise_calls}
+use Rattle.content_file.specs.Save.{MaySave, HasNoDraft, piecewise_calls, piece_size}
 use Rattle.content_file.specs.Spelling.{spelling}
 use Rattle.disk_model.specs.Cause.{RoseBy}
 use Rattle.disk_model.specs.Files.{Files}
@@ -17,7 +17,6 @@ use Rattle.file_table.specs.Table.{TableValue}
 use Rattle.snap_scrub.specs.Course.{TouchesVault}
 use Rattle.stripe_findings.specs.Reading.{stripes_of}
 use Rattle.snap_scrub.specs.Reading.{ScrubReading, LevelsAreRead, cells_of, level_calls, unread_levels}
-use Rattle.snap_scrub.specs.Room.{piece_size}
 use Rattle.snap_scrub.specs.Saving.{Saves}
 use Rattle.snap_scrub.proofs.ReadingLemmas.{vault_goes_on}
 

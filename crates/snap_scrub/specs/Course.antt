@@ -1,7 +1,7 @@
 -- A scrub as a whole: what it leaves, and why it did not end.
 use Rattle.std.specs.Prelude.{◌≡◌, ◌≢◌, ℕ, ◌+◌, List, [], ◌∷◌, ◌++◌, length, All, sum_by, Bool, true, false}
 use Rattle.std.specs.List.{flat_map}
-use Rattle.content_file.specs.Save.{MaySave, HasSaved, HasNoDraft, piecewise_calls}
+use Rattle.content_file.specs.Save.{MaySave, HasSaved, HasNoDraft, piecewise_calls, piece_size}
 use Rattle.content_file.specs.Spelling.{spelling}
 use Rattle.disk_model.specs.Cause.{RoseBy, Grows}
 use Rattle.disk_model.specs.Files.{Files, Stays}
@@ -26,7 +26,6 @@ use Rattle.snap_scrub.specs.Findings.{events_of}
 use Rattle.snap_scrub.specs.Marks.{scrubbed, at_most}
 use Rattle.snap_scrub.specs.Plan.{plan_of}
 use Rattle.snap_scrub.specs.Reading.{ScrubReading, HasLevels, AreLevelsOf, cells_of, level_calls, unread_levels}
-use Rattle.snap_scrub.specs.Room.{piece_size}
 
 -- what a scrub works on: the folders, the vault, the lines, and those who are told
 pub record Outside (W R : Type 0) : Type 1 where

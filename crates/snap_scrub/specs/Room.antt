@@ -1,5 +1,6 @@
 -- The memory of a scrub.
 use Rattle.std.specs.Prelude.{◌≡◌, ℕ, ◌<◌, ◌≤◌, length, All}
+use Rattle.content_file.specs.Save.{piece_size}
 use Rattle.file_table.specs.Table.{TableValue}
 use Rattle.parity_writer.specs.Summing.{HaveSize}
 use Rattle.stripe_reader.specs.Fetched.{hashed_window}
@@ -8,10 +9,6 @@ use Rattle.stripe_reader.specs.WindowValue.{Fits}
 use Rattle.snap_scrub.specs.declared.room.Check.{Check}
 use Rattle.snap_scrub.specs.declared.room.Room.{Room}
 use Rattle.snap_scrub.specs.declared.beginning.Work.{Work}
-
--- how many bytes are written to a draft at once
-abbrev pub piece_size : ℕ
-piece_size = 65536
 
 -- room for the levels of a stripe of a table, and for the sums of some
 pub record IsCheckFor (table : TableValue) (check : Check) : Type 0 where

@@ -1,12 +1,11 @@
 -- The table is saved at the end of a scrub.
 use Rattle.std.specs.Prelude.{Result, OnOk}
-use Rattle.content_file.specs.Save.{MaySave, HasSaved, HasNoDraft, piecewise_calls}
+use Rattle.content_file.specs.Save.{MaySave, HasSaved, HasNoDraft, piecewise_calls, piece_size}
 use Rattle.content_file.specs.Spelling.{spelling}
 use Rattle.disk_model.specs.Ran.{Ran}
 use Rattle.disk_model.specs.Vault.{VaultView, SomeCalls, ChangesBy, Holds, copies_of, state_of}
 use Rattle.disk_model.specs.declared.fault.Failed.{Failed}
 use Rattle.file_table.specs.Table.{TableValue}
-use Rattle.snap_scrub.specs.Room.{piece_size}
 
 -- A table is saved to every copy, up to the first call that failed.
 pub record Saves {T : Type 0} (table : TableValue) (result : Result T Failed) (old new : VaultView) : Type 0 where

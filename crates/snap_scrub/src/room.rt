@@ -2,14 +2,12 @@
 ghost use Rattle.std.specs.Prelude.{IfOk};
 ghost use Rattle.snap_scrub.specs.Room.{IsRoomFor, IsEnoughFor};
 
+use content_file::PIECE;
 use disk_model::NoMemory;
 use file_table::Table;
 use parity_writer::{Levels, Sums, make_sums};
 use std::alloc::Global;
 use stripe_reader::{Starts, Window, stripe_count};
-
-// How many bytes are written to a draft at once.
-const PIECE: usize = 65_536;
 
 /// What the levels of a window's stripes are compared in.
 #[derive(Drop)]

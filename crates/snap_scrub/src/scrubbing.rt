@@ -1,11 +1,11 @@
 // A scrub.
 ghost use Rattle.std.specs.Prelude.{◌≡◌, ◌≢◌, ◌<◌, ◌^◌, [], IfOk, IfErr, IsOk, length, map};
+ghost use Rattle.content_file.specs.Save.{piece_size};
 ghost use Rattle.disk_model.specs.Vault.{SomeCalls};
 ghost use Rattle.snap_report.specs.EndLines.{scrub_text};
 ghost use Rattle.snap_report.specs.State.{Puts, state_of};
 ghost use Rattle.snap_report.specs.Telling.{Settled};
 ghost use Rattle.snap_scrub.specs.Course.{IsArray, Scrubs, ScrubsNot, outside};
-ghost use Rattle.snap_scrub.specs.Room.{piece_size};
 ghost use Rattle.snap_scrub.specs.Saving.{Saves};
 
 use crate::beginning::begin;

@@ -1,9 +1,10 @@
 -- The checkpoint behind a window, where one is due.
 use Rattle.std.proofs.Common.{◌≡◌, ℕ, List, length, Bool, true, false, IsTrue, Ok, Err, sym, ap₂, ◌∙◌, subst}
+use Rattle.content_file.specs.Save.{piece_size}
 use Rattle.disk_model.specs.declared.fault.Failed.{Failed}
 use Rattle.disk_model.specs.Vault.{VaultView, IsWellFormed, SomeCalls}
 use Rattle.file_table.specs.Table.{TableValue}
-use Rattle.snap_sync.specs.Calls.{SyncPlan, piece_size, saves_after}
+use Rattle.snap_sync.specs.Calls.{SyncPlan, saves_after}
 use Rattle.snap_sync.specs.Closing.{closed}
 use Rattle.snap_sync.specs.Course.{Outside}
 use Rattle.stripe_findings.specs.Reading.{StripeReading}

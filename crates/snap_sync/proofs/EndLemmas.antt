@@ -3,7 +3,7 @@ use Rattle.std.proofs.Common.{◌≡◌, ℕ, ◌+◌, ◌*◌, ◌≤◌, List,
 use Rattle.std.proofs.lemmas.List.{append-nil}
 use Rattle.std.proofs.lemmas.List.Sums.{count_by-le-length}
 use Rattle.array_scan.specs.Layout.{pending_stripes}
-use Rattle.content_file.specs.Save.{HasSaved, HasNoDraft}
+use Rattle.content_file.specs.Save.{HasSaved, HasNoDraft, piece_size}
 use Rattle.content_file.specs.Spelling.{spelling}
 use Rattle.disk_model.specs.Sink.{SinkView}
 use Rattle.disk_model.specs.Vault.{VaultView, IsWellFormed, Holds, copies_of}
@@ -19,7 +19,7 @@ use Rattle.snap_report.proofs.PutsLemmas.{puts_then}
 use Rattle.snap_sync.specs.declared.beginning.Work.{Work}
 use Rattle.snap_sync.specs.declared.stripes.Progress.{Progress}
 use Rattle.snap_sync.specs.declared.syncing.SyncEnd.{SyncEnd}
-use Rattle.snap_sync.specs.Calls.{SyncPlan, piece_size}
+use Rattle.snap_sync.specs.Calls.{SyncPlan}
 use Rattle.snap_sync.specs.Closing.{closed}
 use Rattle.snap_sync.specs.Course.{Outside, outside, plan_of, IsSyncWindow, Ends, Breaks, Syncs, BreaksOff, window_room}
 use Rattle.snap_sync.specs.Beginning.{LaysOut}

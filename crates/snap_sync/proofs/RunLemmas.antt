@@ -2,6 +2,7 @@
 use Rattle.std.proofs.Common.{◌≡◌, ℕ, ◌+◌, ◌<◌, ◌≤◌, List, [], ◌++◌, length, take, true, IfSome, IsTrue, Result, Ok, Err, OnErr, refl, sym, ap, ap₂, ◌∙◌, subst, arith}
 use Rattle.std.proofs.lemmas.List.{append-nil}
 use Rattle.array_scan.specs.Layout.{pending_stripes}
+use Rattle.content_file.specs.Save.{piece_size}
 use Rattle.disk_model.specs.Folder.{FolderView}
 use Rattle.disk_model.specs.Sink.{SinkView}
 use Rattle.disk_model.specs.Ran.{RanAll, log_of}
@@ -19,7 +20,7 @@ use Rattle.stripe_reader.specs.Starts.{recorded_starts}
 use Rattle.snap_sync.specs.declared.beginning.Work.{Work}
 use Rattle.snap_sync.specs.declared.stripes.Pace.{Pace}
 use Rattle.snap_sync.specs.declared.stripes.Progress.{Progress}
-use Rattle.snap_sync.specs.Calls.{SyncPlan, opening_calls, stripe_calls, piece_size}
+use Rattle.snap_sync.specs.Calls.{SyncPlan, opening_calls, stripe_calls}
 use Rattle.snap_sync.specs.Course.{Outside, TouchesVault, TellsThese, IsSyncWindow, BreaksInWindow, Breaks, outside}
 use Rattle.stripe_findings.specs.Findings.{events_of}
 use Rattle.stripe_findings.specs.Reading.{StripeReading, AreRead}

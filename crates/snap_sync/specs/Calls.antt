@@ -21,10 +21,6 @@ pub record SyncPlan : Type 0 where
   pub copies : ℕ
   pub piece : ℕ
 
--- how many bytes are written to a draft at once
-abbrev pub piece_size : ℕ
-piece_size = 65536
-
 -- the length of the levels in bytes
 abbrev pub level_bytes : TableValue → ℕ
 level_bytes table = length table.infos * table.shape.block_size

@@ -1,7 +1,7 @@
 -- What a sync leaves, and why it did not end.
 use Rattle.std.specs.Prelude.{◌≡◌, ◌≢◌, ℕ, ◌+◌, ◌<◌, ◌≤◌, ◌*◌, List, [], ◌++◌, length, Bool, true, false, IsTrue, IfSome}
 use Rattle.array_scan.specs.Layout.{pending_stripes}
-use Rattle.content_file.specs.Save.{HasSaved, HasNoDraft}
+use Rattle.content_file.specs.Save.{HasSaved, HasNoDraft, piece_size}
 use Rattle.content_file.specs.Spelling.{spelling}
 use Rattle.disk_model.specs.Cause.{Grows}
 use Rattle.disk_model.specs.Folder.{FolderView}
@@ -23,7 +23,7 @@ use Rattle.snap_sync.specs.declared.fault.SyncFault.{SyncFault}
 use Rattle.snap_sync.specs.declared.fault.SyncFault.TheVariants.{Run}
 use Rattle.snap_sync.specs.declared.syncing.SyncEnd.{SyncEnd}
 use Rattle.snap_sync.specs.Beginning.{LaysOut, BeginsNot}
-use Rattle.snap_sync.specs.Calls.{SyncPlan, opening_calls, stripe_calls, sync_vault_calls, piece_size}
+use Rattle.snap_sync.specs.Calls.{SyncPlan, opening_calls, stripe_calls, sync_vault_calls}
 use Rattle.snap_sync.specs.Closing.{closed, verified_in}
 use Rattle.stripe_findings.specs.Findings.{events_of}
 use Rattle.snap_sync.specs.Images.{MayStand, HasParityAfter}

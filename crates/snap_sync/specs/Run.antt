@@ -1,7 +1,7 @@
 -- A sync that goes from window to window: which stripes stand in the near window, what it is ready for, and what a window changes.
 use Rattle.std.specs.Prelude.{◌≡◌, ℕ, ◌+◌, ◌^◌, ◌<◌, ◌≤◌, ◌&&◌, ◌==◌, ◌++◌, not, List, length, take, drop, All, Bool, Option, Result, IfSome, OnOk, OnErr}
 use Rattle.array_scan.specs.Layout.{pending_stripes}
-use Rattle.content_file.specs.Save.{HasSaved, HasNoDraft, piecewise_calls}
+use Rattle.content_file.specs.Save.{HasSaved, HasNoDraft, piecewise_calls, piece_size}
 use Rattle.content_file.specs.Spelling.{spelling}
 use Rattle.disk_model.specs.Ran.{Ran}
 use Rattle.disk_model.specs.Sink.{SinkView}
@@ -19,7 +19,7 @@ use Rattle.snap_sync.specs.declared.beginning.Work.{Work}
 use Rattle.snap_sync.specs.declared.judging.Counts.{Counts}
 use Rattle.snap_sync.specs.declared.stripes.Pace.{Pace}
 use Rattle.snap_sync.specs.declared.stripes.Progress.{Progress}
-use Rattle.snap_sync.specs.Calls.{SyncPlan, piece_size}
+use Rattle.snap_sync.specs.Calls.{SyncPlan}
 use Rattle.snap_sync.specs.Closing.{closed, verified_in}
 use Rattle.snap_sync.specs.Course.{Outside, window_room}
 use Rattle.stripe_findings.specs.Findings.{events_of}

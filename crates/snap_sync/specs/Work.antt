@@ -1,6 +1,6 @@
 -- What a sync works with, and how far the vault is.
 use Rattle.std.specs.Prelude.{◌≡◌, ℕ, ◌+◌, ◌<◌, ◌≤◌, ◌⊎◌, ◌++◌, List, length, min, max, ◌^◌, ◌-◌, All, Bool, true, false, if◌then◌else◌, IsTrue}
-use Rattle.content_file.specs.Save.{MaySave, HasSaved}
+use Rattle.content_file.specs.Save.{MaySave, HasSaved, piece_size}
 use Rattle.content_file.specs.Spelling.{spelling}
 use Rattle.disk_model.specs.Answer.{is_failure}
 use Rattle.disk_model.specs.Cause.{Rose}
@@ -16,7 +16,7 @@ use Rattle.snap_report.specs.Answer.{Gained}
 use Rattle.stripe_reader.specs.Starts.{recorded_starts}
 use Rattle.stripe_reader.specs.WindowValue.{Fits, stripe_count}
 use Rattle.snap_sync.specs.declared.room.Room.{Room}
-use Rattle.snap_sync.specs.Calls.{SyncPlan, piece_size, opening_calls, stripe_calls}
+use Rattle.snap_sync.specs.Calls.{SyncPlan, opening_calls, stripe_calls}
 use Rattle.snap_sync.specs.Images.{MayStand, HasParityAfter, table_after, rows_after}
 use Rattle.stripe_findings.specs.Reading.{StripeReading}
 

@@ -1,9 +1,10 @@
 // What is done to the vault at the beginning of a sync, and at each checkpoint.
 ghost use Rattle.std.specs.Prelude.{◌≡◌, ◌<◌, IsTrue, OnOk, OnErr, length, []};
 ghost use Rattle.content_file.specs.Encoding.{IsDigestOf};
+ghost use Rattle.content_file.specs.Save.{piece_size};
 ghost use Rattle.disk_model.specs.Ran.{Ran};
 ghost use Rattle.disk_model.specs.Vault.{SomeCalls, ChangesBy, state_of};
-ghost use Rattle.snap_sync.specs.Calls.{SyncPlan, opening_calls, piece_size};
+ghost use Rattle.snap_sync.specs.Calls.{SyncPlan, opening_calls};
 ghost use Rattle.snap_sync.specs.Images.{MayStand};
 ghost use Rattle.snap_sync.specs.Run.{Saves};
 ghost use Rattle.snap_sync.specs.Work.{IsPlanFor, IsUnderway, VaultBroke};

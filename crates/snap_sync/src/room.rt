@@ -2,14 +2,12 @@
 ghost use Rattle.std.specs.Prelude.{◌≡◌, ◌<◌, IfOk, length};
 ghost use Rattle.snap_sync.specs.Work.{IsRoomFor};
 
+use content_file::PIECE;
 use disk_model::NoMemory;
 use file_table::Table;
 use parity_writer::{Sums, make_sums};
 use std::alloc::Global;
 use stripe_reader::{Starts, Window, stripe_count};
-
-// How many bytes are written to a draft at once.
-const PIECE: usize = 65_536;
 
 /// All that a sync needs besides its table, taken before the vault is touched.
 #[derive(Drop)]

@@ -3,7 +3,7 @@ use Rattle.std.proofs.Common.{◌≡◌, ◌≢◌, ℕ, ◌+◌, ◌==◌, List
 use Rattle.std.specs.List.{flat_map}
 use Rattle.std.proofs.lemmas.List.{append-nil}
 use Rattle.std.proofs.lemmas.List.Elements.{All-nil}
-use Rattle.content_file.specs.Save.{HasSaved}
+use Rattle.content_file.specs.Save.{HasSaved, piece_size}
 use Rattle.content_file.specs.Spelling.{spelling}
 use Rattle.disk_model.specs.Cause.{Rose, RoseBy}
 use Rattle.disk_model.specs.Files.{Stays}
@@ -32,7 +32,6 @@ use Rattle.snap_scrub.specs.Course.{Breaks, MayStandScrubbed, Scrubs, ScrubsNot,
 use Rattle.snap_scrub.specs.Findings.{events_of}
 use Rattle.snap_scrub.specs.Marks.{scrubbed}
 use Rattle.snap_scrub.specs.Reading.{ScrubReading, level_calls, unread_levels}
-use Rattle.snap_scrub.specs.Room.{piece_size}
 use Rattle.snap_scrub.specs.declared.scrubbing.ScrubEnd.{ScrubEnd}
 use Rattle.snap_sync.specs.Work.{VaultBroke, broke_sync}
 use Rattle.snap_sync.proofs.BrokeLemmas.{Changing, broke_among, pieces_change}

@@ -3,10 +3,9 @@ use Rattle.disk_model.specs.Ran.{Ran, log_of}
 use Rattle.disk_model.specs.Vault.{copies_of, state_of}
 use Rattle.disk_model.proofs.RanLemmas.{ran_exit, ran_front, ran_then, ran_of_these, ran_of_among}
 use Rattle.disk_model.proofs.VaultLemmas.{calls_then, on_any, on_err}
-use Rattle.content_file.specs.Save.{piecewise_calls}
+use Rattle.content_file.specs.Save.{piecewise_calls, piece_size}
 use Rattle.content_file.specs.Spelling.{spelling}
 use Rattle.parity_writer.specs.Calls.{sync_calls}
-use Rattle.snap_sync.specs.Calls.{piece_size}
 use Rattle.snap_sync.proofs.BrokeLemmas.{syncs_change, pieces_change, broke_among, broke_if_failed, broke_after}
 use Rattle.snap_sync.proofs.CheckpointLemmas.{settles_not, settles_and_saves, still_settled, saved_as, not_ok, ok_or_not}
 use Rattle.snap_sync.proofs.opening.checkpoint.Goals as goal

@@ -3,9 +3,9 @@
 use Rattle.std.proofs.Common.{◌≡◌, ◌+◌, ◌<◌, ℕ, length, map, refl, sym, ap, ◌∙◌, arith}
 use Rattle.std.proofs.lemmas.List.{length-map}
 use Rattle.std.specs.Vec.{with_items}
+use Rattle.content_file.specs.Save.{piece_size}
 use Rattle.disk_model.proofs.VaultLemmas.{calls_then}
 use Rattle.snap_sync.specs.declared.beginning.Work.{Work}
-use Rattle.snap_sync.specs.Calls.{piece_size}
 use Rattle.snap_sync.specs.Closing.{closed}
 use Rattle.snap_sync.specs.Course.{outside}
 use Rattle.snap_sync.specs.Run.{plan_for, all_of, readings_near, saves_behind, stripes_near}
