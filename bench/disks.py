@@ -50,6 +50,8 @@ KINDS = (
     Kind("6 slow disks of 60 MB", 6, 60_000_000, 3, 256, True),
     Kind("12 disks of 160 MB, blocks of 1 MiB", 12, 160_000_000, 4, 1024, False),
     Kind("6 disks of 340 MB, large files", 6, 340_000_000, 5, 256, False),
+    Kind("6 disks of 340 MB, mixed files", 6, 340_000_000, 2000, 256, False),
+    Kind("6 disks of 340 MB, blocks of 1 KiB", 6, 340_000_000, 5, 1, False),
 )
 
 
