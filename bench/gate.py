@@ -1,5 +1,5 @@
 """Runs the gate from nothing in a copy of the repository, and prints what each crate costs: its proofs, its tests and its must-fail edits,
-in processor seconds. Then it prints the sum, the dearest crates, the longest process and what two processors would take.
+in processor seconds. Then it prints the sum, the most expensive crates, the longest process and what two processors would take.
 
 usage: bench/gate.sh            the whole gate
        bench/gate.sh NAME ..    these crates and those below them
@@ -94,8 +94,8 @@ def print_summary(rows, seen, whole, minutes):
     by_crate = sum(row[-1] for row in rows)
     print(f"\nthe whole: {whole:.0f} processor seconds of {BUDGET}, {whole - by_crate:.0f} of them for all else", end="")
     print(f"; {minutes:.1f} minutes by the clock on {os.cpu_count()} processors")
-    dearest = sorted(rows, key=lambda row: -row[-1])[:5]
-    print("dearest crates: " + ", ".join(f"{row[0]} {row[-1]:.0f} ({row[-1] / whole:.0%})" for row in dearest))
+    expensive = sorted(rows, key=lambda row: -row[-1])[:5]
+    print("most expensive crates: " + ", ".join(f"{row[0]} {row[-1]:.0f} ({row[-1] / whole:.0%})" for row in expensive))
     crate, part, _, lasted = max(seen.values(), key=lambda process: process[-1], default=("no crate", "", 0, 0))
     print(f"longest process: {lasted:.0f} seconds by the clock, {crate} {part}")
     print(f"on two processors: at least {max(whole / 2, lasted) / 60:.0f} minutes")

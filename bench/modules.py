@@ -1,5 +1,6 @@
 #!/usr/bin/env python3
-"""Which proofs of a crate take how long: proves it from nothing on one processor, and prints its dearest modules and what each kind of them takes.
+"""Which proofs of a crate take how long: proves it from nothing on one processor, and prints its most expensive modules
+and what each kind of them takes.
 
 usage: bench/modules.py CRATE [COUNT]
 

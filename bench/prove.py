@@ -4,7 +4,7 @@
 usage: bench/prove.py PROGRAM [WORD ..]     for ./demo: bench/prove.py snapraid exercise 3
 
 This is the gate of these crates alone, in a copy of them without mutants and most tests; the program is copied back. What is proved is kept, so a
-second run takes a minute, and the whole gate need not prove it again. Where there is more to prove, the program is run unproved with these words
+second run takes half a minute, and the whole gate need not prove it again. Where there is more to prove, the program is run unproved with these words
 meanwhile, so that it is seen at work within two minutes. How long the rest takes is guessed from the table of costs in CONTRIBUTING.md.
 """
 import os
@@ -124,7 +124,7 @@ def show_unproved(proving, words):
 
 def prove(program, words, room):
     proving = Proving(program, room)
-    print(f"proving {len(proving.below)} crates; those whose proofs are kept take a second each", flush=True)
+    print(f"proving {len(proving.below)} crates; those with cached proofs take a second each", flush=True)
     proving.start()
     if os.path.exists(f"{TOP}/crates/{program}/out/{program}"):
         proving.join(PATIENCE)
