@@ -310,7 +310,7 @@ module _ {W R : Type 0} (view : W → SinkView) (standing : R → ReportView) (s
       }
 
   -- no window was looked at
-  pub fixes_none : (totals : Totals) (s : FixScene W R) → SceneFits plan s → AreTotals plan [] totals → FixesAll view standing stands plan [] s s totals
+  unfoldable pub fixes_none : (totals : Totals) (s : FixScene W R) → SceneFits plan s → AreTotals plan [] totals → FixesAll view standing stands plan [] s s totals
   fixes_none totals s fits none = record {
     are = All-nil (AreFacts plan);
     mends = mend_none totals s fits none;
@@ -324,7 +324,7 @@ module _ {W R : Type 0} (view : W → SinkView) (standing : R → ReportView) (s
   }
 
   -- some were, and then others
-  pub fixes_then : (xs ys : List Mended) (one two both : Totals) (old mid new : FixScene W R) → Precede (facts_of xs) (facts_of ys)
+  unfoldable pub fixes_then : (xs ys : List Mended) (one two both : Totals) (old mid new : FixScene W R) → Precede (facts_of xs) (facts_of ys)
       → ((stripes others : List Mended) → AreTotals plan stripes one → AreTotals plan others two → AreTotals plan (stripes ++ others) both)
       → (first : FixesAll view standing stands plan xs old mid one) → All (IsFull plan) first.windows → FixesAll view standing stands plan ys mid new two
       → FixesAll view standing stands plan (xs ++ ys) old new both

@@ -41,6 +41,7 @@ use Rattle.stripe_examiner.specs.Findings.{opening_events}
 use Rattle.snap_fix.specs.FixBreaking.{FixBreaks}
 use Rattle.snap_fix.specs.FixCourse.{FixFinds, Fixes, FixesVault, WritesFiles, Written, fix_events, mend_syncs}
 use Rattle.snap_fix.specs.FixRun.{FixesStripes, LooksAhead}
+use Rattle.snap_fix.specs.FolderWindows.{WriteInWindows}
 use Rattle.stripe_examiner.specs.Asking.{AsksSpare}
 use Rattle.snap_fix.specs.Fixing.{FixScene, facts_of, fix_scene, was_written}
 use Rattle.stripe_examiner.specs.Known.{AreFacts}
@@ -137,6 +138,9 @@ module _ {W R : Type 0} (view : W → SinkView) (standing : R → ReportView) (s
       writes : WritesFiles plan starts stripes mids all_written
       writes = record { stood = fixed.fixes.mends.stood; underway = fixed.fixes.mends.underway [] mids fixable underway_start; makes = fixed.fixes.mends.makes }
 
+      in_windows : WriteInWindows plan starts starts_mid stripes mids folders_mid
+      in_windows = record { windows = windows; readings = readings; windows_are = fixed.fixes.windows_are; each = fixed.in_windows }
+
       reads_all : (d : ℕ) → d < length table.columns → FolderReads (AreAllRead plan starts d (facts_of stripes ++ [])) (folder_at mids d) (folder_at folders_mid d)
       reads_all d within = reads_wider (AreReadBy plan starts starts_mid d (facts_of stripes)) (AreAllRead plan starts d (facts_of stripes ++ []))
           (λ done is. (starts_mid, subst (λ (its : List StripeFacts). AreReadBy plan starts starts_mid d its done) (sym (append-nil (facts_of stripes))) is)) (fixed.reads d within)
@@ -225,6 +229,7 @@ module _ {W R : Type 0} (view : W → SinkView) (standing : R → ReportView) (s
               record {
                 written = all_written;
                 writes = writes;
+                in_windows = in_windows;
                 ending = record {
                   events = refl;
                   windows = windows;
@@ -299,6 +304,7 @@ module _ {W R : Type 0} (view : W → SinkView) (standing : R → ReportView) (s
                 record {
                   written = all_written;
                   writes = writes;
+                  in_windows = in_windows;
                   ending = record {
                     finishes = broke.finishes;
                     are = broke.are;
@@ -366,7 +372,7 @@ module _ {W R : Type 0} (view : W → SinkView) (standing : R → ReportView) (s
               spare = fixed.fixes.spare;
               vault = all_synced levels levels_are written_are none_written formed synced;
               finishes = finished.finishes;
-              files = fixes_files plan starts stripes mids folders_new all_written finished.finishes writes (finished.folders ∙ writes.underway.folders) finished.columns fixed.reads;
+              files = fixes_files plan starts stripes mids folders_new all_written finished.finishes writes (finished.folders ∙ writes.underway.folders) finished.columns fixed.reads in_windows;
               unread = λ d within. rose_through d _ _ within (fixed.unread d within) (finished.columns d within).makes.goes_on.later;
               io = λ d within.
                   let sum = count_append (is_io_of d) opening (mended ++ finish_news) in

@@ -31,15 +31,15 @@ use Rattle.stripe_examiner.specs.Marks.{slots_at}
 use Rattle.snap_fix.specs.Mended.{AnswersFit, Mended, all_mended_events}
 use Rattle.repair_scope.specs.Plan.{FixPlan}
 use Rattle.file_restorer.specs.State.{AnyCall}
-use Rattle.snap_fix.specs.Underway.{FixUnderway, IsMendCall, done_well, wrong_writes}
-use Rattle.snap_fix.specs.Windows.{AreWindows, FixWindow, all_wrong_writes, window_calls, window_reads, window_size}
+use Rattle.snap_fix.specs.Underway.{AreAllMendCalls, FixUnderway, IsMendCall, done_well, wrong_writes}
+use Rattle.snap_fix.specs.Windows.{AreWindows, FixWindow, all_wrong_writes, window_calls, window_of, window_reads, window_size}
 use Rattle.snap_fix.proofs.BreakingLemmas.{breaks_then}
 use Rattle.snap_fix.proofs.FixAllLemmas.{answered_then, begun_all, begun_one, facts_append, mend_none, mend_one, mend_then, precede, tells_first}
 use Rattle.snap_fix.proofs.FixCountLemmas.{count_append}
 use Rattle.snap_fix.proofs.FixedVaultLemmas.{mends_since, reading_calls, zeros_since}
 use Rattle.snap_fix.proofs.WindowsLemmas.{SplitLevels, ascending_first, many_levels, one_window, parity_io_few, split_levels, writes_more}
-use Rattle.file_restorer.proofs.FolderCallLemmas.{makes_some}
-use Rattle.snap_fix.proofs.KeptStartsLemmas.{cell_quiet, cells_any, cells_quiet, files_one, files_then}
+use Rattle.file_restorer.proofs.FolderCallLemmas.{makes_by_none, makes_some}
+use Rattle.snap_fix.proofs.KeptStartsLemmas.{cell_quiet, cells_any, cells_more, cells_quiet, files_one, files_then}
 use Rattle.snap_fix.proofs.MendedVaultLemmas.{Precede, goes_on_none, holds_still, mends_append}
 use Rattle.snap_fix.proofs.ReadsLemmas.{quiet_none, quiet_then}
 use Rattle.stripe_examiner.proofs.LookingLemmas.{vault_goes_on}
@@ -93,6 +93,7 @@ module _ {W R : Type 0} (view : W → SinkView) (standing : R → ReportView) (s
     stripes = [];
     facts_are = refl;
     mends = mend_none view standing stands plan totals s fits counted;
+    cells = λ d below. makes_by_none (AreAllMendCalls plan s.starts d []) (folder_at s.folders d) refl;
     wrote = goes_on_none s.vault;
     spare = refl;
     quiet = λ d below. quiet_none (folder_at s.folders d);
@@ -130,6 +131,7 @@ module _ {W R : Type 0} (view : W → SinkView) (standing : R → ReportView) (s
           stripes = xs ++ mended ∷ [];
           facts_are = facts ∙ facts_more;
           mends = mend_then view standing stands plan xs (mended ∷ []) one two both old mid new before_it and so_far.mends (mend_one view standing stands plan next mid new two it);
+          cells = λ d below. cells_more plan old.starts mid.starts so_far.mends.stood d xs mended (so_far.cells d below) (it.makes d below);
           wrote = subst (GoesOn old.vault new.vault) (sym (ap (λ (its : List StripeFacts). done_well (all_wrong_writes plan its)) facts ∙ writes_more plan (facts_of xs) next))
               (vault_goes_on old.vault mid.vault new.vault (done_well (all_wrong_writes plan (facts_of xs))) (done_well (wrong_writes plan next)) so_far.wrote it.ran);
           spare = it.spare ∙ so_far.spare;
@@ -263,6 +265,8 @@ module _ {W R : Type 0} (view : W → SinkView) (standing : R → ReportView) (s
                 (subst (λ (its : List StripeFacts). GoesOn old.vault new.vault (window_reads plan whole ++ done_well (all_wrong_writes plan its))) same ran);
             spare = subst (λ (its : List StripeFacts). AsksSpare plan its old.spare new.spare) (sym same) (subst (AsksSpare plan all old.spare) (sym into.spare) asked);
           };
+          alone = ap (λ (its : List StripeFacts). window_of its levels.readings ∷ []) (sym same);
+          cells = into.cells;
           quiet = into.quiet;
         }
 

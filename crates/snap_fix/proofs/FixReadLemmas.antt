@@ -1,5 +1,5 @@
 -- The stripes of a window, read of the folders of a fix.
-use Rattle.std.proofs.Common.{◌≡◌, ℕ, ◌+◌, ◌<◌, ◌≤◌, List, [], ◌∷◌, length, map, take, get_or, Bool, true, IsTrue, refl, sym, ap, ◌∙◌, subst, arith, cond}
+use Rattle.std.proofs.Common.{◌≡◌, ℕ, ◌+◌, ◌<◌, ◌≤◌, List, [], ◌∷◌, ◌++◌, length, map, take, get_or, Bool, true, IsTrue, refl, sym, ap, ◌∙◌, subst, arith, cond}
 use Rattle.std.specs.List.{count_by}
 use Rattle.std.proofs.Math.ListN.{get_or-map as get_or-map-at}
 use Rattle.std.proofs.lemmas.List.{append-nil, length-map, get_or-map, ext_get_or, get_or-take, length-take-le}
@@ -21,21 +21,22 @@ use Rattle.stripe_reader.proofs.ColumnLemmas.{slot_is}
 use Rattle.file_restorer.specs.declared.state.FileState.{FileState}
 use Rattle.stripe_examiner.specs.Facts.{StripeFacts, slot_of}
 use Rattle.snap_fix.specs.Fixing.{IsCellRead, facts_of}
-use Rattle.stripe_examiner.specs.Looking.{facts_at, no_facts, slots_of, unread_cells}
+use Rattle.stripe_examiner.specs.Looking.{facts_at, no_facts, numbers_of, slots_of, unread_cells}
 use Rattle.stripe_examiner.specs.Marks.{slots_at}
 use Rattle.snap_fix.specs.Mended.{Mended, column_writes}
 use Rattle.file_restorer.specs.Order.{FolderWrites}
 use Rattle.repair_scope.specs.Plan.{FixPlan}
 use Rattle.file_table.specs.Table.{records_in}
-use Rattle.snap_fix.specs.Reads.{FolderReads}
+use Rattle.snap_fix.specs.Reads.{AreReadBy, FolderReads}
 use Rattle.file_restorer.specs.State.{FolderMakesBy, HoldsColumn}
 use Rattle.snap_fix.specs.StripeOrder.{writes_after}
 use Rattle.snap_fix.specs.Underway.{AreStripeCalls, AreUnderway, FixUnderway}
 use Rattle.snap_fix.proofs.FixCountLemmas.{count_cons, failed_in, slot_unread, unread_slots}
-use Rattle.file_restorer.proofs.FolderCallLemmas.{calls_then, makes_column_reading}
+use Rattle.file_restorer.proofs.FolderCallLemmas.{calls_then, makes_by_wider, makes_column_reading}
 use Rattle.snap_fix.proofs.KeptStartsLemmas.{reads_makes}
 use Rattle.file_restorer.proofs.OrderLemmas.{column_read, writes_then}
-use Rattle.snap_fix.proofs.ReadsLemmas.{column_reads}
+use Rattle.snap_fix.proofs.FolderWindowsLemmas.{reads_by}
+use Rattle.snap_fix.proofs.ReadsLemmas.{all_looked, column_reads}
 
 -- ---- the calls of a reading
 
@@ -119,6 +120,19 @@ module _ (plan : FixPlan) (starts : StartsValue) (numbers : List ℕ) (before wi
     pub window_reads : (d : ℕ) → (column : d < length plan.table.columns)
         → FolderReads (AreColumnCalls (tasks_at plan.table starts d numbers) (read.each d (near d column)).readings) (folder_at olds d) (folder_at mids d)
     window_reads d column = column_reads (tasks_at plan.table starts d numbers) (read.each d (near d column)).readings (read.each d (near d column)).folder
+
+    -- where they are all of the window, just their cells were read
+    pub window_looked : numbers ≡ numbers_of (facts_of stripes) ++ [] → (d : ℕ) → d < length plan.table.columns
+        → FolderMakesBy (AreReadBy plan starts starts d (facts_of stripes)) (folder_at olds d) (folder_at mids d)
+    window_looked all d column =
+        let its = read.each d (near d column) in
+        let many : length (facts_of stripes) ≡ length stripes = length-map stripes (λ (it : Mended). it.facts) in
+        makes_by_wider (AreColumnCalls (tasks_at plan.table starts d numbers) its.readings) (AreReadBy plan starts starts d (facts_of stripes))
+        (λ done are.
+        all_looked plan starts d (facts_of stripes) its.readings done
+        (subst (λ (ns : List ℕ). AreColumnCalls (tasks_at plan.table starts d ns) its.readings done) all are)
+        (λ k below. slot_read k d (omega (arith, below, many)) column))
+        (reads_by (AreColumnCalls (tasks_at plan.table starts d numbers) its.readings) its.folder)
 
     kept_unread : (shape : Shape) (reading : CellReading) → slot_unread (kept shape reading) ≡ is_unread reading
     kept_unread shape NoBlock = refl

@@ -1,6 +1,7 @@
 -- What was done to the stripes of a window after it was read: it was done since before.
-use Rattle.std.proofs.Common.{◌≡◌, ℕ, ◌+◌, ◌<◌, List, [], ◌++◌, length, refl, ◌∙◌, arith}
+use Rattle.std.proofs.Common.{◌≡◌, ℕ, ◌+◌, ◌<◌, ◌≤◌, List, [], ◌++◌, length, take, All, refl, sym, ap, ◌∙◌, subst, arith}
 use Rattle.std.specs.List.{count_by}
+use Rattle.std.proofs.lemmas.List.{length-map, length-take-le, take_all}
 use Rattle.std.proofs.lemmas.List.Sums.{sum_by-append}
 use Rattle.disk_model.specs.Cause.{Rose, RoseBy}
 use Rattle.disk_model.specs.Folder.{FolderView}
@@ -15,18 +16,21 @@ use Rattle.stripe_reader.specs.Columns.{ReadsWindow, folder_at}
 use Rattle.stripe_reader.specs.WindowValue.{WindowValue}
 use Rattle.snap_fix.specs.declared.fixing.Totals.{Totals}
 use Rattle.snap_fix.specs.FixRun.{FixesAll, FixesStripes, HasBrokenInto, MendsAll, RoseBeyond, with_folders}
-use Rattle.snap_fix.specs.Fixing.{AreTotals, FixScene, SceneFits}
+use Rattle.snap_fix.specs.Fixing.{AreTotals, FixScene, SceneFits, facts_of}
 use Rattle.snap_fix.specs.Mended.{Mended}
 use Rattle.stripe_examiner.specs.Facts.{StripeFacts}
 use Rattle.stripe_examiner.specs.Looking.{unread_cells, unread_in}
 use Rattle.repair_scope.specs.Plan.{FixPlan}
 use Rattle.file_restorer.specs.State.{FolderMakesBy}
 use Rattle.snap_fix.specs.Underway.{AreStripeCalls}
+use Rattle.snap_fix.specs.Windows.{FillWindows, IsFull}
 use Rattle.snap_fix.proofs.FixAllLemmas.{fixes_none}
 use Rattle.snap_fix.proofs.FixReadLemmas.{underway_read, window_makes}
+use Rattle.snap_fix.proofs.FolderWindowsLemmas.{windows_none}
 use Rattle.snap_fix.proofs.KeptStartsLemmas.{well_then}
 use Rattle.snap_fix.proofs.ReadsLemmas.{stripes_unread}
 use Rattle.snap_fix.proofs.StartsKeptLemmas.{keeps_starts_same}
+use Rattle.snap_fix.proofs.WindowsLemmas.{all_full}
 
 -- a call that failed after readings counts beside them
 pub rose_past : (n before mid now : ℕ) → RoseBy n before mid → Rose mid now → RoseBy (n + 1) before now
@@ -46,6 +50,7 @@ rose_since plan Memory stripes first more told olds mids news old mid new broke 
 
 module _ {W R : Type 0} (view : W → SinkView) (standing : R → ReportView) (stands : R → List Event → Type 0) (plan : FixPlan) where
   pub stripes_none : (totals : Totals) (s : FixScene W R) → SceneFits plan s → AreTotals plan [] totals → FixesStripes view standing stands plan [] s s totals
+  unfolding fixes_none
   stripes_none totals s fits none = record {
     stripes = [];
     numbers_are = refl;
@@ -54,7 +59,26 @@ module _ {W R : Type 0} (view : W → SinkView) (standing : R → ReportView) (s
     unread = λ d below. omega arith;
     io = λ d below. omega arith;
     reads = λ d below. stripes_unread plan s.starts d (folder_at s.folders d);
+    in_windows = λ d below. windows_none plan s.starts d (folder_at s.folders d);
   }
+
+  -- all of them were
+  pub stripes_whole : (all : List ℕ) (done : ℕ) (totals : Totals) (old new : FixScene W R) → length all ≤ done → FixesStripes view standing stands plan (take done all) old new totals
+      → FixesStripes view standing stands plan all old new totals
+  stripes_whole all done totals old new enough it = subst (λ (its : List ℕ). FixesStripes view standing stands plan its old new totals) (take_all done all enough) it
+
+  -- the first stripes are so many, and their windows are full
+  pub many_before : (mid : FixScene W R) (first : List ℕ) (one : Totals) (old : FixScene W R) (so_far : FixesStripes view standing stands plan first old mid one) (items : List ℕ) (done : ℕ)
+      → done ≤ length items → first ≡ take done items → length so_far.stripes ≡ done
+  many_before mid first one old so_far items done within first_is =
+      sym (length-map so_far.stripes (λ (it : Mended). it.facts)) ∙ sym (length-map (facts_of so_far.stripes) (λ (it : StripeFacts). it.stripe))
+      ∙ ap (λ (ns : List ℕ). length ns) (so_far.numbers_are ∙ first_is) ∙ length-take-le done items within
+
+  pub windows_full : (mid : FixScene W R) (first : List ℕ) (one : Totals) (old : FixScene W R) (so_far : FixesStripes view standing stands plan first old mid one) (items : List ℕ) (done : ℕ)
+      → done ≤ length items → FillWindows plan done → first ≡ take done items → All (IsFull plan) so_far.fixes.windows
+  windows_full mid first one old so_far items done within fill first_is =
+      all_full plan so_far.fixes.windows (facts_of so_far.stripes) so_far.fixes.readings so_far.fixes.windows_are
+      (subst (FillWindows plan) (sym (length-map so_far.stripes (λ (it : Mended). it.facts) ∙ many_before mid first one old so_far items done within first_is)) fill)
 
   module _ (numbers : List ℕ) (before window : WindowValue) (mid : FixScene W R) (mids : List FolderView) (read : ReadsWindow plan.table mid.starts numbers before window mid.folders mids)
       (fits : SceneFits plan mid) where
@@ -66,7 +90,7 @@ module _ {W R : Type 0} (view : W → SinkView) (standing : R → ReportView) (s
     told_as d below = (reads d below).goes_on.tells
 
     -- what was done after the window was read was done since before it
-    mends_read : (stripes : List Mended) (totals : Totals) (new : FixScene W R) → MendsAll view standing stands plan stripes (with_folders mid mids) new totals → MendsAll view standing stands plan stripes mid new totals
+    pub mends_read : (stripes : List Mended) (totals : Totals) (new : FixScene W R) → MendsAll view standing stands plan stripes (with_folders mid mids) new totals → MendsAll view standing stands plan stripes mid new totals
     mends_read stripes totals new mends = record {
       fits = mends.fits;
       told = mends.told;
@@ -82,7 +106,7 @@ module _ {W R : Type 0} (view : W → SinkView) (standing : R → ReportView) (s
           (underway_read plan mid.starts numbers before window mid.folders mids read fits.folders earlier firsts mid.starts mid.states is);
     }
 
-    pub since_read : (stripes : List Mended) (totals : Totals) (new : FixScene W R) → FixesAll view standing stands plan stripes (with_folders mid mids) new totals → FixesAll view standing stands plan stripes mid new totals
+    unfoldable pub since_read : (stripes : List Mended) (totals : Totals) (new : FixScene W R) → FixesAll view standing stands plan stripes (with_folders mid mids) new totals → FixesAll view standing stands plan stripes mid new totals
     since_read stripes totals new fixes = record {
       are = fixes.are;
       mends = mends_read stripes totals new fixes.mends;

@@ -3,7 +3,7 @@ use Rattle.std.proofs.Common.{◌≡◌, ◌⊎◌, inl, inr, ℕ, ◌+◌, ◌-
 use Rattle.std.proofs.Math.ListN.{get_or-map as get_or-map-at}
 use Rattle.std.proofs.Math.Seq.{take-add, take-append_seam}
 use Rattle.std.proofs.lemmas.Bool.{cases_lt}
-use Rattle.std.proofs.lemmas.List.{map-append, append-nil, drop_all, length-map, length-append, length-take-le, get_or_append_left, get_or-append_right, take-append-le, take-append-drop}
+use Rattle.std.proofs.lemmas.List.{map-append, append-nil, drop_all, length-map, length-append, get_or_append_left, get_or-append_right, take-append-le, take-append-drop}
 use Rattle.file_table.proofs.ListFacts.{AllPairs-take}
 use Rattle.file_table.proofs.PrefixLemmas.{All-left, All-right}
 use Rattle.parity_writer.specs.LevelReading.{LevelReading}
@@ -38,15 +38,17 @@ use Rattle.snap_fix.proofs.AskedLemmas.{asks_then}
 use Rattle.snap_fix.proofs.FixAllLemmas.{answered_then, breaks_in_last, facts_append, facts_beside, facts_then, fixes_then, levels_then, parity_io_rose, precede, tells_first, tells_then, unread_then}
 use Rattle.snap_fix.proofs.FixCountLemmas.{count_append, io_in_cells}
 use Rattle.snap_fix.proofs.FixIntoLemmas.{count_first, folder_gained, vault_gained}
-use Rattle.snap_fix.proofs.FixReadLemmas.{cell_read, cells_unread, near, slot_read, underway_read, window_makes, window_reads}
+use Rattle.snap_fix.proofs.FixReadLemmas.{cell_read, cells_unread, near, slot_read, underway_read, window_looked, window_makes, window_reads}
 use Rattle.snap_fix.proofs.KeptStartsLemmas.{files_any, files_then, well_then}
 use Rattle.snap_fix.proofs.MendedVaultLemmas.{Precede, levels_before}
 use Rattle.snap_fix.proofs.ReadsLemmas.{all_looked, read_append, read_until, reads_on, reads_then, reads_wider}
 use Rattle.snap_fix.proofs.StartsKeptLemmas.{keeps_starts_same}
-use Rattle.snap_fix.proofs.WindowsLemmas.{all_full, fill_more}
-use Rattle.snap_fix.specs.Windows.{FillWindows, IsFull, window_size}
+use Rattle.snap_fix.proofs.WindowsLemmas.{fill_more}
+use Rattle.snap_fix.specs.FolderWindows.{AreAllWindowCalls}
+use Rattle.snap_fix.specs.Windows.{FillWindows, FixWindow, window_of, window_size}
+use Rattle.snap_fix.proofs.FolderWindowsLemmas.{windows_more}
 use Rattle.snap_fix.proofs.AscendingLemmas.{front_ascending, precede_ahead}
-use Rattle.snap_fix.proofs.FixSinceLemmas.{rose_since, since_read}
+use Rattle.snap_fix.proofs.FixSinceLemmas.{many_before, rose_since, since_read, windows_full}
 
 module _ {W R : Type 0} (view : W → SinkView) (standing : R → ReportView) (stands : R → List Event → Type 0) (plan : FixPlan) where
   module _ (numbers : List ℕ) (before window : WindowValue) (mid : FixScene W R) (mids : List FolderView) (read : ReadsWindow plan.table mid.starts numbers before window mid.folders mids)
@@ -167,24 +169,12 @@ module _ {W R : Type 0} (view : W → SinkView) (standing : R → ReportView) (s
           front_ascending (numbers_of (facts_of xs) ++ numbers_of (facts_of ys)) behind
           (subst AreAscending (sym (numbers_both items done count first_is numbers_is)) (AllPairs-take (λ (a b : ℕ). a < b) (done + count) items ascending))
 
-    -- the stripes before the window are so many, and their windows are full
-    many_before : (first : List ℕ) (one : Totals) (old : FixScene W R) (so_far : FixesStripes view standing stands plan first old mid one) (items : List ℕ) (done : ℕ)
-        → done ≤ length items → first ≡ take done items → length so_far.stripes ≡ done
-    many_before first one old so_far items done within first_is =
-        sym (length-map so_far.stripes (λ (it : Mended). it.facts)) ∙ sym (length-map (facts_of so_far.stripes) (λ (it : StripeFacts). it.stripe))
-        ∙ ap (λ (ns : List ℕ). length ns) (so_far.numbers_are ∙ first_is) ∙ length-take-le done items within
-
-    windows_full : (first : List ℕ) (one : Totals) (old : FixScene W R) (so_far : FixesStripes view standing stands plan first old mid one) (items : List ℕ) (done : ℕ)
-        → done ≤ length items → FillWindows plan done → first ≡ take done items → All (IsFull plan) so_far.fixes.windows
-    windows_full first one old so_far items done within fill first_is =
-        all_full plan so_far.fixes.windows (facts_of so_far.stripes) so_far.fixes.readings so_far.fixes.windows_are
-        (subst (FillWindows plan) (sym (length-map so_far.stripes (λ (it : Mended). it.facts) ∙ many_before first one old so_far items done within first_is)) fill)
-
     -- one window more
     pub stripes_more : (items : List ℕ) (done count : ℕ) → done ≤ length items → FillWindows plan done → AreAscending items → numbers ≡ take count (drop done items)
         → (one two both : Totals) (old new : FixScene W R) → FixesStripes view standing stands plan (take done items) old mid one → FixesInto view standing stands plan numbers window (with_folders mid mids) new two
         → ((stripes others : List Mended) → AreTotals plan stripes one → AreTotals plan others two → AreTotals plan (stripes ++ others) both)
         → FixesStripes view standing stands plan (take (done + count) items) old new both
+    unfolding fixes_then since_read
     stripes_more items done count within fill ascending numbers_is one two both old new so_far into and =
         let first = take done items in
         let xs = so_far.stripes in
@@ -196,12 +186,16 @@ module _ {W R : Type 0} (view : W → SinkView) (standing : R → ReportView) (s
           numbers_are = numbers_append first one old so_far ys [] all_here into.slots
               ∙ sym (append-nil (numbers_of (facts_of xs) ++ numbers_of (facts_of ys))) ∙ numbers_both first one old so_far ys [] all_here into.slots items done count refl numbers_is;
           fixes = fixes_then view standing stands plan xs ys one two both old mid new
-              (precede (facts_of xs) (facts_of ys) (ascend first one old so_far ys [] all_here into.slots items done count ascending refl numbers_is)) and so_far.fixes (windows_full first one old so_far items done within fill refl) (since_read view standing stands plan numbers before window mid mids read fits ys two new into.fixes);
+              (precede (facts_of xs) (facts_of ys) (ascend first one old so_far ys [] all_here into.slots items done count ascending refl numbers_is)) and so_far.fixes (windows_full view standing stands plan mid first one old so_far items done within fill refl) (since_read view standing stands plan numbers before window mid mids read fits ys two new into.fixes);
           read = read_more first one old so_far ys [] all_here into.slots;
           reads = λ d below.
               reads_wider (AreReadBy plan old.starts mid.starts d (facts_of (xs ++ ys))) (AreReadBy plan old.starts new.starts d (facts_of (xs ++ ys)))
               (λ done is. read_until plan old.starts mid.starts new.starts d (facts_of (xs ++ ys)) done into.fixes.mends.stood is)
               (reads_on (AreReadBy plan old.starts mid.starts d (facts_of (xs ++ ys))) (both_read first one old so_far ys [] all_here into.slots d below refl) (into.quiet d below));
+          in_windows = λ d below.
+              subst (λ (its : List FixWindow). FolderMakesBy (AreAllWindowCalls plan old.starts new.starts d (so_far.fixes.windows ++ its) (xs ++ ys)) (folder_at old.folders d) (folder_at new.folders d)) (sym into.alone)
+              (windows_more plan mid.starts new.starts into.fixes.mends.stood d (window_of (facts_of ys) into.fixes.readings) ys refl old.starts so_far.fixes.windows xs (so_far.in_windows d below)
+              (window_looked plan mid.starts numbers before window mid.folders mids read fits.folders ys (few first one old so_far ys [] all_here into.slots) into.slots all_here d below) (into.cells d below));
           unread = unread;
           io = λ d below. let few = io_in_cells plan d (xs ++ ys) in let rose = unread d below in omega (arith, few, rose);
         }
@@ -337,7 +331,7 @@ module _ {W R : Type 0} (view : W → SinkView) (standing : R → ReportView) (s
       ends_at items done count within fill first_is many (inl all) =
           inl (drop_all (done + count) items (omega (arith, all)))
       ends_at items done count within fill first_is many (inr full) =
-          let before = many_before first one old so_far items done within first_is in
+          let before = many_before view standing stands plan mid first one old so_far items done within first_is in
           let sum = many_here count many in
           let both = length-append so_far.stripes into.stripes in
           inr (subst (FillWindows plan) (omega (arith, before, sum, both)) (fill_more plan done count fill full))
@@ -389,7 +383,7 @@ module _ {W R : Type 0} (view : W → SinkView) (standing : R → ReportView) (s
             };
             ran = subst (λ (its : List (List LevelReading)). BreaksInLast plan fault into.level (facts_of (xs ++ into.earlier)) into.last.facts ahead its old.vault new.vault) (sym read_apart)
                 (breaks_in_last fault plan into.level xs into.earlier into.last ahead so_far.fixes.windows so_far.fixes.readings (into.readings ++ into.ahead.readings) old.vault mid.vault new.vault
-                before_last (windows_full first one old so_far items done within fill first_is) so_far.fixes.windows_are so_far.fixes.ran so_far.fixes.mends.vault so_far.fixes.mends.holds into.ran);
+                before_last (windows_full view standing stands plan mid first one old so_far items done within fill first_is) so_far.fixes.windows_are so_far.fixes.ran so_far.fixes.mends.vault so_far.fixes.mends.holds into.ran);
             unread = subst (λ (its : List (List LevelReading)). RoseBy (unread_in its) old.vault.faults new.vault.faults) (sym read_apart)
                 (unread_then so_far.fixes.readings (into.readings ++ into.ahead.readings) old.vault.faults mid.vault.faults new.vault.faults so_far.fixes.unread into.unread);
             unread_cells_of = λ d below. unread_here d (folder_at new.folders d).faults below (into_any d below).goes_on.later;

@@ -70,6 +70,13 @@ module _ (plan : FixPlan) (before after : StartsValue) (stood : KeepsStarts befo
       → FolderMakesBy (AreStripeCalls plan before d (xs ++ ys)) old new
   well_then one two = makes_by_then (AreStripeCalls plan before d xs) (AreStripeCalls plan after d ys) (AreStripeCalls plan before d (xs ++ ys)) stripes_then one two
 
+-- only cells were written, of some stripes and then of one more
+pub cells_more : (plan : FixPlan) (before after : StartsValue) → KeepsStarts before after → (d : ℕ) (xs : List Mended) (mended : Mended) {old mid new : FolderView}
+    → FolderMakesBy (AreAllMendCalls plan before d xs) old mid → FolderMakesBy (AreMendCalls plan after d mended) mid new → FolderMakesBy (AreAllMendCalls plan before d (xs ++ mended ∷ [])) old new
+cells_more plan before after stood d xs mended first next =
+    makes_by_then (AreAllMendCalls plan before d xs) (AreMendCalls plan after d mended) (AreAllMendCalls plan before d (xs ++ mended ∷ []))
+    (λ one two are its. cells_then plan before after d stood xs (mended ∷ []) one two are (two, [], sym (append-nil two), its, refl)) first next
+
 -- no call at all
 pub no_stripe_calls : (plan : FixPlan) (starts : StartsValue) (d : ℕ) → AreStripeCalls plan starts d [] []
 no_stripe_calls plan starts d = record { each = All-nil (WellCall (IsStripeCall plan starts d [])); writes = refl }

@@ -41,6 +41,7 @@ pub mod FixAllLemmas
 pub mod FixIntoLemmas
 pub mod FixWindowLemmas
 pub mod FixReadLemmas
+pub mod FolderWindowsLemmas
 pub mod PlacedLemmas
 pub mod PresentCellLemmas
 pub mod PresentLemmas

@@ -4,7 +4,7 @@ use Rattle.std.proofs.lemmas.List.{length-append}
 use Rattle.parity_writer.specs.LevelReading.{LevelReading}
 use Rattle.stripe_examiner.specs.Facts.{StripeFacts}
 use Rattle.repair_scope.specs.Plan.{FixPlan}
-use Rattle.snap_fix.specs.Windows.{AreWindows, FixWindow, IsFixWindow, IsFull, no_window, readings_in, stripes_in}
+use Rattle.snap_fix.specs.Windows.{AreWindows, FixWindow, IsFixWindow, IsFull, cut_of, no_window, readings_in, stripes_in, window_of}
 
 -- two lists that are the same, cut behind as many elements
 cut_alike : {A : Type 0} (xs ys rest others : List A) → length xs ≡ length ys → xs ++ rest ≡ ys ++ others → (xs ≡ ys) × (rest ≡ others)
@@ -54,28 +54,38 @@ same_size plan w v (u ∷ ws) (t ∷ vs) one two ones others same =
     let second : IsFull plan v = others 0 (omega arith) in
     first ∙ sym second
 
--- so are all windows
+-- So are all windows; and where the readings are the same, the windows are, with what was read of them.
 same_windows : (plan : FixPlan) (ws vs : List FixWindow) → All (IsFixWindow plan) ws → All (IsFixWindow plan) vs → AllButLast plan ws → AllButLast plan vs
-    → stripes_in ws ≡ stripes_in vs → readings_in ws ≡ readings_in vs → ws ≡ vs
-same_windows plan [] [] one two ones others stripes readings = refl
-same_windows plan [] (v ∷ vs) one two ones others stripes readings =
+    → stripes_in ws ≡ stripes_in vs → (cut_of ws ≡ cut_of vs) × (readings_in ws ≡ readings_in vs → ws ≡ vs)
+same_windows plan [] [] one two ones others stripes = (refl, λ readings. refl)
+same_windows plan [] (v ∷ vs) one two ones others stripes =
     let none : length (stripes_in []) ≡ 0 = refl in
     let is = two 0 v (omega arith) in
     absurd (omega (arith, none, many_in v vs, is.some, ap (λ (its : List StripeFacts). length its) stripes))
-same_windows plan (w ∷ ws) [] one two ones others stripes readings =
+same_windows plan (w ∷ ws) [] one two ones others stripes =
     let none : length (stripes_in []) ≡ 0 = refl in
     let is = one 0 w (omega arith) in
     absurd (omega (arith, none, many_in w ws, is.some, ap (λ (its : List StripeFacts). length its) stripes))
-same_windows plan (w ∷ ws) (v ∷ vs) one two ones others stripes readings =
+same_windows plan (w ∷ ws) (v ∷ vs) one two ones others stripes =
     let size = same_size plan w v ws vs one two ones others (ap (λ (its : List StripeFacts). length its) stripes) in
     let first = cut_alike w.stripes v.stripes (stripes_in ws) (stripes_in vs) size stripes in
-    let as_many : length w.readings ≡ length v.readings = (one 0 w (omega arith)).as_many ∙ size ∙ sym (two 0 v (omega arith)).as_many in
-    let second = cut_alike w.readings v.readings (readings_in ws) (readings_in vs) as_many readings in
-    let here : w ≡ v = ap₂ (λ (a : List StripeFacts) (b : List (List LevelReading)). let window : FixWindow = record { stripes = a; readings = b } in window) first.0 second.0 in
-    let behind = same_windows plan ws vs (tail_each plan w ws one) (tail_each plan v vs two) (tail_full plan w ws ones) (tail_full plan v vs others) first.1 second.1 in
-    ap₂ (λ (a : FixWindow) (its : List FixWindow). a ∷ its) here behind
+    let behind = same_windows plan ws vs (tail_each plan w ws one) (tail_each plan v vs two) (tail_full plan w ws ones) (tail_full plan v vs others) first.1 in (
+      ap₂ (λ (its : List StripeFacts) (more : List (List StripeFacts)). its ∷ more) first.0 behind.0,
+      λ readings.
+          let as_many : length w.readings ≡ length v.readings = (one 0 w (omega arith)).as_many ∙ size ∙ sym (two 0 v (omega arith)).as_many in
+          let second = cut_alike w.readings v.readings (readings_in ws) (readings_in vs) as_many readings in
+          let here : w ≡ v = ap₂ (λ (a : List StripeFacts) (b : List (List LevelReading)). window_of a b) first.0 second.0 in
+          ap₂ (λ (a : FixWindow) (its : List FixWindow). a ∷ its) here (behind.1 second.1),
+    )
 
-pub one_cut : (plan : FixPlan) (windows others : List FixWindow) (stripes : List StripeFacts) (readings : List (List LevelReading)) → AreWindows plan windows stripes readings
-    → AreWindows plan others stripes readings → windows ≡ others
-one_cut plan windows others stripes readings one two =
-    same_windows plan windows others one.each two.each one.full two.full (sym one.stripes_are ∙ two.stripes_are) (sym one.readings_are ∙ two.readings_are)
+module _ (plan : FixPlan) (windows others : List FixWindow) (stripes : List StripeFacts) where
+  both_cut : (readings more : List (List LevelReading)) → AreWindows plan windows stripes readings → AreWindows plan others stripes more
+      → (cut_of windows ≡ cut_of others) × (readings_in windows ≡ readings_in others → windows ≡ others)
+  both_cut readings more one two = same_windows plan windows others one.each two.each one.full two.full (sym one.stripes_are ∙ two.stripes_are)
+
+  -- whatever was read of their levels
+  pub one_cut_of : (readings more : List (List LevelReading)) → AreWindows plan windows stripes readings → AreWindows plan others stripes more → cut_of windows ≡ cut_of others
+  one_cut_of readings more one two = (both_cut readings more one two).0
+
+  pub one_cut : (readings : List (List LevelReading)) → AreWindows plan windows stripes readings → AreWindows plan others stripes readings → windows ≡ others
+  one_cut readings one two = (both_cut readings readings one two).1 (sym one.readings_are ∙ two.readings_are)

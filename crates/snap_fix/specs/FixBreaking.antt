@@ -28,6 +28,7 @@ use Rattle.snap_fix.specs.Ending.{AreDone, FailsInFinish, FailsInRecord, all_fin
 use Rattle.stripe_examiner.specs.Findings.{opening_events}
 use Rattle.snap_fix.specs.FixCourse.{FixFinds, FixesVault, MakeFixCalls, WritesFiles, Written, mend_syncs}
 use Rattle.snap_fix.specs.FixRun.{BreaksInLast, HasBroken, HoldAllWrong, LooksAhead, RoseBeyond}
+use Rattle.snap_fix.specs.FolderWindows.{WriteInWindows}
 use Rattle.snap_fix.specs.Fixing.{MendsVault, facts_of}
 use Rattle.stripe_examiner.specs.Looking.{numbers_of, unread_cells, unread_in}
 use Rattle.snap_fix.specs.Mended.{Mended, all_mended_events}
@@ -129,13 +130,14 @@ BreaksEnding Vault plan stripes readings first written news old new =
     BreaksSyncing plan stripes readings first written news old new
 BreaksEnding Memory plan stripes readings first written news old new = ⊥
 
--- At the end: all blocks were written. A sync failed before any file was finished, or a folder once all levels were
--- synced.
+-- At the end: all blocks were written, window by window. A sync failed before any file was finished, or a folder once all
+-- levels were synced.
 pub record BreaksAtEnd (plan : FixPlan) (starts : StartsValue) (fault : RunFault) (stripes : List Mended)
     (readings : List (List LevelReading)) (first : List Event) (firsts news : List FolderView) (old new : VaultView)
     : Type 0 where
   pub written : Written
   pub writes : WritesFiles plan starts stripes firsts written
+  pub in_windows : WriteInWindows plan starts written.starts stripes firsts written.folders
   pub ending : BreaksEnding fault plan stripes readings first written news old new
 
 -- Where a fix broke off, with so many stripes behind those that it looked at, and so many of these read ahead: at the end

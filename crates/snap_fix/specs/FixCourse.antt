@@ -34,6 +34,7 @@ use Rattle.snap_fix.specs.Course.{IsPlan, Outside}
 use Rattle.snap_fix.specs.Ending.{FinishesColumn, IsLevelSettled, all_finish_news, column_calls, states_at, sync_if}
 use Rattle.stripe_examiner.specs.Findings.{opening_events}
 use Rattle.snap_fix.specs.FixRun.{HoldAllWrong}
+use Rattle.snap_fix.specs.FolderWindows.{GoInWindows}
 use Rattle.stripe_examiner.specs.Present.{ArePresent}
 use Rattle.snap_fix.specs.Fixing.{MendsVault, facts_of, was_written}
 use Rattle.stripe_examiner.specs.Known.{AreFacts}
@@ -143,7 +144,7 @@ fix_folder_calls plan d first stripes written =
 
 -- What a fix did to the files: all blocks were written, and then the selected records that aren't blocked were finished. Just these calls
 -- that write were made of a folder that tells its files, in this order. Its cells were read stripe after stripe, each
--- once, and nothing else.
+-- once, and nothing else. All its calls came window by window: the readings of one, and behind them its writes.
 pub record FixesFiles (plan : FixPlan) (starts : StartsValue) (stripes : List Mended) (finishes : List (List Finish)) (firsts news : List FolderView) : Type 0 where
   pub written : Written
   pub writes : WritesFiles plan starts stripes firsts written
@@ -152,6 +153,7 @@ pub record FixesFiles (plan : FixPlan) (starts : StartsValue) (stripes : List Me
   pub reads : (d : ℕ) → d < length plan.table.columns
       → FolderReads (AreReadBy plan starts written.starts d (facts_of stripes))
       (folder_at firsts d) (folder_at news d)
+  pub in_windows : GoInWindows plan starts written.starts written.states stripes finishes firsts news
   pub finished : (d : ℕ) → d < length plan.table.columns
       → FinishesColumn plan written.starts written.states d finishes (folder_at written.folders d) (folder_at news d)
   pub ordered : (d : ℕ) → d < length plan.table.columns → IsTrue (folder_at firsts d).tells

@@ -20,6 +20,7 @@ use Rattle.snap_fix.specs.declared.fixing.Totals.{Totals}
 use Rattle.file_restorer.specs.declared.state.FileState.{FileState}
 use Rattle.stripe_examiner.specs.Asking.{AsksSpare}
 use Rattle.stripe_examiner.specs.Facts.{StripeFacts}
+use Rattle.snap_fix.specs.FolderWindows.{AreAllWindowCalls}
 use Rattle.snap_fix.specs.Fixing.{AreTotals, AreReadThen, BreaksCells, FixScene, FolderBroke, IsBrokenBy, MendsVault, SceneFits, TellsOfBroken, Writes, facts_of, levels_begun, unwritten}
 use Rattle.stripe_examiner.specs.Known.{AreFacts}
 use Rattle.stripe_examiner.specs.Looking.{AreAllLevelsOf, numbers_of, facts_at, unread_cells, unread_in}
@@ -30,8 +31,8 @@ use Rattle.stripe_examiner.specs.declared.room.Room.{Room}
 use Rattle.snap_fix.specs.Reads.{AreAllRead, AreReadBy, FolderReads, IsQuiet}
 use Rattle.stripe_examiner.specs.Room.{IsRoomFor}
 use Rattle.file_restorer.specs.State.{FolderMakesBy, KeepsStarts}
-use Rattle.snap_fix.specs.Underway.{AddsZeros, AreFixable, AreStripeCalls, AreUnderway, HoldsWrong, IsMendedLevel, done_well}
-use Rattle.snap_fix.specs.Windows.{AreWindows, FillWindows, FixWindow, all_wrong_writes, mend_calls, stripes_in, window_reads, window_size}
+use Rattle.snap_fix.specs.Underway.{AddsZeros, AreAllMendCalls, AreFixable, AreStripeCalls, AreUnderway, HoldsWrong, IsMendedLevel, done_well}
+use Rattle.snap_fix.specs.Windows.{AreWindows, FillWindows, FixWindow, all_wrong_writes, mend_calls, stripes_in, window_of, window_reads, window_size}
 
 -- the stripes are looked at in ascending order, none twice
 abbrev pub AreAscending : List ℕ → Type 0
@@ -62,6 +63,11 @@ pub record MendsAll {W R : Type 0} (view : W → SinkView) (standing : R → Rep
       → AreUnderway plan before firsts old.folders old.starts old.states
       → AreUnderway plan (before ++ stripes) firsts new.folders new.starts new.states
 
+-- of the folders just the blocks of these stripes' cells that are to be written were written, stripe after stripe
+abbrev pub WritesInto : FixPlan → StartsValue → List Mended → List FolderView → List FolderView → Type 0
+WritesInto plan starts stripes olds news = (d : ℕ) → d < length plan.table.columns
+    → FolderMakesBy (AreAllMendCalls plan starts d stripes) (folder_at olds d) (folder_at news d)
+
 -- Stripes of a window, whose levels were read before, were written anew: of the vault only their wrong levels were
 -- written, the spare was not asked, and no folder was read.
 pub record MendsInto {W R : Type 0} (view : W → SinkView) (standing : R → ReportView) (stands : R → List Event → Type 0)
@@ -69,6 +75,7 @@ pub record MendsInto {W R : Type 0} (view : W → SinkView) (standing : R → Re
   pub stripes : List Mended
   pub facts_are : facts_of stripes ≡ facts
   pub mends : MendsAll view standing stands plan stripes old new totals
+  pub cells : WritesInto plan old.starts stripes old.folders new.folders
   pub wrote : GoesOn old.vault new.vault (done_well (all_wrong_writes plan (facts_of stripes)))
   pub spare : new.spare ≡ old.spare
   pub quiet : (d : ℕ) → d < length plan.table.columns
@@ -87,13 +94,15 @@ pub record FixesAll {W R : Type 0} (view : W → SinkView) (standing : R → Rep
   pub ran : GoesOn old.vault new.vault (mend_calls plan windows)
   pub spare : AsksSpare plan (facts_of stripes) old.spare new.spare
 
--- The stripes of a window were, as they were read into it, and no folder was read meanwhile.
+-- The stripes of one window were, as they were read into it, and no folder was read meanwhile.
 pub record FixesInto {W R : Type 0} (view : W → SinkView) (standing : R → ReportView) (stands : R → List Event → Type 0)
     (plan : FixPlan) (numbers : List ℕ) (window : WindowValue) (old new : FixScene W R) (totals : Totals) : Type 0 where
   pub stripes : List Mended
   pub numbers_are : numbers_of (facts_of stripes) ≡ numbers
   pub slots : (k : ℕ) → k < length stripes → (facts_at (facts_of stripes) k).slots ≡ slots_at window k
   pub fixes : FixesAll view standing stands plan stripes old new totals
+  pub alone : fixes.windows ≡ window_of (facts_of stripes) fixes.readings ∷ []
+  pub cells : WritesInto plan old.starts stripes old.folders new.folders
   pub quiet : (d : ℕ) → d < length plan.table.columns
       → FolderReads IsQuiet (folder_at old.folders d) (folder_at new.folders d)
 
@@ -128,6 +137,9 @@ pub record FixesStripes {W R : Type 0} (view : W → SinkView) (standing : R →
       → AreUnderway plan [] firsts old.folders old.starts old.states → AreReadThen plan old.starts firsts stripes
   pub reads : (d : ℕ) → d < length plan.table.columns
       → FolderReads (AreReadBy plan old.starts new.starts d (facts_of stripes))
+      (folder_at old.folders d) (folder_at new.folders d)
+  pub in_windows : (d : ℕ) → d < length plan.table.columns
+      → FolderMakesBy (AreAllWindowCalls plan old.starts new.starts d fixes.windows stripes)
       (folder_at old.folders d) (folder_at new.folders d)
   pub unread : (d : ℕ) → d < length plan.table.columns
       → RoseBy (unread_cells d (facts_of stripes)) (folder_at old.folders d).faults (folder_at new.folders d).faults

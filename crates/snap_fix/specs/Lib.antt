@@ -16,6 +16,7 @@ pub mod Course
 pub mod Ending
 pub mod EndingSteps
 pub mod Fixing
+pub mod FolderWindows
 pub mod FixSteps
 pub mod FixRun
 pub mod Handed

@@ -1,5 +1,5 @@
 -- The windows of a fix: of the stripes of one all levels are read first, and then the wrong ones written.
-use Rattle.std.specs.Prelude.{◌≡◌, ℕ, ◌+◌, ◌*◌, ◌<◌, ◌≤◌, List, [], ◌++◌, length, get_or, All}
+use Rattle.std.specs.Prelude.{◌≡◌, ℕ, ◌+◌, ◌*◌, ◌<◌, ◌≤◌, List, [], ◌++◌, length, map, get_or, All}
 use Rattle.std.specs.List.{flat_map}
 use Rattle.disk_model.specs.Vault.{VaultCall, VaultDone}
 use Rattle.parity_writer.specs.LevelReading.{LevelReading}
@@ -17,6 +17,10 @@ pub record FixWindow : Type 0 where
 abbrev pub stripes_in : List FixWindow → List StripeFacts
 stripes_in windows = flat_map (λ (window : FixWindow). window.stripes) windows
 
+-- the stripes of each window
+abbrev pub cut_of : List FixWindow → List (List StripeFacts)
+cut_of windows = map (λ (window : FixWindow). window.stripes) windows
+
 abbrev pub readings_in : List FixWindow → List (List LevelReading)
 readings_in windows = flat_map (λ (window : FixWindow). window.readings) windows
 
@@ -33,6 +37,10 @@ pub record IsFixWindow (plan : FixPlan) (window : FixWindow) : Type 0 where
 -- it has just so many
 abbrev pub IsFull : FixPlan → FixWindow → Type 0
 IsFull plan window = length window.stripes ≡ window_size plan
+
+-- a window of these stripes, of whose levels this was read
+abbrev pub window_of : List StripeFacts → List (List LevelReading) → FixWindow
+window_of stripes readings = record { stripes = stripes; readings = readings }
 
 -- what stands for a window that is not there
 abbrev pub no_window : FixWindow

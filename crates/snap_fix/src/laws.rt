@@ -42,7 +42,7 @@ ghost use Rattle.stripe_examiner.specs.Search.{IsRightBlock, wanted_at};
 ghost use Rattle.file_restorer.specs.State.{IsNameOf, bytes_placed, record_path};
 ghost use Rattle.snap_fix.specs.Stopped.{FixStop, IsCellSpared, IsNoneOf, IsStop, StandInPlace, StandsInCell, StandsSpared, file_placed, path_at, records_of};
 ghost use Rattle.snap_fix.specs.Underway.{HoldsWrong, IsMendedLevel, KeepsLevels};
-ghost use Rattle.snap_fix.specs.Windows.{AreWindows, FixWindow};
+ghost use Rattle.snap_fix.specs.Windows.{AreWindows, FixWindow, cut_of};
 ghost use Rattle.parity_writer.specs.LevelReading.{LevelReading};
 
 use cauchy::laws::one_solution;
@@ -266,9 +266,12 @@ pub fn a_fix_finishes_files()
 {}
 
 /// The stripes of a fix, and what was read of their levels, are cut into windows in one way. So the calls of the vault are one
-/// list, for any number of readers.
+/// list, for any number of readers. Whatever was read of their levels, the stripes are cut in one way.
 pub fn a_fix_cuts_its_stripes_in_one_way()
-    ensures { (plan : FixPlan) (windows others : List FixWindow) (stripes : List StripeFacts)
+    ensures stripes { (plan : FixPlan) (windows others : List FixWindow) (stripes : List StripeFacts)
+        (readings more : List (List LevelReading)) →
+        AreWindows plan windows stripes readings → AreWindows plan others stripes more → cut_of windows ≡ cut_of others }
+    ensures windows { (plan : FixPlan) (windows others : List FixWindow) (stripes : List StripeFacts)
         (readings : List (List LevelReading)) →
         AreWindows plan windows stripes readings → AreWindows plan others stripes readings → windows ≡ others }
 {}

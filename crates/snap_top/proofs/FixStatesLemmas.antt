@@ -149,6 +149,7 @@ at_end_of : (plan : FixPlan) (starts : StartsValue) (fault : RunFault) (stripes 
 at_end_of plan starts fault stripes readings first firsts news old new off = record {
   written = off.written;
   writes = off.writes;
+  in_windows = off.in_windows;
   ending = ending_of fault plan stripes readings first off.written news old new off.ending;
 }
 

@@ -7,7 +7,7 @@ use Rattle.repair_scope.specs.Plan.{seen}
 use Rattle.snap_fix.specs.Windows.{window_size}
 use Rattle.snap_fix.proofs.WindowsLemmas.{fill_more, takes_all}
 use Rattle.snap_fix.proofs.FixIntoLemmas.{still_underway}
-use Rattle.snap_fix.proofs.FixSinceLemmas.{stripes_none}
+use Rattle.snap_fix.proofs.FixSinceLemmas.{stripes_none, stripes_whole}
 use Rattle.snap_fix.proofs.FixStripesLemmas.{stripes_break, stripes_more}
 use Rattle.snap_fix.proofs.FixWindowLemmas.{ascending_window}
 use Rattle.file_restorer.proofs.GoesOnLemmas.{handed_on}
@@ -116,3 +116,12 @@ loop-done-preserved g c =
       fill = λ further. fill_more plan done count (so_far.fill below) (not_all long done count further (takes_all long done (window_size plan) count below count_is));
       room = c.in_ok-more.ensures.room;
     }
+
+pub returns-clause-fixed : goal.returns-clause-fixed
+returns-clause-fixed g c =
+    let first = c.args.space.now.progress in
+    let so_far = c.loop-done.invariant in
+    let last = c.loop-done.space.progress in
+    let old = fix_scene first.starts first.states first.written.items (map g.F.Folder.view c.args.folders.now) (g.V.Vault.view c.args.vault.now) (g.P.Spare.holding c.args.spare.now) c.args.lines.now c.args.reports.now.items in
+    let new = fix_scene last.starts last.states last.written.items (map g.F.Folder.view c.loop-done.folders) (g.V.Vault.view c.loop-done.vault) (g.P.Spare.holding c.loop-done.spare) c.loop-done.lines c.loop-done.reports.items in
+    stripes_whole _ _ _ (seen c.args.stretch.now.plan) c.args.stretch.now.stripes.now c.loop-done.done c.loop-done.totals old new (omega (arith, c.loop-done-test.false)) so_far.fixed
