@@ -10,6 +10,7 @@ use Rattle.snap_config.specs.declared.options.Command.TheVariants as commands
 use Rattle.snap_report.specs.ListText.{list_text}
 use Rattle.snap_report.specs.StatusText.{bad_in, status_text}
 use Rattle.snap_top.specs.Alike.{HoldAlike, NothingRose}
+use Rattle.snap_top.specs.Dup.{dup_text}
 use Rattle.snap_top.specs.LeftAlike.{AskSame, PrintAlike}
 use Rattle.snap_top.specs.Printing.{EndsPrinted}
 use Rattle.snap_top.specs.Resumed.{RunOf}
@@ -19,7 +20,7 @@ use Rattle.snap_top.proofs.AskedLemmas.{unfailed}
 use Rattle.snap_top.proofs.ResumeLemmas.{begins_same}
 use Rattle.snap_top.proofs.SyncedLemmas.{OneTable}
 use Rattle.snap_top_instances.specs.Asked.{AsksFor}
-use Rattle.snap_top_pairs.specs.Listed.{AreListedTwice, ArePrintedTwice, AreToldTwice}
+use Rattle.snap_top_pairs.specs.Listed.{AreDuplicatesTwice, AreListedTwice, ArePrintedTwice, AreToldTwice}
 use Rattle.snap_top_pairs.specs.Lost.{AreRunTwice, HoldsRows}
 use Rattle.snap_top_instances.proofs.EndsLemmas.{ask_same, ended_as}
 
@@ -82,3 +83,9 @@ module _ {O F V W : Type 0} (opener_view : O → OpenerView) (folder_view : F �
         printed_twice commands.Status status_text (λ (table : TableValue). bad_in table.infos) asks asks_then
         (ended_as commands.Status (begun two.run) (ended two.run) two.run.status two.hold.tells two.clauses.checked two.few (asks_of commands.Status asks))
         (ended_as commands.Status (begun two.again) (ended two.again) two.again.status two.hold.tells_then two.clauses_then.checked two.few_then (asks_then_of commands.Status asks_then))
+
+    pub duplicates_twice : AsksFor commands.Dup texts → AsksFor commands.Dup others → AreDuplicatesTwice opener_view folder_view vault_view sink_view status_then
+    duplicates_twice asks asks_then =
+        printed_twice commands.Dup dup_text (λ (table : TableValue). 0) asks asks_then
+        (ended_as commands.Dup (begun two.run) (ended two.run) two.run.status two.hold.tells two.clauses.checked two.few (asks_of commands.Dup asks))
+        (ended_as commands.Dup (begun two.again) (ended two.again) two.again.status two.hold.tells_then two.clauses_then.checked two.few_then (asks_then_of commands.Dup asks_then))

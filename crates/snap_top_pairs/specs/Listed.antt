@@ -1,4 +1,5 @@
--- Two lists of one array, and two runs for its status: instances of what is supposed of two runs that print a text of their table.
+-- Two lists of one array, of its files or its duplicates, and two runs for its status: instances of what is supposed of
+-- two runs that print a text of their table.
 use Rattle.std.specs.Prelude.{◌≡◌, ℕ, ◌<◌, List, length}
 use Rattle.disk_model.specs.Folder.{FolderView}
 use Rattle.disk_model.specs.Opener.{OpenerView}
@@ -10,6 +11,7 @@ use Rattle.snap_config.specs.declared.options.Command.TheVariants as commands
 use Rattle.snap_report.specs.ListText.{list_text}
 use Rattle.snap_report.specs.StatusText.{bad_in, status_text}
 use Rattle.snap_top.specs.Alike.{HoldAlike, NothingRose}
+use Rattle.snap_top.specs.Dup.{dup_text}
 use Rattle.snap_top.specs.LeftAlike.{AskSame, PrintAlike}
 use Rattle.snap_top.specs.Printing.{EndsPrinted}
 use Rattle.snap_top.specs.Resumed.{RunOf}
@@ -42,3 +44,7 @@ module _ {O F V W : Type 0} (opener_view : O → OpenerView) (folder_view : F �
   -- and so did two runs for the status
   abbrev pub AreToldTwice : ℕ → Type 0
   AreToldTwice status = ArePrintedTwice commands.Status status_text (λ (table : TableValue). bad_in table.infos) status
+
+  -- and so did two lists of duplicates
+  abbrev pub AreDuplicatesTwice : ℕ → Type 0
+  AreDuplicatesTwice status = ArePrintedTwice commands.Dup dup_text (λ (table : TableValue). 0) status

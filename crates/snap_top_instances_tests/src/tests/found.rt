@@ -1,11 +1,13 @@
 // What prints a text of one table prints the same, and what checks one array finds the same.
-use snap_top_memory::arrays::{FIVE, File, LIST, SYNC};
+use snap_top_memory::arrays::{Array, EMPTY, FIVE, File, LIST, SYNC};
 use snap_top_pairs::audited::audit_changed;
 use snap_top_pairs::found::{check_and_fix, check_lost_twice};
-use snap_top_pairs::listed::{list_twice, tell_status_twice};
+use snap_top_pairs::listed::{list_duplicates_twice, list_twice, tell_status_twice};
 use std::test::Fail;
 
 const STATUS: &[&str] = &["snapraid", "status", "-c", "FILE"];
+
+const DUP: &[&str] = &["snapraid", "dup", "-c", "FILE"];
 
 const CHECK: &[&str] = &["snapraid", "check", "-c", "FILE"];
 
@@ -15,14 +17,21 @@ const AUDIT: &[&str] = &["snapraid", "check", "-c", "FILE", "-a"];
 
 const FIX: &[&str] = &["snapraid", "fix", "-c", "FILE"];
 
+// Two files that hold the same.
+const TWINS: Array = Array {
+    disks: &[&[("a", b"x", 1, 5), ("b", b"x", 1, 5)]],
+    ..EMPTY
+};
+
 // The byte is another one, and the stamp the same.
 const ROTTEN: File = ("c", b"x", 1, 5);
 
 #[test]
-fn a_list_and_a_status_print_the_same_twice(rt: HostRuntime) -> Result<(), Fail> {
+fn what_prints_a_table_prints_the_same_twice(rt: HostRuntime) -> Result<(), Fail> {
     let alloc = rt.alloc();
     assert!(rt; list_twice(&rt, alloc, FIVE, SYNC, LIST, LIST)? == 0);
     assert!(rt; tell_status_twice(&rt, alloc, FIVE, SYNC, STATUS, STATUS)? == 0);
+    assert!(rt; list_duplicates_twice(&rt, alloc, TWINS, SYNC, DUP, DUP)? == 0);
     Ok(())
 }
 
