@@ -1,4 +1,4 @@
--- Two lists, or two calls of status, over one array print the same.
+-- Two lists, of files or of duplicates, or two calls of status, over one array print the same.
 use Rattle.std.proofs.Common.{◌≡◌, ℕ, List, false, sym, ap, ◌∙◌, subst}
 use Rattle.file_table.specs.Table.{TableValue}
 use Rattle.snap_config.specs.declared.options.Command.{Command}

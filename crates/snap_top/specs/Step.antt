@@ -40,7 +40,7 @@ LeavesEachTree _ before exit = (d : ℕ) (left : Tree) → FolderStandsIn before
 -- What a run did, and what stands at each moment of it. What was opened is only read, or changed as that says. Where nothing was
 -- opened, the opener holds what it held. With status 2 or 5 it only read. A sync, a fix or a scrub with status 0 or 1 did not break off,
 -- nor does one with status 3 where nothing failed but the output and readings; and so it ends by that. A check that went to its end
--- names what is lost, an audit finds what is changed, and a list and a status print their texts.
+-- names what is lost, an audit finds what is changed, and a list, a status and a list of duplicates print their texts.
 pub record RunStep (before : Entry) (exit : Exit) (status : ℕ) : Type 0 where
   pub always : IsSoundAlways before exit status
   pub folders : exit.has_vault ≡ true → folders_after always.did before.opener.folders exit.after.folders

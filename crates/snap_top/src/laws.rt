@@ -89,9 +89,10 @@ pub fn stopped_syncs_are_resumed()
 
 /// The same of runs, by what `run` says of each of them. Syncs by one configuration and over the same trees were stopped
 /// one after another, or ended with whatever status, and `last` after them ended with status 0. Runs of commands that
-/// change nothing, `list`, `status` and `check`, may stand between. `whole` is a sync of what there was before the first
-/// of them, which ended with status 0. No reading of a copy failed while a sync loaded its table. Then both left the same
-/// table in every copy, but for the times of the last checks, and the same parity, but for what was changed from outside.
+/// change nothing, `list`, `status`, `dup` and `check`, may stand between. `whole` is a sync of what there was before
+/// the first of them, which ended with status 0. No reading of a copy failed while a sync loaded its table. Then both
+/// left the same table in every copy, but for the times of the last checks, and the same parity, but for what was
+/// changed from outside.
 pub fn stopped_runs_are_resumed<O: Opener, F: Folder, V: Vault, W: Sink>()
     ensures { (setup : SetupValue) (trees : List Tree) (seed : List ℕ) (stops : List (StoppedRun O F V W))
         (files left one other : Files) (whole last : RunOf O F V W) (snapshot : Snapshot) (is_changed : ℕ → ℕ → Bool) →
@@ -197,10 +198,11 @@ pub fn what_is_read_alike_is_found_alike<O: Opener, F: Folder, V: Vault, W: Sink
     a_check_finds_what_a_fix_finds();
 }
 
-/// Two checks or audits over one array, or a check and a fix, find the same: where they were asked for the same, their openers
-/// tell all and hold the same, and no count of faults of a folder or of the vault rose in them. So two checks print the same and
-/// have the same status, where the output of neither failed. What of a file's size and stamp a fix saw may be later: no finding
-/// depends on that. Two lists print the same, too, and so do two runs that ask for the status.
+/// Two checks or audits over one array, or a check and a fix, find the same: where they were asked for the same, their
+/// openers tell all and hold the same, and no count of faults of a folder or of the vault rose in them. So two checks
+/// print the same and have the same status, where the output of neither failed. What of a file's size and stamp a fix saw
+/// may be later: no finding depends on that. Two lists, of files or of duplicates, print the same, too, and so do two
+/// runs that ask for the status.
 pub fn one_array_is_found_alike<O: Opener, F: Folder, V: Vault, W: Sink>()
     ensures checks { (mode : Mode) (run again : RunOf O F V W) (one other : CheckRun) →
         HoldAlike (entry_of O.view W.view run) (entry_of O.view W.view again) →
