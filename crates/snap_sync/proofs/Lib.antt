@@ -8,6 +8,7 @@ pub mod NamesLemmas
 pub mod TasksLemmas
 pub mod BrokeLemmas
 pub mod StepLemmas
+mod OpenedLemmas
 pub mod OpeningLemmas
 pub mod RowsLemmas
 pub mod CallsLemmas

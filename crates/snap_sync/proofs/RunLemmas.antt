@@ -1,11 +1,11 @@
 -- What a sync begins with, how far it is before the first window is judged, and what it leaves where a call failed.
-use Rattle.std.proofs.Common.{◌≡◌, ℕ, ◌+◌, ◌<◌, ◌≤◌, List, [], ◌++◌, length, take, true, IfSome, IsTrue, Result, Ok, Err, OnErr, refl, sym, ap, ap₂, ◌∙◌, subst, arith}
+use Rattle.std.proofs.Common.{◌≡◌, ℕ, ◌+◌, ◌<◌, ◌≤◌, List, [], ◌++◌, length, take, true, false, IfSome, Result, Ok, Err, OnErr, refl, sym, ap, ap₂, ◌∙◌, subst, arith}
 use Rattle.std.proofs.lemmas.List.{append-nil}
 use Rattle.array_scan.specs.Layout.{pending_stripes}
 use Rattle.content_file.specs.Save.{piece_size}
 use Rattle.disk_model.specs.Folder.{FolderView}
 use Rattle.disk_model.specs.Sink.{SinkView}
-use Rattle.disk_model.specs.Ran.{RanAll, log_of}
+use Rattle.disk_model.specs.Ran.{log_of}
 use Rattle.disk_model.specs.Vault.{VaultView, SomeCalls, state_of}
 use Rattle.file_table.specs.Table.{TableValue}
 use Rattle.snap_report.specs.EventLines.{lines_of}
@@ -20,7 +20,7 @@ use Rattle.stripe_reader.specs.Starts.{recorded_starts}
 use Rattle.snap_sync.specs.declared.beginning.Work.{Work}
 use Rattle.snap_sync.specs.declared.stripes.Pace.{Pace}
 use Rattle.snap_sync.specs.declared.stripes.Progress.{Progress}
-use Rattle.snap_sync.specs.Calls.{SyncPlan, opening_calls, stripe_calls}
+use Rattle.snap_sync.specs.Calls.{SyncPlan, RanOpened, stripe_calls}
 use Rattle.snap_sync.specs.Course.{Outside, TouchesVault, TellsThese, IsSyncWindow, BreaksInWindow, Breaks, outside}
 use Rattle.stripe_findings.specs.Findings.{events_of}
 use Rattle.stripe_findings.specs.Reading.{StripeReading, AreRead}
@@ -61,7 +61,7 @@ on_err (Err e) p = p
 
 -- all calls for the stripes before it went well
 pub broke_in : (plan : SyncPlan) (readings before last : List StripeReading) (old mid new : VaultView) → readings ≡ before ++ last → length last ≤ stripe_count (length plan.start.columns) plan.start.shape.block_size
-    → IsSyncWindow plan (length before) (length last) → (IsTrue old.tells → RanAll (opening_calls plan old.files ++ stripe_calls plan before (length before)) (log_of (state_of old)) (log_of (state_of mid))) → SomeCalls mid new
+    → IsSyncWindow plan (length before) (length last) → RanOpened plan (stripe_calls plan before (length before)) false (state_of old) (log_of (state_of mid)) → SomeCalls mid new
     → BreaksInWindow plan readings (state_of old) (state_of new)
 broke_in plan readings before last old mid new are few cut ran calls = record {
   before = before;
@@ -69,7 +69,7 @@ broke_in plan readings before last old mid new are few cut ran calls = record {
   are = are;
   few = few;
   cut = λ some. cut;
-  ran = λ some told. record { mid = log_of (state_of mid); first = ran told; rest = calls.done; more = calls.goes_on.calls };
+  ran = λ some. record { mid = log_of (state_of mid); first = ran; rest = calls.done; more = calls.goes_on.calls };
 }
 
 -- no stripe was told

@@ -1,20 +1,20 @@
 -- What stands of a vault that a sync works with, and how its calls go.
-use Rattle.std.proofs.Common.{◌≡◌, ℕ, ◌≤◌, List, ◌++◌, length, take, IsTrue, sym, ◌∙◌, ap, subst, append_assoc, length-append, arith}
+use Rattle.std.proofs.Common.{◌≡◌, ℕ, ◌≤◌, List, ◌++◌, length, take, true, false, sym, ◌∙◌, ap, subst, append_assoc, length-append, arith}
 use Rattle.std.proofs.lemmas.List.{take-append-le}
 use Rattle.disk_model.specs.Files.{Files}
-use Rattle.disk_model.specs.Ran.{RanAll, RanUpTo, log_of}
+use Rattle.disk_model.specs.Ran.{log_of}
 use Rattle.disk_model.specs.Vault.{VaultView, VaultCall, SomeCalls, ChangesBy, Reads, Holds, state_of}
-use Rattle.disk_model.proofs.RanLemmas.{ran_front}
 use Rattle.content_file.specs.Save.{HasSaved}
 use Rattle.content_file.specs.Spelling.{spelling}
 use Rattle.parity_writer.specs.Parity.{HoldsRows}
-use Rattle.snap_sync.specs.Calls.{SyncPlan, opening_calls, stripe_calls, ending_calls, sync_vault_calls}
+use Rattle.snap_sync.specs.Calls.{SyncPlan, RanOpened, stripe_calls, ending_calls, reading_calls}
 use Rattle.snap_sync.specs.Closing.{closed, rows_of}
 use Rattle.snap_sync.specs.Images.{KeepsSynced, SpellsEither, MayStand, Opening, AtWork, HasParityAfter, table_after, rows_after}
 use Rattle.stripe_findings.specs.Reading.{StripeReading}
 use Rattle.snap_sync.specs.Work.{IsUnderway, VaultBroke}
 use Rattle.snap_sync.proofs.OpeningLemmas.{kept_by_save}
 use Rattle.snap_sync.proofs.CallsLemmas.{behind}
+use Rattle.snap_sync.proofs.OpenedLemmas.{opened_as, opened_front}
 
 -- What stands once all these stripes were read and written: the table closed by the first c of them is in every copy.
 pub record Stands (plan : SyncPlan) (readings : List StripeReading) (c : ℕ) (old new : VaultView) : Type 0 where
@@ -30,19 +30,19 @@ pub record IsWritten (plan : SyncPlan) (readings : List StripeReading) (c : ℕ)
   pub stands : Stands plan readings c old new
   pub so_far : List VaultCall
   pub whole : so_far ++ behind plan readings (length readings) ≡ stripe_calls plan readings (length readings)
-  pub ran : IsTrue old.tells → RanAll (opening_calls plan old.files ++ so_far) (log_of (state_of old)) (log_of (state_of new))
+  pub ran : RanOpened plan so_far false (state_of old) (log_of (state_of new))
 
 -- a call failed
 pub record IsStopped (plan : SyncPlan) (readings : List StripeReading) (old new : VaultView) : Type 0 where
   pub calls : SomeCalls old new
-  pub ran : IsTrue old.tells → RanUpTo (sync_vault_calls plan old.files readings) (log_of (state_of old)) (log_of (state_of new))
+  pub ran : RanOpened plan (reading_calls plan readings) true (state_of old) (log_of (state_of new))
   pub broke : VaultBroke old new
   pub changes : ChangesBy (MayStand plan readings) old new
 
 -- all was done, and the last checkpoint too
 pub record IsEnded (plan : SyncPlan) (readings : List StripeReading) (old new : VaultView) : Type 0 where
   pub calls : SomeCalls old new
-  pub ran : IsTrue old.tells → RanAll (sync_vault_calls plan old.files readings) (log_of (state_of old)) (log_of (state_of new))
+  pub ran : RanOpened plan (reading_calls plan readings) false (state_of old) (log_of (state_of new))
   pub changes : ChangesBy (MayStand plan readings) old new
   pub saved : Holds (HasSaved plan.copies (spelling (closed plan.now plan.start readings))) new
   pub parity : Holds (HasParityAfter plan readings (length readings) old.files) new
@@ -74,11 +74,10 @@ stand_longer plan readings ws a b (AtWork c k work) =
     })
 
 -- a front of the calls of a sync failed
-pub front_of_all : (plan : SyncPlan) (readings : List StripeReading) (files : Files) (so_far rest : List VaultCall) (old new : VaultView) → so_far ++ rest ≡ stripe_calls plan readings (length readings)
-    → RanUpTo (opening_calls plan files ++ so_far) (log_of (state_of old)) (log_of (state_of new)) → RanUpTo (sync_vault_calls plan files readings) (log_of (state_of old)) (log_of (state_of new))
-front_of_all plan readings files so_far rest old new whole up =
-    let opening = opening_calls plan files in
+pub front_of_all : (plan : SyncPlan) (readings : List StripeReading) (so_far rest : List VaultCall) (old new : VaultView) → so_far ++ rest ≡ stripe_calls plan readings (length readings)
+    → RanOpened plan so_far true (state_of old) (log_of (state_of new)) → RanOpened plan (reading_calls plan readings) true (state_of old) (log_of (state_of new))
+front_of_all plan readings so_far rest old new whole up =
     let ending = ending_calls plan readings in
-    subst (λ cs. RanUpTo cs (log_of (state_of old)) (log_of (state_of new)))
-    (append_assoc opening so_far (rest ++ ending) ∙ ap (λ cs. opening ++ cs) (sym (append_assoc so_far rest ending) ∙ ap (λ cs. cs ++ ending) whole))
-    (ran_front (opening ++ so_far) (rest ++ ending) (log_of (state_of old)) (log_of (state_of new)) up)
+    opened_as plan (so_far ++ (rest ++ ending)) (reading_calls plan readings) true (state_of old) (log_of (state_of new))
+    (sym (append_assoc so_far rest ending) ∙ ap (λ cs. cs ++ ending) whole)
+    (opened_front plan so_far (rest ++ ending) (state_of old) (log_of (state_of new)) up)

@@ -1,12 +1,11 @@
 -- How far the vault is: once it is opened, after a window was written, after a checkpoint, at the end, and where a call failed.
-use Rattle.std.proofs.Common.{◌≡◌, ℕ, ◌+◌, ◌<◌, List, [], ◌++◌, length, map, take, Bool, true, false, if◌then◌else◌, IsTrue, sym, ◌∙◌, ap, ap₂, subst, append_assoc, arith}
+use Rattle.std.proofs.Common.{◌≡◌, ℕ, ◌+◌, ◌<◌, List, [], ◌++◌, length, map, take, Bool, true, false, if◌then◌else◌, sym, ◌∙◌, ap, ap₂, subst, arith}
 use Rattle.std.proofs.lemmas.Bool.{eq-eqb}
 use Rattle.std.proofs.lemmas.List.{append-nil}
 use Rattle.std.proofs.Math.Seq.{take-length}
 use Rattle.array_scan.specs.Layout.{pending_stripes}
 use Rattle.disk_model.specs.Ran.{RanAll, RanUpTo, log_of}
 use Rattle.disk_model.specs.Vault.{VaultView, VaultCall, IsWellFormed, SomeCalls, ChangesBy, Reads, Holds, copies_of, state_of}
-use Rattle.disk_model.proofs.RanLemmas.{ran_all_then, ran_up_then, ran_front}
 use Rattle.disk_model.proofs.VaultLemmas.{calls_then}
 use Rattle.file_table.specs.Table.{TableValue}
 use Rattle.content_file.specs.Save.{HasSaved, piecewise_calls}
@@ -16,7 +15,7 @@ use Rattle.parity_writer.specs.Chosen.{Choice, IsChosen, window_calls, rows_with
 use Rattle.parity_writer.specs.Keeps.{SameParities}
 use Rattle.parity_writer.specs.Parity.{Rows, HoldsRows, WritesBlocks}
 use Rattle.stripe_reader.specs.WindowValue.{WindowValue, Fits}
-use Rattle.snap_sync.specs.Calls.{SyncPlan, opening_calls, checkpoint_calls, saves_after, stripe_calls, ending_calls, sync_vault_calls}
+use Rattle.snap_sync.specs.Calls.{SyncPlan, RanOpened, checkpoint_calls, saves_after, stripe_calls, ending_calls, reading_calls}
 use Rattle.snap_sync.specs.Closing.{closed}
 use Rattle.snap_sync.specs.Images.{MayStand}
 use Rattle.stripe_findings.specs.Reading.{StripeReading, stripes_of, readings_in, is_verified}
@@ -24,6 +23,7 @@ use Rattle.snap_sync.specs.Work.{IsPlanFor, IsUnderway, MaySettle, VaultBroke}
 use Rattle.snap_sync.proofs.BrokeLemmas.{broke_after, broke_among, window_changes}
 use Rattle.snap_sync.proofs.RowsLemmas.{IsWindowOf}
 use Rattle.snap_sync.proofs.CallsLemmas.{behind, window_ends}
+use Rattle.snap_sync.proofs.OpenedLemmas.{opened_as, opened_front, opened_then}
 use Rattle.snap_sync.proofs.PendingLemmas.{AreNext, window_is_of}
 use Rattle.snap_sync.proofs.StandLemmas.{Stands, IsWritten, IsStopped, IsEnded, stands_of, front_of_all}
 use Rattle.snap_sync.proofs.WrittenLemmas.{written, stopped_writing}
@@ -60,11 +60,11 @@ pub record SavesNot (piece : ℕ) (table : TableValue) (mid new : VaultView) : T
 
 -- ---- the opening failed
 
-pub underway_stopped_opening : (plan : SyncPlan) (old new : VaultView) → SomeCalls old new → VaultBroke old new → (IsTrue old.tells → RanUpTo (opening_calls plan old.files) (log_of (state_of old)) (log_of (state_of new)))
+pub underway_stopped_opening : (plan : SyncPlan) (old new : VaultView) → SomeCalls old new → VaultBroke old new → RanOpened plan [] true (state_of old) (log_of (state_of new))
     → ChangesBy (MayStand plan []) old new → IsStopped plan [] old new
 underway_stopped_opening plan old new calls broke up changes = record {
   calls = calls;
-  ran = λ told. ran_front (opening_calls plan old.files) (stripe_calls plan [] 0 ++ ending_calls plan []) (log_of (state_of old)) (log_of (state_of new)) (up told);
+  ran = opened_front plan [] (reading_calls plan []) (state_of old) (log_of (state_of new)) up;
   broke = broke;
   changes = changes;
 }
@@ -115,8 +115,8 @@ module _ (plan : SyncPlan) (readings : List StripeReading) (c : ℕ) where
     order = done.stands.order;
     within = omega arith;
     calls = done.stands.calls;
-    ran = λ told. subst (λ cs. RanAll (opening_calls plan old.files ++ cs) (log_of (state_of old)) (log_of (state_of new)))
-        (sym (append-nil done.so_far) ∙ ap (λ cs. done.so_far ++ cs) (sym (due false none)) ∙ done.whole) (done.ran told);
+    ran = opened_as plan done.so_far (stripe_calls plan readings (length readings)) false (state_of old) (log_of (state_of new))
+        (sym (append-nil done.so_far) ∙ ap (λ cs. done.so_far ++ cs) (sym (due false none)) ∙ done.whole) done.ran;
     changes = done.stands.changes;
     copies = done.stands.copies;
     rows = done.stands.rows;
@@ -125,25 +125,24 @@ module _ (plan : SyncPlan) (readings : List StripeReading) (c : ℕ) where
 
   module _ (piece : ℕ) (piece_is : plan.piece ≡ piece) (table : TableValue) (table_is : table ≡ closed plan.now plan.start readings) (old mid new : VaultView) (for : IsPlanFor plan old) (formed : IsWellFormed new) where
     -- the calls so far, and then those of the checkpoint
-    all_ran : (so_far : List VaultCall) → Stands plan readings c old mid → IsSaved piece table mid new → RanAll so_far (log_of (state_of old)) (log_of (state_of mid))
-        → RanAll (so_far ++ checkpoint_calls plan (closed plan.now plan.start readings)) (log_of (state_of old)) (log_of (state_of new))
+    all_ran : (so_far : List VaultCall) → Stands plan readings c old mid → IsSaved piece table mid new → RanOpened plan so_far false (state_of old) (log_of (state_of mid))
+        → RanOpened plan (so_far ++ checkpoint_calls plan (closed plan.now plan.start readings)) false (state_of old) (log_of (state_of new))
     all_ran so_far stands it ran =
-        subst (λ cs. RanAll (so_far ++ cs) (log_of (state_of old)) (log_of (state_of new)))
+        subst (λ cs. RanOpened plan (so_far ++ cs) false (state_of old) (log_of (state_of new)))
         (checkpoint_is plan readings c old mid new for stands formed table table_is it.calls it.changes piece piece_is)
-        (ran_all_then so_far (sync_calls mid.levels ++ piecewise_calls piece (copies_of mid) (spelling table)) (log_of (state_of old)) (log_of (state_of mid)) (log_of (state_of new)) ran it.ran)
+        (opened_then plan so_far (sync_calls mid.levels ++ piecewise_calls piece (copies_of mid) (spelling table)) false (state_of old) (log_of (state_of mid)) (log_of (state_of new)) ran it.ran)
 
-    up_ran : (so_far : List VaultCall) → Stands plan readings c old mid → SavesNot piece table mid new → RanAll so_far (log_of (state_of old)) (log_of (state_of mid))
-        → RanUpTo (so_far ++ checkpoint_calls plan (closed plan.now plan.start readings)) (log_of (state_of old)) (log_of (state_of new))
+    up_ran : (so_far : List VaultCall) → Stands plan readings c old mid → SavesNot piece table mid new → RanOpened plan so_far false (state_of old) (log_of (state_of mid))
+        → RanOpened plan (so_far ++ checkpoint_calls plan (closed plan.now plan.start readings)) true (state_of old) (log_of (state_of new))
     up_ran so_far stands it ran =
-        subst (λ cs. RanUpTo (so_far ++ cs) (log_of (state_of old)) (log_of (state_of new)))
+        subst (λ cs. RanOpened plan (so_far ++ cs) true (state_of old) (log_of (state_of new)))
         (checkpoint_is plan readings c old mid new for stands formed table table_is it.calls it.changes piece piece_is)
-        (ran_up_then so_far (sync_calls mid.levels ++ piecewise_calls piece (copies_of mid) (spelling table)) (log_of (state_of old)) (log_of (state_of mid)) (log_of (state_of new)) ran it.ran)
+        (opened_then plan so_far (sync_calls mid.levels ++ piecewise_calls piece (copies_of mid) (spelling table)) true (state_of old) (log_of (state_of mid)) (log_of (state_of new)) ran it.ran)
 
     -- within a sync
     module _ (saves : saves_after plan (length readings) ≡ true) (done : IsWritten plan readings c old mid) where
-      split : (opening_calls plan old.files ++ done.so_far) ++ checkpoint_calls plan (closed plan.now plan.start readings) ≡ opening_calls plan old.files ++ stripe_calls plan readings (length readings)
-      split = append_assoc (opening_calls plan old.files) done.so_far (checkpoint_calls plan (closed plan.now plan.start readings))
-          ∙ ap (λ cs. opening_calls plan old.files ++ cs) (ap (λ cs. done.so_far ++ cs) (sym (due true saves)) ∙ done.whole)
+      split : done.so_far ++ checkpoint_calls plan (closed plan.now plan.start readings) ≡ stripe_calls plan readings (length readings)
+      split = ap (λ cs. done.so_far ++ cs) (sym (due true saves)) ∙ done.whole
 
       pub underway_saved : IsSaved piece table mid new → IsUnderway plan readings (length readings) (length readings) old new
       underway_saved it =
@@ -152,7 +151,8 @@ module _ (plan : SyncPlan) (readings : List StripeReading) (c : ℕ) where
             order = omega arith;
             within = omega arith;
             calls = now.calls;
-            ran = λ told. subst (λ cs. RanAll cs (log_of (state_of old)) (log_of (state_of new))) split (all_ran (opening_calls plan old.files ++ done.so_far) done.stands it (done.ran told));
+            ran = opened_as plan (done.so_far ++ checkpoint_calls plan (closed plan.now plan.start readings)) (stripe_calls plan readings (length readings)) false (state_of old) (log_of (state_of new)) split
+                (all_ran done.so_far done.stands it done.ran);
             changes = now.changes;
             copies = now.copies;
             rows = now.rows;
@@ -162,9 +162,10 @@ module _ (plan : SyncPlan) (readings : List StripeReading) (c : ℕ) where
       pub underway_stopped_saving : SavesNot piece table mid new → IsStopped plan readings old new
       underway_stopped_saving it = record {
         calls = calls_then old mid new done.stands.calls it.calls;
-        ran = λ told.
-            front_of_all plan readings old.files (stripe_calls plan readings (length readings)) [] old new (append-nil (stripe_calls plan readings (length readings)))
-            (subst (λ cs. RanUpTo cs (log_of (state_of old)) (log_of (state_of new))) split (up_ran (opening_calls plan old.files ++ done.so_far) done.stands it (done.ran told)));
+        ran =
+            front_of_all plan readings (stripe_calls plan readings (length readings)) [] old new (append-nil (stripe_calls plan readings (length readings)))
+            (opened_as plan (done.so_far ++ checkpoint_calls plan (closed plan.now plan.start readings)) (stripe_calls plan readings (length readings)) true (state_of old) (log_of (state_of new)) split
+            (up_ran done.so_far done.stands it done.ran));
         broke = broke_after old mid new done.stands.calls it.calls it.broke;
         changes = saving_stands plan readings c old mid new for done.stands formed table table_is it.calls it.changes;
       }
@@ -174,16 +175,16 @@ module _ (plan : SyncPlan) (readings : List StripeReading) (c : ℕ) where
       ends_so : ending_calls plan readings ≡ checkpoint_calls plan (closed plan.now plan.start readings)
       ends_so = ap (λ (b : Bool). if b then checkpoint_calls plan (closed plan.now plan.start readings) else []) (eq-eqb (length readings) plan.all all)
 
-      joined : (opening_calls plan old.files ++ stripe_calls plan readings (length readings)) ++ checkpoint_calls plan (closed plan.now plan.start readings) ≡ sync_vault_calls plan old.files readings
-      joined = append_assoc (opening_calls plan old.files) (stripe_calls plan readings (length readings)) (checkpoint_calls plan (closed plan.now plan.start readings))
-          ∙ ap (λ cs. opening_calls plan old.files ++ (stripe_calls plan readings (length readings) ++ cs)) (sym ends_so)
+      joined : stripe_calls plan readings (length readings) ++ checkpoint_calls plan (closed plan.now plan.start readings) ≡ reading_calls plan readings
+      joined = ap (λ cs. stripe_calls plan readings (length readings) ++ cs) (sym ends_so)
 
       pub underway_ended : IsSaved piece table mid new → IsEnded plan readings old new
       underway_ended it =
           let stands = stands_of plan readings c old mid under in
           record {
             calls = calls_then old mid new under.calls it.calls;
-            ran = λ told. subst (λ cs. RanAll cs (log_of (state_of old)) (log_of (state_of new))) joined (all_ran (opening_calls plan old.files ++ stripe_calls plan readings (length readings)) stands it (under.ran told));
+            ran = opened_as plan (stripe_calls plan readings (length readings) ++ checkpoint_calls plan (closed plan.now plan.start readings)) (reading_calls plan readings) false (state_of old) (log_of (state_of new)) joined
+                (all_ran (stripe_calls plan readings (length readings)) stands it under.ran);
             changes = saving_stands plan readings c old mid new for stands formed table table_is it.calls it.changes;
             saved = all_saved plan readings c old mid new for stands formed table table_is it.calls it.changes it.settled it.saved;
             parity = parity_left plan readings c old mid new for stands formed table table_is it.calls it.changes it.settled it.saved;
@@ -194,7 +195,8 @@ module _ (plan : SyncPlan) (readings : List StripeReading) (c : ℕ) where
           let stands = stands_of plan readings c old mid under in
           record {
             calls = calls_then old mid new under.calls it.calls;
-            ran = λ told. subst (λ cs. RanUpTo cs (log_of (state_of old)) (log_of (state_of new))) joined (up_ran (opening_calls plan old.files ++ stripe_calls plan readings (length readings)) stands it (under.ran told));
+            ran = opened_as plan (stripe_calls plan readings (length readings) ++ checkpoint_calls plan (closed plan.now plan.start readings)) (reading_calls plan readings) true (state_of old) (log_of (state_of new)) joined
+                (up_ran (stripe_calls plan readings (length readings)) stands it under.ran);
             broke = broke_after old mid new under.calls it.calls it.broke;
             changes = saving_stands plan readings c old mid new for stands formed table table_is it.calls it.changes;
           }

@@ -1,12 +1,11 @@
 -- A window is written.
-use Rattle.std.proofs.Common.{◌≡◌, ◌≢◌, inl, ⊎_elim, ℕ, zero, suc, ◌+◌, ◌*◌, ◌<◌, ◌≤◌, List, ◌++◌, length, take, get_or, None, Some, IsTrue, refl, sym, ◌∙◌, ap, ap₂, subst, append_assoc, length-append, arith}
+use Rattle.std.proofs.Common.{◌≡◌, ◌≢◌, inl, ⊎_elim, ℕ, zero, suc, ◌+◌, ◌*◌, ◌<◌, ◌≤◌, List, ◌++◌, length, take, get_or, true, false, None, Some, IsTrue, refl, sym, ◌∙◌, ap, ap₂, subst, length-append, arith}
 use Rattle.std.proofs.lemmas.List.{take-append-le, get_or-take, length-take}
 use Rattle.std.proofs.lemmas.Nat.{row_fits}
 use Rattle.std.proofs.Math.Seq.{take-length}
 use Rattle.disk_model.specs.Files.{Files}
 use Rattle.disk_model.specs.Ran.{RanAll, RanUpTo, log_of}
 use Rattle.disk_model.specs.Vault.{VaultView, VaultCall, IsWellFormed, SomeCalls, ChangesBy, Reads, Holds, state_of}
-use Rattle.disk_model.proofs.RanLemmas.{ran_all_then, ran_up_then}
 use Rattle.disk_model.proofs.VaultLemmas.{calls_then}
 use Rattle.file_table.specs.Table.{TableValue}
 use Rattle.content_file.specs.Save.{HasSaved}
@@ -15,13 +14,14 @@ use Rattle.parity_writer.specs.Chosen.{Choice, IsChosen, window_calls, rows_with
 use Rattle.parity_writer.specs.Parity.{Row, Rows, no_rows, HoldsRows, WritesBlocks}
 use Rattle.parity_writer.specs.Sound.{IsSynced}
 use Rattle.stripe_reader.specs.WindowValue.{WindowValue}
-use Rattle.snap_sync.specs.Calls.{SyncPlan, opening_calls, level_bytes, no_reading, stripe_calls}
+use Rattle.snap_sync.specs.Calls.{SyncPlan, RanOpened, level_bytes, no_reading, stripe_calls}
 use Rattle.snap_sync.specs.Closing.{closed, rows_of, rows_with}
 use Rattle.snap_sync.specs.Images.{IsInSynced, MayStand, AtWork, HasParityAfter, HasParity, table_after, rows_after}
 use Rattle.stripe_findings.specs.Reading.{StripeReading}
 use Rattle.snap_sync.specs.Work.{IsPlanFor, VaultBroke}
 use Rattle.snap_sync.proofs.BrokeLemmas.{broke_after}
 use Rattle.snap_sync.proofs.StepLemmas.{changes_by, holds_on}
+use Rattle.snap_sync.proofs.OpenedLemmas.{opened_then}
 use Rattle.snap_sync.proofs.OpeningLemmas.{kept_then, saved_kept}
 use Rattle.snap_sync.proofs.RowsLemmas.{HasRow, rows_append, rows_stay, verified_has_row, row_is_of, IsWindowOf, window_rows_are, other_rows_kept, synced_kept, parity_more}
 use Rattle.snap_sync.proofs.CallsLemmas.{behind}
@@ -105,26 +105,22 @@ module _ (plan : SyncPlan) (readings ws : List StripeReading) (window : WindowVa
   abbrev so_far : List VaultCall
   so_far = stripe_calls plan readings (length readings) ++ window_calls start.shape.levels window choice (length ws)
 
-  in_order : opening_calls plan old.files ++ so_far ≡ (opening_calls plan old.files ++ stripe_calls plan readings (length readings)) ++ window_calls start.shape.levels window choice (length ws)
-  in_order = sym (append_assoc (opening_calls plan old.files) (stripe_calls plan readings (length readings)) (window_calls start.shape.levels window choice (length ws)))
-
   -- a call of it failed
-  pub stopped_writing : (IsTrue old.tells → RanAll (opening_calls plan old.files ++ stripe_calls plan readings (length readings)) (log_of (state_of old)) (log_of (state_of mid)))
+  pub stopped_writing : RanOpened plan (stripe_calls plan readings (length readings)) false (state_of old) (log_of (state_of mid))
       → (whole : so_far ++ behind plan (readings ++ ws) (length (readings ++ ws)) ≡ stripe_calls plan (readings ++ ws) (length (readings ++ ws)))
       → (count : ℕ) → count ≡ length ws → RanUpTo (window_calls mid.levels window choice count) (log_of (state_of mid)) (log_of (state_of new)) → VaultBroke mid new → IsStopped plan (readings ++ ws) old new
   stopped_writing before whole count count_is up broke = record {
     calls = calls_then old mid new under.calls calls;
-    ran = λ told.
-        front_of_all plan (readings ++ ws) old.files so_far (behind plan (readings ++ ws) (length (readings ++ ws))) old new whole
-        (subst (λ cs. RanUpTo cs (log_of (state_of old)) (log_of (state_of new))) (sym in_order)
-        (ran_up_then (opening_calls plan old.files ++ stripe_calls plan readings (length readings)) (window_calls start.shape.levels window choice (length ws)) (log_of (state_of old)) (log_of (state_of mid)) (log_of (state_of new))
-        (before told) (subst (λ cs. RanUpTo cs (log_of (state_of mid)) (log_of (state_of new))) (as_before mid.levels levels_are count count_is) up)));
+    ran =
+        front_of_all plan (readings ++ ws) so_far (behind plan (readings ++ ws) (length (readings ++ ws))) old new whole
+        (opened_then plan (stripe_calls plan readings (length readings)) (window_calls start.shape.levels window choice (length ws)) true (state_of old) (log_of (state_of mid)) (log_of (state_of new))
+        before (subst (λ cs. RanUpTo cs (log_of (state_of mid)) (log_of (state_of new))) (as_before mid.levels levels_are count count_is) up));
     broke = broke_after old mid new under.calls calls broke;
     changes = writing_stands;
   }
 
   -- all of it went well
-  pub written : (IsTrue old.tells → RanAll (opening_calls plan old.files ++ stripe_calls plan readings (length readings)) (log_of (state_of old)) (log_of (state_of mid)))
+  pub written : RanOpened plan (stripe_calls plan readings (length readings)) false (state_of old) (log_of (state_of mid))
       → (whole : so_far ++ behind plan (readings ++ ws) (length (readings ++ ws)) ≡ stripe_calls plan (readings ++ ws) (length (readings ++ ws)))
       → (count : ℕ) → count ≡ length ws → RanAll (window_calls mid.levels window choice count) (log_of (state_of mid)) (log_of (state_of new))
       → ((rows : Rows) → Reads (HoldsRows mid.levels window.block_size rows) mid → Reads (HoldsRows mid.levels window.block_size (window_rows window choice count rows)) new) → IsWritten plan (readings ++ ws) c old new
@@ -145,10 +141,8 @@ module _ (plan : SyncPlan) (readings ws : List StripeReading) (window : WindowVa
     };
     so_far = so_far;
     whole = whole;
-    ran = λ told.
-        subst (λ cs. RanAll cs (log_of (state_of old)) (log_of (state_of new))) (sym in_order)
-        (ran_all_then (opening_calls plan old.files ++ stripe_calls plan readings (length readings)) (window_calls start.shape.levels window choice (length ws)) (log_of (state_of old)) (log_of (state_of mid)) (log_of (state_of new))
-        (before told) (subst (λ cs. RanAll cs (log_of (state_of mid)) (log_of (state_of new))) (as_before mid.levels levels_are count count_is) ran));
+    ran = opened_then plan (stripe_calls plan readings (length readings)) (window_calls start.shape.levels window choice (length ws)) false (state_of old) (log_of (state_of mid)) (log_of (state_of new))
+        before (subst (λ cs. RanAll cs (log_of (state_of mid)) (log_of (state_of new))) (as_before mid.levels levels_are count count_is) ran);
   }
     where
       firsts : take c (readings ++ ws) ≡ take c readings

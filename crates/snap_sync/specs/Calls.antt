@@ -1,12 +1,12 @@
 -- Which calls a sync makes of the vault, and in which order.
-use Rattle.std.specs.Prelude.{ℕ, ◌+◌, ◌*◌, ◌==◌, ◌&&◌, not, List, [], ◌++◌, length, take, get_or, Bool, if◌then◌else◌, Option}
+use Rattle.std.specs.Prelude.{◌≡◌, ℕ, ◌+◌, ◌*◌, ◌==◌, ◌&&◌, not, List, [], ◌++◌, length, take, get_or, All, Bool, if◌then◌else◌, IsTrue, Option}
 use Rattle.std.specs.List.{range_with_len, flat_map}
 use Rattle.content_file.specs.Save.{piecewise_calls}
 use Rattle.content_file.specs.Spelling.{spelling}
-use Rattle.disk_model.specs.Files.{Files}
-use Rattle.disk_model.specs.Vault.{VaultCall}
+use Rattle.disk_model.specs.Ran.{Log, RanLog, log_of}
+use Rattle.disk_model.specs.Vault.{VaultCall, VaultState}
 use Rattle.file_table.specs.Table.{TableValue}
-use Rattle.parity_writer.specs.Calls.{length_calls, sum_calls, sync_calls}
+use Rattle.parity_writer.specs.Calls.{IsLengthCall, length_calls, sum_calls, sync_calls}
 use Rattle.snap_sync.specs.Closing.{closed}
 use Rattle.stripe_findings.specs.Reading.{StripeReading, is_verified, row_of}
 use Rattle.snap_sync.specs.Schedule.{is_checkpoint}
@@ -25,10 +25,15 @@ pub record SyncPlan : Type 0 where
 abbrev pub level_bytes : TableValue → ℕ
 level_bytes table = length table.infos * table.shape.block_size
 
--- the laid out table is saved to every copy, and then the levels of these files get their lengths
-abbrev pub opening_calls : SyncPlan → Files → List VaultCall
-opening_calls plan files =
-    piecewise_calls plan.piece plan.copies (spelling plan.start) ++ length_calls plan.start.shape.levels (level_bytes plan.start) files
+-- Calls by which the levels get their lengths: each asks for the length of a level, or sets it to that of the laid out table. Where the vault
+-- tells its files, each level is asked in order, and is set where it has another length.
+pub record AreLengthCalls (plan : SyncPlan) (old : VaultState) (calls : List VaultCall) : Type 0 where
+  pub each : All (IsLengthCall (level_bytes plan.start)) calls
+  pub as_read : IsTrue old.tells → calls ≡ length_calls plan.start.shape.levels (level_bytes plan.start) old.files
+
+-- the laid out table is saved to every copy, and then the levels get their lengths by these calls
+abbrev pub opening_calls : SyncPlan → List VaultCall → List VaultCall
+opening_calls plan lengths = piecewise_calls plan.piece plan.copies (spelling plan.start) ++ lengths
 
 -- the writes for a stripe that was read: where it is verified, its sum to each level in order
 abbrev pub writes_of : TableValue → StripeReading → List VaultCall
@@ -56,10 +61,15 @@ calls_at plan readings i =
 abbrev pub stripe_calls : SyncPlan → List StripeReading → ℕ → List VaultCall
 stripe_calls plan readings count = flat_map (calls_at plan readings) (range_with_len 0 count)
 
--- all calls of a sync that read these stripes; it ends with a checkpoint once all were read
+-- all calls behind the opening of a sync that read these stripes; it ends with a checkpoint once all were read
 abbrev pub ending_calls : SyncPlan → List StripeReading → List VaultCall
 ending_calls plan readings = if length readings == plan.all then checkpoint_calls plan (closed plan.now plan.start readings) else []
 
-abbrev pub sync_vault_calls : SyncPlan → Files → List StripeReading → List VaultCall
-sync_vault_calls plan files readings =
-    opening_calls plan files ++ (stripe_calls plan readings (length readings) ++ ending_calls plan readings)
+abbrev pub reading_calls : SyncPlan → List StripeReading → List VaultCall
+reading_calls plan readings = stripe_calls plan readings (length readings) ++ ending_calls plan readings
+
+-- The vault was opened so, and then got these calls: just these were made, in this order, up to the first that failed.
+pub record RanOpened (plan : SyncPlan) (calls : List VaultCall) (failed : Bool) (old : VaultState) (new : Log) : Type 0 where
+  pub lengths : List VaultCall
+  pub are : AreLengthCalls plan old lengths
+  pub ran : RanLog (opening_calls plan lengths ++ calls) failed (log_of old) new

@@ -5,7 +5,7 @@ use Rattle.content_file.specs.Save.{HasSaved, HasNoDraft, piece_size}
 use Rattle.content_file.specs.Spelling.{spelling}
 use Rattle.disk_model.specs.Cause.{Grows}
 use Rattle.disk_model.specs.Folder.{FolderView}
-use Rattle.disk_model.specs.Ran.{Log, RanAll, RanLog, log_of}
+use Rattle.disk_model.specs.Ran.{Log, log_of}
 use Rattle.disk_model.specs.Sink.{SinkView}
 use Rattle.disk_model.specs.Vault.{VaultView, VaultState, VaultCall, VaultDone, ChangesBy, Holds, SomeCalls, copies_of, state_of}
 use Rattle.file_table.specs.Table.{TableValue}
@@ -23,7 +23,7 @@ use Rattle.snap_sync.specs.declared.fault.SyncFault.{SyncFault}
 use Rattle.snap_sync.specs.declared.fault.SyncFault.TheVariants.{Run}
 use Rattle.snap_sync.specs.declared.syncing.SyncEnd.{SyncEnd}
 use Rattle.snap_sync.specs.Beginning.{LaysOut, BeginsNot}
-use Rattle.snap_sync.specs.Calls.{SyncPlan, opening_calls, stripe_calls, sync_vault_calls}
+use Rattle.snap_sync.specs.Calls.{SyncPlan, RanOpened, reading_calls, stripe_calls}
 use Rattle.snap_sync.specs.Closing.{closed, verified_in}
 use Rattle.stripe_findings.specs.Findings.{events_of}
 use Rattle.snap_sync.specs.Images.{MayStand, HasParityAfter}
@@ -65,7 +65,7 @@ plan_of setup way start now vault = record {
 -- each moment is one of theirs.
 pub record TouchesVault (plan : SyncPlan) (failed : Bool) (readings : List StripeReading) (old new : VaultView) : Type 0 where
   pub calls : SomeCalls old new
-  pub ran : IsTrue old.tells → RanLog (sync_vault_calls plan old.files readings) failed (log_of (state_of old)) (log_of (state_of new))
+  pub ran : RanOpened plan (reading_calls plan readings) failed (state_of old) (log_of (state_of new))
   pub broke : IsTrue failed → VaultBroke old new
   pub changes : ChangesBy (MayStand plan readings) old new
 
@@ -98,10 +98,10 @@ pub record Ends {W R : Type 0} (view : W → SinkView) (standing : R → ReportV
   pub pending : end.synced + end.pending ≡ plan.all
   pub findings : end.findings ≡ more_findings 0 (length (events_of plan.start readings))
 
--- these calls were made before all others, in this order, and none of them failed
-pub record RanFirst (calls : List VaultCall) (old new : Log) : Type 0 where
+-- the vault was opened, and got these calls before all others, in this order, and none of them failed
+pub record RanFirst (plan : SyncPlan) (calls : List VaultCall) (old : VaultState) (new : Log) : Type 0 where
   pub mid : Log
-  pub first : RanAll calls old mid
+  pub first : RanOpened plan calls false old mid
   pub rest : List VaultDone
   pub more : Grows mid.tells mid.calls new.tells new.calls rest
 
@@ -124,8 +124,7 @@ pub record BreaksInWindow (plan : SyncPlan) (readings : List StripeReading) (old
   pub are : readings ≡ before ++ last
   pub few : length last ≤ window_room plan
   pub cut : readings ≢ [] → IsSyncWindow plan (length before) (length last)
-  pub ran : readings ≢ [] → IsTrue old.tells
-      → RanFirst (opening_calls plan old.files ++ stripe_calls plan before (length before)) (log_of old) (log_of new)
+  pub ran : readings ≢ [] → RanFirst plan (stripe_calls plan before (length before)) old (log_of new)
 
 -- A sync that broke off once the vault was touched: a call of it failed, for the last window that was told. The stripes that were read
 -- ahead are no more than one window has.

@@ -5,7 +5,7 @@ use Rattle.content_file.specs.Spelling.{spelling}
 use Rattle.disk_model.specs.Answer.{is_failure}
 use Rattle.disk_model.specs.Cause.{Rose}
 use Rattle.disk_model.specs.Files.{Files}
-use Rattle.disk_model.specs.Ran.{RanAll, log_of}
+use Rattle.disk_model.specs.Ran.{log_of}
 use Rattle.disk_model.specs.Vault.{VaultView, VaultCall, VaultDone, ParityRead, ContentSize, ContentRead, SomeCalls, ChangesBy, Reads, Holds, copies_of, state_of}
 use Rattle.file_table.specs.Table.{TableValue}
 use Rattle.parity_writer.specs.Keeps.{SameParities}
@@ -16,7 +16,7 @@ use Rattle.snap_report.specs.Answer.{Gained}
 use Rattle.stripe_reader.specs.Starts.{recorded_starts}
 use Rattle.stripe_reader.specs.WindowValue.{Fits, stripe_count}
 use Rattle.snap_sync.specs.declared.room.Room.{Room}
-use Rattle.snap_sync.specs.Calls.{SyncPlan, opening_calls, stripe_calls}
+use Rattle.snap_sync.specs.Calls.{SyncPlan, RanOpened, stripe_calls}
 use Rattle.snap_sync.specs.Images.{MayStand, HasParityAfter, table_after, rows_after}
 use Rattle.stripe_findings.specs.Reading.{StripeReading}
 
@@ -64,7 +64,7 @@ pub record IsUnderway (plan : SyncPlan) (readings : List StripeReading) (c k : �
   pub order : c ≤ k
   pub within : k ≤ length readings
   pub calls : SomeCalls old new
-  pub ran : IsTrue old.tells → RanAll (opening_calls plan old.files ++ stripe_calls plan readings k) (log_of (state_of old)) (log_of (state_of new))
+  pub ran : RanOpened plan (stripe_calls plan readings k) false (state_of old) (log_of (state_of new))
   pub changes : ChangesBy (MayStand plan readings) old new
   pub copies : Holds (HasSaved plan.copies (spelling (table_after plan readings c))) new
   pub rows : Holds (HoldsRows plan.start.shape.levels plan.start.shape.block_size (rows_after plan readings c)) new

@@ -1,10 +1,10 @@
 // What is done to the vault at the beginning of a sync, and at each checkpoint.
-ghost use Rattle.std.specs.Prelude.{◌≡◌, ◌<◌, IsTrue, OnOk, OnErr, length, []};
+ghost use Rattle.std.specs.Prelude.{◌≡◌, ◌<◌, OnOk, OnErr, is_err, length, []};
 ghost use Rattle.content_file.specs.Encoding.{IsDigestOf};
 ghost use Rattle.content_file.specs.Save.{piece_size};
-ghost use Rattle.disk_model.specs.Ran.{Ran};
+ghost use Rattle.disk_model.specs.Ran.{log_of};
 ghost use Rattle.disk_model.specs.Vault.{SomeCalls, ChangesBy, state_of};
-ghost use Rattle.snap_sync.specs.Calls.{SyncPlan, opening_calls};
+ghost use Rattle.snap_sync.specs.Calls.{SyncPlan, RanOpened};
 ghost use Rattle.snap_sync.specs.Images.{MayStand};
 ghost use Rattle.snap_sync.specs.Run.{Saves};
 ghost use Rattle.snap_sync.specs.Work.{IsPlanFor, IsUnderway, VaultBroke};
@@ -27,8 +27,8 @@ pub(crate) fn open<V: Vault>(
     ensures calls { SomeCalls (V.view vault.old) (V.view vault.new) }
     ensures broke { OnErr result (VaultBroke (V.view vault.old) (V.view vault.new)) }
     ensures ran { (plan : SyncPlan) → plan.start ≡ table.now → plan.piece ≡ length piece.old →
-        IsPlanFor plan (V.view vault.old) → IsTrue (V.view vault.old).tells →
-        Ran (opening_calls plan (V.view vault.old).files) result (state_of (V.view vault.old)) (state_of (V.view vault.new)) }
+        IsPlanFor plan (V.view vault.old) →
+        RanOpened plan [] (is_err result) (state_of (V.view vault.old)) (log_of (state_of (V.view vault.new))) }
     ensures changes { (plan : SyncPlan) → plan.start ≡ table.now → IsPlanFor plan (V.view vault.old) →
         ChangesBy (MayStand plan []) (V.view vault.old) (V.view vault.new) }
     ensures opened { OnOk result ((plan : SyncPlan) → plan.start ≡ table.now → plan.piece ≡ length piece.old →
