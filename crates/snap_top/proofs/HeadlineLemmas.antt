@@ -250,6 +250,7 @@ module _ {O F V W : Type 0} (opener_view : O â†’ OpenerView) (folder_view : F â†
           closed = closed.1;
           last = refl;
         },
+        refl,
       )
 
   -- ---- a check names what is lost

@@ -215,23 +215,24 @@ module _ {O F V W : Type 0} (opener_view : O → OpenerView) (folder_view : F �
       → (after_of opener_view folder_view vault_view sink_view run).has_vault ≡ false
       → HoldsWhatStands standing (after_of opener_view folder_view vault_view sink_view run).opener
 
-  -- Whatever moment a run over what stands is stopped at, something stands next.
+  -- Whatever moment a run over what stands is stopped at, something stands next, by that very account of the run.
   abbrev pub GoesOn : Standing → Type 0
   GoesOn standing = (run : RunOf O F V W) (files : Files) (trees : List Tree) → BeginsOver standing (before_of opener_view folder_view vault_view sink_view run)
       → (step : RunStep (before_of opener_view folder_view vault_view sink_view run) (after_of opener_view folder_view vault_view sink_view run) run.status)
       → StandsIn (before_of opener_view folder_view vault_view sink_view run) (after_of opener_view folder_view vault_view sink_view run) files
       → LeavesTrees step.always.did (before_of opener_view folder_view vault_view sink_view run) (after_of opener_view folder_view vault_view sink_view run) standing.trees trees
       → MeetsNoChance step.always.did standing.last.snapshot
-      → (next : Standing) × (next.files ≡ files) × (next.trees ≡ trees) × GoesOver opener_view folder_view vault_view sink_view run standing next
+      → (next : Standing) × (next.files ≡ files) × (next.trees ≡ trees)
+      × (goes : GoesOver opener_view folder_view vault_view sink_view run standing next) × (goes.step ≡ step)
 
-  -- Where a run opened its array, what it leaves of the vault and of the trees at its end stands next.
+  -- Where a run opened its array, what it leaves of the vault and of the trees at its end stands next, by that very account of the run.
   abbrev pub ArrivesAtItsEnd : Standing → Type 0
   ArrivesAtItsEnd standing = (run : RunOf O F V W) → BeginsOver standing (before_of opener_view folder_view vault_view sink_view run)
       → (step : RunStep (before_of opener_view folder_view vault_view sink_view run) (after_of opener_view folder_view vault_view sink_view run) run.status)
       → (after_of opener_view folder_view vault_view sink_view run).has_vault ≡ true → MeetsNoChance step.always.did standing.last.snapshot
       → (next : Standing) × (next.files ≡ (after_of opener_view folder_view vault_view sink_view run).after.vault.files)
       × (next.trees ≡ trees_of (after_of opener_view folder_view vault_view sink_view run).after.folders)
-      × GoesOver opener_view folder_view vault_view sink_view run standing next
+      × (goes : GoesOver opener_view folder_view vault_view sink_view run standing next) × (goes.step ≡ step)
 
   pub record Headline (standing : Standing) : Type 0 where
     pub sound : IsSoundStanding standing

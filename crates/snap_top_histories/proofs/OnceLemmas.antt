@@ -94,7 +94,7 @@ module _ {O F V W : Type 0} (opener_view : O → OpenerView) (folder_view : F �
 
     at_end : (next : Standing) × (next.files ≡ (after_of opener_view folder_view vault_view sink_view runs.run).after.vault.files)
         × (next.trees ≡ trees_of (after_of opener_view folder_view vault_view sink_view runs.run).after.folders)
-        × GoesOver opener_view folder_view vault_view sink_view runs.run standing next
+        × (goes : GoesOver opener_view folder_view vault_view sink_view runs.run standing next) × (goes.step ≡ runs.step)
     at_end = (holds once.first standing stages once.origin history).arrives runs.run (runs.begins once.next.last) runs.step (ap (λ (v : Option V). is_some v) runs.vault_is) genuine
 
     at_end_trees : at_end.0.trees ≡ trees_of (map folder_view left_folders)
