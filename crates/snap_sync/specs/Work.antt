@@ -1,5 +1,5 @@
 -- What a sync works with, and how far the vault is.
-use Rattle.std.specs.Prelude.{◌≡◌, ℕ, ◌+◌, ◌<◌, ◌≤◌, ◌⊎◌, ◌++◌, List, length, min, max, ◌^◌, ◌-◌, All, Bool, true, false, if◌then◌else◌, IsTrue}
+use Rattle.std.specs.Prelude.{◌≡◌, ℕ, ◌+◌, ◌<◌, ◌≤◌, ◌⊎◌, List, length, min, max, ◌^◌, ◌-◌, All, Bool, true, false, if◌then◌else◌, IsTrue}
 use Rattle.content_file.specs.Save.{MaySave, HasSaved, piece_size}
 use Rattle.content_file.specs.Spelling.{spelling}
 use Rattle.disk_model.specs.Answer.{is_failure}

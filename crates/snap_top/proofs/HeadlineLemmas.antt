@@ -21,6 +21,7 @@ use Rattle.snap_top.specs.Undamaged.{HasEnough}
 use Rattle.snap_top.specs.Moment.{AreOfRun, IsFixOf, IsDidOf, IsSoundAlways, EndsInPart}
 use Rattle.snap_top.specs.Opening.{asked_by}
 use Rattle.snap_top.specs.Step.{ChangesFiles, EndsBy, LeavesEachTree}
+use Rattle.snap_top.specs.Restoring.{EndsFixed}
 use Rattle.snap_top.specs.Resumed.{RunOf}
 use Rattle.snap_top.specs.Run.{Entry, Exit}
 use Rattle.snap_top.specs.Spared.{SparesBy, SparesCells}
@@ -92,15 +93,15 @@ module _ {O F V W : Type 0} (opener_view : O → OpenerView) (folder_view : F �
 
   -- what a run leaves that was asked for a sync and did not break off
   synced_by_did : (before : Entry) (exit : Exit) (status : ℕ) (asked : Options) (way : SyncWay) → asked_by before.texts ≡ Ok asked → asked.command ≡ commands.Sync way → (did : Did) → IsDidOf before exit did
-      → has_ended did ≡ true → EndsBy did before exit status → (ends : EndsInPart before exit status) × (did ≡ syncs false ends.run)
-  synced_by_did before exit status asked way words command reads_only is done ends = absurd (only_read reads_only refl done)
-  synced_by_did before exit status asked way words command (syncs true sync) is done ends = absurd cc
-  synced_by_did before exit status asked way words command (syncs false sync) is done ends = (ends.0, ap (λ (run : SyncRun). syncs false run) (sym ends.1))
-  synced_by_did before exit status asked way words command (fixes failed fix) is done ends =
+      → has_ended did ≡ true → EndsBy did before exit status → AllTell before.opener.folders → (ends : EndsInPart before exit status) × (did ≡ syncs false ends.run)
+  synced_by_did before exit status asked way words command reads_only is done ends told = absurd (only_read reads_only refl done)
+  synced_by_did before exit status asked way words command (syncs true sync) is done ends told = absurd cc
+  synced_by_did before exit status asked way words command (syncs false sync) is done ends told = ((ends told).0, ap (λ (run : SyncRun). syncs false run) (sym (ends told).1))
+  synced_by_did before exit status asked way words command (fixes failed fix) is done ends told =
       let same : is.configured.asked ≡ asked = same_ok (asked_by before.texts) is.configured.asked asked is.configured.read words in
       let clash : commands.Fix fix.selection ≡ commands.Sync way = is.configured.command_is ∙ ap (λ (a : Options). a.command) same ∙ command in
       absurd cc
-  synced_by_did before exit status asked way words command (scrubs failed scrub) is done ends =
+  synced_by_did before exit status asked way words command (scrubs failed scrub) is done ends told =
       let same : is.configured.asked ≡ asked = same_ok (asked_by before.texts) is.configured.asked asked is.configured.read words in
       let clash : commands.Scrub scrub.way ≡ commands.Sync way = is.configured.command_is ∙ ap (λ (a : Options). a.command) same ∙ command in
       absurd cc
@@ -113,7 +114,7 @@ module _ {O F V W : Type 0} (opener_view : O → OpenerView) (folder_view : F �
       let step = goes.step in
       let did : Did = step.always.did in
       let done : has_ended did ≡ true = step.done well.asked well.words (subst ChangesFiles (sym well.command_is) tt) well.well in
-      let both = synced_by_did before exit run.status well.asked well.way well.words well.command_is did step.always.is_did done (step.at_end done) in
+      let both = synced_by_did before exit run.status well.asked well.way well.words well.command_is did step.always.is_did done (step.at_end done) over.tells.tells_folders in
       let ends : EndsInPart before exit run.status = both.0 in
       let its : SyncRun = ends.run in
       let n : ℕ = length its.readings in
@@ -187,7 +188,8 @@ module _ {O F V W : Type 0} (opener_view : O → OpenerView) (folder_view : F �
       let is_then : IsFixOf before_then exit_then fix_again = subst (IsDidOf before_then exit_then) did_then step.always.is_did in
       let leaves : LeavesTrees (fixes failed fix) before exit standing.trees next.trees = subst (λ (did : Did). LeavesTrees did before exit standing.trees next.trees) did_is goes.trees in
       let held : length before.opener.folders ≡ length standing.trees = sym (length-map before.opener.folders (λ (folder : FolderView). folder.tree)) ∙ ap length goes.over.trees in
-      let ends : EndsBy (fixes false fix_again) before_then exit_then again.status = subst (λ (did : Did). EndsBy did before_then exit_then again.status) did_then (step.at_end (ap has_ended did_then)) in
+      let ends_by : EndsBy (fixes false fix_again) before_then exit_then again.status = subst (λ (did : Did). EndsBy did before_then exit_then again.status) did_then (step.at_end (ap has_ended did_then)) in
+      let ends : (ends : EndsFixed before_then exit_then again.status) × (ends.run ≡ fix_again) = ends_by begins.tells.tells_folders in
       let over_left : IsNextFix before exit fix before_then exit_then ends.0.run = record {
         tells = goes.over.tells;
         tells_then = begins.tells;

@@ -34,7 +34,7 @@ use Rattle.snap_scrub.specs.Reading.{AreLevelsOf, HasLevels, ScrubReading, cells
 use Rattle.snap_sync.specs.Calls.{level_bytes}
 use Rattle.snap_sync.specs.Closing.{closed, closed_by, rows_of, synced_now, verified_in, with_closed}
 use Rattle.snap_sync.specs.Images.{HasParity, IsOutsideRows}
-use Rattle.snap_sync.specs.Part.{AllVerified, NoneRose, layout_by, readings_by, run_trees, trees_of, verified_stripes, without_check, without_checks}
+use Rattle.snap_sync.specs.Part.{AllTell, AllVerified, NoneRose, layout_by, readings_by, run_trees, trees_of, verified_stripes, without_check, without_checks}
 use Rattle.snap_sync.proofs.RowsLemmas.{other_place}
 use Rattle.stripe_findings.specs.Findings.{events_of}
 use Rattle.stripe_findings.specs.Reading.{StripeReading, is_verified}
@@ -297,11 +297,11 @@ scrubs_of_one_array one_table before before_then exit exit_then status status_th
     let now : run.now ≡ again.now = is.moment_is ∙ moments ∙ sym is_then.moment_is in
     let trees : trees_of run.folders ≡ trees_of again.folders = ap trees_of is.folders_are ∙ hold.trees ∙ sym (ap trees_of is_then.folders_are) in
     let cells : cells_of run.readings ≡ cells_of again.readings =
-    one.given (none_rose run.folders before.opener.folders exit.after.folders is.folders_are well.folders)
+    one.given (subst AllTell (sym is.folders_are) hold.tells.tells_folders) (none_rose run.folders before.opener.folders exit.after.folders is.folders_are well.folders)
     ∙ ap (λ (t : TableValue). readings_by t (trees_of run.folders) (plan_of t run.way run.now)) loaded
     ∙ ap (λ (ts : List Tree). readings_by again.loaded ts (plan_of again.loaded run.way run.now)) trees
     ∙ ap₂ (λ (w : ScrubWay) (n : ℕ). readings_by again.loaded (trees_of again.folders) (plan_of again.loaded w n)) way now
-    ∙ sym (other.given (none_rose again.folders before_then.opener.folders exit_then.after.folders is_then.folders_are well_then.folders)) in
+    ∙ sym (other.given (subst AllTell (sym is_then.folders_are) hold.tells_then.tells_folders) (none_rose again.folders before_then.opener.folders exit_then.after.folders is_then.folders_are well_then.folders)) in
     let readings : run.readings ≡ again.readings = same_readings again.loaded before.opener.vault before_then.opener.vault hold.tells.tells_vault hold.tells_then.tells_vault hold.files run.readings again.readings
     (subst (λ (t : TableValue). All (HasLevels t) run.readings) loaded is.over.due) is_then.over.due
     (subst (λ (t : TableValue). All (AreLevelsOf before.opener.vault t.shape.block_size) run.readings) loaded is.over.levels) is_then.over.levels

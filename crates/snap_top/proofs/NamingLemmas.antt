@@ -56,7 +56,7 @@ use Rattle.snap_top.specs.End.{status_of}
 use Rattle.snap_top.specs.Ended.{IsEndStatus}
 use Rattle.snap_fix.specs.Restored.{IsDamagedCell}
 use Rattle.snap_top.specs.Lost.{IsToldLost, NamesLost, NamesPending}
-use Rattle.snap_top.specs.Moment.{TellsAll}
+use Rattle.snap_top.specs.Moment.{TellsVault}
 use Rattle.snap_top.specs.Naming.{ChecksEnd, EndsAsAsked, EndsAudited, EndsChecked, HasChecked, IsCheckOf, command_in, events_found}
 use Rattle.snap_top.specs.Opening.{asked_by}
 use Rattle.snap_top.specs.Run.{Entry, Exit, IsAnswered, IsRun, Ran}
@@ -137,7 +137,7 @@ not_known false never = refl
 
 -- ---- a check that went to its end
 
-module _ (rows : RowsAreKnown) (genuine_facts : FactsAreGenuine) (before : Entry) (exit : Exit) (tells : TellsAll before) where
+module _ (rows : RowsAreKnown) (genuine_facts : FactsAreGenuine) (before : Entry) (exit : Exit) (tells : TellsVault before) where
   module _ (setup : SetupValue) (answer : Answer) (named : Option TableValue) (told : List Event) (ran : IsRun before exit setup (Answered answer named) told) (left : Left)
       (one : IsAnswered ran.task ran.given (world_of exit.after) left ran.did) (mode : Mode) (selection : Selection) (command : ran.task.command ≡ command_in mode selection) (status : ℕ) (status_is : status ≡ answer_status left.answer)
       (ends : CheckEnds mode selection ran.task one.table one.start (world_of exit.after) left ran.did) where

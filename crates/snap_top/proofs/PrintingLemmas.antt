@@ -10,7 +10,7 @@ use Rattle.snap_report.specs.Answer.{done_answer, status_of as answer_status}
 use Rattle.snap_report.specs.Telling.{Tells, between}
 use Rattle.snap_report.specs.declared.events.Event.{Event}
 use Rattle.snap_top.specs.Does.{PrintsAlone}
-use Rattle.snap_top.specs.Moment.{TellsAll}
+use Rattle.snap_top.specs.Moment.{TellsVault}
 use Rattle.snap_top.specs.Printing.{EndsPrinted}
 use Rattle.snap_top.specs.Run.{Entry, Exit, IsAnswered, IsRun}
 use Rattle.snap_top.specs.Task.{Left}
@@ -19,7 +19,7 @@ use Rattle.snap_top.specs.declared.end.Ending.{Ending}
 use Rattle.snap_top.proofs.EndedLemmas.{done_status, output_rose}
 use Rattle.snap_top.proofs.OfSyncLemmas.{configured_for, start_out, table_among, table_loading}
 
-pub ended_printed : (before : Entry) (exit : Exit) (tells : TellsAll before) (setup : SetupValue) (ending : Ending) (told : List Event) (ran : IsRun before exit setup ending told) (left : Left)
+pub ended_printed : (before : Entry) (exit : Exit) (tells : TellsVault before) (setup : SetupValue) (ending : Ending) (told : List Event) (ran : IsRun before exit setup ending told) (left : Left)
     (one : IsAnswered ran.task ran.given (world_of exit.after) left ran.did) (command : Command) → ran.task.command ≡ command → (text : TableValue → List ℕ) (counted : TableValue → ℕ) (status : ℕ) → status ≡ answer_status left.answer
     → PrintsAlone (text one.table) (counted one.table) one.start (world_of exit.after) left ran.did → EndsPrinted command text counted before exit status
 ended_printed before exit tells setup ending told ran left one command command_is text counted status is alone =

@@ -143,16 +143,17 @@ module _ {O F V W : Type 0} (opener_view : O → OpenerView) (folder_view : F �
   -- what a run leaves that was asked for a fix and did not break off; it met no hash by chance
   fixed_by : (before : Entry) (exit : Exit) (status : ℕ) (asked : Options) (selection : Selection) → asked_by before.texts ≡ Ok asked → asked.command ≡ commands.Fix selection → (snapshot : Snapshot) (did : Did)
       → IsDidOf before exit did → MeetsNoChance did snapshot → has_ended did ≡ true → EndsBy did before exit status
-      → (ends : EndsFixed before exit status) × (did ≡ fixes false ends.run) × AreGenuine ends.run.plan snapshot (facts_of ends.run.stripes)
-  fixed_by before exit status asked selection words command snapshot reads_only is genuine done ends = absurd (only_read reads_only refl done)
-  fixed_by before exit status asked selection words command snapshot (syncs failed sync) is genuine done ends =
+      → AllTell before.opener.folders → (ends : EndsFixed before exit status) × (did ≡ fixes false ends.run) × AreGenuine ends.run.plan snapshot (facts_of ends.run.stripes)
+  fixed_by before exit status asked selection words command snapshot reads_only is genuine done ends told = absurd (only_read reads_only refl done)
+  fixed_by before exit status asked selection words command snapshot (syncs failed sync) is genuine done ends told =
       let same : is.configured.asked ≡ asked = same_ok (asked_by before.texts) is.configured.asked asked is.configured.read words in
       let clash : commands.Sync is.way ≡ commands.Fix selection = is.configured.command_is ∙ ap (λ (a : Options). a.command) same ∙ command in
       absurd cc
-  fixed_by before exit status asked selection words command snapshot (fixes true fix) is genuine done ends = absurd cc
-  fixed_by before exit status asked selection words command snapshot (fixes false fix) is genuine done ends =
-      (ends.0, ap (λ (run : FixRun). fixes false run) (sym ends.1), subst (λ (run : FixRun). AreGenuine run.plan snapshot (facts_of run.stripes)) (sym ends.1) genuine)
-  fixed_by before exit status asked selection words command snapshot (scrubs failed scrub) is genuine done ends =
+  fixed_by before exit status asked selection words command snapshot (fixes true fix) is genuine done ends told = absurd cc
+  fixed_by before exit status asked selection words command snapshot (fixes false fix) is genuine done ends told =
+      let its = ends told in
+      (its.0, ap (λ (run : FixRun). fixes false run) (sym its.1), subst (λ (run : FixRun). AreGenuine run.plan snapshot (facts_of run.stripes)) (sym its.1) genuine)
+  fixed_by before exit status asked selection words command snapshot (scrubs failed scrub) is genuine done ends told =
       let same : is.configured.asked ≡ asked = same_ok (asked_by before.texts) is.configured.asked asked is.configured.read words in
       let clash : commands.Scrub scrub.way ≡ commands.Fix selection = is.configured.command_is ∙ ap (λ (a : Options). a.command) same ∙ command in
       absurd cc
@@ -164,7 +165,7 @@ module _ {O F V W : Type 0} (opener_view : O → OpenerView) (folder_view : F �
       let over = goes.over in
       let step = goes.step in
       let done : has_ended step.always.did ≡ true = step.done fix.asked fix.words (subst ChangesFiles (sym fix.command_is) tt) fix.well in
-      let both = fixed_by before exit run.status fix.asked fix.selection fix.words fix.command_is standing.last.snapshot step.always.did step.always.is_did goes.genuine done (step.at_end done) in
+      let both = fixed_by before exit run.status fix.asked fix.selection fix.words fix.command_is standing.last.snapshot step.always.did step.always.is_did goes.genuine done (step.at_end done) over.tells.tells_folders in
       let ends : EndsFixed before exit run.status = both.0 in
       let fixed : FixRun = ends.run in
       let snapshot = standing.last.snapshot in

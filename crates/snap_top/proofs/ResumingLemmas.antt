@@ -101,7 +101,8 @@ module _ {O F V W : Type 0} (opener_view : O → OpenerView) (folder_view : F �
     part_by : (before : Entry) (exit : Exit) (status : ℕ) → AsksForSync setup trees seed before.opener.vault.files before → (did : Did) (is : IsDidOf before exit did) → LoadsWell before exit did is → has_ended did ≡ true
         → EndsBy did before exit status → EndsWell before exit status
     part_by before exit status asks reads_only is well ended ends = absurd (only_read reads_only refl ended)
-    part_by before exit status asks (syncs failed sync) is well ended ends = ends_well before exit status sync is well ends.0 ends.1
+    part_by before exit status asks (syncs failed sync) is well ended ends =
+        let its = ends asks.tells.tells_folders in ends_well before exit status sync is well its.0 its.1
     part_by before exit status asks (fixes failed fix) is well ended ends =
         let same : is.configured.asked ≡ asks.asked = same_ok (asked_by before.texts) is.configured.asked asks.asked is.configured.read asks.words in
         let clash : commands.Fix fix.selection ≡ commands.Sync asks.way = is.configured.command_is ∙ ap (λ (a : Options). a.command) same ∙ asks.command_is in

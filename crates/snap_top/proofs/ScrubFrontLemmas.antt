@@ -146,7 +146,7 @@ module _ (one_table : OneTable) (before before_then : Entry) (exit exit_then : E
         ∙ ap (λ (ts : List Tree). readings_by other.run.loaded ts (plan_of other.run.loaded its_way broke.ran.task.moment)) trees_are
         ∙ ap (λ (n : ℕ). readings_by other.run.loaded (trees_of other.run.folders) (plan_of other.run.loaded its_way n)) now_is
         ∙ ap (λ (w : ScrubWay). readings_by other.run.loaded (trees_of other.run.folders) (plan_of other.run.loaded w other.run.now)) way_is
-        ∙ sym (other.given (none_rose other.run.folders before_then.opener.folders exit_then.after.folders other.is_scrub.folders_are well_then.folders))
+        ∙ sym (other.given (subst AllTell (sym other.is_scrub.folders_are) hold.tells_then.tells_folders) (none_rose other.run.folders before_then.opener.folders exit_then.after.folders other.is_scrub.folders_are well_then.folders))
 
     read_same : readings ≡ other.run.readings
     read_same = same_readings other.run.loaded (view_of its.start.vault) before_then.opener.vault (vault_tells before exit hold.tells.tells hold.tells.tells_vault broke) hold.tells_then.tells_vault

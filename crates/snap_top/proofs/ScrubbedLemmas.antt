@@ -26,7 +26,7 @@ use Rattle.snap_sync.specs.Part.{AllTell, NoneRose, readings_by, trees_of}
 use Rattle.snap_top.specs.Does.{DoesCommand}
 use Rattle.snap_top.specs.End.{status_of}
 use Rattle.snap_top.specs.Ended.{IsEndStatus, has_ended}
-use Rattle.snap_top.specs.Moment.{IsScrubOf, TellsAll}
+use Rattle.snap_top.specs.Moment.{IsScrubOf, TellsVault}
 use Rattle.snap_top.specs.Opening.{asked_by}
 use Rattle.snap_top.specs.Run.{Entry, Exit, IsAnswered, IsRun, Ran}
 use Rattle.snap_top.specs.Scrub.{MayStandMarked, ScrubRun, marked_table}
@@ -64,7 +64,7 @@ none_found (event ∷ events) = (λ none. absurd (omega (arith, none)), λ none.
 
 -- ---- a scrub that went to its end
 
-module _ (before : Entry) (exit : Exit) (tells : TellsAll before) (in_time : before.moment < 2 ^ 64) where
+module _ (before : Entry) (exit : Exit) (tells : TellsVault before) (in_time : before.moment < 2 ^ 64) where
   module _ (setup : SetupValue) (answer : Answer) (named : Option TableValue) (told : List Event) (ran : IsRun before exit setup (Answered answer named) told) (left : Left)
       (one : IsAnswered ran.task ran.given (world_of exit.after) left ran.did) (way : ScrubWay) (command : ran.task.command ≡ commands.Scrub way) (status : ℕ) (status_is : status ≡ answer_status left.answer)
       (ends : ScrubEnds way ran.task one.table one.start (world_of exit.after) left ran.did) where
@@ -83,9 +83,8 @@ module _ (before : Entry) (exit : Exit) (tells : TellsAll before) (in_time : bef
     is_scrub : IsScrubOf before exit run
     is_scrub = scrub_is before exit tells.tells tells.tells_vault setup (Answered answer named) told ran left one in_time course_of
 
-    given : NoneRose run.folders exit.after.folders → cells_of run.readings ≡ readings_by run.loaded (trees_of run.folders) (plan_of run.loaded run.way run.now)
-    given none =
-        let all_tell : AllTell run.folders = subst AllTell (sym is_scrub.folders_are) tells.tells_folders in
+    given : AllTell run.folders → NoneRose run.folders exit.after.folders → cells_of run.readings ≡ readings_by run.loaded (trees_of run.folders) (plan_of run.loaded run.way run.now)
+    given all_tell none =
         stripes_given run.loaded (cells_of run.readings) run.folders run.ended ends.course.cells one.columns all_tell none
         ∙ ap (readings_by run.loaded (trees_of run.folders)) ends.course.stripes
 

@@ -2,7 +2,6 @@
 use Rattle.std.proofs.Common.{◌≡◌, ◌⊎◌, ℕ, ◌^◌, ◌<◌, List, true, false, Option, Ok, refl, sym, ap, ◌∙◌, subst}
 use Rattle.disk_model.specs.Files.{Files}
 use Rattle.disk_model.specs.Folder.{FolderView}
-use Rattle.disk_model.specs.Vault.{IsSettled}
 use Rattle.file_table.specs.Table.{TableValue}
 use Rattle.snap_config.specs.Setup.{SetupValue, setup_value}
 use Rattle.snap_config.specs.declared.options.Command.{Command}
@@ -17,24 +16,20 @@ use Rattle.snap_report.specs.declared.answer.Answer.TheVariants as answers
 use Rattle.snap_report.specs.declared.answer.RunFault.TheVariants as runs
 use Rattle.snap_report.specs.declared.events.Event.{Event}
 use Rattle.repair_scope.specs.declared.scope.Mode.TheVariants as modes
-use Rattle.snap_sync.specs.Part.{SyncRun}
+use Rattle.snap_sync.specs.Part.{AllTell}
 use Rattle.snap_top.specs.Does.{DoesCommand}
 use Rattle.snap_top.specs.Dup.{dup_text}
 use Rattle.snap_top.specs.End.{ending_status, status_of}
 use Rattle.snap_top.specs.Ended.{has_ended}
-use Rattle.snap_top.specs.Fix.{FixRun}
 use Rattle.snap_top.specs.Fixing.{FixEnds, FixesBy}
-use Rattle.snap_top.specs.Moment.{EndsInPart, EndsSound, HoldsFresh, IsSoundAlways, IsSoundAtEnd, StandsIn, SyncsToItsEnd, TellsAll}
+use Rattle.snap_top.specs.Moment.{EndsSound, HoldsFresh, IsSoundAlways, IsSoundAtEnd, StandsIn, SyncsToItsEnd, TellsAll, TellsVault}
 use Rattle.snap_top.specs.Naming.{ChecksEnd}
 use Rattle.snap_top.specs.Opening.{asked_by}
-use Rattle.snap_top.specs.Restoring.{EndsFixed}
 use Rattle.snap_top.specs.Run.{Entry, Exit, IsAnswered, IsRun, Ran}
-use Rattle.snap_top.specs.Scrub.{ScrubRun}
-use Rattle.snap_top.specs.Scrubbed.{EndsScrubbed}
 use Rattle.snap_top.specs.Scrubbing.{ScrubEnds, ScrubsBy}
 use Rattle.snap_top.specs.Step.{ChangesFiles, EndsBy, EveryRunSteps, RunStep}
-use Rattle.snap_top.specs.Syncing.{SyncsBy}
-use Rattle.snap_top.specs.Task.{Did, Left, Task, fixes, folders_after, reads_only, scrubs, syncs}
+use Rattle.snap_top.specs.Syncing.{SyncEnds, SyncsBy}
+use Rattle.snap_top.specs.Task.{Did, Left, Task, folders_after, reads_only}
 use Rattle.snap_top.specs.Views.{World, world_of}
 use Rattle.snap_top.specs.declared.end.End.{End}
 use Rattle.snap_top.specs.declared.end.End.TheVariants.{Exercised, Refused, Worked}
@@ -107,7 +102,13 @@ scrub_ends_by (answers.Broken (runs.Folder disk)) way task table before after le
 scrub_ends_by (answers.Broken runs.Vault) way task table before after left did done does = absurd done
 scrub_ends_by (answers.Broken runs.Memory) way task table before after left did done does = absurd done
 
-module _ (says : BelowSays) (before : Entry) (exit : Exit) (tells : TellsAll before) (settled : IsSettled before.opener.vault) (in_time : before.moment < 2 ^ 64) (status : ℕ) where
+module _ (says : BelowSays) (before : Entry) (exit : Exit) (fresh : HoldsFresh before) (in_time : before.moment < 2 ^ 64) (status : ℕ) where
+  vault_told : TellsVault before
+  vault_told = record { tells = fresh.tells; tells_vault = fresh.tells_vault }
+
+  all_told : AllTell before.opener.folders → TellsAll before
+  all_told folders = record { tells = fresh.tells; tells_vault = fresh.tells_vault; tells_folders = folders }
+
   -- ---- a command that was carried out
 
   module _ (setup : SetupValue) (answer : Answer) (named : Option TableValue) (told : List Event) (ran : IsRun before exit setup (Answered answer named) told) (is : status ≡ answer_status answer) where
@@ -120,9 +121,10 @@ module _ (says : BelowSays) (before : Entry) (exit : Exit) (tells : TellsAll bef
     abbrev DoesSo : Command → Type 0
     DoesSo command = DoesCommand command ran.task one.table one.start (world_of exit.after) left ran.did
 
-    part_of : (way : SyncWay) → ran.task.command ≡ commands.Sync way → IsDoneAnswer answer → (ends : EndsInPart before exit status) × (ran.did ≡ syncs false ends.run)
-    part_of way command done =
+    synced_of : (way : SyncWay) → ran.task.command ≡ commands.Sync way → IsDoneAnswer answer → (has_ended ran.did ≡ true) × EndsBy ran.did before exit status
+    synced_of way command done =
         let does : SyncsBy answer ran.task way one.table one.start (world_of exit.after) left ran.did = subst DoesSo command one.does in
+        let ends : SyncEnds ran.task way one.table one.start (world_of exit.after) left ran.did = ends_by_answer answer ran.task way one.table one.start (world_of exit.after) left ran.did done does in
         let sync : HasEndedSync before exit status = record {
           setup = setup;
           answer = answer;
@@ -134,29 +136,35 @@ module _ (says : BelowSays) (before : Entry) (exit : Exit) (tells : TellsAll bef
           way = way;
           command = command;
           status_is = is;
-          ends = ends_by_answer answer ran.task way one.table one.start (world_of exit.after) left ran.did done does;
+          ends = ends;
         } in (
-          ended_in_part says.laid says.part says.full says.given says.finds says.found says.keeps before exit tells in_time status sync,
-          sync.ends.course.did_is ∙ ap (λ (run : SyncRun). syncs false run)
-              (sym (ended_run says.laid says.part says.full says.given says.finds says.found says.keeps before exit tells in_time status sync)),
+          ap has_ended ends.course.did_is,
+          subst (λ (did : Did). EndsBy did before exit status) (sym ends.course.did_is) (λ folders. (
+            ended_in_part says.laid says.part says.full says.given says.finds says.found says.keeps before exit (all_told folders) in_time status sync,
+            ended_run says.laid says.part says.full says.given says.finds says.found says.keeps before exit (all_told folders) in_time status sync,
+          )),
         )
 
-    fixed_of : (selection : Selection) → ran.task.command ≡ commands.Fix selection → IsDoneAnswer answer → (ends : EndsFixed before exit status) × (ran.did ≡ fixes false ends.run)
+    fixed_of : (selection : Selection) → ran.task.command ≡ commands.Fix selection → IsDoneAnswer answer → (has_ended ran.did ≡ true) × EndsBy ran.did before exit status
     fixed_of selection command done =
         let does : FixesBy answer selection ran.task one.table one.start (world_of exit.after) left ran.did = subst DoesSo command one.does in
         let ends : FixEnds selection ran.task one.table one.start (world_of exit.after) left ran.did = fix_ends_by answer selection ran.task one.table one.start (world_of exit.after) left ran.did done does in (
-          ended_fixed says.restored says.lost says.unknown_lost says.lost_unknown says.known says.genuine before exit tells setup answer named told ran left one selection command status is ends,
-          ends.course.did_is ∙ ap (λ (run : FixRun). fixes false run)
-              (sym (ended_fixed_run says.restored says.lost says.unknown_lost says.lost_unknown says.known says.genuine before exit tells setup answer named told ran left one selection command status is ends)),
+          ap has_ended ends.course.did_is,
+          subst (λ (did : Did). EndsBy did before exit status) (sym ends.course.did_is) (λ folders. (
+            ended_fixed says.restored says.lost says.unknown_lost says.lost_unknown says.known says.genuine before exit (all_told folders) setup answer named told ran left one selection command status is ends,
+            ended_fixed_run says.restored says.lost says.unknown_lost says.lost_unknown says.known says.genuine before exit (all_told folders) setup answer named told ran left one selection command status is ends,
+          )),
         )
 
-    scrubbed_of : (way : ScrubWay) → ran.task.command ≡ commands.Scrub way → IsDoneAnswer answer → (ends : EndsScrubbed before exit status) × (ran.did ≡ scrubs false ends.run)
+    scrubbed_of : (way : ScrubWay) → ran.task.command ≡ commands.Scrub way → IsDoneAnswer answer → (has_ended ran.did ≡ true) × EndsBy ran.did before exit status
     scrubbed_of way command done =
         let does : ScrubsBy answer way ran.task one.table one.start (world_of exit.after) left ran.did = subst DoesSo command one.does in
         let ends : ScrubEnds way ran.task one.table one.start (world_of exit.after) left ran.did = scrub_ends_by answer way ran.task one.table one.start (world_of exit.after) left ran.did done does in (
-          ended_scrubbed before exit tells in_time setup answer named told ran left one way command status is ends,
-          ends.course.did_is ∙ ap (λ (run : ScrubRun). scrubs false run)
-              (sym (ended_scrubbed_run before exit tells in_time setup answer named told ran left one way command status is ends)),
+          ap has_ended ends.course.did_is,
+          subst (λ (did : Did). EndsBy did before exit status) (sym ends.course.did_is) (
+            ended_scrubbed before exit vault_told in_time setup answer named told ran left one way command status is ends,
+            ended_scrubbed_run before exit vault_told in_time setup answer named told ran left one way command status is ends,
+          ),
         )
 
     ends_of : (command : Command) → ran.task.command ≡ command → DoesSo command → has_ended ran.did ≡ true → EndsBy ran.did before exit status
@@ -165,29 +173,26 @@ module _ (says : BelowSays) (before : Entry) (exit : Exit) (tells : TellsAll bef
     ends_of commands.Dup command does ended =
         absurd (only_read ran.did (printing_did (dup_text one.table) 0 one.start (world_of exit.after) left ran.did does) ended)
     ends_of (commands.Sync way) command does ended =
-        let part = part_of way command (sync_is_done answer ran.task way one.table one.start (world_of exit.after) left ran.did does ended) in
-        subst (λ (did : Did). EndsBy did before exit status) (sym part.1) (part.0, refl)
+        (synced_of way command (sync_is_done answer ran.task way one.table one.start (world_of exit.after) left ran.did does ended)).1
     ends_of (commands.Scrub way) command does ended =
-        let scrubbed = scrubbed_of way command (scrub_is_done answer way ran.task one.table one.start (world_of exit.after) left ran.did does ended) in
-        subst (λ (did : Did). EndsBy did before exit status) (sym scrubbed.1) (scrubbed.0, refl)
+        (scrubbed_of way command (scrub_is_done answer way ran.task one.table one.start (world_of exit.after) left ran.did does ended)).1
     ends_of (commands.Check selection) command does ended =
         absurd (only_read ran.did (check_did answer modes.Check selection ran.task one.table one.start (world_of exit.after) left ran.did does) ended)
     ends_of (commands.Audit selection) command does ended =
         absurd (only_read ran.did (check_did answer modes.Audit selection ran.task one.table one.start (world_of exit.after) left ran.did does) ended)
     ends_of (commands.Fix selection) command does ended =
-        let fixed = fixed_of selection command (fix_is_done answer selection ran.task one.table one.start (world_of exit.after) left ran.did does ended) in
-        subst (λ (did : Did). EndsBy did before exit status) (sym fixed.1) (fixed.0, refl)
+        (fixed_of selection command (fix_is_done answer selection ran.task one.table one.start (world_of exit.after) left ran.did does ended)).1
     ends_of (commands.Exercise n) command does ended = absurd does
 
     done_of : (command : Command) → ran.task.command ≡ command → ChangesFiles command → IsDoneAnswer answer → has_ended ran.did ≡ true
     done_of commands.List command changes done = absurd changes
     done_of commands.Status command changes done = absurd changes
     done_of commands.Dup command changes done = absurd changes
-    done_of (commands.Sync way) command changes done = ap has_ended (part_of way command done).1
-    done_of (commands.Scrub way) command changes done = ap has_ended (scrubbed_of way command done).1
+    done_of (commands.Sync way) command changes done = (synced_of way command done).0
+    done_of (commands.Scrub way) command changes done = (scrubbed_of way command done).0
     done_of (commands.Check selection) command changes done = absurd changes
     done_of (commands.Audit selection) command changes done = absurd changes
-    done_of (commands.Fix selection) command changes done = ap has_ended (fixed_of selection command done).1
+    done_of (commands.Fix selection) command changes done = (fixed_of selection command done).0
     done_of (commands.Exercise n) command changes done = absurd changes
 
   -- ---- a run that opened its array
@@ -212,9 +217,6 @@ module _ (says : BelowSays) (before : Entry) (exit : Exit) (tells : TellsAll bef
       let same : configured.asked ≡ asked = same_ok (asked_by before.texts) configured.asked asked configured.read words in
       done_of setup answer named told ran is asked.command (configured.command_is ∙ ap (λ (a : Options). a.command) same) changes done
 
-  abbrev fresh : HoldsFresh before
-  fresh = record { tells = tells.tells; tells_vault = tells.tells_vault; settled = settled }
-
   step_by : (end : End) (told : List Event) → status ≡ status_of end → Ran before exit end told → (SyncsToItsEnd before exit status → IsSoundAtEnd before exit status) → ChecksEnd before exit status → RunStep before exit status
   step_by (Refused why) told is ran synced checked =
       let still : (files : Files) → StandsIn before exit files → files ≡ before.opener.vault.files = stands_same before exit status fresh synced ran.vault in
@@ -225,7 +227,7 @@ module _ (says : BelowSays) (before : Entry) (exit : Exit) (tells : TellsAll bef
         stops = λ has. absurd (let clash : false ≡ true = sym ran.no_vault ∙ has in cc);
         unopened = λ none. ran.kept;
         refused = λ refused. read;
-        done = λ asked words changes well. absurd (done_end before exit (Refused why) told status tells.tells is ran well);
+        done = λ asked words changes well. absurd (done_end before exit (Refused why) told status fresh.tells is ran well);
         at_end = λ ended. absurd (only_read _ read ended);
         checked = checked;
       }
@@ -244,16 +246,16 @@ module _ (says : BelowSays) (before : Entry) (exit : Exit) (tells : TellsAll bef
       }
   step_by (Worked setup ending) told is ran synced checked =
       let how : (ran.did ≡ reads_only) ⊎ (HasSync before exit ran.did ⊎ (HasFix before exit ran.did ⊎ HasScrub before exit ran.did))
-      = run_did before exit tells.tells tells.tells_vault says.keeps in_time (setup_value setup) ending told ran in
+      = run_did before exit fresh.tells fresh.tells_vault says.keeps in_time (setup_value setup) ending told ran in
       let ends : EndsSound ran.did before exit status
-      = ends_sound says.keeps says.one_table says.moments says.finds before exit tells.tells tells.tells_vault in_time status (setup_value setup) ending told ran is in
+      = ends_sound says.keeps says.one_table says.moments says.finds before exit fresh.tells fresh.tells_vault in_time status (setup_value setup) ending told ran is in
       let always : IsSoundAlways before exit status
-      = sound_run before exit status fresh synced says.laid says.of_parts says.moments says.keeps_sound says.one_table says.marks_valid says.marks_sound ran.did ends (ran.changes tells.tells) how in
+      = sound_run before exit status fresh synced says.laid says.of_parts says.moments says.keeps_sound says.one_table says.marks_valid says.marks_sound ran.did ends (ran.changes fresh.tells) how in
       let same : always.did ≡ ran.did
-      = run_did_is before exit status fresh synced says.laid says.of_parts says.moments says.keeps_sound says.one_table says.marks_valid says.marks_sound ran.did ends (ran.changes tells.tells) how in
+      = run_did_is before exit status fresh synced says.laid says.of_parts says.moments says.keeps_sound says.one_table says.marks_valid says.marks_sound ran.did ends (ran.changes fresh.tells) how in
       let kept : folders_after always.did before.opener.folders exit.after.folders
       = subst (λ (did : Did). folders_after did before.opener.folders exit.after.folders) (sym same)
-      (subst (λ (olds : List FolderView). folders_after ran.did olds exit.after.folders) (given_folders before exit tells.tells tells.tells_vault (setup_value setup) ending told ran) ran.keeps.folders) in
+      (subst (λ (olds : List FolderView). folders_after ran.did olds exit.after.folders) (given_folders before exit fresh.tells fresh.tells_vault (setup_value setup) ending told ran) ran.keeps.folders) in
       record {
         always = always;
         folders = λ has. kept;
@@ -261,7 +263,7 @@ module _ (says : BelowSays) (before : Entry) (exit : Exit) (tells : TellsAll bef
         unopened = λ none. absurd (let clash : true ≡ false = sym ran.has_vault ∙ none in cc);
         refused = λ refused. same ∙ (ending_untouched ending ran.task ran.given (world_of exit.after) told ran.did ran.goes (subst (λ (n : ℕ). (n ≡ 2) ⊎ (n ≡ 5)) is refused)).did_is;
         done = λ asked words changes well. ap has_ended same
-            ∙ done_in (setup_value setup) ending told ran is asked words changes (done_ending ending (done_end before exit (Worked setup ending) told status tells.tells is ran well));
+            ∙ done_in (setup_value setup) ending told ran is asked words changes (done_ending ending (done_end before exit (Worked setup ending) told status fresh.tells is ran well));
         at_end = λ ended. subst (λ (did : Did). EndsBy did before exit status) (sym same) (ends_in (setup_value setup) ending told ran is (sym (ap has_ended same) ∙ ended));
         checked = checked;
       }
@@ -274,7 +276,7 @@ module _ (says : BelowSays) (before : Entry) (exit : Exit) (tells : TellsAll bef
 
 -- of each run
 pub every_run_steps : BelowSays → (before : Entry) (exit : Exit) (end : End) (told : List Event) (status : ℕ) → before.moment < 2 ^ 64 → status ≡ status_of end → Ran before exit end told → EveryRunSteps before exit status
-every_run_steps says before exit end told status in_time is ran tells settled =
-    step_by says before exit tells settled in_time status end told is ran
-    (λ asked. sound_at_end says.keeps before exit tells.tells tells.tells_vault in_time status (sync_ended before exit end told status tells.tells is ran asked) says.one_table says.moments says.finds)
+every_run_steps says before exit end told status in_time is ran fresh =
+    step_by says before exit fresh in_time status end told is ran
+    (λ asked. sound_at_end says.keeps before exit fresh.tells fresh.tells_vault in_time status (sync_ended before exit end told status fresh.tells is ran asked) says.one_table says.moments says.finds)
     (checks_end says.restorable says.genuine before exit end told status is ran)

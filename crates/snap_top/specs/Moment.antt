@@ -109,6 +109,11 @@ ChangesNothing _ = ⊥
 
 -- ---- each moment
 
+-- the opener tells what it holds, and so does its vault
+pub record TellsVault (before : Entry) : Type 0 where
+  pub tells : IsTrue before.opener.tells
+  pub tells_vault : IsTrue before.opener.vault.tells
+
 -- The opener tells what it holds, and so does its vault, which was opened anew: nothing of it is unsynced.
 pub record HoldsFresh (before : Entry) : Type 0 where
   pub tells : IsTrue before.opener.tells

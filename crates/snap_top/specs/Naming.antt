@@ -27,7 +27,7 @@ use Rattle.snap_top.specs.Dup.{dup_text}
 use Rattle.snap_top.specs.Ended.{IsEndStatus, WentToItsEnd}
 use Rattle.snap_top.specs.Loading.{Loading}
 use Rattle.snap_top.specs.Lost.{NamesLost, NamesPending}
-use Rattle.snap_top.specs.Moment.{TellsAll}
+use Rattle.snap_top.specs.Moment.{TellsVault}
 use Rattle.snap_top.specs.Opening.{IsConfigured, asked_by}
 use Rattle.snap_top.specs.Printing.{EndsPrinted}
 use Rattle.snap_top.specs.Run.{Entry, Exit}
@@ -96,7 +96,8 @@ EndsAsAsked (commands.Check selection) before exit status = EndsChecked before e
 EndsAsAsked (commands.Audit selection) before exit status = EndsAudited before exit status
 EndsAsAsked _ before exit status = Unit {0}
 
--- So a list, a status, a list of duplicates, a check and an audit end that were asked for and went to their ends, whatever the output did.
+-- So a list, a status, a list of duplicates, a check and an audit end that were asked for and went to their ends, whatever the output did, and
+-- whether or not the folders tell what they hold.
 abbrev pub ChecksEnd : Entry → Exit → ℕ → Type 0
-ChecksEnd before exit status = TellsAll before → WentToItsEnd before exit status
+ChecksEnd before exit status = TellsVault before → WentToItsEnd before exit status
     → (asked : Options) → asked_by before.texts ≡ Ok asked → EndsAsAsked asked.command before exit status

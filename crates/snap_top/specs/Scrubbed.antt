@@ -15,11 +15,11 @@ use Rattle.snap_scrub.specs.Findings.{events_of}
 use Rattle.snap_scrub.specs.Marks.{at_most}
 use Rattle.snap_scrub.specs.Plan.{plan_of}
 use Rattle.snap_scrub.specs.Reading.{cells_of, unread_levels}
-use Rattle.snap_sync.specs.Part.{NoneRose, readings_by, trees_of}
+use Rattle.snap_sync.specs.Part.{AllTell, NoneRose, readings_by, trees_of}
 use Rattle.stripe_findings.specs.Reading.{unread_cells}
 use Rattle.stripe_reader.specs.Columns.{folder_at}
 use Rattle.snap_top.specs.Ended.{IsEndStatus, WentToItsEnd}
-use Rattle.snap_top.specs.Moment.{IsScrubOf, TellsAll}
+use Rattle.snap_top.specs.Moment.{IsScrubOf, TellsVault}
 use Rattle.snap_top.specs.Opening.{asked_by}
 use Rattle.snap_top.specs.Run.{Entry, Exit}
 use Rattle.snap_top.specs.Scrub.{MayStandMarked, ScrubRun, marked_table}
@@ -28,15 +28,15 @@ use Rattle.snap_top.specs.Scrub.{MayStandMarked, ScrubRun, marked_table}
 abbrev pub events_scrubbed : ScrubRun → List Event
 events_scrubbed run = events_of run.loaded run.readings
 
--- A scrub that went to its end: it read just the stripes of its plan (`ScrubsOver`), and where no folder's count of faults rose this
--- gave what the trees hold. Each cell and each level that it could not read was counted as a fault. Where a stripe was read, every copy
+-- A scrub that went to its end: it read just the stripes of its plan (`ScrubsOver`). Where the folders tell what they hold, and the count of
+-- faults of none rose, this gave what the trees hold. Each cell and each level that it could not read was counted as a fault. Where a stripe was read, every copy
 -- spells the table with the marks, as the vault reads and in each image; parity stays. It printed all lines, or a prefix where the
 -- output failed; its status is 0 exactly where that did not and nothing was found. A failure of the output is counted, and changes
 -- nothing else of this.
 pub record EndsScrubbed (before : Entry) (exit : Exit) (status : ℕ) : Type 0 where
   pub run : ScrubRun
   pub is_scrub : IsScrubOf before exit run
-  pub given : NoneRose run.folders exit.after.folders
+  pub given : AllTell run.folders → NoneRose run.folders exit.after.folders
       → cells_of run.readings ≡ readings_by run.loaded (trees_of run.folders) (plan_of run.loaded run.way run.now)
   pub unread_cells_of : (d : ℕ) → d < length run.loaded.columns
       → RoseBy (unread_cells d (cells_of run.readings)) (folder_at run.folders d).faults (folder_at run.ended d).faults
@@ -50,7 +50,7 @@ pub record EndsScrubbed (before : Entry) (exit : Exit) (status : ℕ) : Type 0 w
   pub status_is : IsEndStatus status output_failed (events_scrubbed run ≡ [])
   pub output : IsTrue output_failed → Rose before.out.faults exit.after.out.faults
 
--- so a scrub ends that was asked for and went to its end, whatever the output did
+-- so a scrub ends that was asked for and went to its end, whatever the output did, and whether or not the folders tell what they hold
 abbrev pub ScrubsEnd : Entry → Exit → ℕ → Type 0
-ScrubsEnd before exit status = TellsAll before → WentToItsEnd before exit status → (asked : Options) (way : ScrubWay)
+ScrubsEnd before exit status = TellsVault before → WentToItsEnd before exit status → (asked : Options) (way : ScrubWay)
     → asked_by before.texts ≡ Ok asked → asked.command ≡ commands.Scrub way → EndsScrubbed before exit status

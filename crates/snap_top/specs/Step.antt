@@ -2,13 +2,13 @@
 use Rattle.std.specs.Prelude.{◌≡◌, ◌⊎◌, ℕ, ◌≤◌, true, false, Ok}
 use Rattle.disk_model.specs.Opener.{HoldsSame, folder_held}
 use Rattle.disk_model.specs.Tree.{Tree}
-use Rattle.disk_model.specs.Vault.{IsSettled}
 use Rattle.snap_config.specs.declared.options.Command.{Command}
 use Rattle.snap_config.specs.declared.options.Command.TheVariants as commands
 use Rattle.snap_config.specs.declared.options.Options.{Options}
+use Rattle.snap_sync.specs.Part.{AllTell}
 use Rattle.snap_top.specs.Complete.{NothingBroke}
 use Rattle.snap_top.specs.Ended.{has_ended}
-use Rattle.snap_top.specs.Moment.{EndsInPart, IsSoundAlways, TellsAll}
+use Rattle.snap_top.specs.Moment.{EndsInPart, HoldsFresh, IsSoundAlways}
 use Rattle.snap_top.specs.Naming.{ChecksEnd}
 use Rattle.snap_top.specs.Opening.{asked_by}
 use Rattle.snap_top.specs.Restoring.{EndsFixed}
@@ -24,10 +24,10 @@ ChangesFiles (commands.Scrub way) = Unit {0}
 ChangesFiles (commands.Fix selection) = Unit {0}
 ChangesFiles _ = ⊥
 
--- what a sync, a fix or a scrub leaves that did not break off
+-- what a sync, a fix or a scrub leaves that did not break off; of a sync and a fix this speaks of what the folders hold
 abbrev pub EndsBy : Did → Entry → Exit → ℕ → Type 0
-EndsBy (syncs failed run) before exit status = (ends : EndsInPart before exit status) × (ends.run ≡ run)
-EndsBy (fixes failed run) before exit status = (ends : EndsFixed before exit status) × (ends.run ≡ run)
+EndsBy (syncs failed run) before exit status = AllTell before.opener.folders → (ends : EndsInPart before exit status) × (ends.run ≡ run)
+EndsBy (fixes failed run) before exit status = AllTell before.opener.folders → (ends : EndsFixed before exit status) × (ends.run ≡ run)
 EndsBy (scrubs failed run) before exit status = (ends : EndsScrubbed before exit status) × (ends.run ≡ run)
 EndsBy reads_only before exit status = Unit {0}
 
@@ -52,6 +52,6 @@ pub record RunStep (before : Entry) (exit : Exit) (status : ℕ) : Type 0 where
   pub at_end : has_ended always.did ≡ true → EndsBy always.did before exit status
   pub checked : ChecksEnd before exit status
 
--- so it is of each run over what is told, and over a vault that was opened anew
+-- so it is of each run over a vault that was opened anew, where the opener tells what it holds and the vault tells its files
 abbrev pub EveryRunSteps : Entry → Exit → ℕ → Type 0
-EveryRunSteps before exit status = TellsAll before → IsSettled before.opener.vault → RunStep before exit status
+EveryRunSteps before exit status = HoldsFresh before → RunStep before exit status

@@ -192,7 +192,7 @@ module _ {O F V W : Type 0} (opener_view : O → OpenerView) (folder_view : F �
       = nothing_rose opener_view folder_view vault_view sink_view config others seed folders_then (view_of other) status_then then_folders left_then again.over faults_then calm_then in
       let words_then : asked_by run_then.texts ≡ Ok asks_then.asked = subst (λ (ts : List (List ℕ)). asked_by ts ≡ Ok asks_then.asked) (sym again.over.texts_are) asks_then.words in
       let other_ends : EndsFixed (begun run_then) (ended run_then) run_then.status
-      = ends_fixed (begun run_then) (ended run_then) run_then.status begins_then.tells.tells asks_then.asked words_then again.over.step (few_is run_then.status status_then 1 again.over.status_is few_then) everything asks_then.command_is in
+      = ends_fixed (begun run_then) (ended run_then) run_then.status begins_then.tells asks_then.asked words_then again.over.step (few_is run_then.status status_then 1 again.over.status_is few_then) everything asks_then.command_is in
       let opened : (ended run).has_vault ≡ true = ap (λ (v : Option V). is_some v) runs.over.vault_is in
       let vault : (ended run).after.vault.faults ≡ 0 = none_rose opener_view folder_view vault_view sink_view config texts seed folders (view_of one) status left_folders left runs.over faults in
       let by : BrokeByFolder (begun run) (ended run)

@@ -11,7 +11,7 @@ use Rattle.snap_config.specs.declared.options.Command.{Command}
 use Rattle.snap_config.specs.declared.options.Command.TheVariants as commands
 use Rattle.snap_config.specs.declared.options.Options.{Options}
 use Rattle.snap_config.specs.declared.options.SyncWay.{SyncWay}
-use Rattle.snap_sync.specs.Part.{SyncRun}
+use Rattle.snap_sync.specs.Part.{AllTell, SyncRun}
 use Rattle.snap_top.specs.Ended.{has_ended}
 use Rattle.snap_top.specs.Levels.{said_by}
 use Rattle.snap_top.specs.Moment.{IsDidOf, IsSoundAlways, LoadsWell, StandsIn}
@@ -49,16 +49,16 @@ none_fresh config levels copies value fresh =
 module _ (before : Entry) (exit : Exit) (status : ℕ) (tells : IsTrue before.opener.tells) (asked : Options) (words : asked_by before.texts ≡ Ok asked) (way : SyncWay)
     (command : asked.command ≡ commands.Sync way) (three : status ≡ 3) (out : exit.after.out.faults ≡ 0) (changed : exit.after.vault.files ≢ before.opener.vault.files) where
   pub did_break : (did : Did) → IsDidOf before exit did → ((files : Files) → StandsIn before exit files → may_stand did before.opener.vault.files files)
-      → (has_ended did ≡ true → EndsBy did before exit status) → (sync : SyncRun) × (did ≡ syncs true sync)
-  did_break reads_only is moments ends = absurd (changed (moments exit.after.vault.files (inl refl)))
-  did_break (syncs true sync) is moments ends = (sync, refl)
-  did_break (syncs false sync) is moments ends =
-      let at = ends refl in
+      → (has_ended did ≡ true → EndsBy did before exit status) → AllTell before.opener.folders → (sync : SyncRun) × (did ≡ syncs true sync)
+  did_break reads_only is moments ends told = absurd (changed (moments exit.after.vault.files (inl refl)))
+  did_break (syncs true sync) is moments ends told = (sync, refl)
+  did_break (syncs false sync) is moments ends told =
+      let at = ends refl told in
       absurd (not_risen before.out.faults exit.after.out.faults out (at.0.output (at.0.status_is.failed.0 three)))
-  did_break (fixes failed fix) is moments ends =
+  did_break (fixes failed fix) is moments ends told =
       let clash : commands.Fix fix.selection ≡ commands.Sync way = command_asked before tells asked words (commands.Fix fix.selection) is.readers fix.setup is.configured ∙ command in
       absurd cc
-  did_break (scrubs failed scrub) is moments ends =
+  did_break (scrubs failed scrub) is moments ends told =
       let clash : commands.Scrub scrub.way ≡ commands.Sync way = command_asked before tells asked words (commands.Scrub scrub.way) is.readers scrub.setup is.configured ∙ command in
       absurd cc
 
@@ -92,7 +92,7 @@ module _ {O F V W : Type 0} (opener_view : O → OpenerView) (folder_view : F �
       let words : asked_by run.texts ≡ Ok asks.asked = subst (λ (ts : List (List ℕ)). asked_by ts ≡ Ok asks.asked) (sym runs.over.texts_are) asks.words in
       let did : (sync : SyncRun) × (step.always.did ≡ syncs true sync)
       = did_break (begun run) (ended run) run.status begins.tells.tells asks.asked words plain_sync asks.command_is (runs.over.status_is ∙ three) runs.out_faults changed
-      step.always.did step.always.is_did step.always.moments step.at_end in
+      step.always.did step.always.is_did step.always.moments step.at_end begins.tells.tells_folders in
       let once : ¬ (RoseBy 2 (begun run).opener.vault.faults (ended run).after.vault.faults) = λ rose. not_twice (begun run).opener.vault.faults (ended run).after.vault.faults faults rose in
       record {
         run = run;

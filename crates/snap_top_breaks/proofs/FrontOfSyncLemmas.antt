@@ -137,7 +137,7 @@ module _ {O F V W : Type 0} (opener_view : O → OpenerView) (folder_view : F �
         let words_then : asked_by run_then.texts ≡ Ok asks_then.asked = subst (λ (ts : List (List ℕ)). asked_by ts ≡ Ok asks_then.asked) (sym again.over.texts_are) asks_then.words in
         let few : run_then.status ≤ 1 = few_is run_then.status status_then 1 again.over.status_is few_then in
         let other : EndsInPart (begun run_then) (ended run_then) run_then.status
-        = ends_synced (begun run_then) (ended run_then) run_then.status begins_then.tells.tells asks_then.asked words_then again.over.step few plain_sync asks_then.command_is in
+        = ends_synced (begun run_then) (ended run_then) run_then.status begins_then.tells asks_then.asked words_then again.over.step few plain_sync asks_then.command_is in
         let opened : (ended run).has_vault ≡ true = ap (λ (v : Option V). is_some v) runs.over.vault_is in
         let quiet : (d : ℕ) → (folder_at (ended run).after.folders d).faults ≡ 0
         = λ d. ap (λ (fs : List F). (folder_at (map folder_view fs) d).faults) runs.over.folders_are ∙ calm_at opener_view folder_view vault_view sink_view left_folders calm d in

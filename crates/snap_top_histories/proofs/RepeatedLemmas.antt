@@ -144,7 +144,7 @@ module _ {O F V W : Type 0} (opener_view : O → OpenerView) (folder_view : F �
       → (runs : RunsOver opener_view folder_view vault_view sink_view config texts seed folders vault status left_folders left) → AskForCheck texts → status ≤ 1 → EndsChecked (begun runs.run) (ended runs.run) runs.run.status
   ends_checked config texts seed folders vault last status left_folders left runs asks few =
       as_checked (begun runs.run) (ended runs.run) runs.run.status asks.asked.command asks.selection asks.command_is
-      (runs.step.checked (runs.begins last).tells (ByStatus (few_is runs.run.status status 1 runs.status_is few)) asks.asked
+      (runs.step.checked (record { tells = (runs.begins last).tells.tells; tells_vault = (runs.begins last).tells.tells_vault }) (ByStatus (few_is runs.run.status status 1 runs.status_is few)) asks.asked
       (words_of config texts seed folders vault status left_folders left runs asks.asked asks.words))
 
   -- both begin over the same

@@ -1,5 +1,5 @@
 -- What a run was asked for, and how one ended that went to its end.
-use Rattle.std.proofs.Common.{◌≡◌, ℕ, zero, suc, ◌<◌, ◌≤◌, List, inl, Bool, true, false, IsTrue, Ok, refl, sym, ◌∙◌, subst, arith}
+use Rattle.std.proofs.Common.{◌≡◌, ℕ, zero, suc, ◌<◌, ◌≤◌, List, inl, Bool, true, false, Ok, refl, sym, ◌∙◌, subst, arith}
 use Rattle.snap_config.specs.declared.options.Command.{Command}
 use Rattle.snap_config.specs.declared.options.Command.TheVariants as commands
 use Rattle.snap_config.specs.declared.options.Options.{Options}
@@ -55,7 +55,8 @@ no_fix_of command texts none asks = record { asked = asks.asked; words = asks.wo
 -- one that went to its end, by what it was asked for
 pub ended_as : (command : Command) (before : Entry) (exit : Exit) (status : ℕ) → TellsAll before → ChecksEnd before exit status → status ≤ 1 → AsksFor command before.texts → EndsAsAsked command before exit status
 ended_as command before exit status tells checked few asks =
-    subst (λ (its : Command). EndsAsAsked its before exit status) asks.command_is (checked tells (ByStatus few) asks.asked asks.words)
+    subst (λ (its : Command). EndsAsAsked its before exit status) asks.command_is
+    (checked (record { tells = tells.tells; tells_vault = tells.tells_vault }) (ByStatus few) asks.asked asks.words)
 
 -- with status 1, where something is counted unless all is well
 pub counted_some : (status : ℕ) (failed : Bool) (count : ℕ) → IsEndStatus status failed (count ≡ 0) → status ≡ 1 → 0 < count
@@ -65,35 +66,35 @@ counted_some status false zero is one = absurd (let none = is.clean.1 (refl, ref
 
 -- ---- how a run ended, by what it did
 
-module _ (before : Entry) (exit : Exit) (status : ℕ) (tells : IsTrue before.opener.tells) (asked : Options) (words : asked_by before.texts ≡ Ok asked) where
+module _ (before : Entry) (exit : Exit) (status : ℕ) (tells : TellsAll before) (asked : Options) (words : asked_by before.texts ≡ Ok asked) where
   sync_did : (way : SyncWay) → asked.command ≡ commands.Sync way → (did : Did) → IsDidOf before exit did → has_ended did ≡ true → EndsBy did before exit status → EndsInPart before exit status
   sync_did way command reads_only is done ends = absurd (let clash : false ≡ true = done in cc)
-  sync_did way command (syncs failed sync) is done ends = ends.0
+  sync_did way command (syncs failed sync) is done ends = (ends tells.tells_folders).0
   sync_did way command (fixes failed fix) is done ends =
-      let clash : commands.Fix fix.selection ≡ commands.Sync way = command_asked before tells asked words (commands.Fix fix.selection) is.readers fix.setup is.configured ∙ command in
+      let clash : commands.Fix fix.selection ≡ commands.Sync way = command_asked before tells.tells asked words (commands.Fix fix.selection) is.readers fix.setup is.configured ∙ command in
       absurd cc
   sync_did way command (scrubs failed scrub) is done ends =
-      let clash : commands.Scrub scrub.way ≡ commands.Sync way = command_asked before tells asked words (commands.Scrub scrub.way) is.readers scrub.setup is.configured ∙ command in
+      let clash : commands.Scrub scrub.way ≡ commands.Sync way = command_asked before tells.tells asked words (commands.Scrub scrub.way) is.readers scrub.setup is.configured ∙ command in
       absurd cc
 
   scrub_did : (way : ScrubWay) → asked.command ≡ commands.Scrub way → (did : Did) → IsDidOf before exit did → has_ended did ≡ true → EndsBy did before exit status → EndsScrubbed before exit status
   scrub_did way command reads_only is done ends = absurd (let clash : false ≡ true = done in cc)
   scrub_did way command (syncs failed sync) is done ends =
-      let clash : commands.Sync is.way ≡ commands.Scrub way = command_asked before tells asked words (commands.Sync is.way) is.readers sync.setup is.configured ∙ command in
+      let clash : commands.Sync is.way ≡ commands.Scrub way = command_asked before tells.tells asked words (commands.Sync is.way) is.readers sync.setup is.configured ∙ command in
       absurd cc
   scrub_did way command (fixes failed fix) is done ends =
-      let clash : commands.Fix fix.selection ≡ commands.Scrub way = command_asked before tells asked words (commands.Fix fix.selection) is.readers fix.setup is.configured ∙ command in
+      let clash : commands.Fix fix.selection ≡ commands.Scrub way = command_asked before tells.tells asked words (commands.Fix fix.selection) is.readers fix.setup is.configured ∙ command in
       absurd cc
   scrub_did way command (scrubs failed scrub) is done ends = ends.0
 
   fix_did : (selection : Selection) → asked.command ≡ commands.Fix selection → (did : Did) → IsDidOf before exit did → has_ended did ≡ true → EndsBy did before exit status → EndsFixed before exit status
   fix_did selection command reads_only is done ends = absurd (let clash : false ≡ true = done in cc)
   fix_did selection command (syncs failed sync) is done ends =
-      let clash : commands.Sync is.way ≡ commands.Fix selection = command_asked before tells asked words (commands.Sync is.way) is.readers sync.setup is.configured ∙ command in
+      let clash : commands.Sync is.way ≡ commands.Fix selection = command_asked before tells.tells asked words (commands.Sync is.way) is.readers sync.setup is.configured ∙ command in
       absurd cc
-  fix_did selection command (fixes failed fix) is done ends = ends.0
+  fix_did selection command (fixes failed fix) is done ends = (ends tells.tells_folders).0
   fix_did selection command (scrubs failed scrub) is done ends =
-      let clash : commands.Scrub scrub.way ≡ commands.Fix selection = command_asked before tells asked words (commands.Scrub scrub.way) is.readers scrub.setup is.configured ∙ command in
+      let clash : commands.Scrub scrub.way ≡ commands.Fix selection = command_asked before tells.tells asked words (commands.Scrub scrub.way) is.readers scrub.setup is.configured ∙ command in
       absurd cc
 
   module _ (step : RunStep before exit status) (few : status ≤ 1) where

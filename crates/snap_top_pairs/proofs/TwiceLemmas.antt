@@ -29,7 +29,7 @@ use Rattle.snap_top.specs.Alike.{HoldAlike, NothingRose, SeenAlike, seen_by}
 use Rattle.snap_top.specs.FixedAlike.{FixesAlike, KeepStampsAlike}
 use Rattle.snap_top.specs.History.{LastSynced}
 use Rattle.snap_top.specs.LeftAlike.{AskSame, PrintAlike, ScrubsAlike, SyncsAlike}
-use Rattle.snap_top.specs.Moment.{EndsInPart}
+use Rattle.snap_top.specs.Moment.{EndsInPart, TellsAll}
 use Rattle.snap_top.specs.Opening.{asked_by}
 use Rattle.snap_top.specs.Restoring.{EndsFixed}
 use Rattle.snap_top.specs.Resumed.{RunOf}
@@ -186,11 +186,11 @@ module _ {O F V W : Type 0} (opener_view : O → OpenerView) (folder_view : F �
     words_then : (command : Command) (asks : AsksFor command others) → asked_by run_then.texts ≡ Ok asks.asked
     words_then command asks = subst (λ (ts : List (List ℕ)). asked_by ts ≡ Ok asks.asked) (sym again.over.texts_are) asks.words
 
-    tells_here : IsTrue (begun run).opener.tells
-    tells_here = (runs.over.begins last).tells.tells
+    tells_here : TellsAll (begun run)
+    tells_here = (runs.over.begins last).tells
 
-    tells_there : IsTrue (begun run_then).opener.tells
-    tells_there = (again.over.begins last).tells.tells
+    tells_there : TellsAll (begun run_then)
+    tells_there = (again.over.begins last).tells
 
     says_other : (text : List ℕ) → printed ≢ text → (ended run).after.out.written ≢ text
     says_other text other is = other (sym runs.printed_is ∙ is)

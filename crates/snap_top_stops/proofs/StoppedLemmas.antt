@@ -204,7 +204,8 @@ module _ {O F V W : Type 0} (opener_view : O → OpenerView) (folder_view : F �
     all_looked_at next failed fix goes did_is asks few =
         let done : has_ended goes.step.always.did ≡ true = goes.step.done asks.asked asks.words (subst ChangesFiles (sym asks.command_is) tt) (inl few) in
         let ends : EndsBy (fixes failed fix) (begun run) (ended run) run.status = subst (λ (did : Did). EndsBy did (begun run) (ended run) run.status) did_is (goes.step.at_end done) in
-        subst (λ (it : FixRun). numbers_of (facts_of it.stripes) ≡ stripes_of it.plan) ends.1 ends.0.fixed.numbers
+        let its = ends goes.over.tells.tells_folders in
+        subst (λ (it : FixRun). numbers_of (facts_of it.stripes) ≡ stripes_of it.plan) its.1 its.0.fixed.numbers
 
     pub spared_at_stop : StandsLater → OneTable → AsksMissing texts → (vault_view left).faults ≡ 0 → are_calm folder_view left_folders ≡ true → status ≤ 1
         → IsLeftOf (vault_view left) made → copies_of made ≡ copies_of vault → all_tell_calls folder_view left_folders ≡ true

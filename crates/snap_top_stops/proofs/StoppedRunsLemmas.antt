@@ -18,7 +18,7 @@ use Rattle.snap_config.specs.declared.options.Command.TheVariants as commands
 use Rattle.snap_config.specs.declared.options.SyncWay.{SyncWay}
 use Rattle.snap_config.specs.declared.options.Options.{Options}
 use Rattle.snap_sync.specs.Images.{MayStand}
-use Rattle.snap_sync.specs.Part.{SyncRun, trees_of}
+use Rattle.snap_sync.specs.Part.{AllTell, SyncRun, trees_of}
 use Rattle.snap_top.specs.Ended.{has_ended}
 use Rattle.snap_top.specs.History.{AreSoundBy, LastSynced}
 use Rattle.snap_top.specs.Levels.{said_by}
@@ -84,14 +84,14 @@ pub record EndsSynced (before : Entry) (exit : Exit) (status : ℕ) (did : Did) 
   pub did_is : did ≡ syncs false ends.run
 
 module _ (before : Entry) (exit : Exit) (status : ℕ) (tells : IsTrue before.opener.tells) (asked : Options) (words : asked_by before.texts ≡ Ok asked) (way : SyncWay) (command : asked.command ≡ commands.Sync way) where
-  pub synced_did : (did : Did) → IsDidOf before exit did → has_ended did ≡ true → EndsBy did before exit status → EndsSynced before exit status did
-  synced_did reads_only is done ends = absurd (let clash : false ≡ true = done in cc)
-  synced_did (syncs true sync) is done ends = absurd (let clash : false ≡ true = done in cc)
-  synced_did (syncs false sync) is done ends = record { ends = ends.0; did_is = ap (λ (run : SyncRun). syncs false run) (sym ends.1) }
-  synced_did (fixes failed fix) is done ends =
+  pub synced_did : (did : Did) → IsDidOf before exit did → has_ended did ≡ true → EndsBy did before exit status → AllTell before.opener.folders → EndsSynced before exit status did
+  synced_did reads_only is done ends told = absurd (let clash : false ≡ true = done in cc)
+  synced_did (syncs true sync) is done ends told = absurd (let clash : false ≡ true = done in cc)
+  synced_did (syncs false sync) is done ends told = record { ends = (ends told).0; did_is = ap (λ (run : SyncRun). syncs false run) (sym (ends told).1) }
+  synced_did (fixes failed fix) is done ends told =
       let clash : commands.Fix fix.selection ≡ commands.Sync way = command_asked before tells asked words (commands.Fix fix.selection) is.readers fix.setup is.configured ∙ command in
       absurd cc
-  synced_did (scrubs failed scrub) is done ends =
+  synced_did (scrubs failed scrub) is done ends told =
       let clash : commands.Scrub scrub.way ≡ commands.Sync way = command_asked before tells asked words (commands.Scrub scrub.way) is.readers scrub.setup is.configured ∙ command in
       absurd cc
 
@@ -159,7 +159,7 @@ module _ {O F V W : Type 0} (opener_view : O → OpenerView) (folder_view : F �
       let words : asked_by (begun runs.run).texts ≡ Ok asks.asked = subst (λ (ts : List (List ℕ)). asked_by ts ≡ Ok asks.asked) (sym runs.texts_are) asks.words in
       let done : has_ended step.always.did ≡ true = step.done asks.asked words (subst ChangesFiles (sym asks.command_is) tt) (inl (omega (arith, runs.status_is, well))) in
       let its : EndsSynced (begun runs.run) (ended runs.run) runs.run.status step.always.did
-      = synced_did (begun runs.run) (ended runs.run) runs.run.status for_sync.tells.tells asks.asked words asks.way asks.command_is step.always.did step.always.is_did done (step.at_end done) in
+      = synced_did (begun runs.run) (ended runs.run) runs.run.status for_sync.tells.tells asks.asked words asks.way asks.command_is step.always.did step.always.is_did done (step.at_end done) for_sync.tells.tells_folders in
       record {
         asks = for_sync;
         always = step.always;

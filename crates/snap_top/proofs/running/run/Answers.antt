@@ -57,7 +57,7 @@ returns-clause-scrubbed g c tells =
     scrubs_end _ _ c.work-end.result.end ran.told _ (omega arith) c.status.ensures (by_said _ _ _ _ _ _ _ ran tells.tells) tells
 
 pub returns-clause-step : goal.returns-clause-step
-returns-clause-step g c tells =
+returns-clause-step g c fresh =
     let ran = c.work-end.ensures in
     let parts = c.a_sync_is_a_part_sync.ensures in
     let finds = c.what_is_pending_is_found.ensures in
@@ -85,4 +85,4 @@ returns-clause-step g c tells =
       marks_valid = c.a_scrub_keeps_what_is_synced.ensures.valid;
       marks_sound = c.a_scrub_keeps_what_is_synced.ensures.sound;
     }) _ _ c.work-end.result.end ran.told _ (omega arith) c.status.ensures
-    (by_said _ _ _ _ _ _ _ ran tells.tells) tells
+    (by_said _ _ _ _ _ _ _ ran fresh.tells) fresh

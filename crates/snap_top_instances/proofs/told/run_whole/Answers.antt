@@ -35,7 +35,7 @@ returns-in-Some g c =
         begins = begins;
         moment = moment_at _ _ _ _ fresh c.requires;
         faults = faults_at _ _ _ _ fresh c.requires;
-        step = made.ensures.step (begins nothing_synced).tells (begins nothing_synced).settled;
+        step = made.ensures.step (record { tells = (begins nothing_synced).tells.tells; tells_vault = (begins nothing_synced).tells.tells_vault; settled = (begins nothing_synced).settled });
       };
       held = fresh.folders_are;
       moment_is = refl;

@@ -27,7 +27,8 @@ returns g c =
       vault = made.result.vault;
       status = made.result.status;
     })
-    c.requires.made (begins nothing_synced) (made.ensures.step (begins nothing_synced).tells (begins nothing_synced).settled)
+    c.requires.made (begins nothing_synced)
+    (made.ensures.step (record { tells = (begins nothing_synced).tells.tells; tells_vault = (begins nothing_synced).tells.tells_vault; settled = (begins nothing_synced).settled }))
     c.headline.ensures c.a_broken_run_prints_a_front.ensures.early made.ensures.account made.ensures.refused (c.is_refused.ensures c.if-not-is_refused.false)
     (opener_holds _ _ _ _ c.new-opener.ensures.view c.requires.file)
     (sym c.is_some.ensures ∙ c.if-is_some.false)
