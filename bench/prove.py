@@ -5,7 +5,7 @@ usage: bench/prove.py PROGRAM [WORD ..]     for ./demo: bench/prove.py snapraid 
 
 This is the gate of these crates alone, in a copy of them without mutants and most tests; the program is copied back. What is proved is kept, so a
 second run takes half a minute, and the whole gate need not prove it again. Where there is more to prove, the program is run unproved with these words
-meanwhile, so that it is seen at work within two minutes. How long the rest takes is guessed from the table of costs in CONTRIBUTING.md.
+meanwhile, so that it is seen at work within two minutes. How long the rest takes is estimated by the table of costs in bench/README.md.
 """
 import os
 import re
@@ -38,7 +38,7 @@ def crates_below(top):
 
 def costs(names):
     """The processor seconds that the proofs of each crate took when they were measured last."""
-    with open(f"{TOP}/CONTRIBUTING.md", encoding="utf-8") as text:
+    with open(f"{TOP}/bench/README.md", encoding="utf-8") as text:
         table = dict(re.findall(r"^\| (\w+)(?:, its tests)? \| (\d+) \|", text.read(), re.M))
     return {name: int(table.get(name, 60)) for name in names}
 
