@@ -3,9 +3,10 @@
 
 usage: bench/prove.py PROGRAM [WORD ..]     for ./demo: bench/prove.py snapraid exercise 3
 
-This is the gate of these crates alone, in a copy of them without mutants and most tests; the program is copied back. What is proved is kept, so a
-second run takes half a minute, and the whole gate need not prove it again. Where there is more to prove, the program is run unproved with these words
-meanwhile, so that it is seen at work within two minutes. How long the rest takes is estimated by the table of costs in bench/README.md.
+This is the gate of these crates alone, in a copy of them without mutants and most tests; the program is copied back.
+What is proved is kept, so a second run takes half a minute, and the whole gate need not prove it again. Where there is
+more to prove, the program is run unproved with these words meanwhile, so that it is seen at work within two minutes.
+How long the rest takes is estimated by the table of costs in bench/README.md.
 """
 import os
 import re

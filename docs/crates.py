@@ -19,7 +19,7 @@ GROUPS = {
     "program": ("#dbeafe", "#1e3a8a", "the program"),
     "doubles": ("#ffe0b3", "#7c2d12", "doubles: objects and arrays in memory"),
     "instances": ("#cfe8d5", "#14532d", "instances: arrays that meet what laws suppose"),
-    "tests": ("#e2e4e9", "#374151", "tests, beside their crate where that has a box"),
+    "tests": ("#e2e4e9", "#374151", "tests, on the box of their crate if there is one"),
 }
 ROW, HIGH, GAP, LETTER, MARK, EDGE = 62, 26, 18, 6.7, 54, 24
 
