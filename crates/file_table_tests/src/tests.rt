@@ -2,6 +2,8 @@
 ghost use Rattle.std.specs.Prelude.{◌≡◌, ◌<◌, [], length, IfOk};
 ghost use Rattle.file_table.specs.Building.{last_column};
 
+mod refused;
+
 use block_hash::{Digest16, Kind};
 use disk_model::{Meta, Path, Stamp, Text};
 use file_table::{Block, BuildFault, Builder, Cell, Info, Mark, Shape, Table};
