@@ -1,7 +1,8 @@
 // Damaged files: the first wrong field and its place, in one piece and however the bytes are cut.
 
-use crate::samples::ONE_FILE;
+use crate::samples::{ONE_FILE, is_one_file};
 use content_file::{Damage, DecodeFault, Decoder, Flaw, decode};
+use file_table::Table;
 use std::alloc::{AllocError, Global};
 use std::test::Fail;
 
@@ -18,22 +19,26 @@ fn changed(alloc: Global, size: usize, at: usize, bytes: &[u8]) -> Result<Vec<u8
     Ok(file)
 }
 
-// How bytes are refused that come one at a time.
-fn by_bytes(alloc: Global, bytes: &[u8]) -> Result<Option<DecodeFault>, Fail> {
-    let mut decoder = Decoder::new(alloc)?;
+// What bytes give that come one at a time.
+fn by_bytes(alloc: Global, bytes: &[u8]) -> Result<Table, DecodeFault> {
+    let Ok(mut decoder) = Decoder::new(alloc) else {
+        return Err(DecodeFault::Memory);
+    };
     for byte in bytes {
         let _ = decoder.feed(&[*byte]);
     }
-    Ok(decoder.finish().err())
+    decoder.finish()
 }
 
-// How bytes are refused that come in two pieces.
-fn by_two(alloc: Global, bytes: &[u8], cut: usize) -> Result<Option<DecodeFault>, Fail> {
-    let mut decoder = Decoder::new(alloc)?;
+// What bytes give that come in two pieces.
+fn by_two(alloc: Global, bytes: &[u8], cut: usize) -> Result<Table, DecodeFault> {
+    let Ok(mut decoder) = Decoder::new(alloc) else {
+        return Err(DecodeFault::Memory);
+    };
     let (first, second) = bytes.split_at(cut.min(bytes.len()));
     let _ = decoder.feed(first);
     let _ = decoder.feed(second);
-    Ok(decoder.finish().err())
+    decoder.finish()
 }
 
 // A size, a place and the bytes there; then the place of the first wrong field, what is wrong with it, and how that is
@@ -83,19 +88,23 @@ fn the_first_wrong_field_is_named(rt: HostRuntime) -> Result<(), Fail> {
         let refused = Some(DecodeFault::Damaged(Damage { offset, why }));
         assert_eq!(rt; why.as_str(), *words);
         assert_eq!(rt; decode(rt.alloc(), file.as_slice()).err(), refused);
-        assert_eq!(rt; by_bytes(rt.alloc(), file.as_slice())?, refused);
+        assert_eq!(rt; by_bytes(rt.alloc(), file.as_slice()).err(), refused);
         for cut in 0..file.len() {
-            assert_eq!(rt; by_two(rt.alloc(), file.as_slice(), cut)?, refused);
+            assert_eq!(rt; by_two(rt.alloc(), file.as_slice(), cut).err(), refused);
         }
     }
     Ok(())
 }
 
+// Its 127 bytes one at a time, and cut in two at each place: the table is the same as of the whole.
 #[test]
 fn a_whole_file_in_pieces(rt: HostRuntime) -> Result<(), Fail> {
-    assert_eq!(rt; by_bytes(rt.alloc(), &ONE_FILE)?, None);
+    assert!(rt; is_one_file(&by_bytes(rt.alloc(), &ONE_FILE)?));
     for cut in 0..128 {
-        assert_eq!(rt; by_two(rt.alloc(), &ONE_FILE, cut)?, None);
+        assert!(rt;
+            is_one_file(&by_two(rt.alloc(), &ONE_FILE, cut)?),
+            "cut at {cut}"
+        );
     }
     Ok(())
 }

@@ -1,4 +1,7 @@
 // Whole content files.
+use block_hash::{Digest16, Kind};
+use disk_model::{Meta, Stamp};
+use file_table::{Block, Info, Mark, Shape, Table};
 
 // One disk `d1` with one file `a` of ten bytes, synced at 100.
 pub(crate) const ONE_FILE: [u8; 127] = [
@@ -11,6 +14,50 @@ pub(crate) const ONE_FILE: [u8; 127] = [
     0xc3, 0xa9, 0xa1, 0x60, 0x02, 0x75, 0xe4, 0xf6, 0x5c, 0x85, 0xb7, 0x03, 0xd4, 0x92, 0x6f, 0xa4,
     0xa6, 0x56, 0xec, 0x18, 0x84, 0x31, 0x7a, 0xe9, 0xa2, 0x8c, 0x6b, 0x3d, 0xf8, 0xd5, 0xd1,
 ];
+
+// The fields of its table.
+const SHAPE: Shape = Shape {
+    block_size: 1024,
+    levels: 1,
+    kind: Kind::Md5,
+    seed: *b"abcdefghijklmnop",
+};
+
+const META: Meta = Meta {
+    size: 10,
+    stamp: Stamp {
+        seconds: 1,
+        nanos: 5,
+    },
+};
+
+const BLOCK: Block = Block {
+    position: 0,
+    hash: Some(Digest16([
+        0xc3, 0xfc, 0xd3, 0xd7, 0x61, 0x92, 0xe4, 0x00, 0x7d, 0xfb, 0x49, 0x6c, 0xca, 0x67, 0xe1,
+        0x3b,
+    ])),
+};
+
+const INFO: Info = Info {
+    mark: Mark::Synced,
+    last: 100,
+    bad: false,
+    fresh: true,
+};
+
+// Whether a table has just these fields: it is that of `ONE_FILE`.
+pub(crate) fn is_one_file(table: &Table) -> bool {
+    table.shape() == SHAPE
+        && table.length() == 1
+        && table.info(0) == INFO
+        && table.disks() == 1
+        && table.name(0) == "d1"
+        && table.records(0) == 1
+        && table.path(0, 0).as_str() == "a"
+        && table.meta(0, 0) == META
+        && table.blocks(0, 0) == [BLOCK].as_slice()
+}
 
 // The same without the file.
 pub(crate) const NO_FILE: [u8; 74] = [

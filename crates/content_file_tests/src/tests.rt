@@ -3,7 +3,7 @@ ghost use Rattle.std.specs.Prelude.{◌≡◌, ◌<◌};
 ghost use Rattle.disk_model.specs.Vault.{copies_of};
 ghost use Rattle.disk_memory.specs.Vault.{vault_view};
 
-use crate::samples::{NO_FILE, ONE_FILE, THREE_DISKS};
+use crate::samples::{NO_FILE, ONE_FILE, THREE_DISKS, is_one_file};
 use content_file::{Damage, Encoder, Flaw, LoadFault, TableDigest, decode, load, save};
 use disk_memory::MemVault;
 use disk_model::{Failed, Vault};
@@ -14,16 +14,7 @@ use std::test::Fail;
 
 #[test]
 fn whole_files(rt: HostRuntime) -> Result<(), Fail> {
-    let table = decode(rt.alloc(), &ONE_FILE)?;
-    assert_eq!(rt; table.disks(), 1);
-    assert_eq!(rt; table.length(), 1);
-    assert_eq!(rt; table.total(), 1);
-    assert_eq!(rt; table.shape().block_size, 1024);
-    assert_eq!(rt; table.name(0), "d1");
-    assert_eq!(rt; table.records(0), 1);
-    assert_eq!(rt; table.path(0, 0).as_str(), "a");
-    assert_eq!(rt; table.meta(0, 0).size, 10);
-    assert_eq!(rt; table.info(0).last, 100);
+    assert!(rt; is_one_file(&decode(rt.alloc(), &ONE_FILE)?));
     let empty = decode(rt.alloc(), &NO_FILE)?;
     assert_eq!(rt; empty.disks(), 1);
     assert_eq!(rt; empty.length(), 0);
