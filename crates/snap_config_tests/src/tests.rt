@@ -2,5 +2,6 @@
 mod config;
 mod filter;
 mod patterns;
+mod refused_words;
 mod usual;
 mod words;

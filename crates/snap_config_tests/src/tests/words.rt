@@ -1,131 +1,205 @@
 // Command lines, and what is asked by them. Words are parted by a bar; the program's name is left out.
+use crate::tests::refused_words::{REFUSED, Refusal, is_refused};
 use snap_config::{
-    Command, CommandName, Options, WordsFault, log_name, read_words, read_words_among,
+    Command, CommandName, Options, ScrubPlan, Selection, WordsFault, log_name, read_words,
+    read_words_among,
 };
 use std::alloc::{AllocError, Global};
 use std::test::Fail;
 
-// All commands: words, the command or the refusal that they come to, and the readers or the row of the option.
-static LINES: [(&str, &str, u32); 110] = [
+// The disks, the patterns, and whether only missing files and only what is known to be bad are meant.
+type Chosen = (&'static [&'static str], &'static [&'static str], bool, bool);
+
+// A sync: whether it is forced for empty files and for empty disks, and after how many stripes it saves. A scrub: its
+// plan, and how many days ago a check must be.
+enum Asks {
+    Sync(bool, bool, Option<u32>),
+    Scrub(ScrubPlan, u32),
+    Check(Chosen),
+    Audit(Chosen),
+    Fix(Chosen),
+    Status,
+    List,
+    Dup,
+    Exercise(u32),
+}
+
+// Words; then the configuration, the log, the readers, and the command with its options.
+type Accepted = (&'static str, &'static str, Option<&'static str>, u32, Asks);
+
+const CONF: &str = "/etc/snapraid.conf";
+
+// All commands.
+static ACCEPTED: [Accepted; 39] = [
     // the options of each command, by their names and their letters
-    ("sync", "sync", 4),
-    ("sync|-c|a.conf|-l|run.log|--readers|16", "sync", 16),
-    ("-ZE|sync|--save-every|476837", "sync", 4),
-    ("--force-zero|--save-every=1|sync|--force-empty", "sync", 4),
-    ("sync|--save-every|67108864", "sync", 4),
-    ("scrub", "scrub", 4),
-    ("scrub|-p|bad|-o|0", "scrub", 4),
-    ("scrub|--plan|new|--older-than|36500", "scrub", 4),
-    ("scrub|-pfull", "scrub", 4),
-    ("scrub|-p0", "scrub", 4),
-    ("scrub|-p|100", "scrub", 4),
-    ("scrub|-p|000000100", "scrub", 4),
-    ("check", "check", 4),
-    ("check|-f|*.txt|-d|d1|-f|/a/|-d|parity|-m|-e", "check", 4),
-    ("check|-a|--filter-missing", "audit", 4),
-    ("check|--audit-only|--filter-error", "audit", 4),
-    ("fix|--filter|*.txt|--filter-disk|d2|-m", "fix", 4),
-    ("fix|-d|", "fix", 4),
-    ("status|-c|a", "status", 4),
-    ("list|-l|x", "list", 4),
-    ("dup", "dup", 4),
-    ("dup|-c|a.conf|--log|run.log", "dup", 4),
+    ("sync", CONF, None, 4, Asks::Sync(false, false, None)),
+    (
+        "sync|-c|a.conf|-l|run.log|--readers|16",
+        "a.conf",
+        Some("run.log"),
+        16,
+        Asks::Sync(false, false, None),
+    ),
+    ("sync|-Z", CONF, None, 4, Asks::Sync(true, false, None)),
+    ("sync|-E", CONF, None, 4, Asks::Sync(false, true, None)),
+    (
+        "-ZE|sync|--save-every|476837",
+        CONF,
+        None,
+        4,
+        Asks::Sync(true, true, Some(476_837)),
+    ),
+    (
+        "--force-zero|--save-every=1|sync|--force-empty",
+        CONF,
+        None,
+        4,
+        Asks::Sync(true, true, Some(1)),
+    ),
+    (
+        "sync|--save-every|67108864",
+        CONF,
+        None,
+        4,
+        Asks::Sync(false, false, Some(67_108_864)),
+    ),
+    (
+        "scrub",
+        CONF,
+        None,
+        4,
+        Asks::Scrub(ScrubPlan::Percent(8), 10),
+    ),
+    (
+        "scrub|-p|bad|-o|0",
+        CONF,
+        None,
+        4,
+        Asks::Scrub(ScrubPlan::Bad, 0),
+    ),
+    (
+        "scrub|--plan|new|--older-than|36500",
+        CONF,
+        None,
+        4,
+        Asks::Scrub(ScrubPlan::New, 36_500),
+    ),
+    (
+        "scrub|-pfull",
+        CONF,
+        None,
+        4,
+        Asks::Scrub(ScrubPlan::Full, 10),
+    ),
+    (
+        "scrub|-p0",
+        CONF,
+        None,
+        4,
+        Asks::Scrub(ScrubPlan::Percent(0), 10),
+    ),
+    (
+        "scrub|-p|100",
+        CONF,
+        None,
+        4,
+        Asks::Scrub(ScrubPlan::Percent(100), 10),
+    ),
+    (
+        "scrub|-p|000000100",
+        CONF,
+        None,
+        4,
+        Asks::Scrub(ScrubPlan::Percent(100), 10),
+    ),
+    (
+        "scrub|--readers|1",
+        CONF,
+        None,
+        1,
+        Asks::Scrub(ScrubPlan::Percent(8), 10),
+    ),
+    (
+        "check",
+        CONF,
+        None,
+        4,
+        Asks::Check((&[], &[], false, false)),
+    ),
+    (
+        "check|-f|*.txt|-d|d1|-f|/a/|-d|parity|-m|-e",
+        CONF,
+        None,
+        4,
+        Asks::Check((&["d1", "parity"], &["*.txt", "/a/"], true, true)),
+    ),
+    (
+        "check|-a|--filter-missing",
+        CONF,
+        None,
+        4,
+        Asks::Audit((&[], &[], true, false)),
+    ),
+    (
+        "check|--audit-only|--filter-error",
+        CONF,
+        None,
+        4,
+        Asks::Audit((&[], &[], false, true)),
+    ),
+    (
+        "fix|--filter|*.txt|--filter-disk|d2|-m",
+        CONF,
+        None,
+        4,
+        Asks::Fix((&["d2"], &["*.txt"], true, false)),
+    ),
+    (
+        "fix|-d|",
+        CONF,
+        None,
+        4,
+        Asks::Fix((&[""], &[], false, false)),
+    ),
+    (
+        "fix|-e|--readers|2",
+        CONF,
+        None,
+        2,
+        Asks::Fix((&[], &[], false, true)),
+    ),
+    ("status|-c|a", "a", None, 4, Asks::Status),
+    ("list|-l|x", CONF, Some("x"), 4, Asks::List),
+    ("dup", CONF, None, 4, Asks::Dup),
+    (
+        "dup|-c|a.conf|--log|run.log",
+        "a.conf",
+        Some("run.log"),
+        4,
+        Asks::Dup,
+    ),
     // an exercise, with the number behind the command and options in any place
-    ("exercise|0", "exercise", 4),
-    ("-c|a|exercise|999999999", "exercise", 4),
-    ("exercise|-l|x|7", "exercise", 4),
-    ("exercise|--|7", "exercise", 4),
+    ("exercise|0", CONF, None, 4, Asks::Exercise(0)),
+    (
+        "-c|a|exercise|999999999",
+        "a",
+        None,
+        4,
+        Asks::Exercise(999_999_999),
+    ),
+    ("exercise|-l|x|7", CONF, Some("x"), 4, Asks::Exercise(7)),
+    ("exercise|--|7", CONF, None, 4, Asks::Exercise(7)),
     // values that are empty, or begin with a dash
-    ("list|--conf=", "list", 4),
-    ("list|-c|", "list", 4),
-    ("list|--conf=-x", "list", 4),
-    ("list|-c-x", "list", 4),
-    ("list|-c|-x", "usage", 0),
-    ("list|-c|--log", "usage", 0),
-    ("list|-c|-", "list", 4),
+    ("list|--conf=", "", None, 4, Asks::List),
+    ("list|-c|", "", None, 4, Asks::List),
+    ("list|-l|", CONF, Some(""), 4, Asks::List),
+    ("list|--conf=-x", "-x", None, 4, Asks::List),
+    ("list|-c-x", "-x", None, 4, Asks::List),
+    ("list|-c|-", "-", None, 4, Asks::List),
     // behind two dashes there are no options
-    ("--|list", "list", 4),
-    ("list|--", "list", 4),
-    ("list|--|-l", "unfit", 14),
-    ("--|-l|list", "command", 0),
-    ("-l|x|--|list", "list", 4),
-    ("--|-x", "command", 0),
-    // an option twice, unknown, shortened, without its value or with one too many
-    ("sync|-c|a|-c|b", "usage", 0),
-    ("sync|-c|a|--conf=a", "usage", 0),
-    ("sync|-Z|-Z", "usage", 0),
-    ("scrub|-p|5|-p|5", "usage", 0),
-    ("sync|--frob", "usage", 0),
-    ("sync|-x", "usage", 0),
-    ("sync|-Zx", "usage", 0),
-    ("sync|--con|a", "usage", 0),
-    ("sync|--conf", "usage", 0),
-    ("sync|-c", "usage", 0),
-    ("sync|--force-zero=yes", "usage", 0),
-    ("list|--help", "usage", 0),
-    ("list|-h", "usage", 0),
-    ("list|--version", "usage", 0),
-    ("list|-V", "usage", 0),
-    // no command, an empty one, two, and none that there is
-    ("-Z", "usage", 0),
-    ("", "command", 0),
-    ("|list", "command", 0),
-    ("list|list|list", "usage", 0),
-    ("frob", "command", 0),
-    ("help", "command", 0),
-    ("List", "command", 0),
-    ("dups", "command", 0),
-    ("diff", "command", 0),
-    // the command comes before its options, and all options that do not go with it before all values
-    ("frob|-p|101", "command", 0),
-    ("frob|--frob", "usage", 0),
-    ("sync|-p|5", "unfit", 8),
-    ("sync|-p|101|--readers|0", "unfit", 8),
-    ("check|-Z|-p|5", "unfit", 8),
-    ("check|--readers|0|-E", "unfit", 11),
-    ("scrub|--readers|0|-o|x", "value", 9),
-    ("scrub|-o|x|-p|x", "value", 8),
-    // options that do not go with a command
-    ("sync|-f|*", "unfit", 3),
-    ("scrub|-d|d1", "unfit", 4),
-    ("status|-m", "unfit", 5),
-    ("list|-e", "unfit", 6),
-    ("fix|-a", "unfit", 7),
-    ("sync|-o|1", "unfit", 9),
-    ("scrub|-Z", "unfit", 10),
-    ("fix|-E", "unfit", 11),
-    ("scrub|--save-every|5", "unfit", 12),
-    ("status|--readers|4", "unfit", 13),
-    ("list|--readers|4", "unfit", 13),
-    ("dup|-f|*", "unfit", 3),
-    ("dup|--readers|4", "unfit", 13),
-    ("dup|7", "unfit", 14),
-    ("exercise|7|--readers|4", "unfit", 13),
-    ("exercise|-Z", "unfit", 10),
-    ("list|list", "unfit", 14),
-    ("sync|5", "unfit", 14),
-    ("sync|5|--readers|0", "unfit", 14),
-    // values out of their form
-    ("check|-f|a/b", "value", 3),
-    ("fix|-f|*|-f|", "value", 3),
-    ("fix|-f|[x]|--readers|0", "value", 3),
-    ("scrub|-p|101", "value", 8),
-    ("scrub|-p|", "value", 8),
-    ("scrub|-p|+5", "value", 8),
-    ("scrub|--plan=-5", "value", 8),
-    ("scrub|-p|0000000100", "value", 8),
-    ("scrub|-p|Full", "value", 8),
-    ("scrub|-o|36501", "value", 9),
-    ("sync|--save-every|0", "value", 12),
-    ("sync|--save-every|67108865", "value", 12),
-    ("check|--readers|0", "value", 13),
-    ("fix|--readers|17", "value", 13),
-    ("exercise", "value", 14),
-    ("exercise|", "value", 14),
-    ("exercise|x", "value", 14),
-    ("exercise|+7", "value", 14),
-    ("exercise|1000000000", "value", 14),
-    ("exercise|7|7", "usage", 0),
+    ("--|list", CONF, None, 4, Asks::List),
+    ("list|--", CONF, None, 4, Asks::List),
+    ("-l|x|--|list", CONF, Some("x"), 4, Asks::List),
 ];
 
 fn words_of(alloc: Global, line: &str) -> Result<Vec<String>, AllocError> {
@@ -137,40 +211,68 @@ fn words_of(alloc: Global, line: &str) -> Result<Vec<String>, AllocError> {
     Ok(words)
 }
 
-fn name_of(command: &Command) -> &'static str {
-    match command {
-        Command::Sync(_) => "sync",
-        Command::Scrub(_) => "scrub",
-        Command::Check(_) => "check",
-        Command::Audit(_) => "audit",
-        Command::Fix(_) => "fix",
-        Command::Status => "status",
-        Command::List => "list",
-        Command::Dup => "dup",
-        Command::Exercise(_) => "exercise",
+fn is_chosen(selection: &Selection, chosen: &Chosen) -> bool {
+    let (disks, patterns, missing, errors) = *chosen;
+    let given = selection.disks.as_slice();
+    let filters = selection.patterns.as_slice();
+    given.len() == disks.len()
+        && given
+            .iter()
+            .zip(disks)
+            .all(|(text, disk)| text.as_str() == *disk)
+        && filters.len() == patterns.len()
+        && filters
+            .iter()
+            .zip(patterns)
+            .all(|(filter, text)| filter.as_str() == *text)
+        && selection.missing == missing
+        && selection.errors == errors
+}
+
+fn is_command(command: &Command, asks: &Asks) -> bool {
+    match (command, asks) {
+        (Command::Sync(way), Asks::Sync(zero, empty, every)) => {
+            way.force_zero == *zero && way.force_empty == *empty && way.save_every == *every
+        }
+        (Command::Scrub(way), Asks::Scrub(plan, older)) => way.plan == *plan && way.older == *older,
+        (Command::Check(selection), Asks::Check(chosen)) => is_chosen(selection, chosen),
+        (Command::Audit(selection), Asks::Audit(chosen)) => is_chosen(selection, chosen),
+        (Command::Fix(selection), Asks::Fix(chosen)) => is_chosen(selection, chosen),
+        (Command::Status, Asks::Status) => true,
+        (Command::List, Asks::List) => true,
+        (Command::Dup, Asks::Dup) => true,
+        (Command::Exercise(number), Asks::Exercise(asked)) => *number == *asked,
+        _ => false,
     }
 }
 
-fn told(outcome: &Result<Options, WordsFault>) -> (&'static str, u32) {
-    match outcome {
-        Ok(asked) => (name_of(&asked.command), asked.readers),
-        Err(WordsFault::Usage) => ("usage", 0),
-        Err(WordsFault::Command(_)) => ("command", 0),
-        Err(WordsFault::Unfit { option, .. }) => ("unfit", *option),
-        Err(WordsFault::Value { option }) => ("value", *option),
-        Err(WordsFault::Memory) => ("memory", 0),
-    }
+fn is_accepted(outcome: &Result<Options, WordsFault>, accepted: &Accepted) -> bool {
+    let Ok(options) = outcome else {
+        return false;
+    };
+    let (_, conf, log, readers, asks) = accepted;
+    let named = match &options.log {
+        Some(named) => Some(named.as_str()),
+        None => None,
+    };
+    options.conf.as_str() == *conf
+        && named == *log
+        && options.readers == *readers
+        && is_command(&options.command, asks)
 }
 
 #[test]
 fn lines_of_all_commands(rt: HostRuntime) -> Result<(), Fail> {
     let alloc = rt.alloc();
-    for (line, name, number) in &LINES {
+    for accepted in &ACCEPTED {
+        let words = words_of(alloc, accepted.0)?;
+        let outcome = read_words_among(alloc, &CommandName::ALL, &words);
+        assert!(rt; is_accepted(&outcome, accepted), "at {}", accepted.0);
+    }
+    for (line, refusal) in &REFUSED {
         let words = words_of(alloc, line)?;
         let outcome = read_words_among(alloc, &CommandName::ALL, &words);
-        let (told, count) = told(&outcome);
-        assert_eq!(rt; told, *name, "at {line}");
-        assert_eq!(rt; count, *number, "at {line}");
+        assert!(rt; is_refused(&outcome, refusal), "at {line}");
     }
     Ok(())
 }
@@ -216,7 +318,6 @@ fn logs_and_configurations(rt: HostRuntime) -> Result<(), Fail> {
         assert_eq!(rt; asked.conf.as_str(), *conf);
     }
     let none = Vec::new(alloc);
-    let (told, _) = told(&read_words(alloc, &none));
-    assert_eq!(rt; told, "usage");
+    assert!(rt; is_refused(&read_words(alloc, &none), &Refusal::Usage));
     Ok(())
 }
