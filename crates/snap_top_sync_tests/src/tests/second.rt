@@ -148,6 +148,7 @@ const EMPTIED: Array = Array {
     ..EMPTY
 };
 
+// Refused, it leaves the content copy and the level as they were.
 #[test]
 fn a_file_that_became_empty_is_refused(rt: HostRuntime) -> Result<(), Fail> {
     static CASES: [Case; 3] = [
@@ -157,6 +158,7 @@ fn a_file_that_became_empty_is_refused(rt: HostRuntime) -> Result<(), Fail> {
             status: 2,
             out: "",
             err: "snapraid: file 'd1:d' has become empty, use --force-zero\n",
+            keeps: true,
             ..BEFORE
         },
         Case {
