@@ -7,6 +7,7 @@ use crate::files::Files;
 use crate::name::{name_of, path_named};
 use disk_model::{
     Answer, Failed, FileFault, FileInfo, Folder, ListFault, Meta, NoMemory, Path, Stamp,
+    count_write,
 };
 use std::alloc::Global;
 
@@ -16,6 +17,7 @@ pub struct CalmFolder {
     alloc: Global,
     keeps_stamps: bool,
     faults: u64,
+    writes: u64,
     files: Files,
 }
 
@@ -34,6 +36,7 @@ impl CalmFolder {
             alloc,
             keeps_stamps,
             faults: 0,
+            writes: 0,
             files: Files::new(alloc),
         }
     }
@@ -153,6 +156,7 @@ impl Folder for CalmFolder {
             (calm_folder_view self.old) (calm_folder_view self.new) }
         ensures calm { IsCalmUnless (file_of (calm_folder_view self.old).tree path.now ≡ None) (is_err result) self.old.faults self.new.faults }
     {
+        count_write(&mut self.writes);
         match self.files.make(self.alloc, path) {
             Ok(()) => Ok(()),
             Err(NoMemory) => Err(fail(&mut self.faults)),
@@ -167,6 +171,7 @@ impl Folder for CalmFolder {
         ensures calm { IsCalmUnless (IsShorter (calm_folder_view self.old).tree path.now (at + length bytes.now))
             (is_failure (done_answer result)) self.old.faults self.new.faults }
     {
+        count_write(&mut self.writes);
         let Ok(there) = self.files.write(path.as_str().as_bytes(), at, bytes) else {
             fail(&mut self.faults);
             return Err(FileFault::Failed);
@@ -181,6 +186,7 @@ impl Folder for CalmFolder {
         ensures calm { IsCalmUnless (IsShorter (calm_folder_view self.old).tree path.now size)
             (is_failure (done_answer result)) self.old.faults self.new.faults }
     {
+        count_write(&mut self.writes);
         let Ok(there) = self.files.resize(path.as_str().as_bytes(), size) else {
             fail(&mut self.faults);
             return Err(FileFault::Failed);
@@ -196,6 +202,7 @@ impl Folder for CalmFolder {
         ensures kept { IfOk result (λ kept. kept ≡ (calm_folder_view self.old).keeps stamp) }
         ensures calm { IsCalm (is_failure (file_answer Answer.Kept result)) self.old.faults self.new.faults }
     {
+        count_write(&mut self.writes);
         let name = path.as_str().as_bytes();
         if !self.files.stamp(name, stamp, self.keeps_stamps) {
             return Err(FileFault::Missing);
@@ -212,6 +219,7 @@ impl Folder for CalmFolder {
         ensures calm { IsCalmUnless (file_of (calm_folder_view self.old).tree (path_of path.now (not lost)) ≢ None)
             (is_failure (done_answer result)) self.old.faults self.new.faults }
     {
+        count_write(&mut self.writes);
         let from = name_of(path, !lost);
         if self.files.get(from.as_slice()).is_none() {
             return Err(FileFault::Missing);

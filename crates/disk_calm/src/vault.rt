@@ -1,13 +1,14 @@
 // A calm vault.
 use crate::fault::fail;
 use crate::store::Store;
-use disk_model::{Answer, Draft, Failed, NoAhead, NoMemory, Vault};
+use disk_model::{Answer, Draft, Failed, NoAhead, NoMemory, Vault, count_write};
 use std::alloc::Global;
 
 /// All parity files and content copies, in memory. It fails where memory refuses a growth, and nowhere else.
 #[derive(Drop)]
 pub struct CalmVault {
     faults: u64,
+    writes: u64,
     store: Store,
 }
 
@@ -21,6 +22,7 @@ impl CalmVault {
     {
         Ok(CalmVault {
             faults: 0,
+            writes: 0,
             store: Store::new(alloc, levels, copies)?,
         })
     }
@@ -95,6 +97,7 @@ impl Vault for CalmVault {
         ensures calm { IsCalmUnless (length (parity_of (calm_vault_view self.old).files level) < at + length bytes.now)
             (is_err result) self.old.faults self.new.faults }
     {
+        count_write(&mut self.writes);
         match self.store.parity_write(level, at, bytes) {
             Ok(()) => Ok(()),
             Err(NoMemory) => Err(fail(&mut self.faults)),
@@ -110,6 +113,7 @@ impl Vault for CalmVault {
         ensures calm { IsCalmUnless (length (parity_of (calm_vault_view self.old).files level) < len)
             (is_err result) self.old.faults self.new.faults }
     {
+        count_write(&mut self.writes);
         match self.store.parity_set_len(level, len) {
             Ok(()) => Ok(()),
             Err(NoMemory) => Err(fail(&mut self.faults)),
@@ -124,6 +128,7 @@ impl Vault for CalmVault {
         ensures synced { OnOk result (Holds (λ files. parity_of files level ≡ parity_of (calm_vault_view self.old).files level) (calm_vault_view self.new)) }
         ensures calm { IsCalm (is_err result) self.old.faults self.new.faults }
     {
+        count_write(&mut self.writes);
         let _ = level;
         Ok(())
     }
@@ -155,6 +160,7 @@ impl Vault for CalmVault {
         ensures changes { ChangesBy Stays (calm_vault_view self.old) (calm_vault_view self.new) }
         ensures calm { IsCalm (is_err result) self.old.faults self.new.faults }
     {
+        count_write(&mut self.writes);
         self.store.set_draft(copy, Draft::Open);
         Ok(())
     }
@@ -168,6 +174,7 @@ impl Vault for CalmVault {
         ensures changes { ChangesBy Stays (calm_vault_view self.old) (calm_vault_view self.new) }
         ensures calm { IsCalmUnless (0 < length bytes.now) (is_err result) self.old.faults self.new.faults }
     {
+        count_write(&mut self.writes);
         match self.store.draft_append(copy, bytes) {
             Ok(()) => Ok(()),
             Err(NoMemory) => {
@@ -186,6 +193,7 @@ impl Vault for CalmVault {
         ensures changes { ChangesBy Stays (calm_vault_view self.old) (calm_vault_view self.new) }
         ensures calm { IsCalm (is_err result) self.old.faults self.new.faults }
     {
+        count_write(&mut self.writes);
         self.store.draft_seal(copy);
         Ok(())
     }
@@ -200,6 +208,7 @@ impl Vault for CalmVault {
         ensures changes { ChangesBy (MayPublish copy (is_sealed (draft_of (calm_vault_view self.old) copy)) (staged_of (calm_vault_view self.old) copy)) (calm_vault_view self.old) (calm_vault_view self.new) }
         ensures calm { IsCalm (is_err result) self.old.faults self.new.faults }
     {
+        count_write(&mut self.writes);
         self.store.publish(copy);
         Ok(())
     }

@@ -14,7 +14,9 @@ use crate::listing::listing;
 use crate::places::{meta_of, place_of};
 use crate::stamps::{keeps_stamps, set_stamp_of};
 use crate::unsynced::Unsynced;
-use disk_model::{Failed, FileFault, FileInfo, Folder, ListFault, Meta, Path, Stamp, Text};
+use disk_model::{
+    Failed, FileFault, FileInfo, Folder, ListFault, Meta, Path, Stamp, Text, count_write,
+};
 use std::alloc::Global;
 use std::fs::OpenFile;
 use std::os::unix::fs::FileExt;
@@ -31,6 +33,7 @@ pub struct DiskFolder<R: Files> {
     written: Option<KeptFile<R::File>>,
     unsynced: Unsynced,
     faults: u64,
+    writes: u64,
     failures: Failures,
 }
 
@@ -38,7 +41,8 @@ impl<R: Files> DiskFolder<R> {
     /// Looks at the folder alone, for whether stamps are kept there to the nanosecond. Where its own times leave that open,
     /// a time is tried on it and set back.
     pub fn new(alloc: Global, rt: R, dir: Text) -> DiskFolder<R>
-        ensures { result.faults ≡ 0 }
+        ensures faults { result.faults ≡ 0 }
+        ensures writes { result.writes ≡ 0 }
     {
         let keeps_stamps = keeps_stamps(&rt, dir.as_str());
         DiskFolder::keeping(alloc, rt, dir, keeps_stamps)
@@ -47,13 +51,15 @@ impl<R: Files> DiskFolder<R> {
     /// One that is only to be read. Nothing is asked of the system yet: whether stamps are kept there can take a write to
     /// learn, so they are taken not to be.
     pub fn to_read(alloc: Global, rt: R, dir: Text) -> DiskFolder<R>
-        ensures { result.faults ≡ 0 }
+        ensures faults { result.faults ≡ 0 }
+        ensures writes { result.writes ≡ 0 }
     {
         DiskFolder::keeping(alloc, rt, dir, false)
     }
 
     fn keeping(alloc: Global, rt: R, dir: Text, keeps_stamps: bool) -> DiskFolder<R>
-        ensures { result.faults ≡ 0 }
+        ensures faults { result.faults ≡ 0 }
+        ensures writes { result.writes ≡ 0 }
     {
         DiskFolder {
             rt,
@@ -63,6 +69,7 @@ impl<R: Files> DiskFolder<R> {
             written: None,
             unsynced: Unsynced::none(alloc),
             faults: 0,
+            writes: 0,
             failures: Failures::none(alloc),
         }
     }
@@ -99,6 +106,7 @@ where
     // Looks at a file. One that was kept open is closed where there is another in its place now, or none.
     fn look_anew(&mut self, path: &Path, lost: bool) -> io::Result<Option<Meta>>
         ensures faults { self.new.faults ≡ self.old.faults }
+        ensures writes { self.new.writes ≡ self.old.writes }
         ensures keeps { self.new.keeps_stamps ≡ self.old.keeps_stamps }
         ensures stamp { IfOk result (λ found. IfSome found (λ meta. IsStamp meta.stamp)) }
     {
@@ -119,6 +127,7 @@ where
         out: &mut [u8],
     ) -> io::Result<Option<usize>>
         ensures faults { self.new.faults ≡ self.old.faults }
+        ensures writes { self.new.writes ≡ self.old.writes }
         ensures keeps { self.new.keeps_stamps ≡ self.old.keeps_stamps }
         ensures bound { IfOk result (λ found. IfSome found (λ n. n ≤ length out.new)) }
     {
@@ -131,6 +140,7 @@ where
 
     fn write_kept(&mut self, path: &Path, at: u64, bytes: &[u8]) -> io::Result<Option<()>>
         ensures faults { self.new.faults ≡ self.old.faults }
+        ensures writes { self.new.writes ≡ self.old.writes }
         ensures keeps { self.new.keeps_stamps ≡ self.old.keeps_stamps }
     {
         let dir = self.dir.as_str();
@@ -145,6 +155,7 @@ where
 
     fn resize_kept(&mut self, path: &Path, size: u64) -> io::Result<Option<()>>
         ensures faults { self.new.faults ≡ self.old.faults }
+        ensures writes { self.new.writes ≡ self.old.writes }
         ensures keeps { self.new.keeps_stamps ≡ self.old.keeps_stamps }
     {
         let dir = self.dir.as_str();
@@ -160,6 +171,7 @@ where
     // Where the stamp is not kept the file is looked at alone.
     fn stamp_kept(&mut self, path: &Path, stamp: Stamp) -> io::Result<Option<bool>>
         ensures faults { self.new.faults ≡ self.old.faults }
+        ensures writes { self.new.writes ≡ self.old.writes }
         ensures keeps { self.new.keeps_stamps ≡ self.old.keeps_stamps }
         ensures kept { IfOk result (λ found. IfSome found (λ kept. kept ≡ keeps_of self.old.keeps_stamps stamp)) }
     {
@@ -181,6 +193,7 @@ where
     // What is kept open is closed, since its name is another now, or another file has it.
     fn rename_closed(&mut self, path: &Path, lost: bool) -> io::Result<Option<()>>
         ensures faults { self.new.faults ≡ self.old.faults }
+        ensures writes { self.new.writes ≡ self.old.writes }
         ensures keeps { self.new.keeps_stamps ≡ self.old.keeps_stamps }
     {
         self.read = None;
@@ -193,9 +206,9 @@ impl<R: Files + AllocGlobal + Clone + Drop + Send> Folder for DiskFolder<R>
 where
     R::File: FileExt + Send,
 {
-    ghost view = { λ s. quiet_keeping s.faults (keeps_of s.keeps_stamps) };
+    ghost view = { λ s. quiet_keeping s.faults s.writes (keeps_of s.keeps_stamps) };
 
-    ghost well_formed = { λ s. quiet_keeping-is_folder s.faults (keeps_of s.keeps_stamps) };
+    ghost well_formed = { λ s. quiet_keeping-is_folder s.faults s.writes (keeps_of s.keeps_stamps) };
 
     fn faults(&self) -> u64 {
         self.faults
@@ -229,6 +242,7 @@ where
     }
 
     fn make(&mut self, path: &Path) -> Result<(), Failed> {
+        count_write(&mut self.writes);
         let answer = make_file(&self.rt, self.dir.as_str(), path, &mut self.unsynced);
         self.failures
             .note_file(Request::Make, self.dir.as_str(), path, false, &answer);
@@ -236,6 +250,7 @@ where
     }
 
     fn write_at(&mut self, path: &Path, at: u64, bytes: &[u8]) -> Result<(), FileFault> {
+        count_write(&mut self.writes);
         let answer = self.write_kept(path, at, bytes);
         self.failures
             .note_file(Request::Write, self.dir.as_str(), path, false, &answer);
@@ -243,6 +258,7 @@ where
     }
 
     fn set_size(&mut self, path: &Path, size: u64) -> Result<(), FileFault> {
+        count_write(&mut self.writes);
         let answer = self.resize_kept(path, size);
         self.failures
             .note_file(Request::Resize, self.dir.as_str(), path, false, &answer);
@@ -250,6 +266,7 @@ where
     }
 
     fn set_stamp(&mut self, path: &Path, stamp: Stamp) -> Result<bool, FileFault> {
+        count_write(&mut self.writes);
         let answer = self.stamp_kept(path, stamp);
         self.failures
             .note_file(Request::SetTime, self.dir.as_str(), path, false, &answer);
@@ -257,6 +274,7 @@ where
     }
 
     fn rename(&mut self, path: &Path, lost: bool) -> Result<(), FileFault> {
+        count_write(&mut self.writes);
         let answer = self.rename_closed(path, lost);
         self.failures
             .note_file(Request::Rename, self.dir.as_str(), path, !lost, &answer);

@@ -76,6 +76,7 @@ fn folders_of<R: Files + Clone>(
 ) -> Result<Vec<DiskFolder<R>>, NoMemory>
     ensures count { IfOk result (λ v. vec_len v ≡ length dirs.now) }
     ensures new { IfOk result (λ v. All (λ folder. folder.faults ≡ 0) v.items) }
+    ensures unwritten { IfOk result (λ v. All (λ folder. folder.writes ≡ 0) v.items) }
 {
     let mut folders = Vec::new(alloc);
     for dir in dirs {
@@ -88,7 +89,8 @@ fn folder_to_read<R: Files + AllocGlobal + Clone>(
     rt: &R,
     dir: &str,
 ) -> Result<DiskFolder<R>, NoMemory>
-    ensures { IfOk result (λ folder. folder.faults ≡ 0) }
+    ensures faults { IfOk result (λ folder. folder.faults ≡ 0) }
+    ensures writes { IfOk result (λ folder. folder.writes ≡ 0) }
 {
     let alloc = rt.alloc();
     Ok(DiskFolder::to_read(alloc, rt.clone()?, Text::new(alloc, dir)?))
@@ -129,6 +131,7 @@ where
     requires levels { vec_len places.now.parities < 2 ^ 32 }
     requires copies { vec_len places.now.contents < 2 ^ 32 }
     ensures faults { IfOk result (λ v. v.faults ≡ 0) }
+    ensures writes { IfOk result (λ v. v.writes ≡ 0) }
     ensures levels { IfOk result (λ v. vec_len v.parities ≡ vec_len places.now.parities) }
     ensures copies { IfOk result (λ v. vec_len v.contents ≡ vec_len places.now.contents) }
     ensures new { IfOk result (λ v. All (λ content. state_of content.draft.stage ≡ Draft.Absent) v.contents.items) }

@@ -8,7 +8,7 @@ use crate::contents::ContentFile;
 use crate::failures::{Failure, Failures, Request};
 use crate::faults::counted;
 use crate::parity::ParityFile;
-use disk_model::{Failed, Vault};
+use disk_model::{Failed, Vault, count_write};
 use std::alloc::Global;
 use std::io;
 use std::io::ErrorKind;
@@ -23,6 +23,7 @@ pub struct DiskVault<R: Files> {
     contents: Vec<ContentFile<R>>,
     ahead: AheadFiles<R>,
     faults: u64,
+    writes: u64,
     failures: Failures,
     // whether content is there, or was once the parity files were made for it
     has_content: bool,
@@ -41,6 +42,7 @@ impl<R: Files> DiskVault<R> {
         requires levels { vec_len parities < 2 ^ 32 }
         requires copies { vec_len contents < 2 ^ 32 }
         ensures faults { result.faults ≡ 0 }
+        ensures writes { result.writes ≡ 0 }
         ensures parities { result.parities.items ≡ parities.items }
         ensures contents { result.contents.items ≡ contents.items }
     {
@@ -50,6 +52,7 @@ impl<R: Files> DiskVault<R> {
             contents,
             ahead,
             faults: 0,
+            writes: 0,
             failures: Failures::none(alloc),
             has_content: false,
         }
@@ -123,9 +126,9 @@ where
 {
     type Ahead = AheadFile<R>;
 
-    ghost view = { λ s. quiet_vault s.faults (vec_len s.parities) (map (λ content. state_of content.draft.stage) s.contents.items) };
+    ghost view = { λ s. quiet_vault s.faults s.writes (vec_len s.parities) (map (λ content. state_of content.draft.stage) s.contents.items) };
 
-    ghost well_formed = { λ s. quiet_vault-well_formed s.faults (vec_len s.parities) (map (λ content. state_of content.draft.stage) s.contents.items) };
+    ghost well_formed = { λ s. quiet_vault-well_formed s.faults s.writes (vec_len s.parities) (map (λ content. state_of content.draft.stage) s.contents.items) };
 
     fn faults(&self) -> u64 {
         self.faults
@@ -189,6 +192,7 @@ where
     }
 
     fn parity_write(&mut self, level: u32, at: u64, bytes: &[u8]) -> Result<(), Failed> {
+        count_write(&mut self.writes);
         self.ahead.forget(self.parities[level as usize].name());
         if self.has_content {
             look_for(
@@ -211,6 +215,7 @@ where
     }
 
     fn parity_set_len(&mut self, level: u32, len: u64) -> Result<(), Failed> {
+        count_write(&mut self.writes);
         self.ahead.forget(self.parities[level as usize].name());
         if self.has_content
             && lacked_one(&self.rt, self.parities.as_mut_slice(), &mut self.failures)
@@ -228,6 +233,7 @@ where
     }
 
     fn parity_sync(&mut self, level: u32) -> Result<(), Failed> {
+        count_write(&mut self.writes);
         self.ahead.forget(self.parities[level as usize].name());
         let answer = self.parities[level as usize].sync(&self.rt);
         self.failures.note(Request::Sync, self.parities[level as usize].name(), &answer);
@@ -250,6 +256,7 @@ where
     }
 
     fn draft_begin(&mut self, copy: u32) -> Result<(), Failed> {
+        count_write(&mut self.writes);
         let answer = self.contents[copy as usize].begin_draft(&self.rt);
         self.failures.note(
             Request::Make,
@@ -260,6 +267,7 @@ where
     }
 
     fn draft_append(&mut self, copy: u32, bytes: &[u8]) -> Result<(), Failed> {
+        count_write(&mut self.writes);
         let answer = self.contents[copy as usize].draft.append(&self.rt, bytes);
         self.failures.note(
             Request::Write,
@@ -270,6 +278,7 @@ where
     }
 
     fn draft_seal(&mut self, copy: u32) -> Result<(), Failed> {
+        count_write(&mut self.writes);
         let answer = self.contents[copy as usize].draft.seal(&self.rt);
         self.failures.note(
             Request::Sync,
@@ -280,6 +289,7 @@ where
     }
 
     fn publish(&mut self, copy: u32) -> Result<(), Failed> {
+        count_write(&mut self.writes);
         let ready = made_all(
             &self.rt,
             self.has_content,

@@ -2,10 +2,10 @@
 use Rattle.std.proofs.Common.{◌≡◌, ◌≢◌, ℕ, ◌≤◌, List, [], ◌∷◌, arith, Bool, true, false, not, if◌then◌else◌, Option, None, Some, Result, Ok, Err, refl, sym, ◌∙◌, ap, subst}
 use Rattle.std.specs.Option.{option_map}
 use Rattle.disk_model.specs.Bytes.{put, resized}
-use Rattle.disk_model.specs.Cause.{Rose, Grows}
+use Rattle.disk_model.specs.Cause.{Rose, Grows, Counts, exactly}
 use Rattle.disk_model.specs.Tree.{Tree, File, file_of}
 use Rattle.disk_model.specs.Answer.{is_failure, done_answer}
-use Rattle.disk_model.specs.Folder.{FolderView, FolderCall, FolderDone, Allows}
+use Rattle.disk_model.specs.Folder.{FolderView, FolderCall, FolderDone, any_folder_write, Allows}
 use Rattle.disk_model.specs.Writing.{Does, MayDo, IsFolderWrite, ChangesFile, Writes, Resizes, Stamps}
 use Rattle.disk_model.specs.declared.meta.Stamp.{Stamp}
 use Rattle.disk_model.specs.declared.fault.FileFault.{FileFault}
@@ -21,9 +21,10 @@ use Rattle.disk_memory.specs.declared.folder.MemFolder.{MemFolder}
 use Rattle.disk_memory.specs.declared.past.Past.{Past}
 
 -- the folder after a call
-abbrev pub view_after : MemFolder → ℕ → Past FolderEntry → Tree → FolderView
-view_after f faults now tree = record {
+abbrev pub view_after : MemFolder → ℕ → ℕ → Past FolderEntry → Tree → FolderView
+view_after f faults writes now tree = record {
   faults = faults;
+  writes = exactly writes;
   keeps = λ stamp. f.keeps_stamps;
   closed = false;
   tells = true;
@@ -35,11 +36,15 @@ view_after f faults now tree = record {
 abbrev pub done : FolderCall → Answer → FolderDone
 done call answer = record { call = call; answer = answer }
 
-module _ (f : MemFolder) (faults : ℕ) (now : Past FolderEntry) (tree : Tree) (call : FolderCall) where
-  pub wrote : (answer : Answer) → is_failure answer ≡ false → faults ≡ f.schedule.faults → Grows (not f.past.lost) (folder_calls f.past.made.items) (not now.lost) (folder_calls now.made.items) (done call answer ∷ [])
-      → Does (λ stamp. f.keeps_stamps) call (tree_in f.files) tree → IsFolderWrite call answer (folder_view f) (view_after f faults now tree)
-  wrote answer unfailed same grows does = record {
-    called = record { goes_on = record { later = subst (λ n. f.schedule.faults ≤ n) (sym same) (omega arith); keeps = refl; closed = refl; tells = refl; calls = grows }; cause = λ failed. absurd (clash failed) };
+-- the count of writing calls went on by one call
+abbrev pub CountsOne : FolderCall → Answer → ℕ → ℕ → Type 0
+CountsOne call answer before after = Counts (any_folder_write (done call answer ∷ [])) (exactly before) (exactly after)
+
+module _ (f : MemFolder) (faults writes : ℕ) (now : Past FolderEntry) (tree : Tree) (call : FolderCall) where
+  pub wrote : (answer : Answer) → is_failure answer ≡ false → faults ≡ f.schedule.faults → CountsOne call answer f.writes writes → Grows (not f.past.lost) (folder_calls f.past.made.items) (not now.lost) (folder_calls now.made.items) (done call answer ∷ [])
+      → Does (λ stamp. f.keeps_stamps) call (tree_in f.files) tree → IsFolderWrite call answer (folder_view f) (view_after f faults writes now tree)
+  wrote answer unfailed same counts grows does = record {
+    called = record { goes_on = record { later = subst (λ n. f.schedule.faults ≤ n) (sym same) (omega arith); writes = counts; keeps = refl; closed = refl; tells = refl; calls = grows }; cause = λ failed. absurd (clash failed) };
     does = λ unfailed told. does;
     may = λ failed. absurd (clash failed);
   }
@@ -47,10 +52,10 @@ module _ (f : MemFolder) (faults : ℕ) (now : Past FolderEntry) (tree : Tree) (
       clash : is_failure answer ≡ true → ⊥
       clash failed = cc
 
-  pub failed : f.schedule.faults ≤ faults → Rose f.schedule.faults faults → Grows (not f.past.lost) (folder_calls f.past.made.items) (not now.lost) (folder_calls now.made.items) (done call answers.Failed ∷ [])
-      → MayDo (λ stamp. f.keeps_stamps) call (tree_in f.files) tree → IsFolderWrite call answers.Failed (folder_view f) (view_after f faults now tree)
-  failed later rose grows may = record {
-    called = record { goes_on = record { later = later; keeps = refl; closed = refl; tells = refl; calls = grows }; cause = λ failed. rose };
+  pub failed : f.schedule.faults ≤ faults → Rose f.schedule.faults faults → CountsOne call answers.Failed f.writes writes → Grows (not f.past.lost) (folder_calls f.past.made.items) (not now.lost) (folder_calls now.made.items) (done call answers.Failed ∷ [])
+      → MayDo (λ stamp. f.keeps_stamps) call (tree_in f.files) tree → IsFolderWrite call answers.Failed (folder_view f) (view_after f faults writes now tree)
+  failed later rose counts grows may = record {
+    called = record { goes_on = record { later = later; writes = counts; keeps = refl; closed = refl; tells = refl; calls = grows }; cause = λ failed. rose };
     does = λ (no : true ≡ false). absurd (cc);
     may = λ failed told. may;
   }
@@ -70,12 +75,12 @@ held_allows f path there = by_file (file_of (folder_view f).tree path) refl
     by_file (Some file) is = let held = is_tree_in f.files path file is in record { is_open = refl; valid = held.valid; apart = held.apart }
 
 -- a call that did its work where the file was there
-pub wrote_found : (there : Bool) (result : Result (Unit {0}) FileFault) (answer : Answer) → result ≡ answer_of there → answer ≡ kept_of there → (f : MemFolder) (faults : ℕ) (now : Past FolderEntry) (tree : Tree) (call : FolderCall)
-    → faults ≡ f.schedule.faults → Grows (not f.past.lost) (folder_calls f.past.made.items) (not now.lost) (folder_calls now.made.items) (done call answer ∷ [])
-    → Does (λ stamp. f.keeps_stamps) call (tree_in f.files) tree → IsFolderWrite call (done_answer result) (folder_view f) (view_after f faults now tree)
-wrote_found there result answer is kept f faults now tree call same grows does =
-    subst (λ a. IsFolderWrite call a (folder_view f) (view_after f faults now tree)) (kept ∙ as_kept there ∙ ap (λ (r : Result (Unit {0}) FileFault). done_answer r) (sym is))
-    (wrote f faults now tree call answer (ap is_failure kept ∙ unfailed there) same grows does)
+pub wrote_found : (there : Bool) (result : Result (Unit {0}) FileFault) (answer : Answer) → result ≡ answer_of there → answer ≡ kept_of there → (f : MemFolder) (faults writes : ℕ) (now : Past FolderEntry) (tree : Tree) (call : FolderCall)
+    → faults ≡ f.schedule.faults → CountsOne call answer f.writes writes → Grows (not f.past.lost) (folder_calls f.past.made.items) (not now.lost) (folder_calls now.made.items) (done call answer ∷ [])
+    → Does (λ stamp. f.keeps_stamps) call (tree_in f.files) tree → IsFolderWrite call (done_answer result) (folder_view f) (view_after f faults writes now tree)
+wrote_found there result answer is kept f faults writes now tree call same counts grows does =
+    subst (λ a. IsFolderWrite call a (folder_view f) (view_after f faults writes now tree)) (kept ∙ as_kept there ∙ ap (λ (r : Result (Unit {0}) FileFault). done_answer r) (sym is))
+    (wrote f faults writes now tree call answer (ap is_failure kept ∙ unfailed there) same counts grows does)
   where
     unfailed : (there : Bool) → is_failure (kept_of there) ≡ false
     unfailed true = refl

@@ -17,6 +17,7 @@ given_as_held view folders_of held opened is are_open column below =
     let same = sym (ap (λ h. get_or (folders_left (λ o. map view (folders_of o)) h) column (quiet_folder 0 false)) is) in
     record {
       faults = ap (λ (v : FolderView). v.faults) same;
+      writes = ap (λ (v : FolderView). v.writes) same;
       is_open = all_open view (folders_of opened) are_open column below;
       whole = λ told. same;
     }

@@ -50,7 +50,7 @@ pub as_untold : (call : FolderCall) (answer : Answer) (f : ScriptedFolder) (mid 
     → IsFolderWrite call answer (scripted_view f) (untold new)
 as_untold call answer f mid new is called = subst (λ (v : FolderView). IsFolderWrite call answer v (untold new)) (ap untold is) (record {
   called = record {
-    goes_on = record { later = called.goes_on.later; keeps = called.goes_on.keeps; closed = called.goes_on.closed; tells = refl; calls = called.goes_on.calls };
+    goes_on = record { later = called.goes_on.later; writes = called.goes_on.writes; keeps = called.goes_on.keeps; closed = called.goes_on.closed; tells = refl; calls = called.goes_on.calls };
     cause = called.cause;
   };
   does = λ unfailed (told : false ≡ true). absurd (cc);

@@ -1,15 +1,15 @@
 -- How the calls of a vault in memory change its files, as they read and in each image.
-use Rattle.std.proofs.Common.{◌≡◌, ◌⊎◌, inl, inr, ℕ, ◌+◌, ◌<◌, ◌≤◌, List, [], ◌∷◌, ◌++◌, length, set, map, not, IsTrue, Bool, true, false, cond, nat_lt, position, Option, None, Some, Result, Ok, Err, OnOk, OnErr, is_err, refl, sym, ◌∙◌, ap, subst, arith}
+use Rattle.std.proofs.Common.{◌≡◌, ◌⊎◌, inl, inr, ℕ, ◌+◌, ◌<◌, ◌≤◌, List, [], ◌∷◌, ◌++◌, length, set, map, not, IsTrue, Bool, true, false, ◌||◌, cond, nat_lt, position, Option, None, Some, Result, Ok, Err, OnOk, OnErr, is_err, refl, sym, ◌∙◌, ap, subst, arith}
 use Rattle.std.specs.List.{position_or_len}
 use Rattle.std.proofs.lemmas.List.{set-get_or, length-map, length-set, get_or-set_same}
 use Rattle.disk_model.specs.Answer.{plain, vault_answer}
 use Rattle.disk_model.specs.Bytes.{put, resized}
-use Rattle.disk_model.specs.Cause.{Rose, Grows}
+use Rattle.disk_model.specs.Cause.{Rose, Grows, Counts}
 use Rattle.disk_model.specs.Files.{Files, parity_of, content_of, with_parity, with_content, TearsParity, StretchesParity, MayPublish, Stays}
 use Rattle.disk_model.specs.Machine.{Machine, settled, IsWithin, step_of, images_of}
 use Rattle.disk_model.specs.Moments.{Images, LeavesBy, Remembers}
 use Rattle.disk_model.specs.Unsynced.{synced}
-use Rattle.disk_model.specs.Vault.{VaultView, VaultCall, VaultDone, ParityWrite, ParitySetLen, ParitySync, DraftBegin, DraftAppend, DraftSeal, Publish, IsCall, IsCallBy, IsReading, ChangesBy, DraftsStay, DraftIs, Reads, Holds, is_sealed, draft_of, staged_of}
+use Rattle.disk_model.specs.Vault.{VaultView, VaultCall, VaultDone, writes_vault, vault_writes, ParityWrite, ParitySetLen, ParitySync, DraftBegin, DraftAppend, DraftSeal, Publish, IsCall, IsCallBy, IsReading, ChangesBy, DraftsStay, DraftIs, Reads, Holds, is_sealed, draft_of, staged_of}
 use Rattle.disk_model.specs.Vault as vault
 use Rattle.disk_model.specs.declared.answer.Answer.{Answer}
 use Rattle.disk_model.specs.declared.answer.Answer.TheVariants.{Done}
@@ -18,8 +18,10 @@ use Rattle.disk_model.specs.declared.draft.Draft.TheVariants.{Absent, Sealed}
 use Rattle.disk_model.specs.declared.fault.Failed.{Failed}
 use Rattle.disk_model.proofs.BytesLemmas.{torn_by_put, torn_not, stretched_by_resized, stretched_not}
 use Rattle.disk_model.proofs.ByCallsLemmas.{changes_by_call, remembers_by_call, holds_synced, holds_published}
+use Rattle.disk_model.proofs.CountLemmas.{counts_call}
 use Rattle.disk_model.proofs.MomentsLemmas.{leaves_more}
 use Rattle.disk_model.proofs.SteadyLemmas.{levels_stay, copies_stay}
+use Rattle.disk_memory.specs.Calls.{vault_calls}
 use Rattle.disk_memory.specs.Goes.{Goes, GoesBy, CountsFaults}
 use Rattle.disk_calm.specs.Held.{Held}
 use Rattle.disk_memory.specs.Past.{answered}
@@ -27,7 +29,7 @@ use Rattle.disk_memory.specs.Recorded.{opened_by, held_by, calls_since, held_aft
 use Rattle.disk_memory.specs.RecordedLaws.{follows, untold}
 use Rattle.disk_memory.specs.Schedule.{answer_of}
 use Rattle.disk_calm.specs.Store.{held, staged_held, draft_held, with_draft}
-use Rattle.disk_memory.specs.Vault.{value_of, view_of}
+use Rattle.disk_memory.specs.Vault.{value_of, view_of, noted}
 use Rattle.disk_calm.specs.StoreLaws.{parities_long, contents_long, drafts_long}
 use Rattle.disk_memory.specs.VaultLaws.{machine_of, steady_store}
 use Rattle.disk_memory.specs.declared.recorded.Recorded.{Recorded}
@@ -157,6 +159,27 @@ module _ (r : Recorded) where
 
 -- ---- one call
 
+-- what was written down of one
+counts_noted : (call : VaultCall) (answer : Answer) (lost : Bool) (old new : List VaultDone) → (lost ≡ false → new ≡ old ++ (let d : VaultDone = record { call = call; answer = answer } in d) ∷ []) → (lost ≡ true → new ≡ old)
+    → Counts (writes_vault call || false) (noted old) (noted new)
+counts_noted call answer lost old new more kept = subst (λ (wrote : Bool). Counts wrote (noted old) (noted new)) (sym (or_none (writes_vault call))) (by lost refl)
+  where
+    or_none : (b : Bool) → (b || false) ≡ b
+    or_none true = refl
+    or_none false = refl
+
+    untrue : IsTrue false → ⊥
+    untrue told = cc
+
+    by : (b : Bool) → lost ≡ b → Counts (writes_vault call) (noted old) (noted new)
+    by true is =
+        let same = ap vault_writes (kept is) in
+        record { exact = refl; later = omega (arith, same); stays = λ none. same; rose = λ exact wrote. absurd (untrue exact) }
+    by false is =
+        let one = counts_call old (record { call = call; answer = answer }) in
+        subst (λ (calls : List VaultDone). Counts (writes_vault call) (noted old) (noted calls)) (sym (more is))
+        (record { exact = refl; later = one.later; stays = one.stays; rose = λ exact wrote. absurd (untrue exact) })
+
 module _ {given : Answer} (faults later : ℕ) (r now : Recorded) (call : VaultCall) (failed : Bool) (goes : GoesBy call given failed r now) where
   abbrev old_view : VaultView
   old_view = view_of (value_of faults r)
@@ -197,6 +220,7 @@ module _ {given : Answer} (faults later : ℕ) (r now : Recorded) (call : VaultC
   is_call_by answer result same is counts = record {
     goes_on = record {
       later = counts.later;
+      writes = counts_noted call answer now.past.lost old_view.calls new_view.calls (λ told. goes.calls.more (ap not told) ∙ ap (λ (a : Answer). old_view.calls ++ (let d : VaultDone = record { call = call; answer = a } in d) ∷ []) same) (λ lost. ap vault_calls (goes.kept lost));
       levels = goes.same.levels;
       copies = ap (λ (h : Held). length h.drafts) goes.now ∙ drafts_long_after (held r.store) call failed;
       tells = refl;

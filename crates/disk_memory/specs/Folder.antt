@@ -2,6 +2,7 @@
 use Rattle.std.specs.Prelude.{[], Bool, true, false, not, IsTrue, Result, Err}
 use Rattle.std.specs.FinMap as map
 use Rattle.disk_model.specs.Answer.{is_failure, done_answer}
+use Rattle.disk_model.specs.Cause.{exactly}
 use Rattle.disk_model.specs.Folder.{FolderView, IsFolder}
 use Rattle.disk_model.specs.declared.answer.Answer.{Answer}
 use Rattle.disk_model.specs.declared.fault.FileFault.{FileFault}
@@ -14,6 +15,7 @@ use Rattle.disk_memory.specs.declared.folder.MemFolder.{MemFolder}
 abbrev pub folder_view : MemFolder → FolderView
 folder_view f = record {
   faults = f.schedule.faults;
+  writes = exactly f.writes;
   keeps = λ stamp. f.keeps_stamps;
   closed = false;
   tells = true;
@@ -41,6 +43,7 @@ FolderObeysUnless P answer old new = ObeysUnless P (is_failure answer) (folder_p
 abbrev pub fresh_folder : Bool → FolderView
 fresh_folder keeps_stamps = record {
   faults = 0;
+  writes = exactly 0;
   keeps = λ stamp. keeps_stamps;
   closed = false;
   tells = true;

@@ -12,9 +12,11 @@ use Rattle.disk_calm.specs.Store.{held, nothing_held, SameCounts}
 use Rattle.disk_memory.specs.declared.recorded.Recorded.{Recorded}
 use Rattle.disk_calm.specs.declared.store.Store.{Store}
 
--- the call, which gives this unless it failed, is the last of the record, where that is not lost, and reads give what is held after it
+-- The call, which gives this unless it failed, is the last of the record, where that is not lost, and a lost one stays. Reads give what is
+-- held after it.
 pub record GoesBy (call : VaultCall) (given : Answer) (failed : Bool) (old new : Recorded) : Type 0 where
   pub calls : Grows (not old.past.lost) (vault_calls old.past.made.items) (not new.past.lost) (vault_calls new.past.made.items) (record { call = call; answer = answered given failed } ∷ [])
+  pub kept : new.past.lost ≡ true → new.past.made.items ≡ old.past.made.items
   pub now : held new.store ≡ held_after (held old.store) call failed
   pub base : new.base ≡ old.base
   pub opened : held new.opened ≡ held old.opened

@@ -12,7 +12,7 @@ folders_left view (Some held) = view held
 
 -- the vault that is left to give
 abbrev pub vault_left : {A : Type 0} → (A → VaultView) → Option A → VaultView
-vault_left view None = quiet_vault 0 0 []
+vault_left view None = quiet_vault 0 0 0 []
 vault_left view (Some held) = view held
 
 -- the folder that is left to import, a quiet one where there is none

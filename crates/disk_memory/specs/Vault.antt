@@ -1,8 +1,9 @@
 -- Vaults in memory.
 use Rattle.std.specs.Prelude.{◌≡◌, ℕ, List, [], length, Bool, true, false, not}
+use Rattle.disk_model.specs.Cause.{WriteCount}
 use Rattle.disk_model.specs.Files.{Files}
 use Rattle.disk_model.specs.Machine.{images_of}
-use Rattle.disk_model.specs.Vault.{VaultView, VaultDone}
+use Rattle.disk_model.specs.Vault.{VaultView, VaultDone, vault_writes}
 use Rattle.disk_memory.specs.Calls.{vault_calls}
 use Rattle.disk_memory.specs.Choice.{picked_image}
 use Rattle.disk_calm.specs.Held.{Held}
@@ -37,9 +38,14 @@ value_of faults r = record {
 abbrev pub vault_value : MemVault → VaultValue
 vault_value v = value_of v.schedule.faults v.recorded
 
+-- the writing calls that it wrote down: it is not exact, since memory may refuse an entry
+abbrev pub noted : List VaultDone → WriteCount
+noted calls = record { exact = false; count = vault_writes calls }
+
 abbrev pub view_of : VaultValue → VaultView
 view_of v = record {
   faults = v.faults;
+  writes = noted v.calls;
   levels = v.levels;
   drafts = v.held_now.drafts;
   tells = true;

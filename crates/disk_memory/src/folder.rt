@@ -1,16 +1,16 @@
 // A folder in memory.
-ghost use Rattle.std.specs.Prelude.{◌≡◌, if◌then◌else◌, Ok, Err};
+ghost use Rattle.std.specs.Prelude.{◌≡◌, Ok, Err};
 
 use crate::calls::{
     FolderEntry, look_entry, make_entry, read_entry, rename_entry, set_size_entry, set_stamp_entry,
     write_at_entry,
 };
-use crate::past::{Past, begin};
+use crate::past::{Past, answer_where, begin};
 use crate::schedule::Schedule;
 use disk_calm::{Bytes, Files, found, name_of, path_named, text_of};
 use disk_model::{
     Answer, Failed, FileFault, FileInfo, Folder, ListFault, Meta, NoMemory, Path, Stamp,
-    is_valid_path,
+    count_write, is_valid_path,
 };
 use std::alloc::Global;
 
@@ -20,6 +20,7 @@ pub struct MemFolder {
     alloc: Global,
     schedule: Schedule,
     past: Past<FolderEntry>,
+    writes: u64,
     keeps_stamps: bool,
     files: Files,
 }
@@ -27,7 +28,7 @@ pub struct MemFolder {
 impl MemFolder {
     ghost use Rattle.std.specs.Prelude.{[], ◌≢◌, ◌↔◌, ◌∷◌, ◌++◌, OnOk, OnErr, IfOk, IfSome, IsTrue, None, true, false};
     ghost use Rattle.std.specs.FinMap as map;
-    ghost use Rattle.disk_model.specs.Folder.{FolderCall, Allows, IsFolderCall};
+    ghost use Rattle.disk_model.specs.Folder.{FolderCall, Allows, IsFolderCall, writes_folder};
     ghost use Rattle.disk_model.specs.Tree.{file_of, path_of};
     ghost use Rattle.disk_model.specs.Stamp.{IsStamp};
     ghost use Rattle.disk_memory.specs.Schedule.{fresh_plan, counted};
@@ -44,6 +45,7 @@ impl MemFolder {
             alloc,
             schedule: Schedule::new(alloc),
             past: Past::new(alloc),
+            writes: 0,
             keeps_stamps,
             files: Files::new(alloc),
         }
@@ -114,9 +116,7 @@ impl MemFolder {
     pub fn rewrite(&mut self, path: &Path, stamp: Stamp, bytes: Vec<u8>) -> bool
         requires { IsStamp stamp }
         ensures there { result ≡ map.contains_key (folder_view self.old).tree path.now }
-        ensures rewritten { folder_view self.new ≡ record (folder_view self.old) {
-          tree = changed (λ _. record { stamp = stamp; bytes = bytes.items }) path.now (folder_view self.old).tree;
-        } }
+        ensures rewritten { folder_view self.new ≡ record (folder_view self.old) { tree = changed (λ _. record { stamp = stamp; bytes = bytes.items }) path.now (folder_view self.old).tree } }
         ensures plan { folder_plan self.new ≡ folder_plan self.old }
     {
         let name = path.as_str().as_bytes();
@@ -130,24 +130,26 @@ impl MemFolder {
         !self.past.lost
     }
 
-    // A call that is not made of the tree: it is counted and written down, and it fails.
+    // A writing call that is not made of the tree: it is counted and written down, and it fails.
     pub(crate) fn refuse(&mut self, entry: Option<FolderEntry>) -> Failed
-        ensures called { (call : FolderCall) → IfSome entry (λ e. folder_call e ≡ call) →
+        ensures called { (call : FolderCall) → IfSome entry (λ e. folder_call e ≡ call) → writes_folder call ≡ true →
             IsFolderCall call Answer.Failed (folder_view self.old) (folder_view self.new) }
         ensures tree { (folder_view self.new).tree ≡ (folder_view self.old).tree }
         ensures counted { folder_plan self.new ≡ counted (folder_plan self.old) }
     {
+        count_write(&mut self.writes);
         begin(&mut self.schedule, &mut self.past, entry);
         self.schedule.fail()
     }
 
-    // A call on a file that is not there: it is counted and written down, and it finds no file unless it fails.
+    // A writing call on a file that is not there: it is counted and written down, and it finds no file unless it fails.
     pub(crate) fn misses(&mut self, entry: Option<FolderEntry>) -> FileFault
-        ensures called { (call : FolderCall) → IfSome entry (λ e. folder_call e ≡ call) →
+        ensures called { (call : FolderCall) → IfSome entry (λ e. folder_call e ≡ call) → writes_folder call ≡ true →
             IsFolderCall call (fault_answer result) (folder_view self.old) (folder_view self.new) }
         ensures tree { (folder_view self.new).tree ≡ (folder_view self.old).tree }
         ensures scheduled { FolderObeysExactly (fault_answer result) self.old self.new }
     {
+        count_write(&mut self.writes);
         if !begin(&mut self.schedule, &mut self.past, entry) {
             self.schedule.fail();
             return FileFault::Failed;
@@ -172,13 +174,6 @@ impl MemFolder {
     {
         self.schedule.stop_after(calls);
     }
-}
-
-// What a call on one file answers that did its work where the file was there, as it is kept.
-fn answer_where(there: bool) -> Answer
-    ensures { result ≡ (if there then Answer.Done else Answer.Missing) }
-{
-    if there { Answer::Done } else { Answer::Missing }
 }
 
 // Each call meets the trait's clauses, and fails as its schedule says (`scheduled`).
@@ -296,6 +291,7 @@ impl Folder for MemFolder {
             (folder_view self.old) (folder_view self.new) }
         ensures scheduled { FolderObeysUnless (file_of (folder_view self.old).tree path.now ≡ None) (plain (is_err result)) self.old self.new }
     {
+        count_write(&mut self.writes);
         let entry = make_entry(path);
         if !begin(&mut self.schedule, &mut self.past, entry) {
             return Err(self.schedule.fail());
@@ -316,6 +312,7 @@ impl Folder for MemFolder {
         ensures missing { MissingExactly result (folder_view self.old) path.now }
         ensures scheduled { FolderObeysUnless (IsShorter (folder_view self.old).tree path.now (at + length bytes.now)) (done_answer result) self.old self.new }
     {
+        count_write(&mut self.writes);
         let entry = write_at_entry(self.alloc, path, at, bytes);
         if !begin(&mut self.schedule, &mut self.past, entry) {
             self.schedule.fail();
@@ -335,6 +332,7 @@ impl Folder for MemFolder {
         ensures missing { MissingExactly result (folder_view self.old) path.now }
         ensures scheduled { FolderObeysUnless (IsShorter (folder_view self.old).tree path.now size) (done_answer result) self.old self.new }
     {
+        count_write(&mut self.writes);
         let entry = set_size_entry(path, size);
         if !begin(&mut self.schedule, &mut self.past, entry) {
             self.schedule.fail();
@@ -356,6 +354,7 @@ impl Folder for MemFolder {
         ensures kept { IfOk result (λ kept. kept ≡ (folder_view self.old).keeps stamp) }
         ensures scheduled { FolderObeysExactly (file_answer Answer.Kept result) self.old self.new }
     {
+        count_write(&mut self.writes);
         let entry = set_stamp_entry(path, stamp);
         if !begin(&mut self.schedule, &mut self.past, entry) {
             self.schedule.fail();
@@ -379,6 +378,7 @@ impl Folder for MemFolder {
         ensures scheduled { FolderObeysUnless (file_of (folder_view self.old).tree (path_of path.now (not lost)) ≢ None)
             (done_answer result) self.old self.new }
     {
+        count_write(&mut self.writes);
         let entry = rename_entry(path, lost);
         if !begin(&mut self.schedule, &mut self.past, entry) {
             self.schedule.fail();

@@ -1,5 +1,5 @@
 // The record of an object's calls.
-ghost use Rattle.std.specs.Prelude.{◌≡◌, ◌⊎◌, [], IsTrue, IfSome, IfNone, true, false};
+ghost use Rattle.std.specs.Prelude.{◌≡◌, ◌⊎◌, [], IsTrue, IfSome, IfNone, true, false, if◌then◌else◌};
 ghost use Rattle.std.specs.Bool.{OnTrue};
 ghost use Rattle.disk_model.specs.Answer.{is_failure};
 ghost use Rattle.disk_memory.specs.Past.{Notes, Loses, LosesNow, Ends};
@@ -120,4 +120,11 @@ pub fn begin<C: Drop>(schedule: &mut Schedule, past: &mut Past<C>, call: Option<
     let fails = schedule.next_call();
     let noted = past.note(call);
     noted && !fails
+}
+
+// What a call on one file answers that did its work where the file was there, as it is kept.
+pub fn answer_where(there: bool) -> Answer
+    ensures { result ≡ (if there then Answer.Done else Answer.Missing) }
+{
+    if there { Answer::Done } else { Answer::Missing }
 }

@@ -5,10 +5,11 @@ use Rattle.std.proofs.lemmas.List.Elements.{All-append, All-nil, All-cons, All-h
 use Rattle.disk_model.specs.Cause.{Rose}
 use Rattle.disk_model.specs.Calls.{WentWell, MakesOnly, Makes, LastFailed, FailsBy, MakesThese, FailsAmong, WentWellAs, gone_well}
 use Rattle.disk_model.specs.Answer.{is_failure}
-use Rattle.disk_model.specs.Vault.{VaultView, VaultCall, VaultDone, VaultOutcome, plain_done, outcome_of, GoesOn, SomeCalls, IsCall}
+use Rattle.disk_model.specs.Vault.{VaultView, VaultCall, VaultDone, VaultOutcome, plain_done, outcome_of, writes_vault, GoesOn, SomeCalls, IsCall, IsUnwritten}
 use Rattle.disk_model.specs.declared.answer.Answer.{Answer}
 use Rattle.disk_model.specs.declared.answer.Answer.TheVariants.{Failed, OutOfMemory, Missing, Done, Saw, Bytes, Kept}
 use Rattle.disk_model.specs.declared.fault.Failed.{Failed as Fault}
+use Rattle.disk_model.proofs.CountLemmas.{counts_none, writes_then, none_writes, counts_stay}
 
 abbrev Is : (VaultCall → Type 0) → VaultDone → Type 0
 Is P d = P d.call
@@ -16,10 +17,10 @@ Is P d = P d.call
 -- ---- whether they failed or not
 
 pub only_none : (P : VaultCall → Type 0) (v : VaultView) → MakesOnly P v v
-only_none P v = record { done = []; grown = record { told = λ t. t; more = λ t. sym (append-nil v.calls) }; each = All-nil (Is P) }
+only_none P v = record { done = []; grown = record { told = λ t. t; more = λ t. sym (append-nil v.calls) }; writes = counts_none v.writes; each = All-nil (Is P) }
 
 pub only_one : (P : VaultCall → Type 0) (old new : VaultView) (call : VaultCall) (answer : Answer) → P call → GoesOn old new (record { call = call; answer = answer } ∷ []) → MakesOnly P old new
-only_one P old new call answer is goes_on = record { done = record { call = call; answer = answer } ∷ []; grown = goes_on.calls; each = All-cons (Is P) (record { call = call; answer = answer }) [] is (All-nil (Is P)) }
+only_one P old new call answer is goes_on = record { done = record { call = call; answer = answer } ∷ []; grown = goes_on.calls; writes = goes_on.writes; each = All-cons (Is P) (record { call = call; answer = answer }) [] is (All-nil (Is P)) }
 
 pub only_then : (P : VaultCall → Type 0) (old mid new : VaultView) → MakesOnly P old mid → MakesOnly P mid new → MakesOnly P old new
 only_then P old mid new one two = record {
@@ -28,22 +29,28 @@ only_then P old mid new one two = record {
     told = λ t. one.grown.told (two.grown.told t);
     more = λ t. two.grown.more t ∙ ap (λ cs. cs ++ two.done) (one.grown.more (two.grown.told t)) ∙ append_assoc old.calls one.done two.done;
   };
+  writes = writes_then one.done two.done old.writes mid.writes new.writes one.writes two.writes;
   each = All-append (Is P) one.done two.done one.each two.each;
 }
 
 pub only_wider : (P Q : VaultCall → Type 0) (old new : VaultView) → ((call : VaultCall) → P call → Q call) → MakesOnly P old new → MakesOnly Q old new
-only_wider P Q old new wider only = record { done = only.done; grown = only.grown; each = λ k d below. wider _ (only.each k d below) }
+only_wider P Q old new wider only = record { done = only.done; grown = only.grown; writes = only.writes; each = λ k d below. wider _ (only.each k d below) }
+
+-- calls that only read leave the count
+pub only_reads : (P : VaultCall → Type 0) (old new : VaultView) → ((call : VaultCall) → P call → writes_vault call ≡ false) → MakesOnly P old new → IsUnwritten old new
+only_reads P old new reads only = counts_stay old.writes new.writes (none_writes P only.done reads only.each) only.writes
 
 -- ---- where none failed
 
 pub makes_none : (P : VaultCall → Type 0) (v : VaultView) → Makes P v v
-makes_none P v = record { done = []; grown = record { told = λ t. t; more = λ t. sym (append-nil v.calls) }; each = All-nil (WentWell P) }
+makes_none P v = record { done = []; grown = record { told = λ t. t; more = λ t. sym (append-nil v.calls) }; writes = counts_none v.writes; each = All-nil (WentWell P) }
 
 -- a call that went well
 pub makes_one : (P : VaultCall → Type 0) (old new : VaultView) (call : VaultCall) (answer : Answer) → P call → is_failure answer ≡ false → GoesOn old new (record { call = call; answer = answer } ∷ []) → Makes P old new
 makes_one P old new call answer is well goes_on = record {
   done = record { call = call; answer = answer } ∷ [];
   grown = goes_on.calls;
+  writes = goes_on.writes;
   each = All-cons (WentWell P) (record { call = call; answer = answer }) [] (record { is = is; unfailed = well }) (All-nil (WentWell P));
 }
 
@@ -54,6 +61,7 @@ makes_then P old mid new one two = record {
     told = λ t. one.grown.told (two.grown.told t);
     more = λ t. two.grown.more t ∙ ap (λ cs. cs ++ two.done) (one.grown.more (two.grown.told t)) ∙ append_assoc old.calls one.done two.done;
   };
+  writes = writes_then one.done two.done old.writes mid.writes new.writes one.writes two.writes;
   each = All-append (WentWell P) one.done two.done one.each two.each;
 }
 
@@ -62,10 +70,10 @@ went_wider P Q wider done well = record { is = wider done.call well.is; unfailed
 
 -- of a wider kind
 pub makes_wider : (P Q : VaultCall → Type 0) (old new : VaultView) → ((call : VaultCall) → P call → Q call) → Makes P old new → Makes Q old new
-makes_wider P Q old new wider makes = record { done = makes.done; grown = makes.grown; each = λ k d below. went_wider P Q wider _ (makes.each k d below) }
+makes_wider P Q old new wider makes = record { done = makes.done; grown = makes.grown; writes = makes.writes; each = λ k d below. went_wider P Q wider _ (makes.each k d below) }
 
 pub makes_only : (P : VaultCall → Type 0) (old new : VaultView) → Makes P old new → MakesOnly P old new
-makes_only P old new makes = record { done = makes.done; grown = makes.grown; each = λ k d below. (makes.each k d below).is }
+makes_only P old new makes = record { done = makes.done; grown = makes.grown; writes = makes.writes; each = λ k d below. (makes.each k d below).is }
 
 -- ---- where the last failed
 
@@ -125,7 +133,7 @@ pub well_one : (call : VaultCall) (answer : Answer) → is_failure answer ≡ fa
 well_one call answer well = ap (λ (failed : Bool). (let o : VaultOutcome = record { call = call; failed = failed } in o) ∷ []) well
 
 pub these_none : (v : VaultView) → MakesThese [] v v
-these_none v = record { done = []; are = refl; grown = record { told = λ t. t; more = λ t. sym (append-nil v.calls) } }
+these_none v = record { done = []; are = refl; writes = counts_none v.writes; grown = record { told = λ t. t; more = λ t. sym (append-nil v.calls) } }
 
 -- one more that went well
 pub these_more : (calls : List VaultCall) (call : VaultCall) (answer : Answer) (old mid new : VaultView) → is_failure answer ≡ false → MakesThese calls old mid
@@ -133,6 +141,7 @@ pub these_more : (calls : List VaultCall) (call : VaultCall) (answer : Answer) (
 these_more calls call answer old mid new well one goes_on = record {
   done = one.done ++ record { call = call; answer = answer } ∷ [];
   are = well_then calls (call ∷ []) one.done (record { call = call; answer = answer } ∷ []) one.are (well_one call answer well);
+  writes = writes_then one.done (record { call = call; answer = answer } ∷ []) old.writes mid.writes new.writes one.writes goes_on.writes;
   grown = record {
     told = λ t. one.grown.told (goes_on.calls.told t);
     more = λ t.
@@ -194,7 +203,7 @@ well_as_all P (call ∷ calls) (d ∷ done) are all =
 
 -- they are of some kind
 pub these_make : (P : VaultCall → Type 0) (calls : List VaultCall) (old new : VaultView) → All P calls → MakesThese calls old new → Makes P old new
-these_make P calls old new all these = record { done = these.done; grown = these.grown; each = well_as_all P calls these.done these.are all }
+these_make P calls old new all these = record { done = these.done; grown = these.grown; writes = these.writes; each = well_as_all P calls these.done these.are all }
 
 pub among_fails : (P : VaultCall → Type 0) (calls : List VaultCall) (old new : VaultView) → All P calls → FailsAmong calls old new → FailsBy P old new
 among_fails P calls old new all among =

@@ -9,6 +9,7 @@ use Rattle.disk_model.specs.Vault.{VaultView, VaultState, state_of, ChangesBy}
 pub same_state : (held other : VaultView) → SameVault true held other → state_of other ≡ state_of held
 same_state held other same i = record {
   faults = same.faults i;
+  writes = same.writes i;
   levels = same.levels refl i;
   drafts = same.drafts refl i;
   tells = same.tells refl i;

@@ -12,6 +12,7 @@ use Rattle.disk_model.specs.declared.answer.Answer.{Answer}
 use Rattle.disk_model.specs.declared.answer.Answer.TheVariants as answers
 use Rattle.disk_model.specs.declared.answer.Answer.TheVariants.{Done}
 use Rattle.disk_model.specs.declared.fault.Failed.{Failed}
+use Rattle.disk_model.proofs.CountLemmas.{writes_then}
 use Rattle.disk_model.proofs.CallsLemmas.{well_then, these_none, these_more, among_one}
 
 -- ---- two lists
@@ -20,6 +21,7 @@ pub these_then : (one two : List VaultCall) (old mid new : VaultView) → MakesT
 these_then one two old mid new a b = record {
   done = a.done ++ b.done;
   are = well_then one two a.done b.done a.are b.are;
+  writes = writes_then a.done b.done old.writes mid.writes new.writes a.writes b.writes;
   grown = record {
     told = λ t. a.grown.told (b.grown.told t);
     more = λ t. b.grown.more t ∙ ap (λ cs. cs ++ b.done) (a.grown.more (b.grown.told t)) ∙ append_assoc old.calls a.done b.done;

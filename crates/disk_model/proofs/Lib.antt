@@ -2,6 +2,7 @@ pub mod AnsweredLemmas
 pub mod ByCallsLemmas
 pub mod BytesLemmas
 pub mod CallsLemmas
+pub mod CountLemmas
 pub mod GivenLemmas
 pub mod InOrder
 pub mod MachineLemmas

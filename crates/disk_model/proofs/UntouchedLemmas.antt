@@ -1,8 +1,8 @@
 -- A vault of which all that is known is as it was: what holds since then has held since before.
 use Rattle.std.proofs.Common.{◌≡◌, ℕ, List, ◌++◌, length, refl, sym, ◌∙◌, ap, subst, arith}
-use Rattle.disk_model.specs.Cause.{RoseBy}
+use Rattle.disk_model.specs.Cause.{RoseBy, Counts}
 use Rattle.disk_model.specs.Files.{Files}
-use Rattle.disk_model.specs.Vault.{VaultView, VaultState, VaultDone, GoesOn, ChangesBy, DraftsStay, IsUntouched}
+use Rattle.disk_model.specs.Vault.{VaultView, VaultState, VaultDone, any_write, GoesOn, ChangesBy, DraftsStay, IsUntouched}
 use Rattle.disk_model.proofs.GivenLemmas.{changes_held}
 
 pub untouched_here : (v : VaultView) → IsUntouched v v
@@ -24,6 +24,9 @@ untouched_then old mid new one two = record {
 pub same_faults : (old mid : VaultView) → IsUntouched old mid → mid.faults ≡ old.faults
 same_faults old mid same = ap (λ (s : VaultState). s.faults) same.state
 
+pub same_writes : (old mid : VaultView) → IsUntouched old mid → mid.writes ≡ old.writes
+same_writes old mid same = ap (λ (s : VaultState). s.writes) same.state
+
 pub same_levels : (old mid : VaultView) → IsUntouched old mid → mid.levels ≡ old.levels
 same_levels old mid same = ap (λ (s : VaultState). s.levels) same.state
 
@@ -37,6 +40,7 @@ same_files old mid same = ap (λ (s : VaultState). s.files) same.state
 pub goes_on_untouched : (old mid new : VaultView) (done : List VaultDone) → IsUntouched old mid → GoesOn mid new done → GoesOn old new done
 goes_on_untouched old mid new done same it = record {
   later = let faults = same_faults old mid same in omega (arith, faults, it.later);
+  writes = subst (λ w. Counts (any_write done) w new.writes) (same_writes old mid same) it.writes;
   levels = it.levels ∙ same_levels old mid same;
   copies = it.copies ∙ ap (λ (s : VaultState). length s.drafts) same.state;
   tells = it.tells ∙ same_tells old mid same;

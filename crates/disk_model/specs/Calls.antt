@@ -2,8 +2,8 @@
 use Rattle.std.specs.Prelude.{◌≡◌, ℕ, List, [], ◌∷◌, ◌++◌, map, true, false, IsTrue}
 use Rattle.std.specs.List.{All}
 use Rattle.disk_model.specs.Answer.{is_failure}
-use Rattle.disk_model.specs.Cause.{Rose, Grows}
-use Rattle.disk_model.specs.Vault.{VaultView, VaultCall, VaultDone, VaultOutcome, plain_done, outcomes}
+use Rattle.disk_model.specs.Cause.{Rose, Grows, Counts}
+use Rattle.disk_model.specs.Vault.{VaultView, VaultCall, VaultDone, VaultOutcome, any_write, plain_done, outcomes}
 
 -- a call with P that did not fail
 pub record WentWell (P : VaultCall → Type 0) (done : VaultDone) : Type 0 where
@@ -14,12 +14,14 @@ pub record WentWell (P : VaultCall → Type 0) (done : VaultDone) : Type 0 where
 pub record MakesOnly (P : VaultCall → Type 0) (old new : VaultView) : Type 0 where
   pub done : List VaultDone
   pub grown : Grows old.tells_calls old.calls new.tells_calls new.calls done
+  pub writes : Counts (any_write done) old.writes new.writes
   pub each : All (λ (d : VaultDone). P d.call) done
 
 -- only calls with P were made, and none of them failed
 pub record Makes (P : VaultCall → Type 0) (old new : VaultView) : Type 0 where
   pub done : List VaultDone
   pub grown : Grows old.tells_calls old.calls new.tells_calls new.calls done
+  pub writes : Counts (any_write done) old.writes new.writes
   pub each : All (WentWell P) done
 
 -- Since a count of faults and a list of calls, only calls with P were made, and the last of them alone failed.
@@ -47,6 +49,7 @@ pub record MakesThese (calls : List VaultCall) (old new : VaultView) : Type 0 wh
   pub done : List VaultDone
   pub are : WentWellAs calls done
   pub grown : Grows old.tells_calls old.calls new.tells_calls new.calls done
+  pub writes : Counts (any_write done) old.writes new.writes
 
 -- These calls were made, in this order, up to the first that failed.
 pub record FailsAmong (calls : List VaultCall) (old new : VaultView) : Type 0 where

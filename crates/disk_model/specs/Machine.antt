@@ -2,9 +2,10 @@
 use Rattle.std.specs.Prelude.{◌≡◌, ◌⊎◌, ℕ, ◌<◌, ◌≤◌, List, [], ◌∷◌, ◌++◌, length, map, take, replicate, get_or, set, Option, None, Some, IfSome, Bool, true, false, IsTrue, if◌then◌else◌, All}
 use Rattle.disk_model.specs.Answer.{is_failure}
 use Rattle.disk_model.specs.Bytes.{put, resized, AreBytes}
+use Rattle.disk_model.specs.Cause.{exactly}
 use Rattle.disk_model.specs.Files.{Files, parity_of, content_of, TearsParity, StretchesParity, MayPublish, Stays}
 use Rattle.disk_model.specs.Unsynced.{Unsynced, IsFileImage, synced, written, stretched, IsUnsynced}
-use Rattle.disk_model.specs.Vault.{VaultView, VaultCall, VaultDone, ParityLen, ParityRead, ParityWrite, ParitySetLen, ParitySync, ContentSize, ContentRead, DraftBegin, DraftAppend, DraftSeal, Publish, is_sealed}
+use Rattle.disk_model.specs.Vault.{VaultView, VaultCall, VaultDone, vault_writes, ParityLen, ParityRead, ParityWrite, ParitySetLen, ParitySync, ContentSize, ContentRead, DraftBegin, DraftAppend, DraftSeal, Publish, is_sealed}
 use Rattle.disk_model.specs.Moments.{Images}
 use Rattle.disk_model.specs.declared.draft.Draft.{Draft}
 use Rattle.disk_model.specs.declared.draft.Draft.TheVariants.{Absent, Open, Sealed}
@@ -173,6 +174,7 @@ step_of m (Publish copy) = MayPublish copy (is_sealed (draft_in m copy)) (staged
 abbrev pub by_calls : Machine → List VaultDone → Bool → ℕ → VaultView
 by_calls opened calls told faults = record {
   faults = faults;
+  writes = exactly (vault_writes calls);
   levels = length (replay opened calls).levels;
   drafts = (replay opened calls).drafts;
   tells = true;

@@ -19,7 +19,7 @@ pub record OpenerDone : Type 0 where
   pub call : OpenerCall
   pub failed : Bool
 
--- An opener. Its count is always told, and the counts that its folders, its vault and the folder to import will begin with; where
+-- An opener. Its count of faults is always told, and the counts that its folders, its vault and the folder to import will begin with; where
 -- `tells` is true, config is what a configuration holds, folders and vault are what it will open, and import is the folder that it
 -- will import; where `tells_calls` is, calls are all calls so far.
 pub record OpenerView : Type 1 where
@@ -56,12 +56,14 @@ folder_held v column = get_or v.folders column (quiet_folder 0 false)
 -- a folder is given as it was held
 pub record FolderIsGiven (is_told : Bool) (held given : FolderView) : Type 0 where
   pub faults : given.faults ≡ held.faults
+  pub writes : given.writes ≡ held.writes
   pub is_open : given.closed ≡ false
   pub whole : IsTrue is_told → given ≡ held
 
--- another vault with the same count of faults that holds the same, where that is told
+-- another vault with the same counts that holds the same, where that is told
 pub record SameVault (is_told : Bool) (held other : VaultView) : Type 0 where
   pub faults : other.faults ≡ held.faults
+  pub writes : other.writes ≡ held.writes
   pub levels : IsTrue is_told → other.levels ≡ held.levels
   pub drafts : IsTrue is_told → other.drafts ≡ held.drafts
   pub tells : IsTrue is_told → other.tells ≡ held.tells
@@ -85,12 +87,14 @@ pub record HoldsArray (old new : OpenerView) : Type 0 where
   pub config : IsTrue old.tells → new.config ≡ old.config
   pub folders : IsTrue old.tells → new.folders ≡ old.folders
   pub folder_counts : (column : ℕ) → (folder_held new column).faults ≡ (folder_held old column).faults
+  pub folder_writes : (column : ℕ) → (folder_held new column).writes ≡ (folder_held old column).writes
   pub vault : SameVault old.tells old.vault new.vault
 
 -- it holds the same folder to import
 pub record HoldsImport (old new : OpenerView) : Type 0 where
   pub folder : IsTrue old.tells → new.import ≡ old.import
   pub count : new.import.faults ≡ old.import.faults
+  pub writes : new.import.writes ≡ old.import.writes
 
 -- it holds the same to give
 pub record HoldsSame (old new : OpenerView) : Type 0 where

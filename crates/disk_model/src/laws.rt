@@ -1,5 +1,6 @@
 //! What follows from the definitions of the disk model. The calls do nothing: their contracts are laws.
 ghost use Rattle.std.specs.Prelude.{◌≡◌, ◌≢◌, ℕ, ◌<◌, List, [], ◌∷◌, ◌++◌, length, Bool, true, false, IsTrue, None, Some};
+ghost use Rattle.disk_model.specs.Cause.{Counts};
 ghost use Rattle.disk_model.specs.Files.{Files, parity_of, content_of};
 ghost use Rattle.disk_model.specs.Folder.{FolderView, FolderDone, SetStamp};
 ghost use Rattle.disk_model.specs.Machine.{Machine, IsSteady, AllGiveBytes, IsWithin, replay, files_of, draft_in, staged_in, step_of, by_calls, opened_with, images_of};
@@ -8,12 +9,13 @@ ghost use Rattle.disk_model.specs.Path.{IsRecordPath};
 ghost use Rattle.disk_model.specs.Stopped.{MayBeLeft, LeavesAlone, IsOwnOrApart, KeepsPlace, EachCall, StandsKept, AreAnswered};
 ghost use Rattle.disk_model.specs.Tree.{Tree, File, file_of, path_of, IsTree};
 ghost use Rattle.disk_model.specs.Writing.{Does};
-ghost use Rattle.disk_model.specs.Vault.{VaultDone, plain_done, ParitySync, Publish, HasFiles, IsWellFormed, ChangesBy, Holds, IsSettled};
+ghost use Rattle.disk_model.specs.Vault.{VaultDone, writes_vault, plain_done, ParitySync, Publish, HasFiles, IsWellFormed, ChangesBy, Holds, IsSettled};
 
 use crate::{Draft, Stamp};
 
 /// A vault that was opened in order and keeps its calls, and of which a stop leaves what these calls allow, meets
-/// the trait: it is well formed, each call changes it by the trait's step, and a sync and a publish hold.
+/// the trait: it is well formed, each call changes it by the trait's step, its count is raised by each call that writes
+/// and by no other, and a sync and a publish hold.
 pub fn a_vault_by_its_calls_meets_the_trait()
     ensures formed { (opened : Machine) (calls : List VaultDone) (told : Bool) (faults : ℕ) →
         IsSteady opened → AllGiveBytes calls → IsWellFormed (by_calls opened calls told faults) }
@@ -24,6 +26,9 @@ pub fn a_vault_by_its_calls_meets_the_trait()
         (by_calls opened calls told faults) (by_calls opened (calls ++ done ∷ []) now_told now_faults) }
     ensures remembers { (opened : Machine) (calls : List VaultDone) (done : VaultDone) (told now_told : Bool) →
         Remembers (images_of told opened calls) (images_of now_told opened (calls ++ done ∷ [])) }
+    ensures counts { (opened : Machine) (calls : List VaultDone) (done : VaultDone) (told now_told : Bool) (faults now_faults : ℕ) →
+        Counts (writes_vault done.call) (by_calls opened calls told faults).writes
+        (by_calls opened (calls ++ done ∷ []) now_told now_faults).writes }
     ensures synced { (opened : Machine) (calls : List VaultDone) (level : ℕ) (told : Bool) (faults : ℕ) →
         IsSteady opened → AllGiveBytes calls → level < length (replay opened calls).levels →
         Holds (λ files. parity_of files level ≡ parity_of (files_of (replay opened calls)) level)

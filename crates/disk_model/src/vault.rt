@@ -9,7 +9,9 @@ ghost use Rattle.disk_model.specs.Vault.{copies_of, draft_of, staged_of, is_seal
 
 use crate::{Ahead, Answer, Draft, Failed};
 
-/// Parity files, numbered by level, and content copies. A call answers `Failed` only where `faults` rose in it.
+/// Parity files, numbered by level, and content copies. A call answers `Failed` only where `faults` rose in it. All
+/// calls but `parity_len`, `parity_read`, `content_size` and `content_read` write: these four leave the view's count of
+/// writing calls, and where that is exact, each of the others raises it.
 /// Where a vault tells what a stop may leave, `changes` says it of each moment within the call and of its end.
 pub trait Vault: Send {
     /// What reads parity ahead, a part of it in each.

@@ -14,6 +14,7 @@ use Rattle.disk_model.specs.declared.answer.Answer.TheVariants.{Failed, OutOfMem
 use Rattle.disk_model.specs.declared.meta.Stamp.{Stamp}
 use Rattle.disk_model.proofs.AnsweredLemmas.{write_is_left, left_then, left_later, left_is_tree}
 use Rattle.disk_model.proofs.TreeLemmas.{set_other, gone_other, own_name}
+use Rattle.disk_model.proofs.CountLemmas.{counts_none}
 use Rattle.snap_report.specs.Answer.{broke_folder, is_reading}
 use Rattle.stripe_reader.specs.Column.{ReadsBy}
 use Rattle.stripe_reader.specs.FolderCalls.{AreCellCalls, AreColumnCalls, AreFetchCalls}
@@ -27,7 +28,7 @@ pub makes_none : (P : FolderDone → Type 0) (v : FolderView) → FolderMakes P 
 makes_none P v = record {
   done = [];
   each = All-nil P;
-  goes_on = record { later = omega arith; keeps = refl; closed = refl; tells = refl; calls = record { told = λ t. t; more = λ t. sym (append-nil v.calls) } };
+  goes_on = record { later = omega arith; writes = counts_none v.writes; keeps = refl; closed = refl; tells = refl; calls = record { told = λ t. t; more = λ t. sym (append-nil v.calls) } };
   left = λ told is. refl;
 }
 
@@ -116,7 +117,7 @@ pub makes_by_none : (P : List FolderDone → Type 0) (v : FolderView) → P [] �
 makes_by_none P v none = record {
   done = [];
   are = none;
-  goes_on = record { later = omega arith; keeps = refl; closed = refl; tells = refl; calls = record { told = λ t. t; more = λ t. sym (append-nil v.calls) } };
+  goes_on = record { later = omega arith; writes = counts_none v.writes; keeps = refl; closed = refl; tells = refl; calls = record { told = λ t. t; more = λ t. sym (append-nil v.calls) } };
   left = λ told is. refl;
 }
 

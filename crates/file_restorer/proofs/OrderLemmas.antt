@@ -5,6 +5,7 @@ use Rattle.std.proofs.lemmas.List.Elements.{All-head, All-tail, All-weaker, filt
 use Rattle.disk_model.specs.Folder.{FolderView, FolderCall, FolderDone, FolderGoesOn}
 use Rattle.disk_model.specs.Writing.{IsFolderWrite}
 use Rattle.disk_model.specs.declared.meta.Stamp.{Stamp}
+use Rattle.disk_model.proofs.CountLemmas.{counts_none}
 use Rattle.snap_report.specs.Answer.{is_reading}
 use Rattle.stripe_reader.specs.Column.{ReadsBy}
 use Rattle.stripe_reader.specs.FolderCalls.{AreColumnCalls}
@@ -19,7 +20,7 @@ use Rattle.file_restorer.proofs.FolderCallLemmas.{well_column}
 pub writes_none : (v : FolderView) → FolderWrites [] v v
 writes_none v = record {
   done = [];
-  goes_on = record { later = omega arith; keeps = refl; closed = refl; tells = refl; calls = record { told = λ t. t; more = λ t. sym (append-nil v.calls) } };
+  goes_on = record { later = omega arith; writes = counts_none v.writes; keeps = refl; closed = refl; tells = refl; calls = record { told = λ t. t; more = λ t. sym (append-nil v.calls) } };
   are = refl;
 }
 

@@ -1,14 +1,15 @@
 -- How what a stop may leave of a base goes on as what it may leave of a vault of several parts a level.
-use Rattle.std.proofs.Common.{◌≡◌, inl, inr, ⊎_elim, ℕ, zero, suc, ◌+◌, ◌-◌, ◌<◌, ◌≤◌, List, [], ◌∷◌, length, take, drop, map, get_or, set, Option, ◌^◌, true, false, refl, sym, ◌∙◌, ap, subst, arith}
+use Rattle.std.proofs.Common.{◌≡◌, inl, inr, ⊎_elim, ℕ, zero, suc, ◌+◌, ◌-◌, ◌<◌, ◌≤◌, List, [], ◌∷◌, length, take, drop, map, get_or, set, Option, ◌^◌, Bool, true, false, IsTrue, refl, sym, ◌∙◌, ap, subst, arith}
 use Rattle.std.proofs.lemmas.List.{get_or-map, map-set, drop-drop, take-take, drop-take}
 use Rattle.std.specs.List.{sum}
 use Rattle.std.proofs.lemmas.List.Sums.{sum_by-cons}
 use Rattle.disk_model.specs.Bytes.{Torn, Stretched}
+use Rattle.disk_model.specs.Cause.{WriteCount, Counts}
 use Rattle.disk_model.specs.Files.{Files, parity_of, with_parity, TearsParity, StretchesParity}
 use Rattle.disk_model.specs.Moments.{Images, LeavesBy, Remembers}
-use Rattle.disk_model.specs.Vault.{VaultView, VaultDone, GoesOn, ChangesBy}
+use Rattle.disk_model.specs.Vault.{VaultView, VaultDone, any_write, GoesOn, ChangesBy}
 use Rattle.parity_split.specs.Joined.{level_bytes, grouped, seen}
-use Rattle.parity_split.specs.Split.{seen_images, split_view, parts_at}
+use Rattle.parity_split.specs.Split.{seen_images, loosely, split_view, parts_at}
 use Rattle.parity_split.specs.SplitLaws.{length-grouped}
 use Rattle.parity_split.specs.Works.{OnParts, LevelBy, parts_in}
 use Rattle.parity_split.proofs.PieceLemmas.{torn_take, stretched_take}
@@ -97,11 +98,35 @@ module _ (counts : List ℕ) (capacity : ℕ) where
   remembers_seen old new remembers told t files le left = (left.0, remembers told t left.0 le left.1, left.2)
 
   -- one call seen, whatever calls of the base it was
-  pub goes_on_seen : (old new : VaultView) (done call : List VaultDone) → GoesOn old new done → GoesOn (split_view counts capacity old) (split_view counts capacity new) call
-  goes_on_seen old new done call on = record {
+  pub goes_on_seen : (old new : VaultView) (done call : List VaultDone) → Counts (any_write call) (loosely old.writes) (loosely new.writes) → GoesOn old new done
+      → GoesOn (split_view counts capacity old) (split_view counts capacity new) call
+  goes_on_seen old new done call writes on = record {
     later = on.later;
+    writes = writes;
     levels = refl;
     copies = on.copies;
     tells = on.tells;
     calls = record { told = λ t. t; more = λ t. absurd (let clash : false ≡ true = t in cc) };
   }
+
+-- the same call of the base
+pub counts_same : {wrote : Bool} (x y : WriteCount) → Counts wrote x y → Counts wrote (loosely x) (loosely y)
+counts_same x y counts = record { exact = refl; later = counts.later; stays = counts.stays; rose = λ exact wrote. absurd (let clash : false ≡ true = exact in cc) }
+
+-- calls of the base that only read
+pub counts_unwritten : (wrote : Bool) (x y : WriteCount) → y ≡ x → Counts wrote (loosely x) (loosely y)
+counts_unwritten wrote x y same = record {
+  exact = refl;
+  later = let count = ap (λ (w : WriteCount). w.count) same in omega arith;
+  stays = λ none. ap (λ (w : WriteCount). w.count) same;
+  rose = λ exact wrote. absurd (let clash : false ≡ true = exact in cc);
+}
+
+-- calls of the base for one that writes
+pub counts_written : {wrote : Bool} (x y : WriteCount) → Counts wrote x y → Counts true (loosely x) (loosely y)
+counts_written x y counts = record {
+  exact = refl;
+  later = counts.later;
+  stays = λ none. absurd (let clash : true ≡ false = none in cc);
+  rose = λ exact wrote. absurd (let clash : false ≡ true = exact in cc);
+}

@@ -1,24 +1,24 @@
 -- A vault of several parts a level, by the calls of its base.
-use Rattle.std.proofs.Common.{◌≡◌, inl, inr, ◌⊎◌, ⊎_elim, ℕ, suc, ◌+◌, ◌*◌, ◌-◌, ◌^◌, ◌<◌, ◌≤◌, min, List, [], ◌∷◌, length, take, drop, get_or, Option, Bool, Result, OnErr, IsTrue, refl, sym, ◌∙◌, ap, subst, arith}
+use Rattle.std.proofs.Common.{◌≡◌, inl, inr, ◌⊎◌, ⊎_elim, ℕ, suc, ◌+◌, ◌*◌, ◌-◌, ◌^◌, ◌<◌, ◌≤◌, min, List, [], ◌∷◌, length, take, drop, get_or, Option, Bool, true, false, ◌||◌, Result, OnErr, IsTrue, refl, sym, ◌∙◌, ap, subst, arith}
 use Rattle.std.specs.List.{sum}
 use Rattle.std.proofs.lemmas.List.{length-take, take-take, drop-drop, drop-take, ext_get_or}
 use Rattle.std.proofs.lemmas.List.Sums.{sum_by-cons, sum_by_more, sum_by_more_le, sum_by-take-le}
 use Rattle.std.proofs.lemmas.Bool.{cases_lt, cases_eq}
 use Rattle.disk_model.specs.Bytes.{Torn, Stretched, put, resized}
-use Rattle.disk_model.specs.Cause.{Rose}
+use Rattle.disk_model.specs.Cause.{Rose, Counts}
 use Rattle.disk_model.specs.Files.{Files, parity_of, content_of, TearsParity, StretchesParity, MayPublish, Stays}
-use Rattle.disk_model.specs.Vault.{VaultView, VaultCall, VaultDone, GoesOn, IsCallBy, IsCall, IsReading, ChangesBy, DraftsStay, DraftIs, Reads, Holds, IsWellFormed, HasFiles}
+use Rattle.disk_model.specs.Vault.{VaultView, VaultCall, VaultDone, writes_vault, IsUnwritten, GoesOn, IsCallBy, IsCall, IsReading, ChangesBy, DraftsStay, DraftIs, Reads, Holds, IsWellFormed, HasFiles}
 use Rattle.disk_model.specs.declared.answer.Answer.{Answer}
 use Rattle.disk_model.specs.declared.draft.Draft.{Draft}
 use Rattle.disk_model.specs.declared.fault.Failed.{Failed}
 use Rattle.parity_split.specs.Joined.{joined, level_bytes, seen, first_part, part_count}
 use Rattle.parity_split.specs.Parts.{InStep}
-use Rattle.parity_split.specs.Split.{AreParts, AllInStep, split_view, parts_at}
+use Rattle.parity_split.specs.Split.{AreParts, AllInStep, loosely, split_view, parts_at}
 use Rattle.parity_split.specs.Values.{IsResized, IsPut}
 use Rattle.parity_split.specs.Works.{Works, HoldsOf, OnParts, LevelBy, IsWithin, IsFound, SameFrom, parts_in}
 use Rattle.parity_split.specs.declared.parts.End.{End}
 use Rattle.parity_split.specs.declared.parts.Parts.{Parts}
-use Rattle.parity_split.proofs.SeenLemmas.{seen_parity, seen_tears, seen_stretches, changes_seen, remembers_seen, goes_on_seen}
+use Rattle.parity_split.proofs.SeenLemmas.{seen_parity, seen_tears, seen_stretches, changes_seen, remembers_seen, goes_on_seen, counts_same, counts_unwritten, counts_written}
 use Rattle.parity_split.proofs.StepLemmas.{end_length}
 use Rattle.parity_split.proofs.ValueLemmas.{is_put, is_resized}
 use Rattle.parity_split.proofs.WorksLemmas.{in_count}
@@ -126,11 +126,11 @@ module _ (counts : List ℕ) (capacity : ℕ) where
   seen_stays a b stays = ap (seen counts capacity) stays
 
   -- calls that only read are a reading call
-  pub reading_seen : {T : Type 0} (call : VaultCall) (gives : T → Answer) (result : Result T Failed) (old new : VaultView) → Works Stays old new → OnErr result (Rose old.faults new.faults)
+  pub reading_seen : {T : Type 0} (call : VaultCall) (gives : T → Answer) (result : Result T Failed) (old new : VaultView) → Works Stays old new → IsUnwritten old new → OnErr result (Rose old.faults new.faults)
       → IsReading call gives result (split_view counts capacity old) (split_view counts capacity new)
-  reading_seen call gives result old new works cause = record {
+  reading_seen call gives result old new works unwritten cause = record {
     called = record {
-      goes_on = goes_on_seen counts capacity old new works.calls.done _ works.calls.goes_on;
+      goes_on = goes_on_seen counts capacity old new works.calls.done _ (counts_unwritten _ old.writes new.writes unwritten) works.calls.goes_on;
       cause = cause;
       remembers = remembers_seen counts capacity old.images new.images works.remembers;
     };
@@ -138,10 +138,11 @@ module _ (counts : List ℕ) (capacity : ℕ) where
     drafts = record { state = works.drafts.state; bytes = works.drafts.bytes };
   }
 
-  pub call_seen : {T : Type 0} (call : VaultCall) (step : Files → Files → Type 0) (result : Result T Failed) (old new : VaultView) → Works step old new → OnErr result (Rose old.faults new.faults)
+  pub call_seen : {T : Type 0} (call : VaultCall) (step : Files → Files → Type 0) (result : Result T Failed) (old new : VaultView) → writes_vault call ≡ true → Works step old new → OnErr result (Rose old.faults new.faults)
       → IsCall call result (split_view counts capacity old) (split_view counts capacity new)
-  call_seen call step result old new works cause = record {
-    goes_on = goes_on_seen counts capacity old new works.calls.done _ works.calls.goes_on;
+  call_seen call step result old new is works cause = record {
+    goes_on = goes_on_seen counts capacity old new works.calls.done _
+        (subst (λ (wrote : Bool). Counts (wrote || false) (loosely old.writes) (loosely new.writes)) (sym is) (counts_written old.writes new.writes works.calls.goes_on.writes)) works.calls.goes_on;
     cause = cause;
     remembers = remembers_seen counts capacity old.images new.images works.remembers;
   }
@@ -152,7 +153,7 @@ module _ (counts : List ℕ) (capacity : ℕ) where
   -- a call of the base that is one of the vault
   pub one_seen : {T : Type 0} (done : VaultDone) (result : Result T Failed) (old new : VaultView) → IsCallBy done result old new → IsCallBy done result (split_view counts capacity old) (split_view counts capacity new)
   one_seen done result old new is = record {
-    goes_on = goes_on_seen counts capacity old new _ _ is.goes_on;
+    goes_on = goes_on_seen counts capacity old new _ _ (counts_same old.writes new.writes is.goes_on.writes) is.goes_on;
     cause = is.cause;
     remembers = remembers_seen counts capacity old.images new.images is.remembers;
   }

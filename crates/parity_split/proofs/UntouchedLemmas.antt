@@ -6,7 +6,7 @@ use Rattle.disk_model.specs.Vault.{VaultView, VaultState, IsWellFormed, IsUntouc
 use Rattle.disk_model.proofs.UntouchedLemmas.{same_levels, same_tells, changes_untouched}
 use Rattle.disk_model.proofs.VaultLemmas.{changes_start}
 use Rattle.parity_split.specs.Joined.{seen}
-use Rattle.parity_split.specs.Split.{AreParts, AllInStep, seen_images, split_view}
+use Rattle.parity_split.specs.Split.{AreParts, AllInStep, seen_images, loosely, split_view}
 use Rattle.parity_split.specs.Works.{IsWithin}
 use Rattle.parity_split.specs.declared.parts.Parts.{Parts}
 use Rattle.parity_split.proofs.SplitLemmas.{in_step_stays}
@@ -26,6 +26,7 @@ module _ (counts : List ℕ) (capacity : ℕ) where
   abbrev seen_state : VaultState → VaultState
   seen_state s = record {
     faults = s.faults;
+    writes = loosely s.writes;
     levels = length counts;
     drafts = s.drafts;
     tells = s.tells;

@@ -1,6 +1,7 @@
 -- A vault of which a level is several levels of its base.
 use Rattle.std.specs.Prelude.{◌≡◌, ℕ, ◌^◌, ◌<◌, List, [], length, false}
 use Rattle.std.specs.List.{sum, All}
+use Rattle.disk_model.specs.Cause.{WriteCount}
 use Rattle.disk_model.specs.Files.{Files}
 use Rattle.disk_model.specs.Moments.{Images}
 use Rattle.disk_model.specs.Vault.{VaultView}
@@ -16,10 +17,17 @@ seen_images counts capacity images = record {
   since = λ t files. (base : Files) × images.since t base × (files ≡ seen counts capacity base);
 }
 
--- A level reads, and a stop leaves it, as its parts are joined. It tells no calls: one call is several of the base.
+-- of calls of which each is several of others, or none
+abbrev pub loosely : WriteCount → WriteCount
+loosely writes = record { exact = false; count = writes.count }
+
+-- A level reads, and a stop leaves it, as its parts are joined. It tells no calls: one call is several of the base. So its count of writing
+-- calls is that of the base, which a call that only reads leaves, and which one that writes need not raise: it may find nothing to write,
+-- or fail where it looks for its place.
 abbrev pub split_view : List ℕ → ℕ → VaultView → VaultView
 split_view counts capacity v = record {
   faults = v.faults;
+  writes = loosely v.writes;
   levels = length counts;
   drafts = v.drafts;
   tells = v.tells;

@@ -3,7 +3,7 @@ ghost use Rattle.std.specs.Prelude.{◌≡◌, ◌+◌, ◌*◌, ◌-◌, ◌^�
 ghost use Rattle.std.specs.List.{sum};
 ghost use Rattle.disk_model.specs.Cause.{Rose};
 ghost use Rattle.disk_model.specs.Files.{Stays};
-ghost use Rattle.disk_model.specs.Vault.{Holds};
+ghost use Rattle.disk_model.specs.Vault.{Holds, IsUnwritten};
 ghost use Rattle.parity_split.specs.Split.{parts_at};
 ghost use Rattle.parity_split.specs.Works.{Works, IsWithin, IsFound, SameFrom, parts_in};
 
@@ -74,6 +74,7 @@ pub fn smaller(a: u64, b: u64) -> u64
 pub fn find<V: Base>(base: &mut V, parts: Parts) -> Result<End, Failed>
     requires { IsWithin parts (V.view base.old).levels }
     ensures works { Works Stays (V.view base.old) (V.view base.new) }
+    ensures unwritten { IsUnwritten (V.view base.old) (V.view base.new) }
     ensures cause { OnErr result (Rose (V.view base.old).faults (V.view base.new).faults) }
     ensures within { IfOk result (λ end. end.part < parts.count) }
     ensures room { IfOk result (λ end. end.part + 1 < parts.count → end.len < parts.capacity) }

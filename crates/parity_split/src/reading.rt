@@ -3,6 +3,7 @@ ghost use Rattle.std.specs.Prelude.{◌≡◌, ℕ, ◌+◌, ◌*◌, ◌-◌, �
 ghost use Rattle.disk_model.specs.Bytes.{read_from};
 ghost use Rattle.disk_model.specs.Cause.{Rose};
 ghost use Rattle.disk_model.specs.Files.{Stays};
+ghost use Rattle.disk_model.specs.Vault.{IsUnwritten};
 ghost use Rattle.parity_split.specs.Begins.{HasPart, EndsAt};
 ghost use Rattle.parity_split.specs.Joined.{joined, level_bytes, part_of};
 ghost use Rattle.parity_split.specs.Values.{PieceIsThere, IsThere};
@@ -25,6 +26,7 @@ fn read_piece<V: Base>(
     requires part { HasPart parts part (V.view base.old).levels }
     requires room { to - at ≤ length out.old }
     ensures works { Works Stays (V.view base.old) (V.view base.new) }
+    ensures unwritten { IsUnwritten (V.view base.old) (V.view base.new) }
     ensures cause { OnErr result (Rose (V.view base.old).faults (V.view base.new).faults) }
     ensures bound { IfOk result (λ there. there ≤ to - at) }
     ensures earlier { (k : ℕ) → at + k < part * parts.capacity → slice_index out.new k ≡ slice_index out.old k }
@@ -58,6 +60,7 @@ fn read_parts<V: Base>(
     requires room { last - at ≤ length out.old }
     requires inside { last ≤ end.part * parts.capacity + end.len }
     ensures works { Works Stays (V.view base.old) (V.view base.new) }
+    ensures unwritten { IsUnwritten (V.view base.old) (V.view base.new) }
     ensures cause { OnErr result (Rose (V.view base.old).faults (V.view base.new).faults) }
     ensures bound { IfOk result (λ there. there ≤ length out.new) }
     ensures found { IsTrue (V.view base.old).tells → IfOk result (λ there.
@@ -77,6 +80,7 @@ fn read_parts<V: Base>(
 pub fn read<V: Base>(base: &mut V, parts: Parts, at: u64, out: &mut [u8]) -> Result<usize, Failed>
     requires { IsWithin parts (V.view base.old).levels }
     ensures works { Works Stays (V.view base.old) (V.view base.new) }
+    ensures unwritten { IsUnwritten (V.view base.old) (V.view base.new) }
     ensures cause { OnErr result (Rose (V.view base.old).faults (V.view base.new).faults) }
     ensures bound { IfOk result (λ n. n ≤ length out.new) }
     ensures found { IsTrue (V.view base.old).tells → IfOk result (λ n. take n out.new ≡

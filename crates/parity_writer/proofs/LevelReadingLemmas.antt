@@ -1,17 +1,19 @@
 -- What the one call for a level says of its reading.
 use Rattle.std.proofs.Common.{◌≡◌, inl, inr, ℕ, ◌+◌, ◌*◌, ◌<◌, ◌≤◌, List, [], ◌∷◌, ◌++◌, length, take, get_or, set, true, false, cond, IsTrue, None, Some, Ok, refl, sym, ◌∙◌, ap, ap₂, subst, arith, append_assoc, zero-add}
-use Rattle.std.specs.List.{count_by}
+use Rattle.std.specs.List.{count_by, range_with_len}
 use Rattle.std.proofs.lemmas.Bool.{cases_eq}
 use Rattle.std.proofs.lemmas.List.{append-nil, ext_get_or, get_or_append_left, get_or_push, get_or-set_same, get_or-set_other, length-take, length-replicate, length_push}
-use Rattle.std.proofs.lemmas.List.Elements.{All-set}
+use Rattle.std.proofs.lemmas.List.Elements.{All-map, All-set}
+use Rattle.std.proofs.lemmas.List.Folds.{list_any_none}
 use Rattle.std.proofs.lemmas.List.FromFn.{length-map-range_with_len, get_or-map-range_with_len}
 use Rattle.std.proofs.lemmas.List.Sums.{sum_by-append}
 use Rattle.disk_model.specs.Bytes.{read_from}
 use Rattle.disk_model.specs.Cause.{RoseBy}
 use Rattle.disk_model.specs.Files.{Files, parity_of, Stays}
-use Rattle.disk_model.specs.Vault.{VaultView, VaultDone, ParityRead, GoesOn, IsReading}
+use Rattle.disk_model.specs.Vault.{VaultView, VaultDone, ParityRead, GoesOn, IsReading, writes_vault, any_write}
 use Rattle.disk_model.specs.declared.answer.Answer.TheVariants.{Bytes}
 use Rattle.disk_model.proofs.VaultLemmas.{changes_start, stays_then}
+use Rattle.disk_model.proofs.CountLemmas.{counts_none, writes_then}
 use Rattle.parity_writer.specs.LevelReading.{LevelReading, has_failed, kept_level, level_done, calls_of, IsReadingOf, ReadsLevel, ReadsLevels}
 use Rattle.parity_writer.specs.LevelsValue.{LevelValue, HaveSize, no_level}
 use Rattle.parity_writer.proofs.ElsewhereLemmas.{length-resized}
@@ -45,6 +47,7 @@ length-level_kept size (Some bytes) = length-resized bytes size
 goes_on_then : (old mid new : VaultView) (first back : List VaultDone) → GoesOn old mid first → GoesOn mid new back → GoesOn old new (first ++ back)
 goes_on_then old mid new first back one two = record {
   later = omega (arith, one.later, two.later);
+  writes = writes_then first back old.writes mid.writes new.writes one.writes two.writes;
   levels = two.levels ∙ one.levels;
   copies = two.copies ∙ one.copies;
   tells = two.tells ∙ one.tells;
@@ -84,6 +87,12 @@ one_call_more size stripe readings reading none =
               ∙ sym (get_or_append_left (calls_of size stripe readings) (level_done size stripe (length readings) reading ∷ []) none i (omega (arith, near, many)))
         ]
 
+-- none of them writes
+pub calls_only_read : (size stripe : ℕ) (readings : List LevelReading) → any_write (calls_of size stripe readings) ≡ false
+calls_only_read size stripe readings =
+    list_any_none (λ (done : VaultDone). writes_vault done.call) (calls_of size stripe readings)
+    (All-map (λ (done : VaultDone). writes_vault done.call ≡ false) (λ (level : ℕ). level_done size stripe level (get_or readings level None)) (range_with_len 0 (length readings)) (λ k d below. refl))
+
 -- a level that failed is counted
 rose_once : (reading : LevelReading) (before after : ℕ) → before ≤ after → (has_failed reading ≡ true → RoseBy 1 before after) → RoseBy (count_by has_failed (reading ∷ [])) before after
 rose_once None before after later cause = omega (arith, cause refl)
@@ -108,7 +117,7 @@ levels_start size stripe values v = record {
   are_kept = λ level below. absurd (omega (arith, below));
   are_of = λ level below. absurd (omega (arith, below));
   unread = omega arith;
-  goes_on = record { later = omega arith; levels = refl; copies = refl; tells = refl; calls = record { told = λ t. t; more = λ t. sym (append-nil v.calls) } };
+  goes_on = record { later = omega arith; writes = counts_none v.writes; levels = refl; copies = refl; tells = refl; calls = record { told = λ t. t; more = λ t. sym (append-nil v.calls) } };
   changes = changes_start Stays v (λ files. refl);
   drafts = drafts_start v;
 }

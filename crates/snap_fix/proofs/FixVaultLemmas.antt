@@ -5,6 +5,7 @@ use Rattle.disk_model.specs.Cause.{RoseBy}
 use Rattle.disk_model.specs.Files.{Files, Stays, parity_of}
 use Rattle.disk_model.specs.Vault.{VaultView, VaultCall, VaultDone, GoesOn, SomeCalls, ChangesBy, DraftsStay, IsWellFormed}
 use Rattle.disk_model.proofs.VaultLemmas.{calls_then, then_stays}
+use Rattle.disk_model.proofs.CountLemmas.{writes_then}
 use Rattle.parity_writer.specs.LevelReading.{LevelReading}
 use Rattle.snap_fix.specs.Ending.{IsLevelSettled, SyncsWritten, sync_call, sync_if, written_syncs}
 use Rattle.stripe_examiner.specs.Facts.{StripeFacts}
@@ -81,6 +82,7 @@ syncs_are plan stripes levels long flags =
 calls_on : (old mid new : VaultView) (one two : List VaultDone) → GoesOn old mid one → GoesOn mid new two → GoesOn old new (one ++ two)
 calls_on old mid new one two a b = record {
   later = omega (arith, a.later, b.later);
+  writes = writes_then one two old.writes mid.writes new.writes a.writes b.writes;
   levels = b.levels ∙ a.levels;
   copies = b.copies ∙ a.copies;
   tells = b.tells ∙ a.tells;

@@ -9,6 +9,7 @@ use Rattle.disk_model.specs.Bytes.{read_from}
 use Rattle.disk_model.specs.Files.{Files, parity_of}
 use Rattle.disk_model.specs.Vault.{VaultView, GoesOn}
 use Rattle.disk_model.proofs.VaultLemmas.{no_calls, calls_then, changes_start, changes_then}
+use Rattle.disk_model.proofs.CountLemmas.{counts_none}
 use Rattle.parity_writer.specs.Keeps.{HasByte, IsOutside}
 use Rattle.parity_writer.specs.LevelReading.{LevelReading, IsReadingOf}
 use Rattle.parity_writer.proofs.WriteLemmas.{apart}
@@ -63,7 +64,7 @@ all_levels_append size v (facts ∷ xs) ys [] ss one two = absurd one
 all_levels_append size v (facts ∷ xs) ys (of ∷ rs) ss (first, rest) two = (first, all_levels_append size v xs ys rs ss rest two)
 
 pub goes_on_none : (v : VaultView) → GoesOn v v []
-goes_on_none v = record { later = omega arith; levels = refl; copies = refl; tells = refl; calls = record { told = λ t. t; more = λ t. sym (append-nil v.calls) } }
+goes_on_none v = record { later = omega arith; writes = counts_none v.writes; levels = refl; copies = refl; tells = refl; calls = record { told = λ t. t; more = λ t. sym (append-nil v.calls) } }
 
 -- ---- what was written
 

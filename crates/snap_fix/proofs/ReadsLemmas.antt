@@ -5,6 +5,7 @@ use Rattle.std.proofs.lemmas.List.{append-nil}
 use Rattle.std.proofs.lemmas.List.Elements.{All-head, All-tail, filter-append}
 use Rattle.disk_model.specs.Folder.{FolderView, FolderCall, FolderDone}
 use Rattle.disk_model.specs.declared.answer.Answer.TheVariants.{Failed}
+use Rattle.disk_model.proofs.CountLemmas.{counts_none}
 use Rattle.snap_report.specs.Answer.{is_reading}
 use Rattle.stripe_reader.specs.Column.{ReadsBy}
 use Rattle.stripe_reader.specs.Columns.{folder_at}
@@ -42,7 +43,7 @@ quiet_then one two = reads_on IsQuiet one two
 pub quiet_none : (v : FolderView) → FolderReads IsQuiet v v
 quiet_none v = record {
   done = [];
-  goes_on = record { later = omega arith; keeps = refl; closed = refl; tells = refl; calls = record { told = λ t. t; more = λ t. sym (append-nil v.calls) } };
+  goes_on = record { later = omega arith; writes = counts_none v.writes; keeps = refl; closed = refl; tells = refl; calls = record { told = λ t. t; more = λ t. sym (append-nil v.calls) } };
   are = refl;
 }
 

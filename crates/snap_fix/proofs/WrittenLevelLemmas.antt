@@ -7,6 +7,7 @@ use Rattle.disk_model.specs.Bytes.{put}
 use Rattle.disk_model.specs.Files.{Files, parity_of, with_parity, TearsParity}
 use Rattle.disk_model.specs.Vault.{plain_done, VaultView, ParityWrite, GoesOn}
 use Rattle.disk_model.proofs.BytesLemmas.{length-put, put_gap, torn_by_put}
+use Rattle.disk_model.proofs.CountLemmas.{counts_none}
 use Rattle.parity_writer.specs.Keeps.{HasByte, KeepsAt, IsOutside}
 use Rattle.parity_writer.specs.Parity.{Row, HasLevel}
 use Rattle.parity_writer.proofs.KeepsLemmas.{other_level, tear_keeps}
@@ -53,6 +54,7 @@ files_put r at n bytes old new tears is = tears.rest ∙ ap (λ (parities : List
 pub ran_nothing : (v : VaultView) → GoesOn v v []
 ran_nothing v = record {
   later = omega arith;
+  writes = counts_none v.writes;
   levels = refl;
   copies = refl;
   tells = refl;

@@ -12,6 +12,7 @@ use Rattle.disk_model.specs.Files.{Files, parity_of, Stays}
 use Rattle.disk_model.specs.Vault.{VaultView, VaultDone, GoesOn, DraftsStay, IsUntouched}
 use Rattle.disk_model.proofs.UntouchedLemmas.{changes_untouched, drafts_untouched, goes_on_untouched, rose_untouched, same_files, same_tells}
 use Rattle.disk_model.proofs.VaultLemmas.{changes_start, stays_then}
+use Rattle.disk_model.proofs.CountLemmas.{counts_none, writes_then}
 use Rattle.file_table.specs.Table.{TableValue}
 use Rattle.parity_writer.specs.LevelReading.{LevelReading, IsReadingOf, ReadsLevels, calls_of}
 use Rattle.parity_writer.specs.LevelsValue.{LevelValue}
@@ -24,6 +25,7 @@ drafts_then old mid new tells one two = record { state = two.state ∙ one.state
 pub vault_goes_on : (old mid new : VaultView) (first back : List VaultDone) → GoesOn old mid first → GoesOn mid new back → GoesOn old new (first ++ back)
 vault_goes_on old mid new first back one two = record {
   later = omega (arith, one.later, two.later);
+  writes = writes_then first back old.writes mid.writes new.writes one.writes two.writes;
   levels = two.levels ∙ one.levels;
   copies = two.copies ∙ one.copies;
   tells = two.tells ∙ one.tells;
@@ -47,7 +49,7 @@ pub levels_none : (table : TableValue) (v : VaultView) → LevelsAreRead table [
 levels_none table v = record {
   are = All-nil (AreLevelsOf v table.shape.block_size);
   unread = omega arith;
-  goes_on = record { later = omega arith; levels = refl; copies = refl; tells = refl; calls = record { told = λ t. t; more = λ t. sym (append-nil v.calls) } };
+  goes_on = record { later = omega arith; writes = counts_none v.writes; levels = refl; copies = refl; tells = refl; calls = record { told = λ t. t; more = λ t. sym (append-nil v.calls) } };
   changes = changes_start Stays v (λ files. refl);
   drafts = record { state = refl; bytes = λ told. refl };
 }

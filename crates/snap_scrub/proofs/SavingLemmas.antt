@@ -12,6 +12,7 @@ use Rattle.disk_model.specs.Vault.{VaultView, state_of}
 use Rattle.disk_model.specs.declared.draft.Draft.{Draft}
 use Rattle.disk_model.specs.declared.draft.Draft.TheVariants.{Absent}
 use Rattle.disk_model.specs.declared.fault.Failed.{Failed}
+use Rattle.disk_model.proofs.CountLemmas.{counts_stay}
 use Rattle.disk_model.proofs.VaultLemmas.{stays_then}
 use Rattle.file_table.specs.Table.{TableValue}
 use Rattle.snap_scrub.specs.Course.{TouchesVault}
@@ -43,6 +44,7 @@ touches_saved table after reading readings old mid new result levels saves = rec
   changes = stays_then (MaySave (spelling after)) old mid new levels.goes_on.tells levels.changes saves.changes (may_same (spelling after));
   drafts = λ none. saves.drafts (no_draft_still old mid levels.drafts.state none);
   rests = λ same. let clash : reading ∷ readings ≡ [] = same in cc;
+  unwritten = λ same. let clash : reading ∷ readings ≡ [] = same in cc;
 }
 
 -- no stripe was read, and nothing was saved
@@ -57,6 +59,7 @@ touches_rested table after old mid levels = record {
   changes = levels.changes;
   drafts = λ none. no_draft_still old mid levels.drafts.state none;
   rests = λ same. levels.drafts;
+  unwritten = λ same. counts_stay old.writes mid.writes refl levels.goes_on.writes;
 }
 
 not_err : {T E : Type 0} (result : Result T E) → IsOk result → is_err result ≡ false

@@ -8,7 +8,7 @@ use Rattle.disk_model.specs.Files.{Files, Stays}
 use Rattle.disk_model.specs.Folder.{FolderView}
 use Rattle.disk_model.specs.Ran.{Log, RanLog, log_of}
 use Rattle.disk_model.specs.Sink.{SinkView}
-use Rattle.disk_model.specs.Vault.{VaultView, VaultCall, SomeCalls, ChangesBy, DraftsStay, Holds, copies_of, state_of}
+use Rattle.disk_model.specs.Vault.{VaultView, VaultCall, SomeCalls, ChangesBy, DraftsStay, Holds, IsUnwritten, copies_of, state_of}
 use Rattle.file_table.specs.Table.{TableValue}
 use Rattle.snap_config.specs.declared.options.ScrubWay.{ScrubWay}
 use Rattle.snap_report.specs.EndLines.{scrub_text}
@@ -53,7 +53,7 @@ MayStandScrubbed after [] = Stays
 MayStandScrubbed after (reading ∷ readings) = MaySave (spelling after)
 
 -- What was done to the vault by a scrub that read these stripes: the levels of those whose cells are all right were read, and then the
--- table was saved, up to the first call that failed. Where no stripe was read nothing is changed.
+-- table was saved, up to the first call that failed. Where no stripe was read nothing is changed, and no call was made that writes.
 pub record TouchesVault (table after : TableValue) (readings : List ScrubReading) (failed : Bool) (old new : VaultView) : Type 0 where
   pub calls : SomeCalls old new
   pub are : All (AreLevelsOf old table.shape.block_size) readings
@@ -64,6 +64,7 @@ pub record TouchesVault (table after : TableValue) (readings : List ScrubReading
   pub changes : ChangesBy (MayStandScrubbed after readings) old new
   pub drafts : HasNoDraft old → HasNoDraft new
   pub rests : readings ≡ [] → DraftsStay old new
+  pub unwritten : readings ≡ [] → IsUnwritten old new
 
 -- The stripes of the plan were read, in order, and just what was found in them was told, with a last line behind it.
 pub record Course {W R : Type 0} (view : W → SinkView) (standing : R → ReportView) (stands : R → List Event → Type 0)

@@ -21,6 +21,7 @@ use Rattle.stripe_examiner.specs.Looking.{AreAllLevelsOf, AreRead, LevelsAreRead
 use Rattle.stripe_reader.specs.Starts.{StartsValue}
 use Rattle.repair_scope.specs.Plan.{FixPlan, names_of}
 use Rattle.stripe_examiner.specs.Spare.{SpareView, nothing}
+use Rattle.stripe_examiner.proofs.LookingLemmas.{levels_unwritten}
 use Rattle.snap_fix.specs.declared.checks.FixEnd.{FixEnd}
 use Rattle.repair_scope.specs.declared.scope.Mode.{Mode}
 use Rattle.repair_scope.specs.declared.scope.Mode.TheVariants as modes
@@ -48,7 +49,7 @@ use Rattle.snap_top.proofs.ViewsLemmas.{some_calls_of, sink_stays, all_read_then
 -- ---- by its states
 
 pub goes_on_of : (old new : VaultView) (done : List VaultDone) → GoesOn old new done → GoesOn (view_of (state_of old)) (view_of (state_of new)) done
-goes_on_of old new done g = record { later = g.later; levels = g.levels; copies = g.copies; tells = g.tells; calls = g.calls }
+goes_on_of old new done g = record { later = g.later; writes = g.writes; levels = g.levels; copies = g.copies; tells = g.tells; calls = g.calls }
 
 pub all_levels_of : (block_size : ℕ) (v : VaultView) (stripes : List StripeFacts) (readings : List (List LevelReading)) → AreAllLevelsOf block_size v stripes readings → AreAllLevelsOf block_size (view_of (state_of v)) stripes readings
 all_levels_of block_size v [] [] are = tt
@@ -130,7 +131,7 @@ module _ {W R : Type 0} (standing : R → ReportView) (stands : R → List Event
         changes = changes_start Stays vault (λ files. refl);
         ends = λ tells. nothing_more vault.files vault;
         caused = caused_by fault folders folders_new (outside_of before) (outside_of here) refl refl why;
-        keeps = record { folders = begun_not folders folders_new fault many why; vault = no_calls (view_of (state_of vault)); out = sink_stays out };
+        keeps = record { folders = begun_not folders folders_new fault many why; vault = no_calls (view_of (state_of vault)); writes = refl; out = sink_stays out };
         reports = all_given_nothing standing stands olds;
       }
 
@@ -238,6 +239,7 @@ module _ {W R : Type 0} (standing : R → ReportView) (stands : R → List Event
         keeps = record {
           folders = all_read_then folders checks.mids folders_new (all_listed folders checks.mids checks.lists checks.as_many checks.listed) (folders_read checks.plan _ checks.stripes checks.mids folders_new checks.read);
           vault = some_calls_of vault vault_new (record { done = _; goes_on = checks.levels.goes_on });
+          writes = levels_unwritten checks.plan checks.stripes vault vault_new checks.levels;
           out = told.goes_on;
         };
         reports = checks.given;

@@ -58,7 +58,7 @@ module _ {R : Type 0} (standing : R → ReportView) (stands : R → List Event �
         let old = outside_of (world_of (world_view folders vault out)) in
         let new = outside_of (world_of (world_view folders vault out_new)) in
         subst (λ a. IsCaused a counted [] old new) (sym prints.answer_is) (by_output counted prints.failed [] old new (λ failed. prints.told.cause refl failed));
-    keeps = record { folders = all_read_nothing folders; vault = no_calls (view_of (state_of vault)); out = prints.told.goes_on };
+    keeps = record { folders = all_read_nothing folders; vault = no_calls (view_of (state_of vault)); writes = refl; out = prints.told.goes_on };
     reports = all_given_nothing standing stands reports;
   }
 
@@ -101,6 +101,7 @@ module _ {R : Type 0} (standing : R → ReportView) (stands : R → List Event �
     keeps = record {
       folders = all_read_nothing folders;
       vault = no_calls (view_of (state_of vault));
+      writes = refl;
       out = subst (SinkGoesOn out) (sym ran_out.out_is) (sink_stays out);
     };
     reports = all_given_nothing standing stands reports;

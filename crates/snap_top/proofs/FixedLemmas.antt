@@ -14,6 +14,7 @@ use Rattle.disk_model.specs.Stopped.{MayBeLeft}
 use Rattle.disk_model.specs.Tree.{Tree, IsTree}
 use Rattle.disk_model.specs.Vault.{VaultView, VaultCall, VaultDone, ParityLen, ParityRead, ParityWrite, ParitySetLen, ParitySync, ContentSize, ContentRead, DraftBegin, DraftAppend, DraftSeal, Publish, Holds, state_of}
 use Rattle.disk_model.specs.declared.meta.Stamp.{Stamp}
+use Rattle.disk_model.proofs.CountLemmas.{folder_writes_then}
 use Rattle.file_table.proofs.PrefixLemmas.{All-left}
 use Rattle.file_table.specs.Table.{TableValue}
 use Rattle.parity_writer.specs.LevelReading.{LevelReading}
@@ -134,6 +135,7 @@ listed_then run d old mid new listing makes =
           (All-weaker (AnyCall (IsFixCall run.plan (starts_of run.loaded run.lists) d run.stripes)) (AnyCall (IsRunCall run d)) (λ done is. inr is) makes.done makes.each);
       goes_on = record {
         later = omega (arith, a.later, b.later);
+        writes = folder_writes_then (listed_call ∷ []) makes.done old.writes mid.writes new.writes a.writes b.writes;
         keeps = b.keeps ∙ a.keeps;
         closed = b.closed ∙ a.closed;
         tells = b.tells ∙ a.tells;
@@ -297,6 +299,7 @@ module _ {W R : Type 0} (standing : R → ReportView) (stands : R → List Event
         keeps = record {
           folders = all_fixed run folders is.mids folders_new (is.files.folders ∙ is.as_many) (as_many_columns is.lists is.plan is.plan_is) is.listed is.files.calls;
           vault = some_calls_of vault vault_new is.vault.mends.calls;
+          writes = tt;
           out = told.goes_on;
         };
         reports = is.given;
@@ -355,6 +358,7 @@ module _ {W R : Type 0} (standing : R → ReportView) (stands : R → List Event
         keeps = record {
           folders = all_fixed run folders is.mids folders_new is.folders (as_many_columns is.lists is.plan is.plan_is) is.listed is.calls;
           vault = some_calls_of vault vault_new is.vault.calls;
+          writes = tt;
           out = told.goes_on;
         };
         reports = is.told.given;

@@ -1,9 +1,9 @@
 -- Folders that a sync listed and read were only read.
-use Rattle.std.proofs.Common.{◌≡◌, ℕ, ◌<◌, ◌≤◌, ◌⊎◌, inl, inr, List, [], ◌∷◌, length, refl, sym, ap, subst, arith}
+use Rattle.std.proofs.Common.{◌≡◌, ℕ, ◌<◌, ◌≤◌, ◌⊎◌, inl, inr, List, [], ◌∷◌, length, All, refl, sym, ap, subst, arith}
 use Rattle.std.proofs.lemmas.List.Elements.{All-cons, All-nil, All-weaker}
 use Rattle.std.proofs.lemmas.Bool.{cases_lt}
 use Rattle.disk_model.specs.Answer.{listing_answer}
-use Rattle.disk_model.specs.Folder.{FolderView, IsFolderReading, ListFiles}
+use Rattle.disk_model.specs.Folder.{FolderView, FolderDone, IsFolderReading, ListFiles}
 use Rattle.disk_model.specs.declared.answer.Answer.{Answer}
 use Rattle.disk_model.specs.declared.answer.Answer.TheVariants.{Done, Failed, OutOfMemory}
 use Rattle.array_scan.specs.Kept.{ListedFile}
@@ -24,28 +24,37 @@ use Rattle.snap_sync.specs.declared.fault.SyncFault.{SyncFault}
 use Rattle.snap_sync.specs.declared.fault.SyncFault.TheVariants.{Scan, Run}
 use Rattle.snap_top.specs.Task.{Task}
 use Rattle.snap_top.specs.Views.{folder_at, ReadsOnly, AllReadOnly}
-use Rattle.snap_top.proofs.ViewsLemmas.{IsReadingCall, IsReadingDone, read_nothing, reads_since}
+use Rattle.snap_top.proofs.ViewsLemmas.{IsReadingCall, IsReadingDone, read_nothing, reads_since, reads_leave}
 
 listing_reads_only : (answer : Answer) (old new : FolderView) → IsFolderReading ListFiles answer old new → ReadsOnly old new
 listing_reads_only answer old new is = record {
-  calls = record { done = record { call = ListFiles; answer = answer } ∷ []; goes_on = is.called.goes_on };
-  reads = reads_since old new (record { call = ListFiles; answer = answer } ∷ []) is.called.goes_on
-      (All-cons IsReadingDone (record { call = ListFiles; answer = answer }) [] refl (All-nil IsReadingDone));
+  calls = record { done = listed; goes_on = is.called.goes_on };
+  unwritten = reads_leave old new listed is.called.goes_on each;
+  reads = reads_since old new listed is.called.goes_on each;
   tree = is.tree;
 }
+  where
+    listed : List FolderDone
+    listed = record { call = ListFiles; answer = answer } ∷ []
+
+    each : All IsReadingDone (record { call = ListFiles; answer = answer } ∷ [])
+    each = All-cons IsReadingDone (record { call = ListFiles; answer = answer }) [] refl (All-nil IsReadingDone)
 
 asked_reads_only : (old new : FolderView) → IsAsked old new → ReadsOnly old new
 asked_reads_only old new asked = listing_reads_only (listing_answer asked.answer) old new asked.call
 
 -- cells of a column were read
 pub column_reads_only : {shape : Shape} {tasks : List CellTask} {slots : List SlotValue} {old new : FolderView} → ReadsColumn shape tasks slots old new → ReadsOnly old new
-column_reads_only {tasks = tasks} {old = old} {new = new} read = record {
-  calls = record { done = read.folder.done; goes_on = read.folder.goes_on };
-  reads = reads_since old new read.folder.done read.folder.goes_on
-      (All-weaker (WellCall IsReadingCall) IsReadingDone (λ done well. well.0) read.folder.done
-      (well_column IsReadingCall (λ path lost. refl) (λ path lost at n. refl) tasks read.readings read.folder.done read.folder.are));
-  tree = read.folder.tree;
-}
+column_reads_only {tasks = tasks} {old = old} {new = new} read =
+    let each : All IsReadingDone read.folder.done
+    = All-weaker (WellCall IsReadingCall) IsReadingDone (λ done well. well.0) read.folder.done
+    (well_column IsReadingCall (λ path lost. refl) (λ path lost at n. refl) tasks read.readings read.folder.done read.folder.are) in
+    record {
+      calls = record { done = read.folder.done; goes_on = read.folder.goes_on };
+      unwritten = reads_leave old new read.folder.done read.folder.goes_on each;
+      reads = reads_since old new read.folder.done read.folder.goes_on each;
+      tree = read.folder.tree;
+    }
 
 same_reads_only : (old new : FolderView) → new ≡ old → ReadsOnly old new
 same_reads_only old new same = subst (λ v. ReadsOnly old v) (sym same) (read_nothing old)

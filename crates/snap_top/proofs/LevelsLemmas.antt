@@ -9,7 +9,7 @@ use Rattle.disk_model.specs.Moments.{SameImages}
 use Rattle.disk_model.specs.Opener.{OpenerView, OpenerDone, OpenerGoesOn, HoldsSame, SameVault}
 use Rattle.disk_model.specs.Vault.{VaultView, VaultState, state_of, IsSettled}
 use Rattle.parity_split.specs.Joined.{seen}
-use Rattle.parity_split.specs.Split.{AreParts, split_view}
+use Rattle.parity_split.specs.Split.{AreParts, loosely, split_view}
 use Rattle.snap_config.specs.Builder.{BuilderValue, no_lines}
 use Rattle.snap_config.specs.Config.{Refusal, at_line, finish, lacks_level, read_lines, read_setup, setup_of, then_read}
 use Rattle.snap_config.specs.Line.{lines_of}
@@ -39,7 +39,7 @@ use Rattle.snap_top.proofs.RefusalLemmas.{refusal_touches_nothing}
 pub state_by : (split : Bool) (parts : List ℕ) (capacity : ℕ) (held given : VaultView) → state_of given ≡ state_of held
     → state_of (by_parts split parts capacity given) ≡ state_of (by_parts split parts capacity held)
 state_by true parts capacity held given same =
-    ap (λ (s : VaultState). record { faults = s.faults; levels = length parts; drafts = s.drafts; tells = s.tells; files = seen parts capacity s.files; staged = s.staged; tells_calls = false; calls = [] }) same
+    ap (λ (s : VaultState). record { faults = s.faults; writes = loosely s.writes; levels = length parts; drafts = s.drafts; tells = s.tells; files = seen parts capacity s.files; staged = s.staged; tells_calls = false; calls = [] }) same
 state_by false parts capacity held given same = same
 
 pub images_by : (split : Bool) (parts : List ℕ) (capacity : ℕ) (held given : VaultView) → SameImages held.images given.images
@@ -60,6 +60,7 @@ same_vault_by : (split : Bool) (parts : List ℕ) (capacity : ℕ) (told : Bool)
     → SameVault told (by_parts split parts capacity held) (by_parts split parts capacity other)
 same_vault_by true parts capacity told held other same = record {
   faults = same.faults;
+  writes = ap loosely same.writes;
   levels = λ is. refl;
   drafts = same.drafts;
   tells = same.tells;
@@ -144,9 +145,10 @@ holds_by setup old new same = record {
     config = same.array.config;
     folders = same.array.folders;
     folder_counts = same.array.folder_counts;
+    folder_writes = same.array.folder_writes;
     vault = same_vault setup old.tells old.vault new.vault same.array.vault;
   };
-  import = record { folder = same.import.folder; count = same.import.count };
+  import = record { folder = same.import.folder; count = same.import.count; writes = same.import.writes };
 }
 
 abbrev says_by : (by : Option SetupValue) (opener : OpenerView) (log : Option (List ℕ)) (setup : SetupValue) → Says opener log setup → Says (opener_by by opener) log setup

@@ -79,3 +79,4 @@ pub mod ChanceLemmas
 pub mod MetLemmas
 pub mod SyncedRows
 pub mod TakenLemmas
+pub mod UnwrittenLemmas

@@ -64,7 +64,7 @@ module _ (old new : VaultView) where
   pub reads_of : ReadsBelow (copies_of old) old new → ReadsInPieces (copies_of old) old new → ReadsCopies (state_of old) (state_of new)
   reads_of is pieces = record {
     calls = some_calls_of old new is.calls;
-    made = record { done = is.made.done; grown = is.made.grown; each = is.made.each };
+    made = record { done = is.made.done; grown = is.made.grown; writes = is.made.writes; each = is.made.each };
     pieces = pieces_of (copies_of old) pieces;
     drafts = record { state = is.drafts.state; bytes = is.drafts.bytes };
     files = is.changes.reads;

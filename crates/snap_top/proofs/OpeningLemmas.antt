@@ -18,6 +18,7 @@ use Rattle.snap_top.specs.Levels.{by_parts, is_split}
 use Rattle.snap_top.specs.Opening.{IsConfigured, IsGivenBy, IsGivenFor, IsUnopened, Says, StateIsGiven, reads_config, opens_places, is_failure}
 use Rattle.snap_top.specs.Task.{WorksOnArray}
 use Rattle.snap_top.proofs.LevelsLemmas.{configured_by, goes_on_by, levels_by, state_by}
+use Rattle.parity_split.specs.Split.{loosely}
 
 -- no call
 pub no_calls_yet : (opener : OpenerView) → OpenerGoesOn opener opener []
@@ -54,6 +55,7 @@ config_failed file name fault old new same is =
 same_vault_then : (told_old told_mid : Bool) (old mid new : VaultView) → told_mid ≡ told_old → SameVault told_old old mid → SameVault told_mid mid new → SameVault told_old old new
 same_vault_then told_old told_mid old mid new tells one two = record {
   faults = two.faults ∙ one.faults;
+  writes = two.writes ∙ one.writes;
   levels = λ told. two.levels (tells ∙ told) ∙ one.levels told;
   drafts = λ told. two.drafts (tells ∙ told) ∙ one.drafts told;
   tells = λ told. two.tells (tells ∙ told) ∙ one.tells told;
@@ -72,8 +74,10 @@ holds_start opener = record {
     config = λ told. refl;
     folders = λ told. refl;
     folder_counts = λ column. refl;
+    folder_writes = λ column. refl;
     vault = record {
       faults = refl;
+      writes = refl;
       levels = λ told. refl;
       drafts = λ told. refl;
       tells = λ told. refl;
@@ -86,7 +90,7 @@ holds_start opener = record {
       since = λ told t files. (λ left. left, λ left. left);
     };
   };
-  import = record { folder = λ told. refl; count = refl };
+  import = record { folder = λ told. refl; count = refl; writes = refl };
 }
 
 pub holds_then : (old mid new : OpenerView) → mid.tells ≡ old.tells → HoldsSame old mid → HoldsSame mid new → HoldsSame old new
@@ -95,11 +99,13 @@ holds_then old mid new tells one two = record {
     config = λ told. two.array.config (tells ∙ told) ∙ one.array.config told;
     folders = λ told. two.array.folders (tells ∙ told) ∙ one.array.folders told;
     folder_counts = λ column. two.array.folder_counts column ∙ one.array.folder_counts column;
+    folder_writes = λ column. two.array.folder_writes column ∙ one.array.folder_writes column;
     vault = same_vault_then old.tells mid.tells old.vault mid.vault new.vault tells one.array.vault two.array.vault;
   };
   import = record {
     folder = λ told. two.import.folder (tells ∙ told) ∙ one.import.folder told;
     count = two.import.count ∙ one.import.count;
+    writes = two.import.writes ∙ one.import.writes;
   };
 }
 
@@ -118,12 +124,13 @@ state_given : (parities contents : ℕ) (old mid : OpenerView) (given : VaultVie
     → StateIsGiven old.tells parities contents (state_of old.vault) (state_of given)
 state_given parities contents old mid given same tells is =
     let whole = same_vault_then old.tells mid.tells old.vault mid.vault given tells same.array.vault is.same in
-    record { faults = whole.faults; whole = λ told. same_state old.vault given (same_told old.tells old.vault given told whole); levels = is.levels; drafts = is.drafts }
+    record { faults = whole.faults; writes = whole.writes; whole = λ told. same_state old.vault given (same_told old.tells old.vault given told whole); levels = is.levels; drafts = is.drafts }
 
 folder_given : (old mid : OpenerView) (column : ℕ) (given : FolderView) → HoldsSame old mid → mid.tells ≡ old.tells
     → FolderIsGiven mid.tells (folder_held mid column) given → FolderIsGiven old.tells (folder_held old column) given
 folder_given old mid column given same tells is = record {
   faults = is.faults ∙ same.array.folder_counts column;
+  writes = is.writes ∙ same.array.folder_writes column;
   is_open = is.is_open;
   whole = λ told. is.whole (tells ∙ told) ∙ ap (λ folders. get_or folders column (quiet_folder 0 false)) (same.array.folders told);
 }
@@ -153,6 +160,7 @@ opened_given view fs vault x texts command readers setup old mid new configured 
       each = λ d below. folder_given old mid d _ same tells (each d (omega (arith, below, many)));
       state = record {
         faults = faults_by split state.faults;
+        writes = writes_by split state.writes;
         whole = λ told. state_by split setup.parts setup.split old.vault vault (state.whole told);
         levels = levels_by setup vault valid state.levels;
         drafts = drafts_by split state.drafts;
@@ -162,6 +170,10 @@ opened_given view fs vault x texts command readers setup old mid new configured 
     faults_by : (b : Bool) → vault.faults ≡ old.vault.faults → (by_parts b setup.parts setup.split vault).faults ≡ (by_parts b setup.parts setup.split old.vault).faults
     faults_by true is' = is'
     faults_by false is' = is'
+
+    writes_by : (b : Bool) → vault.writes ≡ old.vault.writes → (by_parts b setup.parts setup.split vault).writes ≡ (by_parts b setup.parts setup.split old.vault).writes
+    writes_by true is' = ap loosely is'
+    writes_by false is' = is'
 
     drafts_by : (b : Bool) → vault.drafts ≡ replicate (length setup.contents) Absent → (by_parts b setup.parts setup.split vault).drafts ≡ replicate (length setup.contents) Absent
     drafts_by true is' = is'

@@ -1,5 +1,5 @@
 -- A run, from what it was given and what it loaded.
-use Rattle.std.proofs.Common.{◌≡◌, inl, ℕ, ◌≤◌, List, [], ◌∷◌, ◌++◌, length, map, take, Option, None, Some, Bool, ◌||◌, IsTrue, true, false, Ok, Err, refl, ap, ◌∙◌, sym, subst, arith, append_assoc}
+use Rattle.std.proofs.Common.{◌≡◌, inl, inr, ℕ, ◌≤◌, List, [], ◌∷◌, ◌++◌, length, map, take, Option, None, Some, Bool, ◌||◌, IsTrue, true, false, Ok, Err, refl, ap, ◌∙◌, sym, subst, arith, append_assoc}
 use Rattle.std.specs.List.{list_any}
 use Rattle.std.proofs.Math.Seq.{take-append_seam}
 use Rattle.disk_model.specs.Cause.{RoseBy}
@@ -8,9 +8,11 @@ use Rattle.disk_model.specs.Folder.{FolderView}
 use Rattle.disk_model.specs.Moments.{SameImages}
 use Rattle.disk_model.specs.Opener.{OpenerView, HoldsSame}
 use Rattle.disk_model.specs.Sink.{SinkView}
-use Rattle.disk_model.specs.Vault.{VaultView, VaultState, state_of, ChangesBy, Holds, IsSettled}
+use Rattle.disk_model.specs.Vault.{VaultView, VaultState, VaultCall, writes_vault, copies_of, state_of, ChangesBy, Holds, IsSettled}
+use Rattle.disk_model.proofs.CallsLemmas.{only_reads}
 use Rattle.disk_model.proofs.GivenLemmas.{changes_held}
 use Rattle.disk_model.proofs.VaultLemmas.{calls_then, stays_then}
+use Rattle.content_file.specs.Load.{IsReadBelow}
 use Rattle.content_file.specs.declared.loading.LoadFault.{LoadFault}
 use Rattle.file_table.specs.Table.{TableValue}
 use Rattle.file_table.specs.Valid.{IsValid}
@@ -24,7 +26,7 @@ use Rattle.snap_report.specs.declared.answer.RunFault.TheVariants.{Folder, Vault
 use Rattle.snap_report.specs.declared.events.Event.{Event}
 use Rattle.snap_report.proofs.ReportLemmas.{all_given_nothing}
 use Rattle.snap_top.specs.Does.{Does, IsDone}
-use Rattle.snap_top.specs.Task.{Task, Did, fixes, reads_only, scrubs, syncs, may_stand, stands_after, Left}
+use Rattle.snap_top.specs.Task.{Task, Did, fixes, reads_only, scrubs, syncs, may_stand, stands_after, vault_after, Left}
 use Rattle.content_file.specs.Spelling.{spelling}
 use Rattle.content_file.proofs.SaveLemmas.{saves_nothing}
 use Rattle.snap_sync.specs.Images.{Opening}
@@ -106,6 +108,23 @@ table_fits setup seed (Some loaded) table begins =
     let names = ap length begins.1.names in
     (ap (λ (t : TableValue). length t.columns) begins.0 ∙ omega (arith, names, length-columns loaded, length-disks setup), ap (λ (t : TableValue). t.shape.levels) begins.0 ∙ begins.1.levels)
 
+-- ---- what was only read
+
+copy_leaves : (copies : ℕ) (call : VaultCall) → IsReadBelow copies call → writes_vault call ≡ false
+copy_leaves copies call (copy, below, inl size) = ap writes_vault size
+copy_leaves copies call (copy, below, inr read) = ap writes_vault read.3
+
+-- content copies alone
+copies_unwritten : (old new : VaultState) → ReadsCopies old new → new.writes ≡ old.writes
+copies_unwritten old new reads = only_reads (IsReadBelow (copies_of (view_of old))) (view_of old) (view_of new) (copy_leaves (copies_of (view_of old))) reads.made
+
+-- before a command
+unwritten_before : (did : Did) (old mid new : VaultState) → mid.writes ≡ old.writes → vault_after did mid new → vault_after did old new
+unwritten_before reads_only old mid new before after = after ∙ before
+unwritten_before (syncs failed run) old mid new before after = tt
+unwritten_before (fixes failed run) old mid new before after = tt
+unwritten_before (scrubs failed run) old mid new before after = λ none. after none ∙ before
+
 -- ---- after the opening
 
 module _ {R : Type 0} (standing : R → ReportView) (stands : R → List Event → Type 0) where
@@ -119,7 +138,7 @@ module _ {R : Type 0} (standing : R → ReportView) (stands : R → List Event �
     goes = ((refl, refl), only_loads folders given mid out reads, fails, order);
     changes = changes;
     ends = λ tells. nothing_more given.files mid;
-    keeps = record { folders = all_read_nothing folders; vault = reads.calls; out = sink_stays out };
+    keeps = record { folders = all_read_nothing folders; vault = reads.calls; writes = copies_unwritten (state_of given) (state_of mid) reads; out = sink_stays out };
     reports = all_given_nothing standing stands reports;
   }
 
@@ -134,7 +153,7 @@ module _ {R : Type 0} (standing : R → ReportView) (stands : R → List Event �
     goes = ((refl, refl), record { reads = only_loads folders given mid out reads; loads = subst (λ l. LoadsFrom (state_of given) (state_of mid) l) why loads; order = subst (λ l. LoadsInOrder (Ok l) (state_of given) (state_of mid)) why order });
     changes = changes;
     ends = λ tells. nothing_more given.files mid;
-    keeps = record { folders = all_read_nothing folders; vault = reads.calls; out = sink_stays out };
+    keeps = record { folders = all_read_nothing folders; vault = reads.calls; writes = copies_unwritten (state_of given) (state_of mid) reads; out = sink_stays out };
     reports = all_given_nothing standing stands reports;
   }
   not_begun task folders given mid out reports loaded (OtherArray difference content) reads changes loads order why = record {
@@ -143,7 +162,7 @@ module _ {R : Type 0} (standing : R → ReportView) (stands : R → List Event �
     goes = ((refl, refl), record { reads = only_loads folders given mid out reads; loads = subst (λ l. LoadsFrom (state_of given) (state_of mid) l) why.0 loads; order = subst (λ l. LoadsInOrder (Ok l) (state_of given) (state_of mid)) why.0 order; differs = why.1 });
     changes = changes;
     ends = λ tells. nothing_more given.files mid;
-    keeps = record { folders = all_read_nothing folders; vault = reads.calls; out = sink_stays out };
+    keeps = record { folders = all_read_nothing folders; vault = reads.calls; writes = copies_unwritten (state_of given) (state_of mid) reads; out = sink_stays out };
     reports = all_given_nothing standing stands reports;
   }
   not_begun task folders given mid out reports loaded (Answered answer named) reads changes loads order why = absurd why
@@ -184,6 +203,7 @@ module _ {R : Type 0} (standing : R → ReportView) (stands : R → List Event �
         keeps = record {
           folders = done.keeps.folders;
           vault = calls_then (view_of (state_of given)) (view_of (state_of mid)) (view_of (state_of after.vault)) reads.calls done.keeps.vault;
+          writes = unwritten_before done.did (state_of given) (state_of mid) (state_of after.vault) (copies_unwritten (state_of given) (state_of mid) reads) done.keeps.writes;
           out = done.keeps.out;
         };
         reports = done.reports;

@@ -74,6 +74,7 @@ touches_of table after readings failed old new touches = record {
   changes = changes_of (MayStandScrubbed after readings) old new touches.changes;
   drafts = touches.drafts;
   rests = λ none. let stay = touches.rests none in record { state = stay.state; bytes = stay.bytes };
+  unwritten = touches.unwritten;
 }
 
 -- the calls that save read nothing
@@ -175,6 +176,7 @@ module _ {W R : Type 0} (unread_are_told : UnreadAreTold) (standing : R → Repo
         keeps = record {
           folders = cells_read table _ folders folders_new course.cells;
           vault = some_calls_of vault vault_new course.vault.calls;
+          writes = course.vault.unwritten;
           out = told.goes_on;
         };
         reports = course.given;
@@ -229,6 +231,7 @@ module _ {W R : Type 0} (unread_are_told : UnreadAreTold) (standing : R → Repo
         keeps = record {
           folders = cells_read table _ folders folders_new course.cells;
           vault = some_calls_of vault vault_new course.vault.calls;
+          writes = course.vault.unwritten;
           out = told.goes_on;
         };
         reports = course.given;
@@ -247,7 +250,7 @@ module _ {W R : Type 0} (unread_are_told : UnreadAreTold) (standing : R → Repo
         changes = changes_start Stays vault (λ files. refl);
         ends = λ tells. nothing_more vault.files vault;
         caused = tt;
-        keeps = record { folders = all_read_nothing folders; vault = no_calls (view_of (state_of vault)); out = sink_stays out };
+        keeps = record { folders = all_read_nothing folders; vault = no_calls (view_of (state_of vault)); writes = refl; out = sink_stays out };
         reports = all_given_nothing standing stands olds;
       }
 

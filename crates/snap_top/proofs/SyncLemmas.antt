@@ -234,7 +234,7 @@ module _ {R : Type 0} (standing : R → ReportView) (stands : R → List Event �
         changes = changes_start Stays vault (λ files. refl);
         ends = λ tells. nothing_more vault.files vault;
         caused = refusal_caused fault task way table folders folders_new (outside_of before) (outside_of after) refl refl why;
-        keeps = record { folders = begun_not task way table folders folders_new fault many why; vault = no_calls (view_of (state_of vault)); out = sink_stays out };
+        keeps = record { folders = begun_not task way table folders folders_new fault many why; vault = no_calls (view_of (state_of vault)); writes = refl; out = sink_stays out };
         reports = all_given_nothing standing stands reports;
       }
 
@@ -288,6 +288,7 @@ module _ {R : Type 0} (standing : R → ReportView) (stands : R → List Event �
           keeps = record {
             folders = all_read_then folders syncs_is.listed folders_new (all_listed folders syncs_is.listed syncs_is.laid.lists syncs_is.laid.as_many syncs_is.laid.listed) (stripes_read start _ syncs_is.listed folders_new course.reads);
             vault = some_calls_of vault vault_new course.vault.calls;
+            writes = tt;
             out = told.goes_on;
           };
           reports = course.tells.given;
@@ -340,6 +341,7 @@ module _ {R : Type 0} (standing : R → ReportView) (stands : R → List Event �
           keeps = record {
             folders = all_read_then folders breaks_off.listed folders_new (all_listed folders breaks_off.listed breaks_off.laid.lists breaks_off.laid.as_many breaks_off.laid.listed) (stripes_read start _ breaks_off.listed folders_new course.reads);
             vault = some_calls_of vault vault_new course.vault.calls;
+            writes = tt;
             out = told.goes_on;
           };
           reports = course.tells.given;

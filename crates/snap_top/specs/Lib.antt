@@ -41,4 +41,5 @@ pub mod Syncing
 pub mod Taken
 pub mod Task
 pub mod Undamaged
+pub mod Unwritten
 pub mod Views

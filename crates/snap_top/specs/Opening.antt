@@ -120,6 +120,7 @@ RefusesFor asked old new why = (texts : List (List ℕ)) → asked_by texts ≡ 
 -- a vault is given as it was held, of so many levels and copies, without drafts
 pub record StateIsGiven (is_told : Bool) (parities contents : ℕ) (held given : VaultState) : Type 0 where
   pub faults : given.faults ≡ held.faults
+  pub writes : given.writes ≡ held.writes
   pub whole : IsTrue is_told → given ≡ held
   pub levels : given.levels ≡ parities
   pub drafts : given.drafts ≡ replicate contents Absent

@@ -1,10 +1,11 @@
 -- What a run is to do, and what it leaves to be said.
-use Rattle.std.specs.Prelude.{◌≡◌, ℕ, List, length, Bool, true, false, Option}
+use Rattle.std.specs.Prelude.{◌≡◌, ℕ, List, [], length, Bool, true, false, Option}
 use Rattle.content_file.specs.Save.{HasSaved}
 use Rattle.content_file.specs.Spelling.{spelling}
 use Rattle.disk_model.specs.Files.{Files, Stays}
 use Rattle.disk_model.specs.Folder.{FolderView}
 use Rattle.disk_model.specs.Sink.{SinkView}
+use Rattle.disk_model.specs.Vault.{VaultState}
 use Rattle.file_table.specs.Table.{Column, TableValue}
 use Rattle.snap_config.specs.Setup.{SetupValue, setup_value}
 use Rattle.snap_config.specs.declared.options.Command.{Command}
@@ -90,9 +91,16 @@ folders_after (syncs failed run) = AllReadOnly
 folders_after (fixes failed run) = AllFixed run
 folders_after (scrubs failed run) = AllReadOnly
 
+-- what it did to the vault: one that only read left the count of writing calls, and so did a scrub that read no stripe
+abbrev pub vault_after : Did → VaultState → VaultState → Type 0
+vault_after reads_only old new = new.writes ≡ old.writes
+vault_after (syncs failed run) old new = Unit {0}
+vault_after (fixes failed run) old new = Unit {0}
+vault_after (scrubs failed run) old new = run.readings ≡ [] → new.writes ≡ old.writes
+
 -- what stays whatever was done, and what only grows
 abbrev pub Keeps : Did → World → World → Type 0
-Keeps did = KeepsBy (folders_after did)
+Keeps did = KeepsBy (folders_after did) (vault_after did)
 
 -- the columns that give the names in the lines of its events, by the table that it began with: of a sync those that it laid out
 abbrev pub told_columns : Did → TableValue → List Column

@@ -28,6 +28,7 @@ world_of view = record { folders = view.folders; vault = state_of view.vault; ou
 abbrev pub view_of : VaultState → VaultView
 view_of state = record {
   faults = state.faults;
+  writes = state.writes;
   levels = state.levels;
   drafts = state.drafts;
   tells = state.tells;
@@ -53,9 +54,10 @@ AreAllOpen folders = (d : ℕ) → d < length folders → (folder_at folders d).
 abbrev pub calls_since : FolderView → FolderView → List FolderDone
 calls_since old new = drop (length old.calls) new.calls
 
--- a folder was only read: where it tells its calls, none of them writes
+-- a folder was only read: its count of writing calls stays, and where it tells its calls, none of them writes
 pub record ReadsOnly (old new : FolderView) : Type 0 where
   pub calls : SomeFolderCalls old new
+  pub unwritten : new.writes ≡ old.writes
   pub reads : IsTrue new.tells_calls → EachCall (λ (call : FolderCall). written_path call ≡ None) (calls_since old new)
   pub tree : TreeStays old new
 
@@ -64,8 +66,9 @@ pub record AllReadOnly (olds news : List FolderView) : Type 0 where
   pub count : length news ≡ length olds
   pub each : (d : ℕ) → d < length olds → ReadsOnly (folder_at olds d) (folder_at news d)
 
--- the folders went on by this, the vault by some calls, and the output only grew
-pub record KeepsBy (P : List FolderView → List FolderView → Type 0) (before after : World) : Type 0 where
+-- the folders went on by this, the vault by some calls of which that holds, and the output only grew
+pub record KeepsBy (P : List FolderView → List FolderView → Type 0) (Q : VaultState → VaultState → Type 0) (before after : World) : Type 0 where
   pub folders : P before.folders after.folders
   pub vault : SomeCalls (view_of before.vault) (view_of after.vault)
+  pub writes : Q before.vault after.vault
   pub out : SinkGoesOn before.out after.out

@@ -14,6 +14,7 @@ ghost use Rattle.snap_top.specs.Scrubbed.{ScrubsEnd};
 ghost use Rattle.snap_top.specs.Task.{WorksOnArray, task_of};
 ghost use Rattle.snap_top.specs.Run.{BeginsWith, BeginsNot, ByLevels, IsAccounted, Works, Ran, RanWith, EndsWith, at_entry, exit_of};
 ghost use Rattle.snap_top.specs.Step.{EveryRunSteps};
+ghost use Rattle.snap_top.specs.Unwritten.{WritesAsAsked};
 ghost use Rattle.snap_top.specs.Views.{AreAllOpen, world_view};
 
 use crate::commands::{COMMANDS, carry_out};
@@ -289,6 +290,9 @@ pub fn run<R: Threads + Sync, O: Opener, W: Sink, E: Sink>(
         (exit_of O.Folder.view O.Vault.view (O.view opener.new) result.folders.items result.vault (W.view out.new))
         result.status }
     ensures refused { ByLevels RefusalsTouchNothing (at_entry (map string_bytes words.now) (O.view opener.old) (W.view out.old) now seed)
+        (exit_of O.Folder.view O.Vault.view (O.view opener.new) result.folders.items result.vault (W.view out.new))
+        result.status }
+    ensures unwritten { WritesAsAsked (at_entry (map string_bytes words.now) (O.view opener.old) (W.view out.old) now seed)
         (exit_of O.Folder.view O.Vault.view (O.view opener.new) result.folders.items result.vault (W.view out.new))
         result.status }
     ensures silent { IsSilent result.status (E.view err.old) (E.view err.new) }

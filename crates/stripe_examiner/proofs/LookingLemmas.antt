@@ -1,17 +1,20 @@
 -- Stripes that are looked at, and then others.
-use Rattle.std.proofs.Common.{◌≡◌, ℕ, ◌+◌, ◌*◌, List, [], ◌∷◌, ◌++◌, get_or, IsTrue, None, Some, refl, sym, ap, ◌∙◌, subst, arith, append_assoc}
+use Rattle.std.proofs.Common.{◌≡◌, ℕ, ◌+◌, ◌*◌, List, [], ◌∷◌, ◌++◌, get_or, Bool, false, ◌||◌, IsTrue, None, Some, refl, sym, ap, ap₂, ◌∙◌, subst, arith, append_assoc}
 use Rattle.std.specs.List.{count_by}
 use Rattle.std.proofs.lemmas.Grind.{flat_map-append}
 use Rattle.std.proofs.lemmas.List.{append-nil}
 use Rattle.std.proofs.lemmas.List.Elements.{All-nil, All-append}
+use Rattle.std.proofs.lemmas.List.Folds.{list_any-append}
 use Rattle.std.proofs.lemmas.List.Sums.{sum_by-append}
 use Rattle.disk_model.specs.Bytes.{read_from}
 use Rattle.disk_model.specs.Cause.{RoseBy}
 use Rattle.disk_model.specs.Files.{Files, parity_of, Stays}
 use Rattle.disk_model.specs.Sink.{SinkView}
-use Rattle.disk_model.specs.Vault.{VaultView, VaultDone, GoesOn, DraftsStay}
+use Rattle.disk_model.specs.Vault.{VaultView, VaultDone, GoesOn, DraftsStay, IsUnwritten, writes_vault, any_write}
 use Rattle.disk_model.proofs.VaultLemmas.{changes_start, stays_then}
+use Rattle.disk_model.proofs.CountLemmas.{counts_none, counts_stay, writes_then}
 use Rattle.parity_writer.specs.LevelReading.{LevelReading, IsReadingOf, has_failed, calls_of}
+use Rattle.parity_writer.proofs.LevelReadingLemmas.{calls_only_read}
 use Rattle.snap_report.specs.Report.{ReportView}
 use Rattle.snap_report.specs.declared.events.Event.{Event}
 use Rattle.snap_report.proofs.ToldLemmas.{told_then, told_nothing}
@@ -32,6 +35,7 @@ drafts_then old mid new tells one two = record { state = two.state ∙ one.state
 pub vault_goes_on : (old mid new : VaultView) (first back : List VaultDone) → GoesOn old mid first → GoesOn mid new back → GoesOn old new (first ++ back)
 vault_goes_on old mid new first back one two = record {
   later = omega (arith, one.later, two.later);
+  writes = writes_then first back old.writes mid.writes new.writes one.writes two.writes;
   levels = two.levels ∙ one.levels;
   copies = two.copies ∙ one.copies;
   tells = two.tells ∙ one.tells;
@@ -78,12 +82,23 @@ reads_append size v (facts ∷ xs) ys (of ∷ rs) ss (first, rest) =
 pub rose_then : (n m before mid after : ℕ) → RoseBy n before mid → RoseBy m mid after → RoseBy (n + m) before after
 rose_then n m before mid after one two = omega (arith, one, two)
 
+-- none of the calls for levels writes
+only_reads : (size : ℕ) (stripes : List StripeFacts) (readings : List (List LevelReading)) → any_write (level_reads size stripes readings) ≡ false
+only_reads size [] readings = refl
+only_reads size (facts ∷ stripes) [] = refl
+only_reads size (facts ∷ stripes) (of ∷ readings) =
+    list_any-append (λ (done : VaultDone). writes_vault done.call) (calls_of size facts.stripe of) (level_reads size stripes readings)
+    ∙ ap₂ (λ (a b : Bool). a || b) (calls_only_read size facts.stripe of) (only_reads size stripes readings)
+
+pub levels_unwritten : (plan : FixPlan) (stripes : List StripeFacts) (old new : VaultView) → LevelsAreRead plan stripes old new → IsUnwritten old new
+levels_unwritten plan stripes old new read = counts_stay old.writes new.writes (only_reads plan.table.shape.block_size stripes read.readings) read.goes_on.writes
+
 pub levels_none : (plan : FixPlan) (v : VaultView) → LevelsAreRead plan [] v v
 levels_none plan v = record {
   readings = [];
   are = tt;
   unread = omega arith;
-  goes_on = record { later = omega arith; levels = refl; copies = refl; tells = refl; calls = record { told = λ t. t; more = λ t. sym (append-nil v.calls) } };
+  goes_on = record { later = omega arith; writes = counts_none v.writes; levels = refl; copies = refl; tells = refl; calls = record { told = λ t. t; more = λ t. sym (append-nil v.calls) } };
   changes = changes_start Stays v (λ files. refl);
   drafts = record { state = refl; bytes = λ told. refl };
 }

@@ -3,11 +3,13 @@ use Rattle.std.proofs.Common.{List, [], ◌∷◌, ◌++◌, refl, sym, ap, ◌�
 use Rattle.std.proofs.lemmas.List.{append-nil}
 use Rattle.disk_model.specs.declared.answer.Answer.{Answer}
 use Rattle.disk_model.specs.Folder.{FolderView, FolderCall, FolderDone, FolderGoesOn, IsFolderReading}
+use Rattle.disk_model.proofs.CountLemmas.{counts_none, folder_writes_then}
 use Rattle.stripe_reader.specs.Column.{ReadsBy}
 
 pub goes_on_then : (old mid new : FolderView) (first back : List FolderDone) → FolderGoesOn old mid first → FolderGoesOn mid new back → FolderGoesOn old new (first ++ back)
 goes_on_then old mid new first back one two = record {
   later = omega (arith, one.later, two.later);
+  writes = folder_writes_then first back old.writes mid.writes new.writes one.writes two.writes;
   keeps = two.keeps ∙ one.keeps;
   closed = two.closed ∙ one.closed;
   tells = two.tells ∙ one.tells;
@@ -22,7 +24,7 @@ pub reads_nothing : (P : List FolderDone → Type 0) (v : FolderView) → P [] �
 reads_nothing P v none = record {
   done = [];
   are = none;
-  goes_on = record { later = omega arith; keeps = refl; closed = refl; tells = refl; calls = record { told = λ t. t; more = λ t. sym (append-nil v.calls) } };
+  goes_on = record { later = omega arith; writes = counts_none v.writes; keeps = refl; closed = refl; tells = refl; calls = record { told = λ t. t; more = λ t. sym (append-nil v.calls) } };
   tree = λ t. refl;
 }
 

@@ -1,10 +1,12 @@
 // Files that are changed from outside between the listing and the reading.
 ghost use Rattle.std.specs.Prelude.{◌≡◌, ◌≤◌, true};
 ghost use Rattle.disk_model.specs.Cause.{Rose};
-ghost use Rattle.disk_model.specs.Folder.{quiet_folder, quiet_folder-is_folder};
+ghost use Rattle.disk_model.specs.Folder.{quiet_keeping, quiet_keeping-is_folder};
 
 use disk_memory::{MemFolder, MemVault};
-use disk_model::{Failed, FileFault, FileInfo, Folder, ListFault, Meta, Path, Stamp};
+use disk_model::{
+    Failed, FileFault, FileInfo, Folder, ListFault, Meta, Path, Stamp, count_write,
+};
 use snap_top_memory::arrays::{CONFIG, Disk, ONE, Ran, SYNC, folder, run_with, vault};
 use snap_top_memory::contents::ONE_PENDING;
 use std::alloc::Global;
@@ -17,6 +19,7 @@ struct Changing {
     listed: MemFolder,
     there: MemFolder,
     faults: u64,
+    writes: u64,
 }
 
 impl Changing {
@@ -25,21 +28,23 @@ impl Changing {
             listed: folder(alloc, listed)?,
             there: folder(alloc, there)?,
             faults: 0,
+            writes: 0,
         })
     }
 
     fn raise(&mut self)
         ensures later { self.old.faults ≤ self.new.faults }
         ensures rose { Rose self.old.faults self.new.faults }
+        ensures writes { self.new.writes ≡ self.old.writes }
     {
         self.faults = self.faults.saturating_add(1);
     }
 }
 
 impl Folder for Changing {
-    ghost view = { λ s. quiet_folder s.faults true };
+    ghost view = { λ s. quiet_keeping s.faults s.writes (λ stamp. true) };
 
-    ghost well_formed = { λ s. quiet_folder-is_folder s.faults true };
+    ghost well_formed = { λ s. quiet_keeping-is_folder s.faults s.writes (λ stamp. true) };
 
     fn faults(&self) -> u64 {
         self.faults
@@ -76,26 +81,31 @@ impl Folder for Changing {
     }
 
     fn make(&mut self, _path: &Path) -> Result<(), Failed> {
+        count_write(&mut self.writes);
         self.raise();
         Err(Failed)
     }
 
     fn write_at(&mut self, _path: &Path, _at: u64, _bytes: &[u8]) -> Result<(), FileFault> {
+        count_write(&mut self.writes);
         self.raise();
         Err(FileFault::Failed)
     }
 
     fn set_size(&mut self, _path: &Path, _size: u64) -> Result<(), FileFault> {
+        count_write(&mut self.writes);
         self.raise();
         Err(FileFault::Failed)
     }
 
     fn set_stamp(&mut self, _path: &Path, _stamp: Stamp) -> Result<bool, FileFault> {
+        count_write(&mut self.writes);
         self.raise();
         Err(FileFault::Failed)
     }
 
     fn rename(&mut self, _path: &Path, _lost: bool) -> Result<(), FileFault> {
+        count_write(&mut self.writes);
         self.raise();
         Err(FileFault::Failed)
     }

@@ -3,12 +3,13 @@ use Rattle.std.proofs.lemmas.Bool.{cases_eq}
 use Rattle.disk_model.specs.Files.{Stays}
 use Rattle.parity_split.specs.Joined.{part_of}
 use Rattle.parity_split.specs.Works.{parts_in}
+use Rattle.disk_model.proofs.VaultLemmas.{reading_leaves}
 use Rattle.parity_split.proofs.WorksLemmas.{works_start, reads_then, still_within, rose_at, found_len, in_count}
 use Rattle.parity_split.proofs.parts.find.Goals as goal
 use Rattle.parity_split.proofs.parts.find.Goals.{then-part-parts-via-then-part-parts, then-part-parts-via-else-part-parts+then-len-parts}
 
 pub loop-len-init : goal.loop-len-init
-loop-len-init g c = record { works = works_start Stays _ (λ files. refl); within = c.requires; low = c.requires.some; full = λ t j below. absurd (omega arith) }
+loop-len-init g c = record { works = works_start Stays _ (λ files. refl); unwritten = refl; within = c.requires; low = c.requires.some; full = λ t j below. absurd (omega arith) }
 
 pub part_len-requires : goal.part_len-requires
 part_len-requires g c = omega (arith, c.loop-len.invariant.within.within)
@@ -18,6 +19,12 @@ returns-in_err-len-clause-works g c = reads_then _ _ _ _ _ _ c.loop-len.invarian
 
 pub returns-in_err-len-clause-cause : goal.returns-in_err-len-clause-cause
 returns-in_err-len-clause-cause g c = rose_at c.from_residual.result Stays _ _ (g.V.Base.view c.part_len.new.self) c.loop-len.invariant.works c.in_err-len.ensures.call.called.cause
+
+pub returns-in_err-len-clause-unwritten : goal.returns-in_err-len-clause-unwritten
+returns-in_err-len-clause-unwritten g c = reading_leaves _ _ _ _ _ refl c.in_err-len.ensures.call ∙ c.loop-len.invariant.unwritten
+
+pub returns-then-part-parts-clause-unwritten : goal.returns-then-part-parts-clause-unwritten
+returns-then-part-parts-clause-unwritten g c = reading_leaves _ _ _ _ _ refl c.in_ok-len.ensures.call ∙ c.loop-len.invariant.unwritten
 
 pub returns-then-part-parts-clause-works : goal.returns-then-part-parts-clause-works
 returns-then-part-parts-clause-works g c = reads_then _ _ _ _ _ _ c.loop-len.invariant.works c.in_ok-len.ensures.call
@@ -43,6 +50,7 @@ loop-len-preserved g c =
     let low : c.loop-len.part < c.args.parts.count = c.loop-len.invariant.low in
     record {
       works = works;
+      unwritten = reading_leaves _ _ _ _ _ refl c.in_ok-len.ensures.call ∙ c.loop-len.invariant.unwritten;
       within = still_within c.args.parts Stays _ _ works c.requires;
       low = omega arith;
       full = λ t j below.

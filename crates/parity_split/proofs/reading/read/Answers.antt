@@ -1,7 +1,8 @@
-use Rattle.std.proofs.Common.{◌≡◌, ◌+◌, ◌-◌, ◌^◌, ◌≤◌, ◌++◌, min, length, take, drop, IsTrue, sym, ◌∙◌, ap, subst, arith, length-append}
+use Rattle.std.proofs.Common.{◌≡◌, ◌+◌, ◌-◌, ◌^◌, ◌≤◌, ◌++◌, min, length, take, drop, IsTrue, refl, sym, ◌∙◌, ap, subst, arith, length-append}
 use Rattle.std.proofs.lemmas.List.{length-take, get_or_append_left}
 use Rattle.disk_model.specs.Bytes.{read_from}
 use Rattle.disk_model.specs.Files.{Stays, parity_of}
+use Rattle.disk_model.proofs.VaultLemmas.{reading_leaves}
 use Rattle.parity_split.specs.Joined.{joined, level_bytes}
 use Rattle.parity_split.specs.Values.{IsThere}
 use Rattle.parity_split.specs.Works.{IsFound, parts_in}
@@ -9,6 +10,12 @@ use Rattle.parity_split.proofs.ReadLemmas.{if_both, read_values, read_alone, alo
 use Rattle.parity_split.proofs.StepLemmas.{end_length}
 use Rattle.parity_split.proofs.WorksLemmas.{works_then, stays_then, still_within, read_works, rose_after, reads_still}
 use Rattle.parity_split.proofs.reading.read.Goals as goal
+
+pub returns-then-parts-eq1-clause-unwritten : goal.returns-then-parts-eq1-clause-unwritten
+returns-then-parts-eq1-clause-unwritten g c = reading_leaves _ _ _ _ _ refl c.part_read.ensures.call
+
+pub returns-clause-unwritten : goal.returns-clause-unwritten
+returns-clause-unwritten g c = c.read_parts.ensures.unwritten ∙ c.find.ensures.unwritten
 
 pub returns-then-parts-eq1-clause-works : goal.returns-then-parts-eq1-clause-works
 returns-then-parts-eq1-clause-works g c = read_works _ _ _ _ _ c.part_read.ensures.call

@@ -9,7 +9,7 @@ use Rattle.parity_split.proofs.WriteLemmas.{exact_end}
 use Rattle.parity_split.proofs.reading.read_parts.Goals as goal
 
 pub loop-part-init : goal.loop-part-init
-loop-part-init g c = record { works = works_start Stays _ (λ files. refl); within = c.requires.at.parts; there = λ t k below inside. absurd (omega arith) }
+loop-part-init g c = record { works = works_start Stays _ (λ files. refl); unwritten = refl; within = c.requires.at.parts; there = λ t k below inside. absurd (omega arith) }
 
 pub loop-part-preserved : goal.loop-part-preserved
 loop-part-preserved g c =
@@ -26,6 +26,7 @@ loop-part-preserved g c =
     let is_to : to ≡ min last ((part + 1) * K) = exact_end last ((part + 1) * K) (2 ^ 64 - 1) c.start.result to c.start.ensures c.smaller-to.ensures (omega (arith, c.ranges.last.fits)) in
     record {
       works = works;
+      unwritten = c.read_piece.ensures.unwritten ∙ c.loop-part.invariant.unwritten;
       within = still_within p Stays old new works c.requires.at.parts;
       there = λ t.
           let reads = parts_in p old.files in
@@ -40,6 +41,15 @@ loop-part-preserved g c =
           there_more K c.args.end.part part at last c.in_ok-there.there reads c.loop-part.out c.read_piece.new.out end (omega arith) (c.loop-part.invariant.there t) c.read_piece.ensures.earlier
           (subst (λ n. PieceIsThere at n (part * K) (part_of reads part) c.in_ok-there.there c.read_piece.new.out) is_to here);
     }
+
+pub returns-in_err-there-clause-unwritten : goal.returns-in_err-there-clause-unwritten
+returns-in_err-there-clause-unwritten g c = c.read_piece.ensures.unwritten ∙ c.loop-part.invariant.unwritten
+
+pub returns-then-there-saturating_sub-clause-unwritten : goal.returns-then-there-saturating_sub-clause-unwritten
+returns-then-there-saturating_sub-clause-unwritten g c = c.read_piece.ensures.unwritten ∙ c.loop-part.invariant.unwritten
+
+pub returns-clause-unwritten : goal.returns-clause-unwritten
+returns-clause-unwritten g c = c.read_piece-2.ensures.unwritten ∙ c.loop-part.invariant.unwritten
 
 pub returns-in_err-there-clause-works : goal.returns-in_err-there-clause-works
 returns-in_err-there-clause-works g c = works_then Stays (g.V.Base.view c.args.base.now) (g.V.Base.view c.loop-part.base) (g.V.Base.view c.read_piece.new.base) stays_then c.loop-part.invariant.works c.read_piece.ensures.works

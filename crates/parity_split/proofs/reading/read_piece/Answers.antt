@@ -1,12 +1,19 @@
-use Rattle.std.proofs.Common.{◌≡◌, ◌+◌, ◌-◌, ◌*◌, ◌^◌, ◌<◌, max, min, length, take, drop, sym, ◌∙◌, ap, arith}
+use Rattle.std.proofs.Common.{◌≡◌, ◌+◌, ◌-◌, ◌*◌, ◌^◌, ◌<◌, max, min, length, take, drop, refl, sym, ◌∙◌, ap, arith}
 use Rattle.std.proofs.lemmas.List.{length-take, length-drop}
 use Rattle.disk_model.specs.Files.{parity_of}
 use Rattle.parity_split.specs.Joined.{part_of}
 use Rattle.parity_split.specs.Works.{parts_in}
+use Rattle.disk_model.proofs.VaultLemmas.{reading_leaves}
 use Rattle.parity_split.proofs.ReadLemmas.{piece_there, in_part}
 use Rattle.parity_split.proofs.WorksLemmas.{part_is}
 use Rattle.parity_split.proofs.WriteLemmas.{exact_start}
 use Rattle.parity_split.proofs.reading.read_piece.Goals as goal
+
+pub returns-in_err-got-clause-unwritten : goal.returns-in_err-got-clause-unwritten
+returns-in_err-got-clause-unwritten g c = reading_leaves _ _ _ _ _ refl c.in_err-got.ensures.call
+
+pub returns-clause-unwritten : goal.returns-clause-unwritten
+returns-clause-unwritten g c = reading_leaves _ _ _ _ _ refl c.in_ok-got.ensures.call
 
 pub returns-clause-found : goal.returns-clause-found
 returns-clause-found g c = λ tells room.

@@ -51,6 +51,14 @@ returns-in_err-write_before-clause-cause g c = rose_at c.from_residual.result (L
 pub returns-in_err-write_before-clause-ready : goal.returns-in_err-write_before-clause-ready
 returns-in_err-write_before-clause-ready g c = λ len holds. c.write_before.ensures.ready len (c.loop-part.invariant.ready len holds)
 
+pub returns-clause-written : goal.returns-clause-written
+returns-clause-written g c = λ t.
+    let p = c.args.parts in
+    let old = g.V.Base.view c.args.base.now in
+    let new = g.V.Base.view c.loop-part.base in
+    let done : c.loop-part.part ≡ c.args.end = omega arith in
+    subst (λ m. IsPutBelow (m * p.capacity) c.args.at c.args.bytes.now (joined p.capacity (parts_in p old.files)) (joined p.capacity (parts_in p new.files))) done (c.loop-part.invariant.written t)
+
 pub returns-clause-ready : goal.returns-clause-ready
 returns-clause-ready g c = λ len holds. c.loop-part.invariant.ready len holds
 

@@ -2,13 +2,16 @@ use Rattle.std.proofs.Common.{◌<◌, refl, arith}
 use Rattle.disk_model.specs.Vault.{ParitySync}
 use Rattle.disk_model.specs.declared.answer.Answer.TheVariants.{Failed, Done}
 use Rattle.disk_model.proofs.CallsLemmas.{these_none}
-use Rattle.disk_model.proofs.VaultLemmas.{on_any}
+use Rattle.disk_model.proofs.VaultLemmas.{more_calls, on_any}
 use Rattle.disk_model.proofs.InOrder.{each_more, each_fails}
 use Rattle.parity_writer.proofs.SettleLemmas.{settling_start, settling_more}
 use Rattle.parity_writer.proofs.settling.settle.Goals as goal
 
 pub loop-level-init : goal.loop-level-init
 loop-level-init g c = record { settling = settling_start _; made = these_none (g.V.Vault.view c.args.vault.now); end = c.levels-level-end.ensures }
+
+pub returns-in_err-parity_sync-clause-calls : goal.returns-in_err-parity_sync-clause-calls
+returns-in_err-parity_sync-clause-calls g c = more_calls _ _ _ _ c.loop-level.invariant.settling.calls c.in_err-parity_sync.ensures.call.goes_on
 
 pub returns-in_err-parity_sync-clause-cause : goal.returns-in_err-parity_sync-clause-cause
 returns-in_err-parity_sync-clause-cause g c =

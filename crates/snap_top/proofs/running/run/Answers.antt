@@ -8,6 +8,7 @@ use Rattle.snap_top.proofs.RestoringLemmas.{fixes_end}
 use Rattle.snap_top.proofs.ScrubbedLemmas.{scrubs_end}
 use Rattle.snap_top.proofs.SilentLemmas.{done_is_silent}
 use Rattle.snap_top.proofs.StepLemmas.{every_run_steps}
+use Rattle.snap_top.proofs.UnwrittenLemmas.{writes_as_asked}
 use Rattle.snap_top.proofs.running.run.Goals as goal
 
 pub returns-clause-refused : goal.returns-clause-refused
@@ -17,6 +18,9 @@ pub returns-clause-account : goal.returns-clause-account
 returns-clause-account g c tells =
     let ran = c.work-end.ensures in
     record { end = c.work-end.result.end; told = ran.told; ran = by_said _ _ _ _ _ _ _ ran tells; status_is = c.status.ensures }
+
+pub returns-clause-unwritten : goal.returns-clause-unwritten
+returns-clause-unwritten g c = let ran = c.work-end.ensures in writes_as_asked _ _ c.work-end.result.end ran.told _ c.status.ensures ran.ran
 
 pub returns-clause-silent : goal.returns-clause-silent
 returns-clause-silent g c = done_is_silent c.work-end.result.end _ _ _ c.status.ensures c.say.ensures

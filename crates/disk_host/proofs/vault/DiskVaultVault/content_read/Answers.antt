@@ -1,9 +1,9 @@
-use Rattle.std.proofs.Common.{◌∙◌, ap}
+use Rattle.std.proofs.Common.{◌∙◌, refl, ap}
 use Rattle.disk_host.specs.Drafts.{state_of}
 use Rattle.disk_host.proofs.QuietLemmas.{reading}
 use Rattle.disk_host.proofs.vault.DiskVaultVault.content_read.Goals as goal
 
 pub returns-clause-call : goal.returns-clause-call
 returns-clause-call g c =
-    reading (λ content. state_of content.draft.stage) c.args.self.now.contents.items c.args.copy c.read-answer.new.self c.index_mut.result.now _ _ _ _ _ _
-    (ap (λ draft. state_of draft.stage) c.read-answer.ensures.draft ∙ ap (λ content. state_of content.draft.stage) c.index_mut.ensures.value) c.counted.ensures.later c.counted.ensures.cause
+    reading (λ content. state_of content.draft.stage) c.args.self.now.contents.items c.args.copy c.read-answer.new.self c.index_mut.result.now _ _ _ _ _ _ _
+    (ap (λ draft. state_of draft.stage) c.read-answer.ensures.draft ∙ ap (λ content. state_of content.draft.stage) c.index_mut.ensures.value) refl c.counted.ensures.later c.counted.ensures.cause

@@ -3,7 +3,7 @@ use Rattle.disk_host.proofs.QuietLemmas.{draft_is, ok_too, err_too}
 use Rattle.disk_host.proofs.vault.DiskVaultVault.draft_seal.Goals as goal
 
 pub returns-clause-sealed : goal.returns-clause-sealed
-returns-clause-sealed g c = ok_too _ _ c.counted.ensures.same (draft_is (λ content. state_of content.draft.stage) c.args.self.now.contents.items c.args.copy _ _ _ _ _ _) c.seal-answer.ensures.ok
+returns-clause-sealed g c = ok_too _ _ c.counted.ensures.same (draft_is (λ content. state_of content.draft.stage) c.args.self.now.contents.items c.args.copy _ _ _ _ _ _ _ _) c.seal-answer.ensures.ok
 
 pub returns-clause-gone : goal.returns-clause-gone
-returns-clause-gone g c = err_too _ _ c.counted.ensures.same (draft_is (λ content. state_of content.draft.stage) c.args.self.now.contents.items c.args.copy _ _ _ _ _ _) c.seal-answer.ensures.err
+returns-clause-gone g c = err_too _ _ c.counted.ensures.same (draft_is (λ content. state_of content.draft.stage) c.args.self.now.contents.items c.args.copy _ _ _ _ _ _ _ _) c.seal-answer.ensures.err

@@ -28,7 +28,7 @@ returns-in_default-clause-call c =
     let f = c.args.self.now in
     let call = Rename c.args.path.now c.args.lost in
     let tree = tree_in f.files in
-    failed f c.fail-in_default.new.self.faults c.begin.new.past tree call (subst (λ n. n ≤ c.fail-in_default.new.self.faults) c.begin.ensures.faults c.fail-in_default.ensures.later) (subst (λ n. Rose n c.fail-in_default.new.self.faults) c.begin.ensures.faults c.fail-in_default.ensures.cause)
+    failed f c.fail-in_default.new.self.faults c.count_write.new.writes c.begin.new.past tree call (subst (λ n. n ≤ c.fail-in_default.new.self.faults) c.begin.ensures.faults c.fail-in_default.ensures.later) (subst (λ n. Rose n c.fail-in_default.new.self.faults) c.begin.ensures.faults c.fail-in_default.ensures.cause) c.count_write.ensures
     (grows_failed folder_call done c.rename_entry-entry.result call f.past c.begin.new.past c.begin.ensures.noted c.begin.ensures.refused c.rename_entry-entry.ensures)
     (inl refl)
 
@@ -38,6 +38,6 @@ returns-clause-call c =
     let call = Rename c.args.path.now c.args.lost in
     let old = tree_in f.files in
     let from = c.as_slice.ensures.value ∙ c.name_of.ensures in
-    wrote_found c.rename-there.result c.found.result c.answer_where.result c.found.ensures c.answer_where.ensures f c.begin.new.schedule.faults c.end-2.new.self (tree_of c.rename-there.new.self.list.items) call c.begin.ensures.faults
+    wrote_found c.rename-there.result c.found.result c.answer_where.result c.found.ensures c.answer_where.ensures f c.begin.new.schedule.faults c.count_write.new.writes c.end-2.new.self (tree_of c.rename-there.new.self.list.items) call c.begin.ensures.faults c.count_write.ensures
     (grows_done folder_call done c.rename_entry-entry.result call f.past c.begin.new.past c.end-2.new.self c.begin.ensures.noted c.begin.ensures.refused c.end-2.ensures c.rename_entry-entry.ensures)
     (c.rename-there.ensures.renamed ∙ ap (λ (p : List ℕ). renamed p c.in-Ok.to old) from ∙ ap (λ (p : List ℕ). renamed (path_of c.args.path.now (not c.args.lost)) p old) c.in-Ok.ensures)

@@ -15,7 +15,7 @@ returns-then-not-begin-clause-call c =
     let f = c.args.self.now in
     let call = WriteAt c.args.path.now c.args.at c.args.bytes.now in
     let tree = tree_in f.files in
-    failed f c.fail.new.self.faults c.begin.new.past tree call (subst (λ n. n ≤ c.fail.new.self.faults) c.begin.ensures.faults c.fail.ensures.later) (subst (λ n. Rose n c.fail.new.self.faults) c.begin.ensures.faults c.fail.ensures.cause)
+    failed f c.fail.new.self.faults c.count_write.new.writes c.begin.new.past tree call (subst (λ n. n ≤ c.fail.new.self.faults) c.begin.ensures.faults c.fail.ensures.later) (subst (λ n. Rose n c.fail.new.self.faults) c.begin.ensures.faults c.fail.ensures.cause) c.count_write.ensures
     (grows_failed folder_call done c.write_at_entry-entry.result call f.past c.begin.new.past c.begin.ensures.noted c.begin.ensures.refused c.write_at_entry-entry.ensures)
     (writes_nothing c.args.path.now c.args.at (length c.args.bytes.now) tree tree refl)
 
@@ -24,7 +24,7 @@ returns-in_default-clause-call c =
     let f = c.args.self.now in
     let call = WriteAt c.args.path.now c.args.at c.args.bytes.now in
     let tree = tree_of c.write.new.self.list.items in
-    failed f c.fail-in_default.new.self.faults c.begin.new.past tree call (subst (λ n. n ≤ c.fail-in_default.new.self.faults) c.begin.ensures.faults c.fail-in_default.ensures.later) (subst (λ n. Rose n c.fail-in_default.new.self.faults) c.begin.ensures.faults c.fail-in_default.ensures.cause)
+    failed f c.fail-in_default.new.self.faults c.count_write.new.writes c.begin.new.past tree call (subst (λ n. n ≤ c.fail-in_default.new.self.faults) c.begin.ensures.faults c.fail-in_default.ensures.later) (subst (λ n. Rose n c.fail-in_default.new.self.faults) c.begin.ensures.faults c.fail-in_default.ensures.cause) c.count_write.ensures
     (grows_failed folder_call done c.write_at_entry-entry.result call f.past c.begin.new.past c.begin.ensures.noted c.begin.ensures.refused c.write_at_entry-entry.ensures)
     (writes_nothing c.args.path.now c.args.at (length c.args.bytes.now) (tree_in f.files) tree c.in_default.ensures.err)
 
@@ -35,6 +35,6 @@ returns-clause-call c =
     let old = tree_in f.files in
     let tree = tree_of c.write.new.self.list.items in
     let path = c.as_bytes.ensures.value ∙ c.as_str.ensures.value in
-    wrote_found c.in-Ok.there c.found.result c.answer_where.result c.found.ensures c.answer_where.ensures f c.begin.new.schedule.faults c.end.new.self tree call c.begin.ensures.faults
+    wrote_found c.in-Ok.there c.found.result c.answer_where.result c.found.ensures c.answer_where.ensures f c.begin.new.schedule.faults c.count_write.new.writes c.end.new.self tree call c.begin.ensures.faults c.count_write.ensures
     (grows_done folder_call done c.write_at_entry-entry.result call f.past c.begin.new.past c.end.new.self c.begin.ensures.noted c.begin.ensures.refused c.end.ensures c.write_at_entry-entry.ensures)
     (writes c.args.path.now c.args.at c.args.bytes.now old tree (c.in-Ok.ensures.written ∙ ap (λ (p : List ℕ). changed (with_bytes (λ (before : List ℕ). put before c.args.at c.args.bytes.now)) p old) path))

@@ -27,6 +27,7 @@ returns-clause-goes c =
     let written : IsWritten entry Done c.append_draft-done.result r.past c.admit-may.new.self c.end_if.new.self = record { noted = c.admit-may.ensures.noted; refused = c.admit-may.ensures.refused; ok = c.end_if.ensures.done; failed = c.end_if.ensures.failed } in
     record {
       calls = written_grows entry call Done c.append_draft-done.result r.past c.admit-may.new.self c.end_if.new.self written c.append_entry-entry.ensures;
+      kept = written_kept entry Done c.append_draft-done.result r.past c.admit-may.new.self c.end_if.new.self written;
       now = c.append_draft-done.ensures.now;
       base = refl;
       opened = refl;

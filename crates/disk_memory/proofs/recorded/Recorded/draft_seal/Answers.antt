@@ -27,6 +27,7 @@ returns-clause-goes c =
     let written : IsWritten entry Done c.admit-done.result r.past c.admit-done.new.self c.end_if.new.self = record { noted = c.admit-done.ensures.noted; refused = c.admit-done.ensures.refused; ok = c.end_if.ensures.done; failed = c.end_if.ensures.failed } in
     record {
       calls = written_grows entry call Done c.admit-done.result r.past c.admit-done.new.self c.end_if.new.self written refl;
+      kept = written_kept entry Done c.admit-done.result r.past c.admit-done.new.self c.end_if.new.self written;
       now = c.seal_draft.ensures.now;
       base = refl;
       opened = refl;

@@ -27,6 +27,7 @@ returns-clause-goes c =
     let written : IsWritten entry Done c.write_parity-done.result r.past c.admit-may.new.self c.end_if.new.self = record { noted = c.admit-may.ensures.noted; refused = c.admit-may.ensures.refused; ok = c.end_if.ensures.done; failed = c.end_if.ensures.failed } in
     record {
       calls = written_grows entry call Done c.write_parity-done.result r.past c.admit-may.new.self c.end_if.new.self written c.write_entry-entry.ensures;
+      kept = written_kept entry Done c.write_parity-done.result r.past c.admit-may.new.self c.end_if.new.self written;
       now = c.write_parity-done.ensures.now;
       base = refl;
       opened = refl;

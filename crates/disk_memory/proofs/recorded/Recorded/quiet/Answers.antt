@@ -25,6 +25,7 @@ returns-clause-goes c =
     let written : IsWritten entry c.args.given c.admit-done.result r.past c.admit-done.new.self c.end_if.new.self = record { noted = c.admit-done.ensures.noted; refused = c.admit-done.ensures.refused; ok = c.end_if.ensures.done; failed = c.end_if.ensures.failed } in
     record {
       calls = written_grows entry call c.args.given c.admit-done.result r.past c.admit-done.new.self c.end_if.new.self written refl;
+      kept = written_kept entry c.args.given c.admit-done.result r.past c.admit-done.new.self c.end_if.new.self written;
       now = (quiet_held (held r.store) call (not c.admit-done.result) c.requires.quiet);
       base = refl;
       opened = refl;

@@ -21,10 +21,10 @@ invariant_of-self g c = record {
 }
 
 pub returns-in_err-end-clause-call : goal.returns-in_err-end-clause-call
-returns-in_err-end-clause-call g c = reading_seen g.P.Shape.counts g.P.Shape.capacity _ _ c.from_residual.result (g.V.Vault.view c.args.self.now.base) (g.V.Vault.view c.find.new.base) c.find.ensures.works (on_any c.from_residual.result c.in_err-end.ensures.cause)
+returns-in_err-end-clause-call g c = reading_seen g.P.Shape.counts g.P.Shape.capacity _ _ c.from_residual.result (g.V.Vault.view c.args.self.now.base) (g.V.Vault.view c.find.new.base) c.find.ensures.works c.find.ensures.unwritten (on_any c.from_residual.result c.in_err-end.ensures.cause)
 
 pub returns-clause-call : goal.returns-clause-call
-returns-clause-call g c = reading_seen g.P.Shape.counts g.P.Shape.capacity _ _ _ (g.V.Vault.view c.args.self.now.base) (g.V.Vault.view c.find.new.base) c.find.ensures.works tt
+returns-clause-call g c = reading_seen g.P.Shape.counts g.P.Shape.capacity _ _ _ (g.V.Vault.view c.args.self.now.base) (g.V.Vault.view c.find.new.base) c.find.ensures.works c.find.ensures.unwritten tt
 
 pub returns-clause-found : goal.returns-clause-found
 returns-clause-found g c = λ t. len_found g.P.Shape.counts g.P.Shape.capacity c.args.level c.in_ok-end.end _ (g.V.Vault.view c.args.self.now.base) c.args.self.now.are c.requires

@@ -23,7 +23,7 @@ invariant_of-self g c = record {
 }
 
 pub returns-clause-call : goal.returns-clause-call
-returns-clause-call g c = reading_seen g.P.Shape.counts g.P.Shape.capacity _ _ c.read.result (g.V.Vault.view c.args.self.now.base) (g.V.Vault.view c.read.new.base) c.read.ensures.works c.read.ensures.cause
+returns-clause-call g c = reading_seen g.P.Shape.counts g.P.Shape.capacity _ _ c.read.result (g.V.Vault.view c.args.self.now.base) (g.V.Vault.view c.read.new.base) c.read.ensures.works c.read.ensures.unwritten c.read.ensures.cause
 
 pub returns-clause-bound : goal.returns-clause-bound
 returns-clause-bound g c = c.read.ensures.bound

@@ -1,4 +1,4 @@
-use Rattle.std.proofs.Common.{sym, subst, arith, ◌^◌, ◌<◌, ◌∙◌}
+use Rattle.std.proofs.Common.{refl, sym, subst, arith, ◌^◌, ◌<◌, ◌∙◌}
 use Rattle.std.specs.List.{sum}
 use Rattle.disk_model.specs.Bytes.{Stretched}
 use Rattle.disk_model.specs.Vault.{Reads}
@@ -30,7 +30,7 @@ invariant_of-self g c = record {
 }
 
 pub returns-clause-call : goal.returns-clause-call
-returns-clause-call g c = call_seen g.P.Shape.counts g.P.Shape.capacity _ _ c.set_len.result (g.V.Vault.view c.args.self.now.base) (g.V.Vault.view c.set_len.new.base) c.set_len.ensures.works c.set_len.ensures.cause
+returns-clause-call g c = call_seen g.P.Shape.counts g.P.Shape.capacity _ _ c.set_len.result (g.V.Vault.view c.args.self.now.base) (g.V.Vault.view c.set_len.new.base) refl c.set_len.ensures.works c.set_len.ensures.cause
 
 pub returns-clause-written : goal.returns-clause-written
 returns-clause-written g c = on_ok c.set_len.result

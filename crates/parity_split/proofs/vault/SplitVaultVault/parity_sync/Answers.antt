@@ -1,4 +1,4 @@
-use Rattle.std.proofs.Common.{sym, subst, ◌^◌, ◌<◌, ◌∙◌}
+use Rattle.std.proofs.Common.{refl, sym, subst, ◌^◌, ◌<◌, ◌∙◌}
 use Rattle.std.specs.List.{sum}
 use Rattle.disk_model.specs.Files.{Stays}
 use Rattle.disk_model.specs.Vault.{Holds}
@@ -22,7 +22,7 @@ invariant_of-self g c = record {
 }
 
 pub returns-clause-call : goal.returns-clause-call
-returns-clause-call g c = call_seen g.P.Shape.counts g.P.Shape.capacity _ Stays c.sync_from.result (g.V.Vault.view c.args.self.now.base) (g.V.Vault.view c.sync_from.new.base) c.sync_from.ensures.works c.sync_from.ensures.cause
+returns-clause-call g c = call_seen g.P.Shape.counts g.P.Shape.capacity _ Stays c.sync_from.result (g.V.Vault.view c.args.self.now.base) (g.V.Vault.view c.sync_from.new.base) refl c.sync_from.ensures.works c.sync_from.ensures.cause
 
 pub returns-clause-changes : goal.returns-clause-changes
 returns-clause-changes g c = stays_seen g.P.Shape.counts g.P.Shape.capacity (g.V.Vault.view c.args.self.now.base) (g.V.Vault.view c.sync_from.new.base) c.sync_from.ensures.works.changes
