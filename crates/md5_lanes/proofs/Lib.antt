@@ -2,3 +2,4 @@ pub mod LaneLemmas
 pub mod LoadLemmas
 pub mod MessageLemmas
 pub mod RoundLemmas
+pub mod StageLemmas

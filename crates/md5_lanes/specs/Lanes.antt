@@ -1,5 +1,5 @@
 -- Eight states at once, and eight blocks: what one lane of them is.
-use Rattle.std.specs.Prelude.{◌≡◌, ℕ, ◌<◌, List, [], ◌∷◌, All, length, map, slice_index, slice_index_or}
+use Rattle.std.specs.Prelude.{ℕ, ◌<◌, List, [], ◌∷◌, map, slice_index, slice_index_or}
 use Rattle.std.specs.Borrow.{Bor}
 use Rattle.md5_lanes.specs.declared.state.State.{State}
 
@@ -19,7 +19,3 @@ lane_words words i = map (λ lanes. slice_index lanes i) words
 -- the bytes of block i
 abbrev pub bytes_of : List (Bor (List ℕ)) → ℕ → List ℕ
 bytes_of blocks i = slice_index_or (map (λ block. block.now) blocks) i []
-
--- each block has the length of the first
-abbrev pub HaveOneLength : List (Bor (List ℕ)) → Type 0
-HaveOneLength blocks = All (λ block. length block.now ≡ length (bytes_of blocks 0)) blocks

@@ -1,3 +1,4 @@
+pub mod Ended
 pub mod Lanes
 pub mod Message
 pub mod Rounds

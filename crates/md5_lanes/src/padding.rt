@@ -45,7 +45,22 @@ fn edge(seed: &[u8; 16], block: &[u8], at: usize) -> [u8; 64]
     out
 }
 
-// Takes in 64 bytes that hold some of the seed or of the padding.
+// The 64 bytes at `at` of the padded message: of the block itself, where all lie in it.
+fn part(seed: &[u8; 16], block: &[u8], at: usize) -> [u8; 64]
+    requires short { length block.now ≤ 4194304 }
+    requires within { at + 64 ≤ length (message seed.now block.now) }
+    ensures { result ≡ bytes_at at (message seed.now block.now) }
+{
+    if at >= 16 && at + 48 <= block.len() {
+        let mut out = [0u8; 64];
+        out.copy_from_slice(&block[at - 16..at + 48]);
+        out
+    } else {
+        edge(seed, block, at)
+    }
+}
+
+// Takes in 64 bytes that hold some of the seed or of the padding of some lane.
 fn compress_edge(state: State, seed: &[u8; 16], blocks: &[&[u8]; 8], at: usize) -> State
     requires short { All (λ block. length block.now ≤ 4194304) blocks.now }
     requires within { All (λ block. at + 64 ≤ length (message seed.now block.now)) blocks.now }
@@ -53,18 +68,19 @@ fn compress_edge(state: State, seed: &[u8; 16], blocks: &[&[u8]; 8], at: usize) 
         lane result i ≡ compress (lane state i) (bytes_at at (message seed.now (bytes_of blocks.now i)))) }
 {
     let [b0, b1, b2, b3, b4, b5, b6, b7] = *blocks;
-    let e0 = edge(seed, b0, at);
-    let e1 = edge(seed, b1, at);
-    let e2 = edge(seed, b2, at);
-    let e3 = edge(seed, b3, at);
-    let e4 = edge(seed, b4, at);
-    let e5 = edge(seed, b5, at);
-    let e6 = edge(seed, b6, at);
-    let e7 = edge(seed, b7, at);
+    let e0 = part(seed, b0, at);
+    let e1 = part(seed, b1, at);
+    let e2 = part(seed, b2, at);
+    let e3 = part(seed, b3, at);
+    let e4 = part(seed, b4, at);
+    let e5 = part(seed, b5, at);
+    let e6 = part(seed, b6, at);
+    let e7 = part(seed, b7, at);
     compress(state, &[&e0, &e1, &e2, &e3, &e4, &e5, &e6, &e7], 0)
 }
 
-/// Takes in the 64 bytes at `at` of each padded message: of the blocks themselves, where all 64 lie in them.
+/// Takes in the 64 bytes at `at` of each padded message: of the blocks themselves, where all 64 lie in each of them.
+/// `len` is the length of the shortest block, or less.
 #[inline(always)]
 pub(crate) fn advance(
     state: State,
@@ -73,8 +89,8 @@ pub(crate) fn advance(
     len: usize,
     at: usize,
 ) -> State
-    requires length { All (λ block. length block.now ≡ len) blocks.now }
-    requires short { len ≤ 4194304 }
+    requires length { All (λ block. len ≤ length block.now) blocks.now }
+    requires short { All (λ block. length block.now ≤ 4194304) blocks.now }
     requires within { at ≤ (len + 24) / 64 * 64 }
     ensures { EachLane (λ i.
         lane result i ≡ compress (lane state i) (bytes_at at (message seed.now (bytes_of blocks.now i)))) }

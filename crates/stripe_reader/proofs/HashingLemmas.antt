@@ -7,11 +7,12 @@ use Rattle.block_hash.specs.declared.Digest16.{Digest16}
 use Rattle.block_hash.specs.declared.Kind.TheVariants.{Md5}
 use Rattle.disk_model.specs.declared.meta.Meta.{Meta}
 use Rattle.file_table.specs.declared.shape.Shape.{Shape}
-use Rattle.stripe_reader.specs.Hashing.{HasFullBlock, IsUnhashed, hashed}
+use Rattle.stripe_reader.specs.Hashing.{IsUnhashed, found_bytes, hashed}
 use Rattle.stripe_reader.specs.Slot.{slot_without}
 use Rattle.stripe_reader.specs.SlotValue.{SlotValue}
 use Rattle.stripe_reader.specs.WindowValue.{HasBlocks}
 use Rattle.stripe_reader.specs.declared.slot.Found.{Found}
+use Rattle.stripe_reader.specs.declared.slot.Found.TheVariants as found
 
 -- ---- one slot
 
@@ -24,12 +25,10 @@ without_unhashed block_size size what got seen slot is few same = subst (IsUnhas
   block = length-replicate size 0 ∙ same;
 })
 
--- the digest of a full block
-pub full_digest : (shape : Shape) (slot : SlotValue) (digest : Digest16) → shape.kind ≡ Md5 → length slot.block ≡ shape.block_size → HasFullBlock shape.block_size slot
-    → digest.0 ≡ hash Md5 shape.seed slot.block → Some digest ≡ (hashed shape slot).digest
-full_digest shape slot digest kind long full is =
-    let whole : take slot.cell.got slot.block ≡ slot.block = take_all slot.cell.got slot.block (omega (arith, long, full.got)) in
-    rw (full.found, whole, kind) (ap (λ (it : List ℕ). Some (record { 0 = it })) is)
+-- the digest of a whole block
+pub whole_digest : (shape : Shape) (slot : SlotValue) (digest : Digest16) → shape.kind ≡ Md5 → slot.cell.found ≡ found.Bytes → digest.0 ≡ hash Md5 shape.seed (found_bytes slot)
+    → Some digest ≡ (hashed shape slot).digest
+whole_digest shape slot digest kind whole is = rw (whole, kind) (ap (λ (it : List ℕ). Some (record { 0 = it })) is)
 
 -- ---- the front of the slots of a lane
 

@@ -5,14 +5,14 @@ use Rattle.std.specs.List.{All, AllZip}
 use Rattle.std.specs.Option.{is_some}
 use Rattle.std.proofs.lemmas.Bool.{cases_lt}
 use Rattle.std.proofs.lemmas.Bool.Decides.{eqb_tells}
-use Rattle.std.proofs.lemmas.List.{get_or_default, get_or-drop, get_or-take, get_or-set_same, get_or-set_other, length-set, length-take}
+use Rattle.std.proofs.lemmas.List.{get_or_default, get_or-drop, get_or-take, get_or-set_same, get_or-set_other, length-set, length-take, length-take-le}
 use Rattle.std.proofs.lemmas.List.Elements.{All-from_get_or}
 use Rattle.std.proofs.lemmas.Nat.{div_below, div-mul-add, mod_below, mod-mul-add}
 use Rattle.block_hash.specs.declared.Digest16.{Digest16}
 use Rattle.file_table.specs.declared.shape.Shape.{Shape}
 use Rattle.stripe_reader.specs.Fetched.{IsUnhashedFront}
-use Rattle.stripe_reader.specs.HashedLanes.{AreDigests, AreSlotDigests, AreSomeDigests, IsFullAt, IsFullIn, IsNumber, digest_at, lane_in, numbered}
-use Rattle.stripe_reader.specs.Hashing.{HasFullBlock, IsUnhashed, hashed, slot_in}
+use Rattle.stripe_reader.specs.HashedLanes.{AreDigests, AreSlotDigests, AreSomeDigests, IsNumber, digest_at, lane_in, numbered}
+use Rattle.stripe_reader.specs.Hashing.{IsUnhashed, found_bytes, hashed, slot_in}
 use Rattle.stripe_reader.specs.SlotValue.{SlotValue}
 use Rattle.stripe_reader.specs.WindowValue.{no_slot}
 
@@ -38,17 +38,19 @@ module _ (shape : Shape) (count : ℕ) (lanes : List (List SlotValue)) (were : A
       subst (IsUnhashed shape.block_size) (get_or-take count lane (at % count) no_slot number.front)
       (front.unhashed (at % count) no_slot (omega (arith, number.front, front.enough, length-take count lane)))
 
-  -- blocks that were lent for some of them have their size
-  pub block_size_all : (eight : List ℕ) (blocks : List (Bor (List ℕ))) → All (IsFullAt shape.block_size count lanes) eight → length blocks ≡ length eight
-      → ((j : ℕ) (none : Bor (List ℕ)) → j < length blocks → (get_or blocks j none).now ≡ (numbered lanes count (get_or eight j 0)).block)
-      → All (λ (block : Bor (List ℕ)). length block.now ≡ shape.block_size) blocks
-  block_size_all eight blocks full as_many are = λ j none lt.
-      ap length (are j none lt) ∙ (unhashed_at (get_or eight j 0) (full j 0 (omega (arith, lt, as_many))).number).block
+  -- so many bytes came of its block as the block has, or fewer
+  pub came_at : (at : ℕ) → IsNumber count lanes at → (numbered lanes count at).cell.got ≤ length (numbered lanes count at).block
+  came_at at number = let slot = unhashed_at at number in omega (arith, slot.got, slot.block)
 
-  pub full_at : (from end at : ℕ) (slot : SlotValue) → from ≤ at → at < end → IsNumber count lanes at → slot ≡ numbered lanes count at → HasFullBlock shape.block_size slot
-      → IsFullIn shape.block_size count lanes from end at
-  full_at from end at slot later before number is full =
-      record { is = record { number = number; full = subst (HasFullBlock shape.block_size) is full }; later = later; before = before }
+  -- what was lent of their blocks is no longer than a block
+  pub lent_short : (eight : List ℕ) (blocks : List (Bor (List ℕ))) → All (IsNumber count lanes) eight → length blocks ≡ length eight
+      → ((j : ℕ) (none : Bor (List ℕ)) → j < length blocks → (get_or blocks j none).now ≡ found_bytes (numbered lanes count (get_or eight j 0)))
+      → All (λ (block : Bor (List ℕ)). length block.now ≤ shape.block_size) blocks
+  lent_short eight blocks numbers as_many are = λ j none lt.
+      let at : ℕ = get_or eight j 0 in
+      let number = numbers j 0 (omega (arith, lt, as_many)) in
+      let slot = numbered lanes count at in
+      omega (arith, ap length (are j none lt), length-take-le slot.cell.got slot.block (came_at at number), (unhashed_at at number).got)
 
 -- ---- digests, one of which is made
 

@@ -1,9 +1,11 @@
 -- The digests of the slots of several lanes, of each of which the first so many slots were read.
-use Rattle.std.specs.Prelude.{◌≡◌, ◌⊎◌, ℕ, ◌+◌, ◌*◌, ◌/◌, ◌%◌, ◌<◌, ◌≤◌, List, [], length, Option, None, slice_index_or}
+use Rattle.std.specs.Prelude.{◌≡◌, ◌⊎◌, ℕ, ◌+◌, ◌*◌, ◌/◌, ◌%◌, ◌<◌, ◌≤◌, List, [], length, Option, None, slice_index, slice_index_or}
 use Rattle.block_hash.specs.declared.Digest16.{Digest16}
 use Rattle.file_table.specs.declared.shape.Shape.{Shape}
-use Rattle.stripe_reader.specs.Hashing.{HasFullBlock, hashed, slot_in}
+use Rattle.stripe_reader.specs.Hashing.{hashed, slot_in}
 use Rattle.stripe_reader.specs.SlotValue.{SlotValue}
+use Rattle.stripe_reader.specs.declared.batch.Batch.{Batch}
+use Rattle.stripe_reader.specs.declared.slot.Found.TheVariants as found
 
 -- the lane of a number; and the slot of a number, where the first so many of each lane are counted, lane after lane
 abbrev pub lane_in : List (List SlotValue) → ℕ → List SlotValue
@@ -19,16 +21,18 @@ pub record IsNumber (count : ℕ) (lanes : List (List SlotValue)) (at : ℕ) : T
   pub front : at % count < count
   pub slot : at % count < length (lane_in lanes (at / count))
 
--- the number of a slot with a full block
-pub record IsFullAt (block_size count : ℕ) (lanes : List (List SlotValue)) (at : ℕ) : Type 0 where
+-- one of the numbers from one on and before another, whose slot has a whole block
+pub record IsWholeIn (count : ℕ) (lanes : List (List SlotValue)) (from end at : ℕ) : Type 0 where
   pub number : IsNumber count lanes at
-  pub full : HasFullBlock block_size (numbered lanes count at)
-
--- one of the numbers from one on and before another, whose slot has a full block
-pub record IsFullIn (block_size count : ℕ) (lanes : List (List SlotValue)) (from end at : ℕ) : Type 0 where
-  pub is : IsFullAt block_size count lanes at
+  pub whole : (numbered lanes count at).cell.found ≡ found.Bytes
   pub later : from ≤ at
   pub before : at < end
+
+-- a batch with room, each of whose slots, if there are some, has a whole block
+pub record IsBatch (count : ℕ) (lanes : List (List SlotValue)) (from end : ℕ) (batch : Batch) : Type 0 where
+  pub long : length batch.numbers ≡ 8
+  pub room : batch.found < 8
+  pub whole : (k : ℕ) → k < 8 → 0 < batch.found → IsWholeIn count lanes from end (slice_index batch.numbers k)
 
 -- the digest that the slot of a number has once it is hashed
 abbrev pub digest_at : Shape → ℕ → List (List SlotValue) → ℕ → Option Digest16

@@ -16,6 +16,10 @@ digest_in shape found.Missing got block = None
 digest_in shape found.Short got block = None
 digest_in shape found.Unread got block = None
 
+-- the bytes of a block that came
+abbrev pub found_bytes : SlotValue → List ℕ
+found_bytes slot = take slot.cell.got slot.block
+
 -- a slot with the digest that its cell has
 abbrev pub hashed : Shape → SlotValue → SlotValue
 hashed shape slot = record slot { digest = digest_in shape slot.cell.found slot.cell.got slot.block }
@@ -29,8 +33,3 @@ pub record IsUnhashed (block_size : ℕ) (slot : SlotValue) : Type 0 where
 -- the slot of a number
 abbrev pub slot_in : List SlotValue → ℕ → SlotValue
 slot_in slots i = slice_index_or slots i no_slot
-
--- a slot whose whole block was found, and has the greatest size
-pub record HasFullBlock (block_size : ℕ) (slot : SlotValue) : Type 0 where
-  pub found : slot.cell.found ≡ found.Bytes
-  pub got : slot.cell.got ≡ block_size

@@ -1,12 +1,14 @@
 // The digests of slots, which are numbered over all lanes, made after the cells of all lanes were read.
-ghost use Rattle.std.specs.Prelude.{◌≡◌, ℕ, ◌+◌, ◌*◌, ◌<◌, ◌≤◌, All, IfSome, length, slice_index, slice_index_or};
+ghost use Rattle.std.specs.Prelude.{◌≡◌, ℕ, ◌+◌, ◌*◌, ◌<◌, ◌≤◌, All, length, slice_index, slice_index_or};
 ghost use Rattle.block_hash.specs.Hash.{hash};
 ghost use Rattle.block_hash.specs.declared.Digest16.{Digest16};
 ghost use Rattle.block_hash.specs.declared.Kind.TheVariants.{Md5};
 ghost use Rattle.stripe_reader.specs.Fetched.{IsUnhashedFront};
-ghost use Rattle.stripe_reader.specs.HashedLanes.{AreDigests, AreSomeDigests, IsFullAt, IsFullIn, IsNumber, numbered};
+ghost use Rattle.stripe_reader.specs.HashedLanes.{AreDigests, AreSomeDigests, IsBatch, IsNumber, IsWholeIn, numbered};
+ghost use Rattle.stripe_reader.specs.Hashing.{found_bytes};
 
-use crate::slot::{Lane, Slot};
+use crate::batch::Batch;
+use crate::slot::{Lane, RANKS, Slot};
 use block_hash::{Digest16, Kind};
 use file_table::Shape;
 use md5_lanes::digest_eight;
@@ -19,66 +21,37 @@ fn slot_of(lanes: &[Lane], count: usize, at: usize) -> &Slot
     lanes[at / count].at(at % count)
 }
 
-// The numbers of up to eight slots with full blocks, from one on and before an end. Where there are fewer, the last one
-// stands for the rest. One alone is hashed as soon by itself.
-fn next_eight(
-    shape: Shape,
-    count: usize,
-    lanes: &[Lane],
-    from: usize,
-    end: usize,
-) -> Option<[usize; 8]>
+// Which ranks the whole blocks of slots have.
+fn ranks_of(shape: Shape, count: usize, lanes: &[Lane], start: usize, end: usize) -> [bool; RANKS]
     requires lanes { All (IsUnhashedFront shape.block_size count) lanes.now }
     requires end { end ≤ length lanes.now * count }
-    ensures { IfSome result (All (IsFullIn shape.block_size count lanes.now from end)) }
 {
-    let mut eight = [0; 8];
-    let mut found = 0;
-    for at in from..end {
-        if slot_of(lanes, count, at).is_full(shape.block_size) {
-            eight = filled(&eight, found, at);
-            found += 1;
-            if found == 8 {
-                return Some(eight);
-            }
+    let mut ranks = [false; RANKS];
+    for at in start..end {
+        if let Some(rank) = slot_of(lanes, count, at).rank(shape.block_size) {
+            ranks[rank] = true;
         }
     }
-    if found < 2 {
-        return None;
-    }
-    Some(eight)
-}
-
-// The first so many of these numbers, and then another one as often as there is room.
-fn filled(eight: &[usize; 8], found: usize, at: usize) -> [usize; 8]
-    requires { found < 8 }
-    ensures before { (k : ℕ) → k < found → slice_index result k ≡ slice_index eight.now k }
-    ensures behind { (k : ℕ) → found ≤ k → k < 8 → slice_index result k ≡ at }
-{
-    let mut numbers = *eight;
-    for k in found..8 {
-        numbers[k] = at;
-    }
-    numbers
+    ranks
 }
 
 // The MD5 of the blocks of eight slots.
 fn digests_of(shape: Shape, count: usize, lanes: &[Lane], eight: &[usize; 8]) -> [Digest16; 8]
     requires most { shape.block_size ≤ 4194304 }
     requires lanes { All (IsUnhashedFront shape.block_size count) lanes.now }
-    requires full { All (IsFullAt shape.block_size count lanes.now) eight.now }
-    ensures { (k : ℕ) (digest : Digest16) → k < 8 →
-        (slice_index_or result k digest).0 ≡ hash Md5 shape.seed (numbered lanes.now count (slice_index eight.now k)).block }
+    requires numbers { All (IsNumber count lanes.now) eight.now }
+    ensures { (k : ℕ) (digest : Digest16) → k < 8 → (slice_index_or result k digest).0
+        ≡ hash Md5 shape.seed (found_bytes (numbered lanes.now count (slice_index eight.now k))) }
 {
     let none: &[u8] = &[];
     let mut bytes = [none; 8];
     for k in 0..8 {
-        bytes[k] = slot_of(lanes, count, eight[k]).bytes();
+        bytes[k] = slot_of(lanes, count, eight[k]).found_bytes();
     }
     digest_eight(&shape.seed, &bytes)
 }
 
-// Makes the digests of eight slots with full blocks, each into the place of its number.
+// Makes the digests of eight slots with whole blocks, each into the place of its number.
 fn hash_eight(
     shape: Shape,
     count: usize,
@@ -90,7 +63,7 @@ fn hash_eight(
     requires kind { shape.kind ≡ Md5 }
     requires most { shape.block_size ≤ 4194304 }
     requires lanes { All (IsUnhashedFront shape.block_size count) lanes.now }
-    requires full { All (IsFullIn shape.block_size count lanes.now start (start + length digests.old)) eight.now }
+    requires whole { All (IsWholeIn count lanes.now start (start + length digests.old)) eight.now }
     requires some { AreSomeDigests shape count lanes.now start digests.old }
     ensures { AreSomeDigests shape count lanes.now start digests.new }
 {
@@ -100,8 +73,89 @@ fn hash_eight(
     }
 }
 
-// Makes the digests of full blocks by MD5, as long as there are more.
-fn hash_full(
+// Makes the digests of a batch, unless its blocks are sooner hashed one by one.
+fn hash_batch(
+    shape: Shape,
+    count: usize,
+    lanes: &[Lane],
+    batch: &Batch,
+    start: usize,
+    digests: &mut [Option<Digest16>],
+)
+    requires kind { shape.kind ≡ Md5 }
+    requires most { shape.block_size ≤ 4194304 }
+    requires lanes { All (IsUnhashedFront shape.block_size count) lanes.now }
+    requires whole { 0 < batch.now.found →
+        All (IsWholeIn count lanes.now start (start + length digests.old)) batch.now.numbers }
+    requires some { AreSomeDigests shape count lanes.now start digests.old }
+    ensures { AreSomeDigests shape count lanes.now start digests.new }
+{
+    if batch.is_sooner_together() {
+        hash_eight(shape, count, lanes, &batch.numbers, start, digests);
+    }
+}
+
+// Adds a slot with a whole block to a batch, which ends once it has eight.
+fn add(
+    shape: Shape,
+    count: usize,
+    lanes: &[Lane],
+    batch: Batch,
+    at: usize,
+    start: usize,
+    digests: &mut [Option<Digest16>],
+) -> Batch
+    requires kind { shape.kind ≡ Md5 }
+    requires most { shape.block_size ≤ 4194304 }
+    requires lanes { All (IsUnhashedFront shape.block_size count) lanes.now }
+    requires batch { IsBatch count lanes.now start (start + length digests.old) batch }
+    requires whole { IsWholeIn count lanes.now start (start + length digests.old) at }
+    requires some { AreSomeDigests shape count lanes.now start digests.old }
+    ensures batch { IsBatch count lanes.now start (start + length digests.old) result }
+    ensures some { AreSomeDigests shape count lanes.now start digests.new }
+{
+    let batch = batch.with(at, slot_of(lanes, count, at).cell.got);
+    if batch.found < 8 {
+        return batch;
+    }
+    hash_batch(shape, count, lanes, &batch, start, digests);
+    Batch::new()
+}
+
+// Makes the digests of whole blocks of a rank by MD5, and of those that are in a batch already. What has no digest then
+// is in the batch, or sooner hashed alone.
+fn hash_rank(
+    shape: Shape,
+    count: usize,
+    lanes: &[Lane],
+    rank: usize,
+    batch: Batch,
+    start: usize,
+    digests: &mut [Option<Digest16>],
+) -> Batch
+    requires kind { shape.kind ≡ Md5 }
+    requires most { shape.block_size ≤ 4194304 }
+    requires lanes { All (IsUnhashedFront shape.block_size count) lanes.now }
+    requires within { start + length digests.old ≤ length lanes.now * count }
+    requires room { length lanes.now * count < 18446744073709551616 }
+    requires batch { IsBatch count lanes.now start (start + length digests.old) batch }
+    requires some { AreSomeDigests shape count lanes.now start digests.old }
+    ensures batch { IsBatch count lanes.now start (start + length digests.old) result }
+    ensures some { AreSomeDigests shape count lanes.now start digests.new }
+{
+    let mut batch = batch;
+    let end = start + digests.len();
+    for at in start..end {
+        if slot_of(lanes, count, at).has_rank(shape.block_size, rank) {
+            batch = add(shape, count, lanes, batch, at, start, digests);
+        }
+    }
+    batch
+}
+
+// Makes the digests of whole blocks by MD5, eight at a time: of full ones, and then of ever shorter ones, so that those
+// of one batch are about as long. Those that are sooner hashed alone are left.
+fn hash_together(
     shape: Shape,
     count: usize,
     lanes: &[Lane],
@@ -116,12 +170,14 @@ fn hash_full(
     requires some { AreSomeDigests shape count lanes.now start digests.old }
     ensures { AreSomeDigests shape count lanes.now start digests.new }
 {
-    let end = start + digests.len();
-    let mut from = start;
-    while let Some(eight) = next_eight(shape, count, lanes, from, end) {
-        hash_eight(shape, count, lanes, &eight, start, digests);
-        from = eight[7] + 1;
+    let ranks = ranks_of(shape, count, lanes, start, start + digests.len());
+    let mut batch = Batch::new();
+    for rank in 0..RANKS {
+        if ranks[rank] {
+            batch = hash_rank(shape, count, lanes, rank, batch, start, digests);
+        }
     }
+    hash_batch(shape, count, lanes, &batch, start, digests);
 }
 
 // Makes those that are left, one by one.
@@ -146,7 +202,7 @@ fn hash_rest(
     }
 }
 
-/// Makes the digests of the slots from a number on: of full blocks by MD5 eight at a time, and of the rest one by one.
+/// Makes the digests of the slots from a number on: by MD5 eight at a time, and one by one where that is sooner.
 pub(crate) fn hash_slots(
     shape: Shape,
     count: usize,
@@ -162,7 +218,7 @@ pub(crate) fn hash_slots(
 {
     digests.fill(None);
     match shape.kind {
-        Kind::Md5 => hash_full(shape, count, lanes, start, digests),
+        Kind::Md5 => hash_together(shape, count, lanes, start, digests),
         Kind::Sha256 => {}
     }
     hash_rest(shape, count, lanes, start, digests);

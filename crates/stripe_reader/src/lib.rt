@@ -4,9 +4,9 @@
 //! (`window.rt`) has a lane for each column, a lane has a slot for each stripe, and a slot keeps what was read of one
 //! cell, with its digest (`slot.rt`). So the columns of a window are split as the folders are, by `split_at_mut`, and
 //! one column is read by one thread, stripe after stripe (`reading.rt`). To be hashed, the slots of all lanes are
-//! numbered, lane after lane, and threads have even shares of the numbers; full blocks are hashed eight at a time
-//! (`hashing.rt`). The current thread starts all others (`parts.rt`). What is asked of a folder depends on where its
-//! files stood when the run began (`Starts`, `starts.rt`).
+//! numbered, lane after lane, and threads have even shares of the numbers; blocks of about one length are hashed eight
+//! at a time (`batch.rt`, `hashing.rt`). The current thread starts all others (`parts.rt`). What is asked of a folder
+//! depends on where its files stood when the run began (`Starts`, `starts.rt`).
 //! Its definitions: what is asked for a cell and what is read of it (`specs/Reading.antt`), by which calls
 //! (`specs/FolderCalls.antt`), what a slot keeps of it (`specs/Slot.antt`), and what a window then holds, column by
 //! column (`specs/Column.antt`, `specs/Columns.antt`) and stripe by stripe (`specs/Readings.antt`), and before it is
@@ -18,6 +18,7 @@
 //! Not here: what a reading means for a stripe, and any writing.
 #![tactic(auto)]
 
+mod batch;
 mod hashers;
 mod hashing;
 pub mod laws;

@@ -1,14 +1,18 @@
 // What is kept of one cell, and of one column.
-ghost use Rattle.std.specs.Prelude.{◌≡◌, ◌<◌, ◌≤◌, ◌↔◌, length, take, IsTrue, Some};
+ghost use Rattle.std.specs.Prelude.{◌≡◌, ◌<◌, ◌≤◌, length, take, IfSome, IsTrue, OnSome, Some};
 ghost use Rattle.disk_model.specs.Bytes.{resized};
-ghost use Rattle.stripe_reader.specs.Hashing.{HasFullBlock, hashed};
+ghost use Rattle.stripe_reader.specs.Hashing.{found_bytes, hashed};
 ghost use Rattle.stripe_reader.specs.Slot.{slot_given, slot_unhashed, slot_without};
+ghost use Rattle.stripe_reader.specs.declared.slot.Found.TheVariants as found;
 
 use block_hash::{Digest16, digest};
 use disk_model::{Meta, NoMemory};
 use file_table::Shape;
 use std::alloc::Global;
 use std::marker::Model;
+
+/// How many ranks the lengths of blocks have.
+pub(crate) const RANKS: usize = 33;
 
 /// What was found of a cell.
 #[derive(Clone, Copy, Debug, PartialEq, Eq)]
@@ -93,18 +97,36 @@ impl Slot {
         self.block[got as usize..].fill(0);
     }
 
-    // The block.
-    pub(crate) fn bytes(&self) -> &[u8]
-        ensures { result.now ≡ self.now.block }
+    // The bytes of the block that came.
+    pub(crate) fn found_bytes(&self) -> &[u8]
+        requires { self.now.cell.got ≤ length self.now.block }
+        ensures { result.now ≡ found_bytes self.now }
     {
-        self.block.as_slice()
+        &self.block[..self.cell.got as usize]
     }
 
-    // Whether the whole block was found, and has this size.
-    pub(crate) fn is_full(&self, block_size: u32) -> bool
-        ensures { IsTrue result ↔ HasFullBlock block_size self.now }
+    // The rank of a whole block: 0 of one of this size, else the higher, the fewer binary digits its length has.
+    pub(crate) fn rank(&self, block_size: u32) -> Option<usize>
+        ensures whole { OnSome result (self.now.cell.found ≡ found.Bytes) }
+        ensures below { IfSome result (λ rank. rank < 33) }
     {
-        self.cell.found == Found::Bytes && self.cell.got == block_size
+        if self.cell.found != Found::Bytes {
+            return None;
+        }
+        if self.cell.got == block_size {
+            return Some(0);
+        }
+        Some((32 - self.cell.got.max(1).ilog2()) as usize)
+    }
+
+    // Whether the whole block was found, and has this rank.
+    pub(crate) fn has_rank(&self, block_size: u32, rank: usize) -> bool
+        ensures { IsTrue result → self.now.cell.found ≡ found.Bytes }
+    {
+        match self.rank(block_size) {
+            Some(its) => its == rank,
+            None => false,
+        }
     }
 
     // Gives the block its digest, where it has one.
@@ -124,8 +146,7 @@ impl Slot {
         if self.cell.found != Found::Bytes {
             return None;
         }
-        let bytes = &self.block[..self.cell.got as usize];
-        Some(digest(shape.kind, &shape.seed, bytes))
+        Some(digest(shape.kind, &shape.seed, self.found_bytes()))
     }
 
     // Keeps these bytes of the block, which were not read of its file.

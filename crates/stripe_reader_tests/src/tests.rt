@@ -2,6 +2,7 @@
 mod cases;
 mod faults;
 mod gates;
+mod lengths;
 mod readers;
 mod scene;
 mod shares;

@@ -1,7 +1,7 @@
 use Rattle.std.proofs.Common.{◌≡◌, inl, inr, ℕ, ◌/◌, ◌%◌, ◌<◌, List, [], length, get_or, set, refl, sym, ap, ◌∙◌, subst, arith}
 use Rattle.std.specs.Borrow.{Bor}
 use Rattle.std.proofs.lemmas.Bool.Decides.{eqb_tells}
-use Rattle.std.proofs.lemmas.List.{get_or-map, get_or-set_other, get_or-set_same, length-set}
+use Rattle.std.proofs.lemmas.List.{get_or-set_other, get_or-set_same, length-set}
 use Rattle.block_hash.specs.Hash.{hash}
 use Rattle.block_hash.specs.declared.Digest16.{Digest16}
 use Rattle.block_hash.specs.declared.Kind.TheVariants.{Md5}
@@ -42,17 +42,11 @@ loop-k-preserved c =
       ];
     }
 
-pub digest_eight-requires-clause-same_length : goal.digest_eight-requires-clause-same_length
-digest_eight-requires-clause-same_length c = λ j none below.
-    let so_far = c.loop-k.invariant in
-    let blocks = c.loop-k.bytes in
-    so_far.sizes j none (omega (arith, below, so_far.long))
-    ∙ sym (ap length (get_or-map (λ (b : Bor (List ℕ)). b.now) blocks 0 none [] (omega (arith, so_far.long))) ∙ so_far.sizes 0 none (omega (arith, so_far.long)))
-
-pub digest_eight-requires-clause-short : goal.digest_eight-requires-clause-short
-digest_eight-requires-clause-short c = λ j none below.
-    let so_far = c.loop-k.invariant in
-    omega (arith, so_far.sizes j none (omega (arith, below, so_far.long)), c.requires.most)
+pub digest_eight-requires : goal.digest_eight-requires
+digest_eight-requires c =
+    let so_far = c.loop-k.invariant in record {
+      short = λ j none below. omega (arith, so_far.sizes j none (omega (arith, below, so_far.long)), c.requires.most);
+    }
 
 pub returns : goal.returns
 returns c k digest other below =

@@ -2,8 +2,8 @@ use Rattle.std.proofs.Common.{◌≡◌, ◌+◌, ◌-◌, ◌<◌, ◌∙◌, S
 use Rattle.std.proofs.lemmas.List.{length-set}
 use Rattle.block_hash.specs.declared.Digest16.{Digest16}
 use Rattle.stripe_reader.specs.HashedLanes.{digest_at, numbered}
-use Rattle.stripe_reader.proofs.HashingLemmas.{full_digest}
-use Rattle.stripe_reader.proofs.LaneLemmas.{some_set, unhashed_at}
+use Rattle.stripe_reader.proofs.HashingLemmas.{whole_digest}
+use Rattle.stripe_reader.proofs.LaneLemmas.{some_set}
 use Rattle.stripe_reader.proofs.hashing.hash_eight.Goals as goal
 
 pub loop-k-preserved : goal.loop-k-preserved
@@ -14,12 +14,12 @@ loop-k-preserved c =
     let start = c.args.start in
     let digests = c.loop-k.digests in
     let at = get_or c.args.eight.now c.loop-k.k 0 in
-    let full = c.requires.full c.loop-k.k 0 (omega arith) in
+    let whole = c.requires.whole c.loop-k.k 0 (omega arith) in
     let made : Digest16 = get_or c.digests_of-made.result c.loop-k.k (record { 0 = [] }) in
-    let within : at - start < length digests = omega (arith, full.later, full.before, c.loop-k.invariant.long) in
-    let same : at ≡ start + (at - start) = omega (arith, full.later) in
+    let within : at - start < length digests = omega (arith, whole.later, whole.before, c.loop-k.invariant.long) in
+    let same : at ≡ start + (at - start) = omega (arith, whole.later) in
     let is : Some made ≡ digest_at shape count lanes (start + (at - start)) =
-    full_digest shape (numbered lanes count at) made c.requires.kind (unhashed_at shape count lanes c.requires.lanes at full.is.number).block full.is.full (c.digests_of-made.ensures c.loop-k.k (record { 0 = [] }) c.loop-k-test.true)
+    whole_digest shape (numbered lanes count at) made c.requires.kind whole.whole (c.digests_of-made.ensures c.loop-k.k (record { 0 = [] }) c.loop-k-test.true)
     ∙ ap (digest_at shape count lanes) same in
     record {
       long = length-set digests (at - start) (Some made) ∙ c.loop-k.invariant.long;

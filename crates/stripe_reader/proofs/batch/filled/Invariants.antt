@@ -1,5 +1,5 @@
 use Rattle.std.proofs.Common.{◌≡◌, ℕ, ◌<◌, ◌≤◌, length, slice_index}
-use Rattle.stripe_reader.proofs.hashing.filled.Given as goal
+use Rattle.stripe_reader.proofs.batch.filled.Given as goal
 
 abbrev pub invariant-loop-k : goal.invariant-loop-k
 invariant-loop-k l = record {

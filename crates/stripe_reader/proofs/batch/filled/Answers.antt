@@ -1,7 +1,7 @@
 use Rattle.std.proofs.Common.{◌≢◌, inl, inr, sym, ◌∙◌, arith, set, slice_index, subst, ℕ, ◌≡◌}
 use Rattle.std.proofs.lemmas.Bool.Decides.{eqb_tells}
 use Rattle.std.proofs.lemmas.List.{get_or-set_other, get_or-set_same, length-set}
-use Rattle.stripe_reader.proofs.hashing.filled.Goals as goal
+use Rattle.stripe_reader.proofs.batch.filled.Goals as goal
 
 pub loop-k-preserved : goal.loop-k-preserved
 loop-k-preserved c =
