@@ -2,7 +2,7 @@
 """Draws the crates as crates.txt has them, for ARCHITECTURE.
 
 usage: docs/crates.py >docs/crates.svg      draws them
-       docs/crates.py --check               says what picture or page have otherwise; then it ends with 1
+       docs/crates.py --check               says what picture, page or groups have otherwise; then it ends with 1
 
 A crate stands above those that it stands on. A line that follows from two others is not drawn. Tests that stand in a
 crate beside theirs are a mark on the box of that crate.
@@ -21,6 +21,8 @@ GROUPS = {
     "instances": ("#cfe8d5", "#14532d", "instances: arrays that meet what laws suppose"),
     "tests": ("#e2e4e9", "#374151", "tests, on the box of their crate if there is one"),
 }
+# What stands above each group in crates.txt, and in the page.
+HEADS = {"The program": "program", "Doubles": "doubles", "Instances": "instances", "Tests": "tests"}
 ROW, HIGH, GAP, LETTER, MARK, EDGE = 62, 26, 18, 6.7, 54, 24
 
 
@@ -208,8 +210,19 @@ def wrong_rows():
             yield f"{crate} stands on {' '.join(LINES[crate])}, and the table says: {below}"
 
 
+def wrong_groups(name, head, crate):
+    """The crates that a file has in another group than their own: by what its heads of groups, and its crates look like."""
+    group = None
+    for line in read(name).split("\n"):
+        begun, found = re.match(head, line), re.match(crate, line)
+        group = HEADS.get(begun[1]) if begun else group
+        if found and found[1] in LINES and group_of(found[1]) != group:
+            yield f"{name} has {found[1]} among {group}, and it is one of {group_of(found[1])}"
+
+
 def check():
-    wrong = [*wrong_rows()]
+    wrong = [*wrong_rows(), *wrong_groups("crates.txt", r"# ---- ([\w ]*)", r"(\w+):"),
+             *wrong_groups("docs/ARCHITECTURE.md", r"\*\*([\w ]*)\.\*\*", r"\| (\w+) \|")]
     if read("docs/crates.svg") != picture():
         wrong.append("docs/crates.svg is not what docs/crates.py draws")
     print("\n".join(wrong) or "picture and page are as crates.txt has it")
