@@ -6,7 +6,8 @@ The built program of this repository where none is given; ten minutes, all proce
 --some, of each command N kills, N power cuts and 2 N failures are drawn, so that many arrays are tried in a short time.
 
 Each array is small and random: one to four disks, one to three levels, one to three content copies. Over it come a first sync, a sync
-of changes, a scrub, a list and a status, and then a scrub, a check and a fix of damage that can be mended. Each is run once as it is.
+of changes, a scrub, a list, a status and a dup, and then a scrub, a check and a fix of damage that can be mended. Each is run once as it
+is.
 Behind the end of each all that it wrote has to be synced, and a power cut there may take nothing.
 Then, from the same start each time, it is killed before its first call that writes, before its second one, and so on; and its first call
 on a file fails, with EIO and then with ENOSPC, its second one, and so on. Each kill is made twice. The second time it is a power cut:
@@ -282,8 +283,8 @@ def cases(array, case_of):
     yield case_of(array, "sync", sync)
     scrub = [*readers, "-p", "full"]
     yield case_of(array, "scrub", scrub)
-    yield case_of(array, "list", [])
-    yield case_of(array, "status", [])
+    for command in ("list", "status", "dup"):
+        yield case_of(array, command, [])
     sums = array.held()
     array.damage()
     yield case_of(array, "scrub", scrub)
