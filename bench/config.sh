@@ -7,22 +7,23 @@ top=$(cd "$(dirname "$0")/.." && pwd)
 scratch=$(mktemp -d)
 trap 'rm -rf "$scratch"' EXIT
 
-for crate in disk_model snap_config; do
+for crate in disk_model array_setup snap_config; do
     mkdir -p "$scratch/crates/$crate"
     for part in src specs proofs; do
         cp -r "$top/crates/$crate/$part" "$scratch/crates/$crate/$part"
     done
 done
 mkdir -p "$scratch/crates/config_bench/src"
-grep -E '^(disk_model|snap_config):' "$top/crates.txt" >"$scratch/crates.txt"
-echo 'config_bench: snap_config disk_model anyhow' >>"$scratch/crates.txt"
+grep -E '^(disk_model|array_setup|snap_config):' "$top/crates.txt" >"$scratch/crates.txt"
+echo 'config_bench: snap_config array_setup disk_model anyhow' >>"$scratch/crates.txt"
 cat >"$scratch/crates/config_bench/src/main.rt" <<'PROGRAM'
 //! Times the reading of a large configuration, and of the files that a usual one keeps.
 #![tactic(auto)]
 
 use anyhow::{Context, Result, ensure};
 use disk_model::Path;
-use snap_config::{Setup, keeps, read_config};
+use array_setup::{Setup, keeps};
+use snap_config::read_config;
 use std::alloc::Global;
 use std::time::Instant;
 

@@ -11,7 +11,7 @@ files=${1:-200000}
 scratch=$(mktemp -d)
 trap 'rm -rf "$scratch"' EXIT
 
-for crate in block_hash disk_model file_table position_alloc snap_config array_scan; do
+for crate in block_hash disk_model file_table position_alloc array_setup folder_listing array_scan; do
     mkdir -p "$scratch/crates/$crate"
     for part in src specs proofs; do
         cp -r "$top/crates/$crate/$part" "$scratch/crates/$crate/$part"
@@ -23,9 +23,10 @@ block_hash: md5 sha2 hex
 disk_model: thiserror
 file_table: block_hash disk_model thiserror
 position_alloc: disk_model
-snap_config: disk_model memchr clap
-array_scan: file_table position_alloc snap_config block_hash disk_model
-layout_speed: array_scan file_table snap_config block_hash disk_model
+array_setup: disk_model memchr
+folder_listing: array_setup file_table disk_model
+array_scan: file_table position_alloc folder_listing array_setup block_hash disk_model
+layout_speed: array_scan folder_listing file_table array_setup block_hash disk_model
 CRATES
 crate=$scratch/crates/layout_speed
 mkdir -p "$crate/src" "$crate/specs" "$crate/proofs/push_next" "$crate/proofs/push_range" "$crate/proofs/old_table" "$crate/proofs/main"
@@ -55,14 +56,15 @@ ghost use Rattle.std.specs.Cmp.Lexicographic.{slice_cmp};
 ghost use Rattle.std.specs.declared.cmp.Ordering.TheVariants.{Less};
 ghost use Rattle.disk_model.specs.Tree.{IsListing, listed};
 ghost use Rattle.file_table.specs.Table.{no_meta};
-ghost use Rattle.array_scan.specs.Kept.{lists_of};
+ghost use Rattle.folder_listing.specs.Kept.{lists_of};
 ghost use Rattle.layout_speed.specs.Long.{IsLongListing};
 
-use array_scan::{Listing, Plan, ScanFault, lay_out};
+use array_scan::{Plan, ScanFault, lay_out};
 use block_hash::{Digest16, Kind};
 use disk_model::{FileInfo, Meta, NoMemory, Path, Places, Stamp, Text};
 use file_table::{BuildFault, Builder, Info, Mark, Shape, Table};
-use snap_config::{Disk, Disks, Rules, Setup, SyncWay};
+use array_setup::{Disk, Disks, Rules, Setup, SyncWay};
+use folder_listing::Listing;
 use std::alloc::Global;
 use std::time::Instant;
 use std::{env, io};
@@ -338,8 +340,8 @@ PROOFS
 cat >"$crate/proofs/main/Answers.antt" <<'PROOFS'
 use Rattle.std.proofs.Common.{List, All, sym, subst}
 use Rattle.disk_model.specs.Tree.{IsListing}
-use Rattle.array_scan.specs.declared.listing.Listing.{Listing}
-use Rattle.array_scan.specs.Kept.{lists_of}
+use Rattle.folder_listing.specs.declared.listing.Listing.{Listing}
+use Rattle.folder_listing.specs.Kept.{lists_of}
 use Rattle.layout_speed.proofs.main.Goals as goal
 
 pub lay_out-laid-requires-clause-order : goal.lay_out-laid-requires-clause-order

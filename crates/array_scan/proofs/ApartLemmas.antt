@@ -4,6 +4,7 @@ use Rattle.std.specs.List.{Contains}
 use Rattle.std.proofs.lemmas.Bool.{cases_lt}
 use Rattle.std.proofs.lemmas.List.{get_or_append_left, get_or-append-add, take-append-drop, get_or_default}
 use Rattle.std.proofs.lemmas.List.Elements.{Contains-get_or, Contains-append_left, Contains-append_right}
+use Rattle.folder_listing.proofs.JoinedLemmas.{AllPairs-across}
 
 -- no number stands twice
 abbrev pub Distinct : List ℕ → Type 0
@@ -15,22 +16,6 @@ Apart ps qs = (p : ℕ) → Contains ps p → Contains qs p → ⊥
 
 pub none_in_nothing : {X : Type 0} (x : X) → ¬ (Contains [] x)
 none_in_nothing x there = omega (arith, there.1)
-
-pub AllPairs-right : {X : Type 0} (R : X → X → Type 0) (xs ys : List X) → AllPairs R (xs ++ ys) → AllPairs R ys
-AllPairs-right R xs ys all i j d less within =
-    subst (R (get_or ys i d)) (get_or-append-add xs ys j d)
-    (subst (λ x. R x (get_or (xs ++ ys) (length xs + j) d)) (get_or-append-add xs ys i d)
-    (all (length xs + i) (length xs + j) d (omega arith) (omega (arith, length-append xs ys))))
-
--- each of a list stands in the relation to each of the list behind it
-pub AllPairs-across : {X : Type 0} (R : X → X → Type 0) (xs ys : List X) → AllPairs R (xs ++ ys) → (x y : X) → Contains xs x → Contains ys y → R x y
-AllPairs-across R xs ys all x y first second =
-    let i = first.0 in
-    let j = second.0 in
-    let here : R (get_or (xs ++ ys) i x) (get_or (xs ++ ys) (length xs + j) x) = all i (length xs + j) x (omega (arith, first.1)) (omega (arith, length-append xs ys, second.1)) in
-    let left : R (get_or xs i x) (get_or (xs ++ ys) (length xs + j) x) = subst (λ a. R a (get_or (xs ++ ys) (length xs + j) x)) (get_or_append_left xs ys x i first.1) here in
-    let right : R (get_or xs i x) (get_or ys j x) = subst (R (get_or xs i x)) (get_or-append-add xs ys j x) left in
-    subst (R x) second.2 (subst (R x) (get_or_default ys j x y second.1) (subst (λ a. R a (get_or ys j x)) first.2 right))
 
 pub AllPairs-append : {X : Type 0} (R : X → X → Type 0) (xs ys : List X) → AllPairs R xs → AllPairs R ys → ((x y : X) → Contains xs x → Contains ys y → R x y) → AllPairs R (xs ++ ys)
 AllPairs-append R xs ys one two across i j d less within =

@@ -6,7 +6,7 @@ use Rattle.file_table.specs.Table.{TableValue, column_at}
 use Rattle.array_scan.specs.declared.sorting.Sorted.{Sorted}
 use Rattle.array_scan.specs.declared.sorting.ColumnFiles.{ColumnFiles}
 use Rattle.array_scan.specs.declared.placing.Given.{Given}
-use Rattle.array_scan.specs.Kept.{each_column}
+use Rattle.folder_listing.specs.Kept.{each_column}
 use Rattle.std.proofs.lemmas.List.FromFn.{length-map-range_with_len, get_or-map-range_with_len}
 use Rattle.array_scan.specs.declared.sorting.Fate.{Fate}
 use Rattle.array_scan.specs.declared.sorting.Fate.TheVariants.{Unchanged, Changed, Moved, New}

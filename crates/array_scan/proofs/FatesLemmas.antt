@@ -14,8 +14,9 @@ use Rattle.disk_model.specs.Tree.{listed}
 use Rattle.file_table.specs.Table.{Record, Column, HasPath, no_record, no_meta, record_in}
 use Rattle.array_scan.specs.declared.lost.Node.{Node}
 use Rattle.array_scan.specs.declared.sorting.Fate.{Fate}
-use Rattle.array_scan.specs.Kept.{ListedFile}
-use Rattle.array_scan.specs.Fates.{record_of, file_of, same_meta, record_with, is_listed, may_move, is_vanished, vanished, is_rival, rivals, source_of, fate_by, fate_of}
+use Rattle.folder_listing.specs.Kept.{ListedFile}
+use Rattle.array_scan.specs.Fates.{record_of, file_of, record_with, is_listed, may_move, is_vanished, vanished, is_rival, rivals, source_of, fate_by, fate_of}
+use Rattle.folder_listing.specs.Kept.{same_meta}
 use Rattle.array_scan.specs.Lost.{Key, with_first, without_first, source_in, left_by}
 use Rattle.array_scan.proofs.LostLemmas.{Left, same_is}
 

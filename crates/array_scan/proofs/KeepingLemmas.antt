@@ -6,8 +6,9 @@ use Rattle.std.specs.Option.{option_map}
 use Rattle.std.proofs.lemmas.Bool.{and_parts, both_ways, cases_lt, not-true, eqb-true, ltb-true, true_from_ne_false}
 use Rattle.std.proofs.lemmas.List.{get_or-map, get_or_default, get_or_past, length-map}
 use Rattle.std.proofs.lemmas.List.FromFn.{get_or-map-range_with_len, length-map-range_with_len, length-range_with_len, get_or-range_with_len}
-use Rattle.array_scan.specs.Fates.{fate_by, fate_with, file_of as listed_at, is_listed, is_vanished, may_move, origin, record_of, record_with, rivals, same_meta, sorted_file, sorted_files, source_of, vanished}
-use Rattle.array_scan.specs.Kept.{ListedFile}
+use Rattle.array_scan.specs.Fates.{fate_by, fate_with, file_of as listed_at, is_listed, is_vanished, may_move, origin, record_of, record_with, rivals, sorted_file, sorted_files, source_of, vanished}
+use Rattle.folder_listing.specs.Kept.{same_meta}
+use Rattle.folder_listing.specs.Kept.{ListedFile}
 use Rattle.array_scan.specs.Laying.{bare, blocks_by, freed, given, kept_blocks, laid_column, laid_record, laid_records, needed, staying, taken, touched}
 use Rattle.array_scan.specs.Layout.{all_sorted, all_touched, column_laid, is_as_before, laid_info, layout, sorted_at, touched_at}
 use Rattle.array_scan.specs.declared.sorting.Fate.TheVariants.{New}

@@ -7,7 +7,7 @@ use Rattle.std.proofs.lemmas.List.Kept.{AllPairs-filter}
 use Rattle.disk_model.specs.Stamp.{IsStamp}
 use Rattle.disk_model.specs.Tree.{IsListing, IsListedBefore}
 use Rattle.file_table.specs.Table.{TableValue, column_at}
-use Rattle.snap_config.specs.Setup.{SetupValue}
+use Rattle.array_setup.specs.Setup.{SetupValue}
 use Rattle.std.specs.List.{list_all, ends_with, AllByRecursion}
 use Rattle.std.proofs.Common.{◌∷◌, not, Bool, true, false, nat_le, nat_eq, refl}
 use Rattle.std.proofs.lemmas.Bool.{leb-true}
@@ -18,18 +18,16 @@ use Rattle.std.proofs.lemmas.List.Elements.{filter_passes}
 use Rattle.disk_model.specs.Path.{IsValidPath, IsRecordPath, EndsWith, components, lost_suffix}
 use Rattle.file_table.specs.Table.{no_meta}
 use Rattle.file_table.specs.Valid.{IsMeta}
-use Rattle.snap_config.specs.Keeps.{is_recordable}
-use Rattle.array_scan.specs.declared.listing.Listing.{Listing}
-use Rattle.array_scan.specs.Kept.{ListedFile, files_of, lists_of, is_kept, kept_files, kept_lists}
+use Rattle.array_setup.specs.Keeps.{is_recordable}
+use Rattle.folder_listing.specs.declared.listing.Listing.{Listing}
+use Rattle.folder_listing.specs.Kept.{ListedFile, files_of, lists_of, is_kept, kept_files, kept_lists}
 use Rattle.array_scan.specs.Fates.{IsSound, AreFates, HasMeta, file_of, sorted_file, sorted_files}
 use Rattle.array_scan.specs.Own.{AreKeptFiles, AreKept}
 use Rattle.array_scan.specs.Layout.{sorted_at, all_sorted, AreSound}
 use Rattle.array_scan.proofs.LostLemmas.{both_true}
 use Rattle.array_scan.proofs.OriginLemmas.{sorted_fates}
 use Rattle.array_scan.proofs.SortedLemmas.{sorted_sound}
-
-pub list_at : (lists : List Listing) (d : ℕ) (e : Listing) → d < length lists → get_or (lists_of lists) d [] ≡ files_of (get_or lists d e)
-list_at lists d e within = get_or-map files_of lists d e [] within
+use Rattle.folder_listing.proofs.ListedLemmas.{list_at}
 
 abbrev kept_of : SetupValue → List (List ListedFile) → ℕ → List ListedFile
 kept_of setup lists d = kept_files setup d (get_or lists d [])

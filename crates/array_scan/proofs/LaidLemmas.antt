@@ -22,7 +22,7 @@ use Rattle.file_table.specs.Valid.{IsValid, IsColumn, AreColumns, IsRecord, IsMe
 use Rattle.file_table.proofs.BuildingLemmas.{blocks_in}
 use Rattle.file_table.proofs.PrefixLemmas.{All-left, All-right, positions_in}
 use Rattle.array_scan.specs.declared.sorting.Sorted.{Sorted}
-use Rattle.array_scan.specs.Kept.{ListedFile}
+use Rattle.folder_listing.specs.Kept.{ListedFile}
 use Rattle.disk_model.specs.Stamp.{IsStamp}
 use Rattle.array_scan.specs.Fates.{record_of, file_of, sorted_file, sorted_files, IsSound, AreFates}
 use Rattle.array_scan.specs.Laying.{staying, taken, needed, all_needed, given, bare_block, laid_records, laid_column, freed, touched}
@@ -37,17 +37,9 @@ use Rattle.array_scan.proofs.PlacingLemmas.{column_within}
 use Rattle.array_scan.proofs.PushingLemmas.{length-free}
 use Rattle.array_scan.proofs.SortedLemmas.{fate_within}
 use Rattle.array_scan.proofs.TwiceLemmas.{laid_files, files_again, sorted_each}
+use Rattle.folder_listing.proofs.JoinedLemmas.{all_flat, all_of_flat}
 
 -- ---- lists that a function gives each element, joined
-
-pub all_flat : {X A : Type 0} (P : A → Type 0) (f : X → List A) (xs : List X) → ((k : ℕ) (d : X) → k < length xs → All P (f (get_or xs k d))) → All P (flat_map f xs)
-all_flat P f [] each = All-nil P
-all_flat P f (x ∷ xs) each = All-append P (f x) (flat_map f xs) (each 0 x (omega arith)) (all_flat P f xs (λ k d within. each (suc k) d (omega arith)))
-
-pub all_of_flat : {X A : Type 0} (P : A → Type 0) (f : X → List A) (xs : List X) → All P (flat_map f xs) → (k : ℕ) (d : X) → k < length xs → All P (f (get_or xs k d))
-all_of_flat P f [] all k d within = absurd (omega arith)
-all_of_flat P f (x ∷ xs) all zero d within = All-left P (f x) (flat_map f xs) all
-all_of_flat P f (x ∷ xs) all (suc k) d within = all_of_flat P f xs (All-right P (f x) (flat_map f xs) all) k d (omega arith)
 
 in_flat : {A : Type 0} (f : ℕ → List A) (from n d : ℕ) (x : A) → from ≤ d → d < from + n → Contains (f d) x → Contains (flat_map f (range_with_len from n)) x
 in_flat f from zero d x low high there = absurd (omega arith)

@@ -24,8 +24,9 @@ use Rattle.array_scan.specs.declared.fault.ScanFault.TheVariants.{Zeroed, Emptie
 use Rattle.array_scan.specs.declared.sorting.Fate.{Fate}
 use Rattle.array_scan.specs.declared.sorting.Fate.TheVariants.{Unchanged}
 use Rattle.array_scan.specs.declared.sorting.Sorted.{Sorted}
-use Rattle.array_scan.specs.Kept.{ListedFile}
-use Rattle.array_scan.specs.Fates.{record_of, file_of, same_meta, record_with, fate_with, fate_by, fate_of, source_of, sorted_file, sorted_files, origin}
+use Rattle.folder_listing.specs.Kept.{ListedFile}
+use Rattle.array_scan.specs.Fates.{record_of, file_of, record_with, fate_with, fate_by, fate_of, source_of, sorted_file, sorted_files, origin}
+use Rattle.folder_listing.specs.Kept.{same_meta}
 use Rattle.array_scan.specs.Laying.{kept_blocks, staying, taken, needed, all_needed, free_positions, given, laid_records, laid_column, freed, touched}
 use Rattle.array_scan.specs.Layout.{sorted_at, all_sorted, column_laid, columns_laid, touched_at, all_touched, laid_info, layout}
 use Rattle.array_scan.specs.Refusals.{or_else, first_some, first_zeroed, zeroed_at, is_emptied, emptied_at, size_of, blocks_in, files_in, capped, full, unless, in_columns, refusal}

@@ -2,7 +2,6 @@ pub mod ColumnLemmas
 pub mod FatesLemmas
 pub mod KeptLemmas
 pub mod LawLemmas
-pub mod ListingLemmas
 pub mod LostLemmas
 pub mod PlacingLemmas
 pub mod PushingLemmas

@@ -9,7 +9,8 @@ use Rattle.std.proofs.lemmas.Bool.Decides.{Decides-int_eq}
 use Rattle.std.proofs.lemmas.List.{get_or_append_left, get_or_at}
 use Rattle.disk_model.specs.declared.meta.Meta.{Meta}
 use Rattle.array_scan.specs.declared.lost.Node.{Node}
-use Rattle.array_scan.specs.Fates.{same_meta, may_move}
+use Rattle.folder_listing.specs.Kept.{same_meta}
+use Rattle.array_scan.specs.Fates.{may_move}
 use Rattle.array_scan.specs.Lost.{Key, key_of, key_cmp, no_node, node_at, IsChain, with_first, without_first}
 
 -- ---- keys

@@ -20,8 +20,9 @@ use Rattle.disk_model.specs.declared.meta.Meta.{Meta}
 use Rattle.disk_model.specs.Tree.{IsListedBefore}
 use Rattle.file_table.specs.Table.{Record, no_record, no_meta}
 use Rattle.array_scan.specs.declared.sorting.Sorted.{Sorted}
-use Rattle.array_scan.specs.Kept.{ListedFile}
-use Rattle.array_scan.specs.Fates.{record_of, file_of, same_meta, record_with, is_number, is_listed, is_new, may_move, is_vanished, vanished, is_rival, rivals, source_of, fate_with, fate_without, fate_by, fate_of, sorted_file, sorted_files, origin, HasOriginMeta, ShareNone, AreFates}
+use Rattle.folder_listing.specs.Kept.{ListedFile}
+use Rattle.array_scan.specs.Fates.{record_of, file_of, record_with, is_number, is_listed, is_new, may_move, is_vanished, vanished, is_rival, rivals, source_of, fate_with, fate_without, fate_by, fate_of, sorted_file, sorted_files, origin, HasOriginMeta, ShareNone, AreFates}
+use Rattle.folder_listing.specs.Kept.{same_meta}
 use Rattle.array_scan.proofs.LostLemmas.{same_is}
 
 -- ---- an element of a filtered range

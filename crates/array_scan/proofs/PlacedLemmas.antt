@@ -24,7 +24,8 @@ use Rattle.array_scan.specs.Laying.{kept_blocks, staying, blocks_without, needed
 use Rattle.array_scan.specs.Marks.{AreFree}
 use Rattle.array_scan.specs.Refusals.{size_of}
 use Rattle.array_scan.proofs.PlacingLemmas.{apart_eq, staying-push}
-use Rattle.array_scan.proofs.ApartLemmas.{Distinct, Apart, none_in_nothing, AllPairs-right, distinct-append, distinct_apart, in_take, in_drop}
+use Rattle.array_scan.proofs.ApartLemmas.{Distinct, Apart, none_in_nothing, distinct-append, distinct_apart, in_take, in_drop}
+use Rattle.folder_listing.proofs.JoinedLemmas.{AllPairs-right}
 
 -- ---- where the blocks come from
 

@@ -8,8 +8,9 @@ use Rattle.std.proofs.lemmas.List.Quantifiers.{position-Some}
 use Rattle.disk_model.specs.Stamp.{IsStamp}
 use Rattle.disk_model.specs.declared.meta.Meta.{Meta}
 use Rattle.file_table.specs.Table.{Record, no_record, no_meta}
-use Rattle.array_scan.specs.Kept.{ListedFile}
-use Rattle.array_scan.specs.Fates.{record_of, file_of, same_meta, record_with, may_move, is_vanished, vanished, source_of, fate_with, fate_without, fate_by, fate_of, sorted_file, sorted_files, HasRecord, IsSound, rivals}
+use Rattle.folder_listing.specs.Kept.{ListedFile}
+use Rattle.array_scan.specs.Fates.{record_of, file_of, record_with, may_move, is_vanished, vanished, source_of, fate_with, fate_without, fate_by, fate_of, sorted_file, sorted_files, HasRecord, IsSound, rivals}
+use Rattle.folder_listing.specs.Kept.{same_meta}
 
 in_list : {X : Type 0} (P : X → Type 0) (xs : List X) (n : ℕ) (x : X) → All P xs → slice_get xs n ≡ Some x → P x
 in_list P [] n x all is = absurd cc

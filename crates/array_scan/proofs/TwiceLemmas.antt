@@ -4,7 +4,7 @@ use Rattle.std.specs.List.{range_with_len}
 use Rattle.std.proofs.lemmas.List.FromFn.{fill_by_all, length-map-range_with_len, get_or-map-range_with_len}
 use Rattle.file_table.specs.Table.{Record, Column, TableValue, column_at, no_meta, no_column}
 use Rattle.array_scan.specs.declared.sorting.Sorted.{Sorted}
-use Rattle.array_scan.specs.Kept.{ListedFile}
+use Rattle.folder_listing.specs.Kept.{ListedFile}
 use Rattle.array_scan.specs.Fates.{file_of, sorted_file, sorted_files}
 use Rattle.array_scan.specs.Laying.{needed, given, laid_records}
 use Rattle.array_scan.specs.Layout.{sorted_at, all_sorted, column_laid, columns_laid, layout}

@@ -6,9 +6,9 @@ use Rattle.disk_model.specs.Tree.{listed}
 use Rattle.disk_model.specs.declared.meta.FileInfo.{FileInfo}
 use Rattle.disk_model.specs.declared.meta.Meta.{Meta}
 use Rattle.file_table.specs.Table.{Record, no_meta}
-use Rattle.snap_config.specs.Keeps.{keeps}
-use Rattle.snap_config.specs.Setup.{SetupValue}
-use Rattle.array_scan.specs.Kept.{ListedFile, is_kept, kept_files}
+use Rattle.array_setup.specs.Keeps.{keeps}
+use Rattle.array_setup.specs.Setup.{SetupValue}
+use Rattle.folder_listing.specs.Kept.{ListedFile, is_kept, kept_files}
 use Rattle.array_scan.specs.Fates.{record_of}
 use Rattle.array_scan.specs.Own.{own_files}
 use Rattle.array_scan.proofs.LawLemmas.{own_at, length-own}

@@ -10,7 +10,8 @@ use Rattle.file_table.specs.Valid.{IsMeta}
 use Rattle.array_scan.specs.declared.sorting.Fate.{Fate}
 use Rattle.array_scan.specs.declared.sorting.Fate.TheVariants.{Unchanged, Changed, Moved, New}
 use Rattle.array_scan.specs.declared.sorting.Sorted.{Sorted}
-use Rattle.array_scan.specs.Kept.{ListedFile}
+use Rattle.folder_listing.specs.Kept.{ListedFile}
+use Rattle.folder_listing.specs.Kept.{same_meta}
 
 -- the record of a number, and the file of a number
 abbrev pub record_of : List Record → ℕ → Record
@@ -18,10 +19,6 @@ record_of records i = slice_index_or records i no_record
 
 abbrev pub file_of : List ListedFile → ℕ → ListedFile
 file_of files k = slice_index_or files k ([], no_meta)
-
--- equal size and equal stamp
-abbrev pub same_meta : Meta → Meta → Bool
-same_meta a b = a.size == b.size && int_eq a.stamp.seconds b.stamp.seconds && a.stamp.nanos == b.stamp.nanos
 
 -- the number of the record with this path
 abbrev pub record_with : List Record → List ℕ → Option ℕ

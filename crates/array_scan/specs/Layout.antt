@@ -8,7 +8,7 @@ use Rattle.file_table.specs.Table.{Column, TableValue, column_at, blocks_of, pos
 use Rattle.array_scan.specs.declared.sorting.Sorted.{Sorted}
 use Rattle.array_scan.specs.declared.sorting.ColumnFiles.{ColumnFiles}
 use Rattle.array_scan.specs.declared.placing.Given.{Given}
-use Rattle.array_scan.specs.Kept.{ListedFile, each_column}
+use Rattle.folder_listing.specs.Kept.{ListedFile, each_column}
 use Rattle.array_scan.specs.Fates.{sorted_files, IsSound, AreFates}
 use Rattle.array_scan.specs.Laying.{laid_column, given, touched}
 

@@ -1,9 +1,7 @@
-pub mod Kept
 pub mod Fates
 pub mod Lost
 pub mod Laying
 pub mod Layout
-pub mod Listings
 pub mod Marks
 pub mod Own
 pub mod Refusals

@@ -6,7 +6,8 @@ use Rattle.std.specs.declared.cmp.Ordering.{Ordering}
 use Rattle.disk_model.specs.declared.meta.Meta.{Meta}
 use Rattle.array_scan.specs.declared.lost.Node.{Node}
 use Rattle.array_scan.specs.declared.lost.Lost.{Lost}
-use Rattle.array_scan.specs.Fates.{same_meta, may_move}
+use Rattle.folder_listing.specs.Kept.{same_meta}
+use Rattle.array_scan.specs.Fates.{may_move}
 
 -- size and stamp as a key of a map, and the order of such keys
 abbrev pub Key : Type 0

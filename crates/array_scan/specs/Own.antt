@@ -4,7 +4,7 @@ use Rattle.disk_model.specs.Path.{IsRecordPath}
 use Rattle.disk_model.specs.Tree.{IsListedBefore}
 use Rattle.file_table.specs.Valid.{IsMeta}
 use Rattle.file_table.specs.Table.{Record, TableValue, column_at}
-use Rattle.array_scan.specs.Kept.{ListedFile}
+use Rattle.folder_listing.specs.Kept.{ListedFile}
 
 -- the files of records, as they were listed
 abbrev pub own_files : List Record → List ListedFile

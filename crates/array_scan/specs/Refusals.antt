@@ -10,7 +10,7 @@ use Rattle.array_scan.specs.declared.sorting.Fate.TheVariants.{Unchanged, Change
 use Rattle.array_scan.specs.declared.sorting.Sorted.{Sorted}
 use Rattle.array_scan.specs.declared.fault.ScanFault.{ScanFault}
 use Rattle.array_scan.specs.declared.fault.ScanFault.TheVariants.{Zeroed, Emptied, Full, Memory}
-use Rattle.array_scan.specs.Kept.{each_column}
+use Rattle.folder_listing.specs.Kept.{each_column}
 use Rattle.array_scan.specs.Fates.{record_of, origin}
 
 -- the first that is there

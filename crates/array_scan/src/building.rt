@@ -5,7 +5,7 @@ ghost use Rattle.file_table.specs.Table.{column_at, records_of, column_blocks, b
 ghost use Rattle.file_table.specs.Valid.{IsValid, AreInfos, most_blocks};
 ghost use Rattle.file_table.specs.Pushing.{with_blocks, with_records, MayStand, AreWhole, LacksBlocks, TakesBlocks, TakesThese, TakesColumns};
 ghost use Rattle.file_table.specs.declared.fault.BuildFault.TheVariants.{Memory};
-ghost use Rattle.array_scan.specs.Kept.{each_column};
+ghost use Rattle.folder_listing.specs.Kept.{each_column};
 ghost use Rattle.array_scan.specs.Fates.{IsSound};
 ghost use Rattle.array_scan.specs.Laying.{bare, needed, all_needed, laid_record, laid_records, blocks_laid};
 ghost use Rattle.array_scan.specs.Layout.{sorted_of, given_of, AreSound, given_at, columns_laid, laid_info, laid_table, all_touched};

@@ -3,7 +3,7 @@ ghost use Rattle.std.specs.Prelude.{◌≡◌, List, Bool, None, length};
 ghost use Rattle.file_table.specs.Table.{TableValue};
 ghost use Rattle.file_table.specs.Valid.{IsValid};
 ghost use Rattle.array_scan.specs.Keeping.{KeepsStripes};
-ghost use Rattle.array_scan.specs.Kept.{ListedFile};
+ghost use Rattle.folder_listing.specs.Kept.{ListedFile};
 ghost use Rattle.array_scan.specs.Layout.{all_sorted, layout};
 ghost use Rattle.array_scan.specs.Own.{AreKept, HoldsJust};
 ghost use Rattle.array_scan.specs.Refusals.{refusal};

@@ -1,23 +1,23 @@
 // The layout of an array.
 ghost use Rattle.std.specs.Prelude.{◌≡◌, length, All, IfOk, IfErr, None};
 ghost use Rattle.disk_model.specs.Tree.{IsListing};
-ghost use Rattle.snap_config.specs.Setup.{setup_value};
+ghost use Rattle.array_setup.specs.Setup.{setup_value};
 ghost use Rattle.file_table.specs.Valid.{IsValid};
-ghost use Rattle.array_scan.specs.Kept.{kept_lists, lists_of};
+ghost use Rattle.folder_listing.specs.Kept.{kept_lists, lists_of};
 ghost use Rattle.array_scan.specs.Fates.{HasMeta};
 ghost use Rattle.array_scan.specs.Layout.{sorted_of, all_sorted, layout, is_pending, pending_stripes, AreSound};
 ghost use Rattle.array_scan.specs.Refusals.{refusal, IsCause};
 
+use crate::ScanFault;
 use crate::building::build;
-use crate::kept::kept;
 use crate::placing::place_all;
 use crate::refusing::refusal;
 use crate::sorting::{ColumnFiles, sort_files};
 use crate::unchanged::is_unchanged;
-use crate::{Listing, ScanFault};
+use array_setup::{Setup, SyncWay};
 use disk_model::NoMemory;
 use file_table::{Mark, Table};
-use snap_config::{Setup, SyncWay};
+use folder_listing::{Listing, kept};
 use std::alloc::Global;
 
 /// The table that a sync works on, and its pending stripes, ascending.

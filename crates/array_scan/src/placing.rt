@@ -3,7 +3,7 @@ ghost use Rattle.std.specs.Prelude.{◌≡◌, ◌≤◌, ◌<◌, ◌+◌, ◌+
 ghost use Rattle.std.specs.FinSet as set;
 ghost use Rattle.file_table.specs.Table.{column_at, column_blocks, positions_of};
 ghost use Rattle.file_table.specs.Valid.{most_blocks};
-ghost use Rattle.array_scan.specs.Kept.{each_column};
+ghost use Rattle.folder_listing.specs.Kept.{each_column};
 ghost use Rattle.array_scan.specs.Fates.{origin, IsSound, ShareNone, AreFates};
 ghost use Rattle.array_scan.specs.Laying.{kept_blocks, taken, needed, all_needed, free_positions, given, touched};
 ghost use Rattle.array_scan.specs.Layout.{sorted_of, given_of, AreSound, given_at, all_touched};

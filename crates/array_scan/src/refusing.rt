@@ -10,9 +10,9 @@ ghost use Rattle.array_scan.specs.Refusals.{emptied_record, first_zeroed, is_emp
 
 use crate::ScanFault;
 use crate::sorting::{ColumnFiles, Fate, Sorted};
+use array_setup::SyncWay;
 use file_table::limits::{MOST_BLOCKS, MOST_RECORDS};
 use file_table::{Table, blocks_for};
-use snap_config::SyncWay;
 
 // The record of a file that had bytes and is empty now.
 fn emptied_record(old: &Table, d: u32, file: &Sorted) -> Option<u32>

@@ -6,8 +6,9 @@ ghost use Rattle.disk_model.specs.Stamp.{IsStamp};
 ghost use Rattle.disk_model.specs.Tree.{listed};
 ghost use Rattle.disk_model.specs.declared.meta.Meta.{Meta};
 ghost use Rattle.file_table.specs.Table.{column_at};
-ghost use Rattle.array_scan.specs.Kept.{ListedFile};
-ghost use Rattle.array_scan.specs.Fates.{same_meta, may_move, record_with, is_number, is_listed, vanished, fate_of, fate_by, fate_without, sorted_files, IsSound, HasMeta};
+ghost use Rattle.folder_listing.specs.Kept.{ListedFile};
+ghost use Rattle.folder_listing.specs.Kept.{same_meta};
+ghost use Rattle.array_scan.specs.Fates.{may_move, record_with, is_number, is_listed, vanished, fate_of, fate_by, fate_without, sorted_files, IsSound, HasMeta};
 ghost use Rattle.array_scan.specs.Lost.{Offers, source_in, left_by};
 
 use crate::lost::Lost;

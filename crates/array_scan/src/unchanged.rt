@@ -1,15 +1,15 @@
 // Whether the records of a table are just the kept files.
 ghost use Rattle.std.specs.Prelude.{◌≡◌, ◌<◌, length, IsTrue};
 ghost use Rattle.disk_model.specs.Tree.{listed};
-ghost use Rattle.snap_config.specs.Setup.{setup_value};
+ghost use Rattle.array_setup.specs.Setup.{setup_value};
 ghost use Rattle.file_table.specs.Table.{column_at, record_at};
-ghost use Rattle.array_scan.specs.Kept.{kept_files, kept_lists, lists_of};
+ghost use Rattle.folder_listing.specs.Kept.{kept_files, kept_lists, lists_of};
 ghost use Rattle.array_scan.specs.Own.{own_files, HoldsJust};
 
-use crate::Listing;
+use array_setup::{Setup, keeps};
 use disk_model::FileInfo;
 use file_table::Table;
-use snap_config::{Setup, keeps};
+use folder_listing::Listing;
 
 // Whether a file has the path, size and stamp of a record.
 fn is_record(table: &Table, d: u32, rec: u32, file: &FileInfo) -> bool

@@ -17,7 +17,7 @@ use Rattle.std.proofs.lemmas.Slice.Eq.{bytes_eq-Decides, starts_is}
 use Rattle.disk_model.specs.Tree.{IsListing, listed, is_directory_of}
 use Rattle.disk_model.specs.declared.meta.FileInfo.{FileInfo}
 use Rattle.disk_model.specs.declared.meta.Meta.{Meta}
-use Rattle.array_scan.specs.Kept.{ListedFile}
+use Rattle.folder_listing.specs.Kept.{ListedFile}
 use Rattle.repair_scope.specs.Listed.{path_cmp, SplitsAt}
 use Rattle.repair_scope.specs.Blocked.{found_in, is_inside_one}
 

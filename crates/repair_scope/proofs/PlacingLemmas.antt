@@ -4,10 +4,10 @@ use Rattle.std.proofs.lemmas.List.{append-nil, map-append, get_or-map, length-ma
 use Rattle.std.proofs.lemmas.List.FromFn.{map-range_with_len_more}
 use Rattle.disk_model.specs.Path.{lost_suffix}
 use Rattle.disk_model.specs.Tree.{IsListing, path_of}
-use Rattle.array_scan.specs.Kept.{files_of, lists_of, each_column}
-use Rattle.array_scan.specs.declared.listing.Listing.{Listing}
-use Rattle.snap_config.specs.Setup.{SetupValue}
-use Rattle.snap_config.specs.declared.setup.Disk.{Disk}
+use Rattle.folder_listing.specs.Kept.{files_of, lists_of, each_column}
+use Rattle.folder_listing.specs.declared.listing.Listing.{Listing}
+use Rattle.array_setup.specs.Setup.{SetupValue}
+use Rattle.array_setup.specs.declared.setup.Disk.{Disk}
 use Rattle.repair_scope.specs.Plan.{names_of}
 
 -- what stands behind PATH in the front of the paths below it, or below PATH`.unrecoverable`

@@ -3,7 +3,7 @@ use Rattle.std.specs.Prelude.{ℕ, ◌&&◌, ◌||◌, not, is_some, List, [], �
 use Rattle.std.specs.List.{list_any}
 use Rattle.disk_model.specs.Tree.{is_directory_of, path_of}
 use Rattle.disk_model.specs.declared.meta.Meta.{Meta}
-use Rattle.array_scan.specs.Kept.{ListedFile}
+use Rattle.folder_listing.specs.Kept.{ListedFile}
 
 -- size and stamp of the file of a path, if it was listed
 abbrev pub found_in : List ListedFile → List ℕ → Option Meta

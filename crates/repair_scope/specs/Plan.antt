@@ -1,13 +1,13 @@
 -- What a check or a fix works on: a table, what is known of the files of its records when the run begins, and what is selected.
 use Rattle.std.specs.Prelude.{◌≡◌, ℕ, ◌<◌, ◌&&◌, ◌||◌, not, List, [], length, map, filter, get_or, slice_index_or, Bool, true, false, if◌then◌else◌, Option, None, Some}
 use Rattle.std.specs.List.{range_with_len, list_any}
-use Rattle.array_scan.specs.Kept.{ListedFile, each_column}
+use Rattle.folder_listing.specs.Kept.{ListedFile, each_column}
 use Rattle.file_table.specs.Cells.{CellView, cell_in, cell_view}
 use Rattle.file_table.specs.Table.{Record, TableValue, column_at, info_at, records_in, is_synced_mark}
 use Rattle.file_table.specs.declared.block.Cell.{Cell}
-use Rattle.snap_config.specs.Setup.{SetupValue}
-use Rattle.snap_config.specs.declared.options.Selection.{Selection}
-use Rattle.snap_config.specs.declared.setup.Disk.{Disk}
+use Rattle.array_setup.specs.Setup.{SetupValue}
+use Rattle.array_setup.specs.declared.ways.Selection.{Selection}
+use Rattle.array_setup.specs.declared.setup.Disk.{Disk}
 use Rattle.repair_scope.specs.declared.entry.Entry.{Entry}
 use Rattle.repair_scope.specs.declared.plan.Plan.{Plan}
 use Rattle.repair_scope.specs.declared.scope.Mode.{Mode}

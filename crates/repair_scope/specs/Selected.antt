@@ -3,10 +3,10 @@ use Rattle.std.specs.Prelude.{ℕ, ◌&&◌, ◌||◌, not, is_some, List, [], �
 use Rattle.std.specs.List.{list_any}
 use Rattle.disk_model.specs.Name.{level_names}
 use Rattle.disk_model.specs.declared.meta.Meta.{Meta}
-use Rattle.array_scan.specs.Fates.{same_meta}
+use Rattle.folder_listing.specs.Kept.{same_meta}
 use Rattle.file_table.specs.Table.{Record}
-use Rattle.snap_config.specs.Matching.{matches}
-use Rattle.snap_config.specs.declared.options.Selection.{Selection}
+use Rattle.array_setup.specs.Matching.{matches}
+use Rattle.array_setup.specs.declared.ways.Selection.{Selection}
 
 -- nothing is in a list
 abbrev pub has_none : List (List ℕ) → Bool

@@ -2,18 +2,18 @@
 ghost use Rattle.std.specs.Prelude.{◌≡◌, ◌<◌, length, map, IfOk, All};
 ghost use Rattle.disk_model.specs.Tree.{IsListing, listed};
 ghost use Rattle.file_table.specs.Table.{Record, records_in};
-ghost use Rattle.array_scan.specs.Kept.{lists_of};
-ghost use Rattle.snap_config.specs.Setup.{setup_value};
+ghost use Rattle.folder_listing.specs.Kept.{lists_of};
+ghost use Rattle.array_setup.specs.Setup.{setup_value};
 ghost use Rattle.repair_scope.specs.Blocked.{found_in, is_blocked as is_blocked_by};
 ghost use Rattle.repair_scope.specs.Plan.{entry_of, entries_of, names_of};
 
 use crate::entry::{Entries, Entry};
 use crate::finding::{find_listed, holds_one, is_inside_one};
 use crate::selecting::selects;
-use array_scan::Listing;
+use array_setup::{Selection, Setup};
 use disk_model::{FileInfo, Meta, NoMemory, Path};
 use file_table::Table;
-use snap_config::{Selection, Setup};
+use folder_listing::Listing;
 use std::alloc::Global;
 
 // Whether files stand in the way of PATH, of which this was listed.

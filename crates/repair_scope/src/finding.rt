@@ -7,7 +7,7 @@ ghost use Rattle.std.specs.Cmp.Lexicographic.{slice_cmp};
 ghost use Rattle.std.specs.List.Sorted.{IsBinarySearchResult, IsSearchInRange};
 ghost use Rattle.disk_model.specs.Tree.{IsListing, listed, path_of};
 ghost use Rattle.disk_model.specs.declared.meta.FileInfo.{FileInfo};
-ghost use Rattle.array_scan.specs.Kept.{ListedFile};
+ghost use Rattle.folder_listing.specs.Kept.{ListedFile};
 ghost use Rattle.repair_scope.specs.Blocked.{found_in, holds_one, is_inside_one};
 ghost use Rattle.repair_scope.specs.Listed.{SplitsAt};
 

@@ -3,15 +3,15 @@ ghost use Rattle.std.specs.Prelude.{◌≡◌, ◌<◌, [], length, get_or, IfOk
 ghost use Rattle.std.specs.List.{list_any};
 ghost use Rattle.disk_model.specs.Name.{level_names};
 ghost use Rattle.file_table.specs.Table.{Record, column_at, record_at};
-ghost use Rattle.snap_config.specs.Matching.{matches};
+ghost use Rattle.array_setup.specs.Matching.{matches};
 ghost use Rattle.repair_scope.specs.Plan.{EntriesFit, IsScope, seen, stripes_of, is_in_scope, selected_cell, selects_cell, selects_record, selects_level, has_selected_cell, has_selected_level, is_looked_at};
 ghost use Rattle.repair_scope.specs.Selected.{selects as selects_by, is_named, means_disk, means_path, is_as_recorded, means_all, means_level};
 
 use crate::plan::Plan;
 use crate::scope::{Mode, Scope};
+use array_setup::{Pattern, Selection, matches};
 use disk_model::{Meta, NoMemory, Path, Text};
 use file_table::Cell;
-use snap_config::{Pattern, Selection, matches};
 use std::alloc::Global;
 
 // The name of a level, by its keyword in a configuration.

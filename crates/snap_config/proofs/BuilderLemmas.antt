@@ -2,7 +2,7 @@
 use Rattle.std.proofs.Common.{◌≡◌, ℕ, List, true, false, if◌then◌else◌, Ok, Err, IsUtf8, refl, sym, ap, ◌∙◌}
 use Rattle.std.proofs.lemmas.Str.{IsUtf8-from_is_utf8, is_utf8-from_IsUtf8}
 use Rattle.std.specs.Str.{is_utf8}
-use Rattle.snap_config.proofs.BoolLemmas.{not_true}
+use Rattle.array_setup.proofs.BoolLemmas.{not_true}
 use Rattle.snap_config.specs.Builder.{BuilderValue, take_content, take_line}
 use Rattle.snap_config.specs.Line.{content_of, is_skipped}
 use Rattle.snap_config.specs.declared.why.Why.TheVariants.{Utf8}

@@ -5,7 +5,7 @@ use Rattle.std.proofs.lemmas.Bool.Decides.{nat_tests}
 use Rattle.std.proofs.lemmas.List.{take-append-drop, drop-drop, get_or_default}
 use Rattle.std.proofs.lemmas.List.Elements.{filter_map-append}
 use Rattle.std.proofs.lemmas.List.Splits.{slice_split_none, slice_split_at}
-use Rattle.snap_config.proofs.BoolLemmas.{not_true}
+use Rattle.array_setup.proofs.BoolLemmas.{not_true}
 use Rattle.snap_config.specs.Config.{Refusal, then_read, at_line, read_lines, read_setup, finish, setup_of, lacks_level, files_of, by_level, IsRefusal}
 use Rattle.snap_config.specs.Builder.{BuilderValue, no_lines, take_line}
 use Rattle.snap_config.specs.Fault.{fault_at}
@@ -14,7 +14,7 @@ use Rattle.snap_config.specs.Reading.{Explains}
 use Rattle.snap_config.specs.declared.builder.ParityLine.{ParityLine}
 use Rattle.snap_config.specs.declared.fault.LineFault.{LineFault}
 use Rattle.snap_config.specs.declared.fault.LineFault.TheVariants.{Refused, Memory}
-use Rattle.snap_config.specs.Setup.{SetupValue}
+use Rattle.array_setup.specs.Setup.{SetupValue}
 use Rattle.snap_config.specs.declared.why.ConfigFault.{ConfigFault}
 use Rattle.snap_config.specs.declared.why.ConfigFault.TheVariants.{BadLine, Memory as ConfigMemory}
 use Rattle.snap_config.specs.declared.why.Why.{Why}

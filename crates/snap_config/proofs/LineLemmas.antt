@@ -6,7 +6,7 @@ use Rattle.std.proofs.lemmas.List.Sums.{position_or_len_is}
 use Rattle.std.proofs.lemmas.Str.{IsUtf8-take, IsUtf8-drop, IsCharBoundary-after_ascii, IsCharBoundary-before_ascii}
 use Rattle.std.proofs.Math.Seq.{take-append_seam, get_or-append_seam}
 use Rattle.std.specs.List.{position_or_len}
-use Rattle.snap_config.proofs.BoolLemmas.{not_true}
+use Rattle.array_setup.proofs.BoolLemmas.{not_true}
 use Rattle.snap_config.specs.Line.{is_blank, starts_with_blank, ends_with_blank, trim_front, trim_end, without_return}
 
 -- ---- carriage returns

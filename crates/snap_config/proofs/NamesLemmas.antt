@@ -5,12 +5,12 @@ use Rattle.std.proofs.lemmas.Slice.Eq.{bytes_eq-Decides}
 use Rattle.std.proofs.Math.Seq.{take-append_seam}
 use Rattle.std.specs.List.{list_all}
 use Rattle.disk_model.specs.Name.{IsName, is_name_byte, level_names}
-use Rattle.snap_config.proofs.BoolLemmas.{first_false, rest_false, same_tests, not_Decides}
-use Rattle.snap_config.proofs.MatchingLemmas.{ends-slash, ends_front}
-use Rattle.snap_config.specs.Keeps.{has_name}
+use Rattle.array_setup.proofs.BoolLemmas.{first_false, rest_false, same_tests, not_Decides}
+use Rattle.array_setup.proofs.MatchingLemmas.{ends-slash, ends_front}
+use Rattle.array_setup.specs.Keeps.{has_name}
 use Rattle.snap_config.specs.Names.{is_disk_name, single_slashes, file_name, without_end_slash, part_of}
-use Rattle.snap_config.specs.Pattern.{has_byte, ends_with_slash}
-use Rattle.snap_config.specs.Walk.{IsCut}
+use Rattle.array_setup.specs.Pattern.{has_byte, ends_with_slash}
+use Rattle.array_setup.specs.Walk.{IsCut}
 
 -- ---- names of disks
 

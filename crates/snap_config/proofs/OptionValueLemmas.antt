@@ -4,7 +4,7 @@ use Rattle.std.specs.List.{slice_index_or}
 use Rattle.std.proofs.lemmas.List.Folds.{list_all-map, list_all_at}
 use Rattle.clap.specs.Words.{Row, Text}
 use Rattle.snap_config.specs.OptionValues.{IsFirstBad, IsPatternFault, IsValueFault, first_bad, first_option, is_bad}
-use Rattle.snap_config.specs.Pattern.{is_pattern}
+use Rattle.array_setup.specs.Pattern.{is_pattern}
 use Rattle.snap_config.specs.declared.option_table.CommandName.{CommandName}
 use Rattle.snap_config.specs.declared.option_table.OptionName.{OptionName}
 use Rattle.snap_config.specs.declared.option_table.OptionName.TheVariants.{Filter, Number, OlderThan, Plan, Readers, SaveEvery}

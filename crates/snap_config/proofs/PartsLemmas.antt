@@ -7,12 +7,12 @@ use Rattle.std.proofs.lemmas.List.{length-map, length-append}
 use Rattle.std.proofs.lemmas.List.Splits.{slice_split_none, slice_split_at, length-slice_split}
 use Rattle.std.proofs.lemmas.List.Sums.{sum_by-cons}
 use Rattle.std.proofs.lemmas.Nat.{le-div}
-use Rattle.snap_config.proofs.BoolLemmas.{first_false, rest_false}
-use Rattle.snap_config.specs.Glob.{is_empty}
+use Rattle.array_setup.proofs.BoolLemmas.{first_false, rest_false}
+use Rattle.array_setup.specs.Glob.{is_empty}
 use Rattle.snap_config.specs.Names.{file_name}
 use Rattle.snap_config.specs.Parts.{MayBeParts, line_parts, line_files, capacity_of}
-use Rattle.snap_config.specs.Pattern.{has_byte}
-use Rattle.snap_config.specs.Walk.{IsCut}
+use Rattle.array_setup.specs.Pattern.{has_byte}
+use Rattle.array_setup.specs.Walk.{IsCut}
 
 none_all : (c : ℕ) (text : List ℕ) → has_byte c text ≡ false → All (λ b. (b == c) ≡ false) text
 none_all c [] none i d below = absurd (omega (arith, below))

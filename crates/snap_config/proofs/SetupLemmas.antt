@@ -8,24 +8,24 @@ use Rattle.std.proofs.lemmas.List.Elements.{All-push, All-nil, All-cons, All-map
 use Rattle.std.proofs.lemmas.List.Quantifiers.{all_pairs_push}
 use Rattle.std.proofs.lemmas.Slice.Eq.{bytes_eq-Decides}
 use Rattle.disk_model.specs.Name.{IsName}
-use Rattle.snap_config.proofs.BoolLemmas.{first_false, rest_false}
+use Rattle.array_setup.proofs.BoolLemmas.{first_false, rest_false}
 use Rattle.snap_config.proofs.NamesLemmas.{name_Decides}
 use Rattle.snap_config.proofs.PartsLemmas.{some_file, sum_lengths, some_capacity}
 use Rattle.snap_config.specs.Builder.{BuilderValue, no_lines, has_level, has_disk, has_file, names_again, take_line, take_content, take_known, take_keyword, add_parity, add_content, add_disk, add_rule, set_nohidden, set_block_size, set_hash_size, set_autosave, set_split, pass_over}
 use Rattle.snap_config.specs.Config.{Refusal, then_read, at_line, read_lines, lacks_level, has_gap, block_size_of, by_level, files_of, setup_of, finish, read_setup}
-use Rattle.snap_config.specs.Glob.{is_empty}
+use Rattle.array_setup.specs.Glob.{is_empty}
 use Rattle.snap_config.specs.Keyword.{keyword_of}
 use Rattle.snap_config.specs.Line.{lines_of, content_of, is_skipped, first_word, after_word}
 use Rattle.snap_config.specs.Names.{is_disk_name, file_name, folder_name}
 use Rattle.snap_config.specs.Number.{number_of}
 use Rattle.snap_config.specs.Parts.{MayBeParts, line_parts, line_files, capacity_of}
-use Rattle.snap_config.specs.Pattern.{is_pattern}
-use Rattle.snap_config.specs.Setup.{SetupValue, IsSize, IsSetup}
+use Rattle.array_setup.specs.Pattern.{is_pattern}
+use Rattle.array_setup.specs.Setup.{SetupValue, IsSize, IsSetup}
 use Rattle.snap_config.specs.declared.builder.ParityLine.{ParityLine}
 use Rattle.snap_config.specs.declared.keyword.Keyword.{Keyword}
 use Rattle.snap_config.specs.declared.keyword.Keyword.TheVariants.{Parity, Content, Data, Include, Exclude, NoHidden, BlockSize, HashSize, AutoSave, SplitSize, Unused, ZParity}
-use Rattle.snap_config.specs.declared.setup.Disk.{Disk}
-use Rattle.snap_config.specs.declared.setup.Rule.{Rule}
+use Rattle.array_setup.specs.declared.setup.Disk.{Disk}
+use Rattle.array_setup.specs.declared.setup.Rule.{Rule}
 use Rattle.snap_config.specs.declared.why.Why.{Why}
 use Rattle.snap_config.specs.declared.why.Why.TheVariants.{Unknown, Unsupported, Value}
 

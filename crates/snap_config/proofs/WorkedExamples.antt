@@ -9,7 +9,7 @@ use Rattle.snap_config.specs.declared.option_table.CommandName.{CommandName}
 use Rattle.snap_config.specs.declared.option_table.CommandName.TheVariants as names
 use Rattle.snap_config.specs.declared.options.Command.TheVariants as commands
 use Rattle.snap_config.specs.declared.options.Options.{Options}
-use Rattle.snap_config.specs.declared.options.ScrubPlan.TheVariants.{Full, Percent}
+use Rattle.array_setup.specs.declared.ways.ScrubPlan.TheVariants.{Full, Percent}
 use Rattle.snap_config.specs.declared.options.WordsFault.{WordsFault}
 use Rattle.snap_config.specs.declared.options.WordsFault.TheVariants.{Command, Unfit, Usage, Value}
 

@@ -2,19 +2,19 @@
 use Rattle.std.specs.Prelude.{ℕ, ◌*◌, List, [], ◌∷◌, ◌++◌, length, Bool, true, false, ◌==◌, ◌&&◌, ◌||◌, not, nat_le, nat_lt, bytes_eq, if◌then◌else◌, Option, None, Some, is_some, Result, Ok, Err}
 use Rattle.std.specs.List.{list_any}
 use Rattle.std.specs.Str.{is_utf8}
-use Rattle.snap_config.specs.Glob.{is_empty}
-use Rattle.snap_config.specs.Keeps.{has_name}
+use Rattle.array_setup.specs.Glob.{is_empty}
+use Rattle.array_setup.specs.Keeps.{has_name}
 use Rattle.snap_config.specs.Keyword.{keyword_of}
 use Rattle.snap_config.specs.Line.{content_of, is_skipped, first_word, after_word}
 use Rattle.snap_config.specs.Names.{is_disk_name, file_name, folder_name}
 use Rattle.snap_config.specs.Number.{number_of}
 use Rattle.snap_config.specs.Parts.{line_parts, line_files}
-use Rattle.snap_config.specs.Pattern.{is_pattern}
+use Rattle.array_setup.specs.Pattern.{is_pattern}
 use Rattle.snap_config.specs.declared.builder.ParityLine.{ParityLine}
 use Rattle.snap_config.specs.declared.keyword.Keyword.{Keyword}
 use Rattle.snap_config.specs.declared.keyword.Keyword.TheVariants.{Parity, Content, Data, Include, Exclude, NoHidden, BlockSize, HashSize, AutoSave, SplitSize, Unused, ZParity}
-use Rattle.snap_config.specs.declared.setup.Disk.{Disk}
-use Rattle.snap_config.specs.declared.setup.Rule.{Rule}
+use Rattle.array_setup.specs.declared.setup.Disk.{Disk}
+use Rattle.array_setup.specs.declared.setup.Rule.{Rule}
 use Rattle.snap_config.specs.declared.why.Why.{Why}
 use Rattle.snap_config.specs.declared.why.Why.TheVariants.{Utf8, Unknown, Unsupported, Value, Repeated, TooMany, Pattern}
 

@@ -5,9 +5,9 @@ use Rattle.snap_config.specs.Builder.{BuilderValue, no_lines, has_level, take_li
 use Rattle.snap_config.specs.Line.{lines_of}
 use Rattle.snap_config.specs.Names.{file_name}
 use Rattle.snap_config.specs.Parts.{capacity_of}
-use Rattle.snap_config.specs.Setup.{SetupValue}
+use Rattle.array_setup.specs.Setup.{SetupValue}
 use Rattle.snap_config.specs.declared.builder.ParityLine.{ParityLine}
-use Rattle.snap_config.specs.declared.setup.Disk.{Disk}
+use Rattle.array_setup.specs.declared.setup.Disk.{Disk}
 use Rattle.snap_config.specs.declared.why.ConfigFault.{ConfigFault}
 use Rattle.snap_config.specs.declared.why.ConfigFault.TheVariants.{BadLine, Memory}
 use Rattle.snap_config.specs.declared.why.Why.{Why}

@@ -2,8 +2,8 @@
 use Rattle.std.specs.Prelude.{ℕ}
 use Rattle.snap_config.specs.declared.fault.LineFault.{LineFault}
 use Rattle.snap_config.specs.declared.fault.LineFault.TheVariants.{Refused, Memory}
-use Rattle.snap_config.specs.declared.pattern.PatternFault.{PatternFault}
-use Rattle.snap_config.specs.declared.pattern.PatternFault.TheVariants.{Bad, Memory as PatternMemory}
+use Rattle.array_setup.specs.declared.pattern.PatternFault.{PatternFault}
+use Rattle.array_setup.specs.declared.pattern.PatternFault.TheVariants.{Bad, Memory as PatternMemory}
 use Rattle.snap_config.specs.declared.why.ConfigFault.{ConfigFault}
 use Rattle.snap_config.specs.declared.why.ConfigFault.TheVariants.{BadLine, Memory as ConfigMemory}
 use Rattle.snap_config.specs.declared.why.Why.TheVariants.{Pattern}

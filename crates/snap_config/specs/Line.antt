@@ -1,7 +1,7 @@
 -- The lines of a configuration. The byte 9 is a tab, 10 a line feed, 13 a carriage return, 32 a space, 35 the sign of a comment.
 use Rattle.std.specs.Prelude.{◌≡◌, ◌<◌, ℕ, length, List, [], ◌∷◌, take, drop, Bool, true, false, ◌==◌, ◌&&◌, ◌||◌, if◌then◌else◌}
 use Rattle.std.specs.List.{slice_split, position_or_len}
-use Rattle.snap_config.specs.Glob.{is_empty}
+use Rattle.array_setup.specs.Glob.{is_empty}
 
 -- the parts between line feeds; what stands behind the last one is a line too, and says nothing where it is empty
 abbrev pub lines_of : List ℕ → List (List ℕ)

@@ -2,9 +2,9 @@
 use Rattle.std.specs.Prelude.{ℕ, ◌-◌, List, [], ◌∷◌, ◌++◌, length, take, Bool, true, false, ◌==◌, ◌&&◌, not, nat_le, bytes_eq, codes, if◌then◌else◌}
 use Rattle.std.specs.List.{list_all}
 use Rattle.disk_model.specs.Name.{is_name_byte, level_names}
-use Rattle.snap_config.specs.Glob.{is_empty}
-use Rattle.snap_config.specs.Keeps.{has_name}
-use Rattle.snap_config.specs.Pattern.{ends_with_slash}
+use Rattle.array_setup.specs.Glob.{is_empty}
+use Rattle.array_setup.specs.Keeps.{has_name}
+use Rattle.array_setup.specs.Pattern.{ends_with_slash}
 
 -- the name of a disk, as in a table
 abbrev pub is_disk_name : List ℕ → Bool

@@ -7,13 +7,13 @@ use Rattle.clap.specs.Words.{Row, Text}
 use Rattle.snap_config.specs.Given.{value_of, values_of}
 use Rattle.snap_config.specs.Number.{number_of}
 use Rattle.snap_config.specs.OptionTable.{all_options, is_exercise, row_of}
-use Rattle.snap_config.specs.Pattern.{is_pattern}
+use Rattle.array_setup.specs.Pattern.{is_pattern}
 use Rattle.snap_config.specs.declared.option_table.CommandName.{CommandName}
 use Rattle.snap_config.specs.declared.option_table.OptionName.{OptionName}
 use Rattle.snap_config.specs.declared.option_table.OptionName.TheVariants as options
 use Rattle.snap_config.specs.declared.option_values.OptionValues.{OptionValues}
-use Rattle.snap_config.specs.declared.options.ScrubPlan.{ScrubPlan}
-use Rattle.snap_config.specs.declared.options.ScrubPlan.TheVariants as plans
+use Rattle.array_setup.specs.declared.ways.ScrubPlan.{ScrubPlan}
+use Rattle.array_setup.specs.declared.ways.ScrubPlan.TheVariants as plans
 use Rattle.snap_config.specs.declared.options.WordsFault.{WordsFault}
 use Rattle.snap_config.specs.declared.options.WordsFault.TheVariants.{Memory, Value}
 

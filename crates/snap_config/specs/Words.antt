@@ -16,9 +16,9 @@ use Rattle.snap_config.specs.declared.option_table.OptionName.TheVariants.{Audit
 use Rattle.snap_config.specs.declared.options.Command.{Command}
 use Rattle.snap_config.specs.declared.options.Command.TheVariants as commands
 use Rattle.snap_config.specs.declared.options.Options.{Options}
-use Rattle.snap_config.specs.declared.options.ScrubWay.{ScrubWay}
-use Rattle.snap_config.specs.declared.options.Selection.{Selection}
-use Rattle.snap_config.specs.declared.options.SyncWay.{SyncWay}
+use Rattle.array_setup.specs.declared.ways.ScrubWay.{ScrubWay}
+use Rattle.array_setup.specs.declared.ways.Selection.{Selection}
+use Rattle.array_setup.specs.declared.ways.SyncWay.{SyncWay}
 use Rattle.snap_config.specs.declared.options.WordsFault.{WordsFault}
 use Rattle.snap_config.specs.declared.options.WordsFault.TheVariants as faults
 

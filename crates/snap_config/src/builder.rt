@@ -3,7 +3,7 @@ ghost use Rattle.std.specs.Prelude.{◌≡◌, ◌||◌, ◌<◌, true, IfOk, is
 ghost use Rattle.std.specs.List.{list_any};
 ghost use Rattle.snap_config.specs.Builder.{add_parity, add_content, add_disk, add_rule, set_nohidden, set_block_size, set_hash_size, set_autosave, set_split};
 ghost use Rattle.snap_config.specs.Builder.{no_lines, pass_over, take_keyword, take_content, take_line, has_level, has_parity, has_file, names_again, has_disk};
-ghost use Rattle.snap_config.specs.Keeps.{has_name};
+ghost use Rattle.array_setup.specs.Keeps.{has_name};
 ghost use Rattle.snap_config.specs.Reading.{builder_value, Follows};
 ghost use Rattle.snap_config.specs.Number.{number_of};
 
@@ -12,7 +12,8 @@ use crate::keyword::{Keyword, keyword_of};
 use crate::line::{content_of, is_skipped, split_word};
 use crate::names::{file_name, folder_name, is_disk_name};
 use crate::parts::{MOST_PARTS, Parts, has_empty_part, part_names};
-use crate::{Disk, Rule, Why, read_number, read_pattern};
+use crate::{Why, read_number};
+use array_setup::{Disk, Rule, read_pattern};
 use disk_model::Text;
 use std::alloc::Global;
 use std::str;

@@ -6,14 +6,15 @@ ghost use Rattle.snap_config.specs.Line.{lines_of, IsLine};
 ghost use Rattle.snap_config.specs.Names.{file_name};
 ghost use Rattle.snap_config.specs.Parts.{capacity_of};
 ghost use Rattle.snap_config.specs.Reading.{builder_value, Explains};
-ghost use Rattle.snap_config.specs.Setup.{setup_value, IsSize, IsSetup};
-ghost use Rattle.snap_config.specs.declared.setup.Disk.{Disk};
+ghost use Rattle.array_setup.specs.Setup.{setup_value, IsSize, IsSetup};
+ghost use Rattle.array_setup.specs.declared.setup.Disk.{Disk};
 
 use crate::builder::{ParityLine, SetupBuilder, has_level};
 use crate::fault::LineFault;
 use crate::names::file_name;
 use crate::parts::Parts;
-use crate::{ConfigFault, Disk, Disks, Rules, Setup, Why};
+use crate::{ConfigFault, Why};
+use array_setup::{Disk, Disks, Rules, Setup};
 use disk_model::{NoMemory, Places, Text};
 use memchr::memchr;
 use std::alloc::Global;

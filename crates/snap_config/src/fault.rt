@@ -3,7 +3,8 @@ ghost use Rattle.std.specs.Prelude.{◌≡◌};
 ghost use Rattle.snap_config.specs.Fault.{fault_at, pattern_fault};
 ghost use Rattle.snap_config.specs.declared.fault.LineFault.TheVariants.{Memory};
 
-use crate::{ConfigFault, PatternFault, Why};
+use crate::{ConfigFault, Why};
+use array_setup::PatternFault;
 use disk_model::NoMemory;
 use std::alloc::{AllocError, AllocFailed};
 

@@ -2,7 +2,7 @@
 ghost use Rattle.std.specs.Prelude.{◌≡◌, ◌++◌, IfOk, OnOk, string_bytes};
 ghost use Rattle.snap_config.specs.Names.{is_disk_name, file_name, folder_name, without_end_slash, part_of};
 
-use crate::glob::cut;
+use array_setup::cut;
 use disk_model::{NoMemory, Text, is_name};
 use std::alloc::Global;
 

@@ -4,13 +4,11 @@ ghost use Rattle.snap_config.specs.Given.{rows, value_of, values_of};
 ghost use Rattle.snap_config.specs.OptionTable.{row_of};
 ghost use Rattle.snap_config.specs.OptionValues.{AreInBounds, ArePatterns, IsBetween, IsPlan, number_in, plan_of, values_in};
 ghost use Rattle.snap_config.specs.OptionValues.{IsFirstBad, IsMisread, IsPatternFault, IsRead, IsValueFault, first_bad, is_bad, numbers_of};
-ghost use Rattle.snap_config.specs.Pattern.{is_pattern};
+ghost use Rattle.array_setup.specs.Pattern.{is_pattern};
 
 use crate::given::{value_of, values_of};
-use crate::{
-    CommandName, OptionName, Pattern, PatternFault, Patterns, ScrubPlan, WordsFault, read_number,
-    read_pattern,
-};
+use crate::{CommandName, OptionName, WordsFault, read_number};
+use array_setup::{Pattern, PatternFault, Patterns, ScrubPlan, read_pattern};
 use clap::ArgMatches;
 use std::alloc::Global;
 

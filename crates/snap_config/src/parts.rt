@@ -1,12 +1,12 @@
 // The files of a parity line: the parts of its level, with commas between them. A comma is the byte 44.
 ghost use Rattle.std.specs.Prelude.{◌≡◌, ◌≤◌, length, map, IfOk};
 ghost use Rattle.std.specs.List.{list_any};
-ghost use Rattle.snap_config.specs.Glob.{is_empty};
+ghost use Rattle.array_setup.specs.Glob.{is_empty};
 ghost use Rattle.snap_config.specs.Names.{file_name};
 ghost use Rattle.snap_config.specs.Parts.{line_parts, MayBeParts};
 
-use crate::glob::cut;
 use crate::names::file_name;
+use array_setup::cut;
 use disk_model::{NoMemory, Text};
 use std::alloc::Global;
 use std::marker::Model;

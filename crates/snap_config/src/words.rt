@@ -8,10 +8,8 @@ ghost use Rattle.snap_config.specs.Words.{command_of, is_unfit, named, options_o
 use crate::flat_command::matches_of;
 use crate::given::{command_text, is_given, value_of, values_of};
 use crate::option_values::{OptionValues, read_values};
-use crate::{
-    BUILT_COMMANDS, Command, CommandName, OptionName, Options, Patterns, ScrubWay, Selection,
-    SyncWay, Texts, WordsFault,
-};
+use crate::{BUILT_COMMANDS, Command, CommandName, OptionName, Options, WordsFault};
+use array_setup::{Patterns, ScrubWay, Selection, SyncWay, Texts};
 use clap::ArgMatches;
 use disk_model::{NoMemory, Text};
 use std::alloc::Global;

@@ -4,7 +4,7 @@ use Rattle.std.specs.FinMap as finite
 use Rattle.std.proofs.Math.Nat.{mul-le-mul_left}
 use Rattle.std.proofs.lemmas.List.{ext_get_or, length-map, length-set, map-set, take_all}
 use Rattle.std.proofs.lemmas.List.FromFn.{length-range_with_len}
-use Rattle.array_scan.specs.Kept.{kept_lists}
+use Rattle.folder_listing.specs.Kept.{kept_lists}
 use Rattle.disk_model.specs.Bytes.{resized}
 use Rattle.disk_model.specs.Files.{Files, parity_of}
 use Rattle.disk_model.specs.Folder.{FolderView}

@@ -5,7 +5,7 @@ use Rattle.std.specs.List.{flat_map, range_with_len}
 use Rattle.std.proofs.lemmas.List.{get_or-append-add, get_or_append_left, get_or-map, length-append, length-map}
 use Rattle.std.proofs.lemmas.List.FromFn.{get_or-map-range_with_len, length-range_with_len}
 use Rattle.array_scan.specs.Fates.{origin}
-use Rattle.array_scan.specs.Kept.{kept_lists}
+use Rattle.folder_listing.specs.Kept.{kept_lists}
 use Rattle.array_scan.specs.Layout.{all_sorted, column_laid, pending_stripes}
 use Rattle.array_scan.specs.Laying.{bare, blocks_by, given, laid_records, needed}
 use Rattle.block_hash.specs.declared.Digest16.{Digest16}

@@ -9,9 +9,9 @@ use Rattle.disk_model.specs.Folder.{FolderView}
 use Rattle.disk_model.specs.Sink.{SinkView}
 use Rattle.disk_model.specs.Tree.{Tree}
 use Rattle.file_table.specs.Table.{TableValue}
-use Rattle.snap_config.specs.Setup.{SetupValue}
-use Rattle.snap_config.specs.declared.options.Selection.{Selection}
-use Rattle.snap_config.specs.declared.options.SyncWay.{SyncWay}
+use Rattle.array_setup.specs.Setup.{SetupValue}
+use Rattle.array_setup.specs.declared.ways.Selection.{Selection}
+use Rattle.array_setup.specs.declared.ways.SyncWay.{SyncWay}
 use Rattle.snap_exercise.specs.Exercised.{Array, IsChecked, IsCourse, IsExercise, IsFixed, IsSynced, NoneFailed, array_of, damaged, everything, summary_of, way}
 use Rattle.snap_exercise.specs.Generated.{columns, first_table, moment, setup, standing, tree_of, trees}
 use Rattle.snap_fix.specs.Course.{Checks, outside as repair_outside}
@@ -26,7 +26,7 @@ use Rattle.snap_sync.specs.declared.syncing.SyncEnd.{SyncEnd}
 use Rattle.snap_sync.proofs.LeftLemmas.{columns_closed_by}
 use Rattle.snap_sync.proofs.PartLemmas.{length-layout}
 use Rattle.snap_sync.proofs.SeenLemmas.{shape_closed}
-use Rattle.array_scan.specs.Kept.{kept_lists}
+use Rattle.folder_listing.specs.Kept.{kept_lists}
 use Rattle.repair_scope.specs.Plan.{names_of}
 use Rattle.stripe_examiner.specs.Spare.{nothing}
 use Rattle.repair_scope.specs.declared.scope.Mode.TheVariants.{Check, Fix}

@@ -4,7 +4,7 @@ use Rattle.std.specs.FinMap as finite
 use Rattle.std.specs.Prelude.{All, count_by, is_some, sum_by}
 use Rattle.std.specs.List.{flat_map, range_with_len}
 use Rattle.std.proofs.lemmas.List.{ext_get_or, get_or-map, length-map}
-use Rattle.array_scan.specs.Kept.{ListedFile}
+use Rattle.folder_listing.specs.Kept.{ListedFile}
 use Rattle.disk_model.specs.Bytes.{read_from}
 use Rattle.disk_model.specs.Cause.{Rose}
 use Rattle.disk_model.specs.Files.{Files, parity_of}
@@ -22,7 +22,7 @@ use Rattle.file_table.specs.declared.shape.Shape.{Shape}
 use Rattle.parity_writer.specs.LevelReading.{kept_level}
 use Rattle.parity_writer.specs.LevelsValue.{LevelValue}
 use Rattle.stripe_reader.specs.declared.starts.Start.{Start}
-use Rattle.snap_config.specs.declared.options.Selection.{Selection}
+use Rattle.array_setup.specs.declared.ways.Selection.{Selection}
 use Rattle.snap_exercise.specs.Exercise.{Summary}
 use Rattle.snap_exercise.specs.Exercised.{Array, IsCourse, IsExercise, IsFixed, NoneFailed, TellSameFix, after_damage, begun, damaged_lists, damaged_trees, everything, fix_plan, plan_from, readings_of, start_of, table_of_sync, vault_of}
 use Rattle.snap_exercise.specs.Generated.{moment, setup}

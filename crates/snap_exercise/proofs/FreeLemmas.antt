@@ -14,7 +14,7 @@ use Rattle.std.proofs.lemmas.List.{get_or-map, length-append, length-map, length
 use Rattle.std.proofs.lemmas.List.Elements.{All-cons, All-filter, All-map, All-nil, All-set}
 use Rattle.std.proofs.lemmas.List.Folds.{list_any_none}
 use Rattle.std.proofs.lemmas.List.FromFn.{get_or-map-range_with_len, length-range_with_len}
-use Rattle.array_scan.specs.Kept.{ListedFile, is_kept, kept_files, kept_lists}
+use Rattle.folder_listing.specs.Kept.{ListedFile, is_kept, kept_files, kept_lists}
 use Rattle.array_scan.specs.Layout.{layout}
 use Rattle.array_scan.specs.Own.{HoldsJust, own_files}
 use Rattle.disk_calm.proofs.TreeLemmas.{dir_split}

@@ -5,7 +5,7 @@ use Rattle.std.specs.FinMap as finite
 use Rattle.std.specs.List.{Contains}
 use Rattle.std.proofs.lemmas.List.{append-nil, get_or-map, length-map, take_all}
 use Rattle.std.proofs.lemmas.List.Elements.{All-contains_itself, All-from_get_or}
-use Rattle.array_scan.specs.Kept.{kept_lists}
+use Rattle.folder_listing.specs.Kept.{kept_lists}
 use Rattle.cauchy.specs.Recovery.{AreBytes as AreRowBytes}
 use Rattle.disk_model.specs.Bytes.{read_from}
 use Rattle.disk_model.specs.Files.{Files, parity_of}

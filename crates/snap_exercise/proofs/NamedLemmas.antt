@@ -17,13 +17,13 @@ use Rattle.std.proofs.lemmas.List.{get_or-map, length-map}
 use Rattle.std.proofs.lemmas.List.Elements.{All-cons, All-map, All-set}
 use Rattle.std.proofs.lemmas.List.FromFn.{get_or-map-range_with_len, get_or-range_with_len, length-range_with_len, map-range_with_len_more}
 use Rattle.std.proofs.lemmas.Slice.Eq.{bytes_eq-Decides}
-use Rattle.array_scan.specs.Kept.{ListedFile, is_kept, kept_files}
+use Rattle.folder_listing.specs.Kept.{ListedFile, is_kept, kept_files}
 use Rattle.array_scan.specs.Own.{own_files}
 use Rattle.disk_model.specs.Path.{lost_suffix}
 use Rattle.disk_model.specs.Tree.{File, Tree, file_of, listing_of, meta_of, path_of as name_of}
 use Rattle.file_table.specs.Table.{Record, no_meta, no_record, records_in}
 use Rattle.rand_pcg.specs.Lcg.{Lcg}
-use Rattle.snap_config.specs.Keeps.{dir_of, filter_keeps, full_name, has_name, is_hidden, is_recordable, keeps, own_names}
+use Rattle.array_setup.specs.Keeps.{dir_of, filter_keeps, full_name, has_name, is_hidden, is_recordable, keeps, own_names}
 use Rattle.snap_exercise.specs.Exercised.{damaged_trees, start_of}
 use Rattle.snap_exercise.specs.Generated.{before, entries_from, entry_from, files_of, path_of, setup, tree_from, tree_of, trees, turned_tree}
 use Rattle.snap_exercise.proofs.AfterSyncLemmas.{length-trees}

@@ -8,7 +8,7 @@ use Rattle.std.proofs.lemmas.Bool.Decides.{Decides-eqb}
 use Rattle.std.proofs.lemmas.List.{ext_get_or, get_or-map, length-map}
 use Rattle.std.proofs.lemmas.List.Elements.{All-contains_itself}
 use Rattle.std.proofs.lemmas.List.FromFn.{length-range_with_len}
-use Rattle.array_scan.proofs.LaidLemmas.{all_of_flat}
+use Rattle.folder_listing.proofs.JoinedLemmas.{all_of_flat}
 use Rattle.cauchy.specs.Matrix.{byte_of}
 use Rattle.disk_model.specs.Folder.{FolderView}
 use Rattle.disk_model.specs.Tree.{File, Tree, file_of, listing_of, meta_of, path_of as name_of}

@@ -3,7 +3,7 @@ use Rattle.std.proofs.Common.{◌≡◌, ℕ, suc, ◌<◌, ◌&&◌, List, [], 
 use Rattle.std.proofs.Math.Path.{fun_ext}
 use Rattle.std.specs.Prelude.{filter, is_some, not}
 use Rattle.std.specs.List.{flat_map, range_with_len}
-use Rattle.array_scan.specs.Kept.{each_column}
+use Rattle.folder_listing.specs.Kept.{each_column}
 use Rattle.block_hash.specs.declared.Digest16.{Digest16}
 use Rattle.file_table.specs.Cells.{CellView, cell_seen}
 use Rattle.file_table.specs.Table.{column_at}

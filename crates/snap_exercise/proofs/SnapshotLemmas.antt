@@ -4,7 +4,7 @@ use Rattle.std.specs.List.{AllPairs, range_with_len}
 use Rattle.std.proofs.lemmas.Bool.{cases_lt}
 use Rattle.std.proofs.lemmas.List.{get_or-map, get_or_past, length-map}
 use Rattle.std.proofs.lemmas.List.FromFn.{get_or-map-range_with_len, length-map-range_with_len, length-range_with_len}
-use Rattle.array_scan.specs.Kept.{ListedFile}
+use Rattle.folder_listing.specs.Kept.{ListedFile}
 use Rattle.array_scan.specs.Layout.{all_sorted, all_touched, columns_laid, is_as_before, is_pending, laid_info, layout, pending_stripes}
 use Rattle.cauchy.specs.Recovery.{AreBytes as AreRowBytes}
 use Rattle.disk_model.specs.Bytes.{AreBytes}

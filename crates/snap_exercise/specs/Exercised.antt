@@ -2,9 +2,9 @@
 use Rattle.std.specs.Prelude.{◌≡◌, ◌↔◌, ℕ, ◌+◌, ◌<◌, List, [], ◌++◌, length, map, set, sum_by, count_by, All, IsTrue, Bool, None, false}
 use Rattle.std.specs.FinMap as finite
 use Rattle.std.specs.List.{range_with_len}
-use Rattle.array_scan.specs.Kept.{ListedFile}
+use Rattle.folder_listing.specs.Kept.{ListedFile}
 use Rattle.array_scan.specs.Layout.{pending_stripes}
-use Rattle.array_scan.specs.Listings.{ListsAll}
+use Rattle.folder_listing.specs.Listings.{ListsAll}
 use Rattle.content_file.specs.Save.{HasSaved, HasNoDraft}
 use Rattle.content_file.specs.Spelling.{spelling}
 use Rattle.disk_calm.specs.Calm.{CalmValue, calm_view_of, fresh_calm_vault}
@@ -15,8 +15,8 @@ use Rattle.disk_model.specs.Vault.{VaultView, Holds}
 use Rattle.file_restorer.specs.declared.finishing.Finish.{Finish}
 use Rattle.file_table.specs.Table.{TableValue}
 use Rattle.parity_writer.specs.LevelReading.{LevelReading}
-use Rattle.snap_config.specs.declared.options.Selection.{Selection}
-use Rattle.snap_config.specs.declared.options.SyncWay.{SyncWay}
+use Rattle.array_setup.specs.declared.ways.Selection.{Selection}
+use Rattle.array_setup.specs.declared.ways.SyncWay.{SyncWay}
 use Rattle.snap_exercise.specs.Exercise.{Summary}
 use Rattle.snap_exercise.specs.Generated.{first_table, moment, setup, standing, trees, turned_tree}
 use Rattle.snap_fix.specs.Course.{IsPlan, check_events}

@@ -12,8 +12,8 @@ use Rattle.rand_core.specs.Pcg32Seed.{pcg32_seed}
 use Rattle.rand_core.specs.Steps.{fill_via_u64}
 use Rattle.rand_pcg.specs.Lcg.{Lcg}
 use Rattle.rand_pcg.specs.Pcg.{pcg64, pcg64_of_seed}
-use Rattle.snap_config.specs.Setup.{SetupValue}
-use Rattle.snap_config.specs.declared.setup.Disk.{Disk}
+use Rattle.array_setup.specs.Setup.{SetupValue}
+use Rattle.array_setup.specs.declared.setup.Disk.{Disk}
 
 -- ---- the files
 

@@ -1,15 +1,15 @@
 // The array that is exercised: its setup, its vault and its first table.
 ghost use Rattle.std.specs.Prelude.{◌≡◌, map, IfOk};
 ghost use Rattle.disk_calm.specs.Calm.{calm_value, fresh_calm_vault};
-ghost use Rattle.snap_config.specs.Setup.{setup_value};
+ghost use Rattle.array_setup.specs.Setup.{setup_value};
 ghost use Rattle.snap_exercise.specs.Exercised as exercised;
 ghost use Rattle.snap_exercise.specs.Generated as generated;
 
+use array_setup::{Disk, Disks, Patterns, Rules, Selection, Setup, SyncWay, Texts};
 use block_hash::Kind;
 use disk_calm::CalmVault;
 use disk_model::{NoMemory, Places, Text};
 use file_table::{BuildFault, Builder, Shape, Table};
-use snap_config::{Disk, Disks, Patterns, Rules, Selection, Setup, SyncWay, Texts};
 use std::alloc::Global;
 
 /// When the array is synced, in seconds since 1970.

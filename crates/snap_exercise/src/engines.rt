@@ -1,16 +1,16 @@
 // The engines over the array, told to nobody.
 ghost use Rattle.std.specs.Prelude.{◌≡◌, ◌↔◌, length, map, false, IfOk, IsTrue};
 ghost use Rattle.disk_calm.specs.Calm.{calm_folder_view, calm_value};
-ghost use Rattle.snap_config.specs.Setup.{setup_value};
+ghost use Rattle.array_setup.specs.Setup.{setup_value};
 ghost use Rattle.snap_exercise.specs.Exercised.{IsChecked, IsFixed, IsSynced, NoneFailed, array_of};
 ghost use Rattle.snap_exercise.specs.Generated as generated;
 ghost use Rattle.snap_sync.specs.Part.{trees_of};
 
 use crate::array::{MOMENT, READERS, WAY, everything, first_table};
+use array_setup::Setup;
 use disk_calm::{CalmFolder, CalmSink, CalmVault};
 use disk_model::{Folder, NoMemory, Vault};
 use file_table::Table;
-use snap_config::Setup;
 use snap_fix::{FixEnd, Mode, NoSpare, repair};
 use snap_report::{Lines, Report};
 use snap_sync::{SyncEnd, sync};

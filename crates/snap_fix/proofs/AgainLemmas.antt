@@ -6,8 +6,8 @@ use Rattle.std.proofs.lemmas.Bool.{cases_eq, cases_lt, eq-eqb, leb-true, le-leb}
 use Rattle.std.proofs.lemmas.List.{ext_get_or, get_or-drop, get_or-map, get_or-take, get_or_append_left, get_or_default, length-append, length-drop, length-map, length-take-le}
 use Rattle.std.proofs.lemmas.List.FromFn.{get_or-map-range_with_len}
 use Rattle.std.proofs.lemmas.Nat.{mul-le, row_fits}
-use Rattle.array_scan.proofs.LaidLemmas.{all_of_flat}
-use Rattle.array_scan.specs.Kept.{ListedFile}
+use Rattle.folder_listing.proofs.JoinedLemmas.{all_of_flat}
+use Rattle.folder_listing.specs.Kept.{ListedFile}
 use Rattle.block_hash.specs.Hash.{hash}
 use Rattle.block_hash.specs.declared.Digest16.{Digest16}
 use Rattle.disk_model.specs.Bytes.{read_from}

@@ -3,14 +3,14 @@ use Rattle.std.proofs.Common.{◌≡◌, ℕ, List, [], length, get_or, All, inr
 use Rattle.std.proofs.lemmas.List.{length-map}
 use Rattle.std.proofs.lemmas.List.Elements.{All-from_get_or}
 use Rattle.std.proofs.lemmas.List.FromFn.{length-map-range_with_len, get_or-map-range_with_len}
-use Rattle.array_scan.specs.Kept.{ListedFile}
-use Rattle.array_scan.specs.Listings.{ListsAll, RunsOut, FailsListing}
-use Rattle.array_scan.specs.declared.listing.ListingFault.{ListingFault}
-use Rattle.array_scan.specs.declared.listing.ListingFault.TheVariants as listing
+use Rattle.folder_listing.specs.Kept.{ListedFile}
+use Rattle.folder_listing.specs.Listings.{ListsAll, RunsOut, FailsListing}
+use Rattle.folder_listing.specs.declared.listing.ListingFault.{ListingFault}
+use Rattle.folder_listing.specs.declared.listing.ListingFault.TheVariants as listing
 use Rattle.disk_model.specs.Folder.{FolderView}
 use Rattle.disk_model.specs.Tree.{IsListing}
 use Rattle.file_table.specs.Table.{TableValue, records_in}
-use Rattle.snap_config.specs.declared.options.Selection.{Selection}
+use Rattle.array_setup.specs.declared.ways.Selection.{Selection}
 use Rattle.snap_fix.specs.Beginning.{BeginsNot, of_listing}
 use Rattle.repair_scope.specs.Plan.{EntriesFit, column_entries, entries_of, entry_of}
 

@@ -2,7 +2,7 @@
 use Rattle.std.proofs.Common.{◌≡◌, ℕ, zero, suc, ◌+◌, ◌-◌, ◌≤◌, List, [], ◌∷◌, ◌++◌, false, true, sym, ap, ◌∙◌, subst, arith, append_assoc}
 use Rattle.std.specs.List.{range_with_len, flat_map}
 use Rattle.std.proofs.lemmas.List.{append-nil}
-use Rattle.array_scan.proofs.PlacingLemmas.{flat_range_more}
+use Rattle.folder_listing.proofs.JoinedLemmas.{flat_range_more}
 use Rattle.disk_model.specs.Vault.{plain_done, VaultView, VaultDone, GoesOn}
 use Rattle.snap_report.specs.declared.answer.RunFault.{RunFault}
 use Rattle.snap_report.specs.declared.answer.RunFault.TheVariants.{Folder, Vault, Memory}

@@ -1,14 +1,14 @@
 -- What a check leaves.
 use Rattle.std.proofs.Common.{◌≡◌, ℕ, ◌<◌, ◌≤◌, ◌⊎◌, inl, inr, List, length, Result, Ok, Err, IfOk, IfErr, refl, ◌∙◌, sym, ap, subst, arith}
 use Rattle.std.proofs.lemmas.Bool.{cases_lt}
-use Rattle.array_scan.specs.Listings.{FailsAt, ListsFirst, RunsOut}
+use Rattle.folder_listing.specs.Listings.{FailsAt, ListsFirst, RunsOut}
 use Rattle.disk_model.specs.Files.{Stays}
 use Rattle.disk_model.specs.Folder.{FolderView, TreeStays}
 use Rattle.disk_model.specs.Sink.{SinkView}
 use Rattle.disk_model.specs.Vault.{VaultView}
 use Rattle.disk_model.proofs.VaultLemmas.{changes_start}
 use Rattle.file_table.specs.Table.{TableValue}
-use Rattle.snap_config.specs.declared.options.Selection.{Selection}
+use Rattle.array_setup.specs.declared.ways.Selection.{Selection}
 use Rattle.snap_report.specs.Report.{ReportView}
 use Rattle.snap_report.specs.declared.answer.RunFault.{RunFault}
 use Rattle.snap_report.specs.declared.answer.RunFault.TheVariants.{Folder, Vault, Memory}

@@ -3,7 +3,7 @@ use Rattle.std.proofs.Common.{◌≡◌, inl, inr, ℕ, ◌+◌, ◌<◌, ◌||�
 use Rattle.std.specs.List.{range_with_len, flat_map, list_any}
 use Rattle.std.proofs.lemmas.Bool.{cases_lt}
 use Rattle.std.proofs.lemmas.List.{map-append}
-use Rattle.array_scan.proofs.PlacingLemmas.{flat_range_more}
+use Rattle.folder_listing.proofs.JoinedLemmas.{flat_range_more}
 use Rattle.disk_model.specs.Files.{Files, Stays, parity_of}
 use Rattle.disk_model.specs.Vault.{plain_done, VaultView, VaultCall, VaultDone, GoesOn, ChangesBy, DraftsStay, IsWellFormed}
 use Rattle.disk_model.proofs.VaultLemmas.{no_calls, calls_then, changes_start, stays_then}

@@ -4,7 +4,7 @@ use Rattle.std.specs.List.{count_by, sum_by, flat_map, range_with_len}
 use Rattle.std.proofs.lemmas.Bool.{cases_eq, eq-eqb, ne_eqb}
 use Rattle.std.proofs.lemmas.List.{take_more, take_all}
 use Rattle.std.proofs.lemmas.List.Sums.{sum_by-append}
-use Rattle.array_scan.proofs.PlacingLemmas.{flat_range_more}
+use Rattle.folder_listing.proofs.JoinedLemmas.{flat_range_more}
 use Rattle.block_hash.specs.declared.Digest16.{Digest16}
 use Rattle.file_table.specs.Cells.{CellView, cell_seen}
 use Rattle.file_table.specs.Table.{column_at}

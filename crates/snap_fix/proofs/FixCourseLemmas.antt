@@ -10,7 +10,7 @@ use Rattle.disk_model.specs.Vault.{VaultView, VaultCall, IsWellFormed}
 use Rattle.file_table.specs.Table.{TableValue}
 use Rattle.file_table.specs.Valid.{IsValid}
 use Rattle.parity_writer.specs.LevelReading.{LevelReading}
-use Rattle.snap_config.specs.declared.options.Selection.{Selection}
+use Rattle.array_setup.specs.declared.ways.Selection.{Selection}
 use Rattle.snap_report.specs.Answer.{is_io_of, is_parity_io}
 use Rattle.snap_report.specs.EndLines.{fix_text}
 use Rattle.snap_report.specs.EventLines.{lines_of}

@@ -7,10 +7,10 @@ use Rattle.std.proofs.lemmas.List.FromFn.{length-range_with_len, get_or-range_wi
 use Rattle.std.proofs.lemmas.List.Kept.{AllPairs-filter}
 use Rattle.disk_model.specs.Folder.{FolderView, IsFolder, quiet_folder-is_folder}
 use Rattle.disk_model.specs.Tree.{Tree, file_of, listing_of, meta_of}
-use Rattle.array_scan.specs.Kept.{ListedFile}
-use Rattle.array_scan.specs.Listings.{Lists, ListsAll}
+use Rattle.folder_listing.specs.Kept.{ListedFile}
+use Rattle.folder_listing.specs.Listings.{Lists, ListsAll}
 use Rattle.file_table.specs.Table.{Record, TableValue, no_record, records_in}
-use Rattle.snap_config.specs.declared.options.Selection.{Selection}
+use Rattle.array_setup.specs.declared.ways.Selection.{Selection}
 use Rattle.stripe_reader.specs.Columns.{folder_at}
 use Rattle.stripe_reader.specs.Starts.{StartsFit, StartsValue, no_start, starts_at}
 use Rattle.stripe_reader.specs.declared.starts.Start.{Start}

@@ -13,7 +13,7 @@ use Rattle.std.proofs.lemmas.Cmp.{tied_itself}
 use Rattle.std.proofs.lemmas.Slice.Eq.{bytes_eq-Decides}
 use Rattle.disk_model.specs.Tree.{Tree, File, IsApart, file_of, is_directory_of, listing_of, meta_of, path_of}
 use Rattle.disk_model.proofs.TreeLemmas.{own_name}
-use Rattle.array_scan.specs.Kept.{ListedFile}
+use Rattle.folder_listing.specs.Kept.{ListedFile}
 use Rattle.stripe_reader.specs.declared.starts.Start.{Start}
 use Rattle.file_restorer.specs.declared.state.FileState.{FileState}
 use Rattle.repair_scope.specs.Listed.{path_cmp}

@@ -1,7 +1,7 @@
 -- A window of stripes that was examined, and then written anew.
 use Rattle.std.proofs.Common.{◌≡◌, ℕ, ◌<◌, ◌≤◌, List, [], ◌∷◌, inl, length, take, drop, All, Bool, refl, sym, ap, ◌∙◌, subst, arith}
 use Rattle.std.proofs.lemmas.List.{get_or_default, length-map, take-append-drop}
-use Rattle.array_scan.proofs.ApartLemmas.{AllPairs-right}
+use Rattle.folder_listing.proofs.JoinedLemmas.{AllPairs-right}
 use Rattle.disk_model.specs.Folder.{FolderView}
 use Rattle.disk_model.specs.Sink.{SinkView}
 use Rattle.disk_model.specs.Vault.{VaultView}

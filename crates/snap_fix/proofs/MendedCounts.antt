@@ -8,7 +8,7 @@ use Rattle.std.proofs.lemmas.List.Folds.{list_any-append}
 use Rattle.disk_model.specs.Cause.{Rose, Grows}
 use Rattle.snap_report.specs.Answer.{Gained}
 use Rattle.snap_report.specs.declared.events.Event.{Event}
-use Rattle.array_scan.proofs.PlacingLemmas.{range_more}
+use Rattle.folder_listing.proofs.JoinedLemmas.{range_more}
 use Rattle.stripe_examiner.proofs.TellingLemmas.{events_to, events_to-more}
 
 abbrev pub one_if : Bool → ℕ

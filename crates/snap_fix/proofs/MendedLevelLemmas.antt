@@ -38,7 +38,7 @@ use Rattle.snap_fix.specs.Repairing.{LevelsOutside, ShowsLevels, MendsLevels, Me
 use Rattle.snap_fix.specs.RepairSteps.{WritesLevel, WritesNotLevel}
 use Rattle.snap_fix.specs.Underway.{AddsZeros, KeepsLevels, IsMendedLevel, HoldsWrong, done_well, level_write, wrong_write}
 use Rattle.stripe_examiner.proofs.LookingLemmas.{vault_goes_on}
-use Rattle.array_scan.proofs.PlacingLemmas.{range_more}
+use Rattle.folder_listing.proofs.JoinedLemmas.{range_more}
 use Rattle.stripe_examiner.proofs.StripeLemmas.{level_of_first, levels_as_many}
 use Rattle.stripe_examiner.proofs.TellingLemmas.{events_to, events_to-more, told_as}
 use Rattle.snap_fix.proofs.WrittenLevelLemmas.{files_put, keeps_more, keeps_nothing, ran_nothing, ran_write, written_level, zeros_more, zeros_none}

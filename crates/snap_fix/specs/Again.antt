@@ -1,6 +1,6 @@
 -- What a fix finds of the cells of a column, by the files that stand in its folder: so of the next fix after a stop.
 use Rattle.std.specs.Prelude.{◌≡◌, ℕ, List, [], ◌++◌, get_or, false, IsTrue, All, Contains}
-use Rattle.array_scan.specs.Kept.{ListedFile}
+use Rattle.folder_listing.specs.Kept.{ListedFile}
 use Rattle.disk_model.specs.Folder.{FolderView}
 use Rattle.disk_model.specs.Tree.{Tree, listing_of}
 use Rattle.stripe_examiner.specs.Facts.{StripeFacts, slot_of}

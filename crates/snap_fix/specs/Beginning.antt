@@ -1,12 +1,12 @@
 -- What comes before anything is read of parity or written: the folders are listed, and the files of all records are placed.
 use Rattle.std.specs.Prelude.{◌≡◌, ℕ, List, length}
-use Rattle.array_scan.specs.Kept.{ListedFile}
-use Rattle.array_scan.specs.Listings.{ListsAll, FailsAt, RunsOut}
-use Rattle.array_scan.specs.declared.listing.ListingFault.{ListingFault}
-use Rattle.array_scan.specs.declared.listing.ListingFault.TheVariants as listing
+use Rattle.folder_listing.specs.Kept.{ListedFile}
+use Rattle.folder_listing.specs.Listings.{ListsAll, FailsAt, RunsOut}
+use Rattle.folder_listing.specs.declared.listing.ListingFault.{ListingFault}
+use Rattle.folder_listing.specs.declared.listing.ListingFault.TheVariants as listing
 use Rattle.disk_model.specs.Folder.{FolderView}
 use Rattle.file_table.specs.Table.{TableValue}
-use Rattle.snap_config.specs.declared.options.Selection.{Selection}
+use Rattle.array_setup.specs.declared.ways.Selection.{Selection}
 use Rattle.snap_report.specs.declared.answer.RunFault.{RunFault}
 use Rattle.snap_report.specs.declared.answer.RunFault.TheVariants.{Folder, Vault, Memory}
 use Rattle.snap_fix.specs.declared.beginning.Work.{Work}

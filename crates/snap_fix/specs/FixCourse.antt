@@ -1,8 +1,8 @@
 -- A fix as a whole.
 use Rattle.std.specs.Prelude.{◌≡◌, ℕ, ◌<◌, List, [], ◌++◌, length, sum_by, count_by, All, Bool, true, false, IsTrue}
 use Rattle.std.specs.List.{range_with_len, flat_map}
-use Rattle.array_scan.specs.Kept.{ListedFile}
-use Rattle.array_scan.specs.Listings.{ListsAll}
+use Rattle.folder_listing.specs.Kept.{ListedFile}
+use Rattle.folder_listing.specs.Listings.{ListsAll}
 use Rattle.disk_model.specs.Cause.{RoseBy}
 use Rattle.disk_model.specs.Folder.{FolderView, FolderCall, ListFiles, Look, ReadAt, Make, WriteAt, SetSize, SetStamp, Rename}
 use Rattle.disk_model.specs.Sink.{SinkView}
@@ -11,7 +11,7 @@ use Rattle.disk_model.specs.Vault.{VaultView, VaultCall, VaultDone, GoesOn}
 use Rattle.disk_model.specs.declared.meta.Meta.{Meta}
 use Rattle.file_table.specs.Table.{TableValue, record_at, records_in}
 use Rattle.parity_writer.specs.LevelReading.{LevelReading}
-use Rattle.snap_config.specs.declared.options.Selection.{Selection}
+use Rattle.array_setup.specs.declared.ways.Selection.{Selection}
 use Rattle.snap_report.specs.Answer.{is_io_of}
 use Rattle.snap_report.specs.EndLines.{fix_text}
 use Rattle.snap_report.specs.EventLines.{lines_of}

@@ -1,14 +1,14 @@
 // What comes before anything is read of parity or written.
 ghost use Rattle.std.specs.Prelude.{◌≡◌, length, map, IfOk, IfErr};
-ghost use Rattle.snap_config.specs.Setup.{setup_value};
+ghost use Rattle.array_setup.specs.Setup.{setup_value};
 ghost use Rattle.snap_fix.specs.Beginning.{Begins, BeginsNot, of_listing};
 ghost use Rattle.repair_scope.specs.Plan.{names_of};
 
-use array_scan::{ListingFault, listings};
+use array_setup::{Selection, Setup};
 use disk_model::Folder;
 use file_table::Table;
+use folder_listing::{ListingFault, listings};
 use repair_scope::{Entries, Mode, Plan, Scope, scope_of, stripes_to_look_at};
-use snap_config::{Selection, Setup};
 use snap_report::RunFault;
 use std::alloc::Global;
 use std::thread::Threads;

@@ -1,6 +1,6 @@
 // A check or a fix, by the mode.
 ghost use Rattle.std.specs.Prelude.{◌≡◌, IfOk, IfErr, length, map};
-ghost use Rattle.snap_config.specs.Setup.{setup_value};
+ghost use Rattle.array_setup.specs.Setup.{setup_value};
 ghost use Rattle.snap_fix.specs.ByMode.{AreOpenFor, LeavesFor, MayFailBy, Repairs, RepairsNot};
 ghost use Rattle.snap_fix.specs.Course.{IsArray, outside};
 ghost use Rattle.repair_scope.specs.Plan.{names_of};
@@ -8,10 +8,10 @@ ghost use Rattle.repair_scope.specs.Plan.{names_of};
 use crate::checks::{FixEnd, check};
 use crate::plan::Task;
 use crate::repairs::fix;
+use array_setup::{Selection, Setup};
 use disk_model::{Folder, Sink, Vault};
 use file_table::Table;
 use repair_scope::Mode;
-use snap_config::{Selection, Setup};
 use snap_report::{Lines, Report, RunFault};
 use std::alloc::Global;
 use std::thread::Threads;

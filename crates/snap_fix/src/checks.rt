@@ -1,6 +1,6 @@
 // A check.
 ghost use Rattle.std.specs.Prelude.{◌≡◌, IfOk, IfErr, length, map};
-ghost use Rattle.snap_config.specs.Setup.{setup_value};
+ghost use Rattle.array_setup.specs.Setup.{setup_value};
 ghost use Rattle.snap_fix.specs.Beginning.{BeginsNot};
 ghost use Rattle.snap_fix.specs.Course.{Checks, IsArray, outside};
 ghost use Rattle.repair_scope.specs.Plan.{names_of};

@@ -1,7 +1,7 @@
 //! What follows of a search for lost blocks, and of a fix that is stopped. The calls do nothing: their contracts are laws.
 
 ghost use Rattle.std.specs.Prelude.{◌≡◌, ◌↔◌, ℕ, ◌+◌, ◌*◌, ◌<◌, ◌≤◌, Bool, true, false, List, [], length, slice_index, slice_index_or, All, count_by, Contains, is_some, Some, IsTrue, filter, get_or};
-ghost use Rattle.array_scan.specs.Kept.{ListedFile};
+ghost use Rattle.folder_listing.specs.Kept.{ListedFile};
 ghost use Rattle.cauchy.specs.Matrix.{byte_of, parity_byte};
 ghost use Rattle.cauchy.specs.Recovery.{AreBytes, others_sum};
 ghost use Rattle.cauchy.specs.System.{AreDistinctBelow};
@@ -13,7 +13,7 @@ ghost use Rattle.file_table.specs.declared.block.Cell.{Cell};
 ghost use Rattle.parity_writer.specs.Keeps.{HasByte};
 ghost use Rattle.parity_writer.specs.Parity.{HasLevel, Row};
 ghost use Rattle.parity_writer.specs.Sound.{Snapshot, Sound};
-ghost use Rattle.snap_config.specs.declared.options.Selection.{Selection};
+ghost use Rattle.array_setup.specs.declared.ways.Selection.{Selection};
 ghost use Rattle.snap_report.specs.Kind.{is_finding};
 ghost use Rattle.snap_report.specs.declared.events.Event.TheVariants as event;
 ghost use Rattle.stripe_reader.specs.Columns.{folder_at};

@@ -1,8 +1,8 @@
 // What a run is asked for, the stripes that a fix looks at, how far it is, and stripes of a window that were examined: each as one value.
+use array_setup::{Selection, Setup};
 use file_restorer::States;
 use file_table::Table;
 use repair_scope::{Mode, Plan};
-use snap_config::{Selection, Setup};
 use stripe_examiner::{Room, StripeRoom};
 use stripe_reader::{Starts, Window};
 

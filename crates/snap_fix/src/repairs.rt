@@ -1,6 +1,6 @@
 // A fix.
 ghost use Rattle.std.specs.Prelude.{◌≡◌, IfOk, IfErr, length, map};
-ghost use Rattle.snap_config.specs.Setup.{setup_value};
+ghost use Rattle.array_setup.specs.Setup.{setup_value};
 ghost use Rattle.snap_fix.specs.Course.{IsArray, outside};
 ghost use Rattle.snap_report.specs.EndLines.{fix_text};
 ghost use Rattle.snap_report.specs.State.{Puts, state_of};
@@ -18,11 +18,11 @@ use crate::ending::{finish_all, sync_levels};
 use crate::fixes::fix_stripes;
 use crate::fixing::Totals;
 use crate::plan::{Progress, Stretch, Task, Workspace};
+use array_setup::{Selection, Setup};
 use disk_model::{Folder, NoMemory, Sink, Vault};
 use file_restorer::{FileState, States};
 use file_table::Table;
 use repair_scope::{Entries, Mode, Plan, Scope};
-use snap_config::{Selection, Setup};
 use snap_report::{Lines, Report, RunFault};
 use std::alloc::Global;
 use std::thread::Threads;

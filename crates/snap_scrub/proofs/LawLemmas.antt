@@ -13,7 +13,7 @@ use Rattle.file_table.specs.declared.info.Mark.{Mark}
 use Rattle.file_table.specs.declared.info.Mark.TheVariants.{Pending, Synced}
 use Rattle.parity_writer.specs.Parity.{HasLevel}
 use Rattle.parity_writer.specs.Sound.{IsSynced, Snapshot, Sound}
-use Rattle.snap_config.specs.declared.options.ScrubWay.{ScrubWay}
+use Rattle.array_setup.specs.declared.ways.ScrubWay.{ScrubWay}
 use Rattle.stripe_findings.specs.Reading.{stripes_of}
 use Rattle.snap_scrub.specs.declared.verdict.Verdict.{Verdict}
 use Rattle.snap_scrub.specs.declared.verdict.Verdict.TheVariants.{Right, Wrong, Changed}

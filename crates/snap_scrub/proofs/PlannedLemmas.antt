@@ -8,7 +8,7 @@ use Rattle.std.proofs.lemmas.List.FromFn.{length-range_with_len}
 use Rattle.file_table.specs.Table.{TableValue, info_at, is_synced_mark}
 use Rattle.file_table.specs.declared.info.Mark.{Mark}
 use Rattle.file_table.specs.declared.info.Mark.TheVariants.{Pending, Synced}
-use Rattle.snap_config.specs.declared.options.ScrubWay.{ScrubWay}
+use Rattle.array_setup.specs.declared.ways.ScrubWay.{ScrubWay}
 use Rattle.snap_scrub.specs.Plan.{candidates, is_candidate, plan_of, takes}
 use Rattle.snap_scrub.proofs.PlanLemmas.{all_pass, below_all}
 

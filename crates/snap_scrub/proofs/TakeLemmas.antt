@@ -8,8 +8,8 @@ use Rattle.std.proofs.lemmas.List.{get_or_default}
 use Rattle.std.proofs.lemmas.Map.Keys.{ge_from_not_lt}
 use Rattle.file_table.specs.Table.{TableValue, info_at}
 use Rattle.file_table.specs.declared.info.Info.{Info}
-use Rattle.snap_config.specs.declared.options.ScrubPlan.{ScrubPlan}
-use Rattle.snap_config.specs.declared.options.ScrubPlan.TheVariants.{Percent}
+use Rattle.array_setup.specs.declared.ways.ScrubPlan.{ScrubPlan}
+use Rattle.array_setup.specs.declared.ways.ScrubPlan.TheVariants.{Percent}
 use Rattle.snap_scrub.specs.Plan.{candidates, is_candidate, is_old, old_candidates, share_of, takes_oldest, takes}
 use Rattle.snap_scrub.specs.Order.{order_in, recent_in, takes_before}
 use Rattle.snap_scrub.proofs.SplitLemmas.{IsSplit}

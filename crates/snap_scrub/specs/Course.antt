@@ -10,7 +10,7 @@ use Rattle.disk_model.specs.Ran.{Log, RanLog, log_of}
 use Rattle.disk_model.specs.Sink.{SinkView}
 use Rattle.disk_model.specs.Vault.{VaultView, VaultCall, SomeCalls, ChangesBy, DraftsStay, Holds, IsUnwritten, copies_of, state_of}
 use Rattle.file_table.specs.Table.{TableValue}
-use Rattle.snap_config.specs.declared.options.ScrubWay.{ScrubWay}
+use Rattle.array_setup.specs.declared.ways.ScrubWay.{ScrubWay}
 use Rattle.snap_report.specs.EndLines.{scrub_text}
 use Rattle.snap_report.specs.EventLines.{lines_of}
 use Rattle.snap_report.specs.Report.{ReportView, AllGiven}

@@ -3,9 +3,9 @@ use Rattle.std.specs.Prelude.{◌≡◌, ℕ, ◌+◌, ◌-◌, ◌*◌, ◌^◌
 use Rattle.std.specs.List.{Contains}
 use Rattle.file_table.specs.Table.{TableValue, info_at}
 use Rattle.file_table.specs.declared.info.Info.{Info}
-use Rattle.snap_config.specs.declared.options.ScrubPlan.{ScrubPlan}
-use Rattle.snap_config.specs.declared.options.ScrubPlan.TheVariants.{Bad, New, Full, Percent}
-use Rattle.snap_config.specs.declared.options.ScrubWay.{ScrubWay}
+use Rattle.array_setup.specs.declared.ways.ScrubPlan.{ScrubPlan}
+use Rattle.array_setup.specs.declared.ways.ScrubPlan.TheVariants.{Bad, New, Full, Percent}
+use Rattle.array_setup.specs.declared.ways.ScrubWay.{ScrubWay}
 use Rattle.snap_scrub.specs.Plan.{candidates, takes}
 
 -- the place of a stripe

@@ -4,9 +4,9 @@ use Rattle.std.specs.List.{range_with_len}
 use Rattle.file_table.specs.Cells.{holds_block}
 use Rattle.file_table.specs.Table.{TableValue, info_at, is_synced_mark}
 use Rattle.file_table.specs.declared.info.Info.{Info}
-use Rattle.snap_config.specs.declared.options.ScrubPlan.{ScrubPlan}
-use Rattle.snap_config.specs.declared.options.ScrubPlan.TheVariants.{Bad, New, Full, Percent}
-use Rattle.snap_config.specs.declared.options.ScrubWay.{ScrubWay}
+use Rattle.array_setup.specs.declared.ways.ScrubPlan.{ScrubPlan}
+use Rattle.array_setup.specs.declared.ways.ScrubPlan.TheVariants.{Bad, New, Full, Percent}
+use Rattle.array_setup.specs.declared.ways.ScrubWay.{ScrubWay}
 
 -- the stripes that a scrub may check, ascending: the synced ones that hold a block
 abbrev pub is_candidate : TableValue → ℕ → Bool

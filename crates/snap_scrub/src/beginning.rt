@@ -6,9 +6,9 @@ ghost use Rattle.snap_scrub.specs.Room.{IsEnoughFor, IsWorkFor};
 use crate::planning::plan;
 use crate::room::Room;
 use crate::verdict::Verdict;
+use array_setup::ScrubWay;
 use disk_model::NoMemory;
 use file_table::Table;
-use snap_config::ScrubWay;
 use std::alloc::Global;
 
 /// The stripes that a scrub checks, ascending, what it makes of each, all memory that it needs, and by how many readers at most.

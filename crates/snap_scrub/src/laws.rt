@@ -7,7 +7,7 @@ ghost use Rattle.file_table.specs.Table.{TableValue, info_at};
 ghost use Rattle.file_table.specs.Valid.{IsValid};
 ghost use Rattle.parity_writer.specs.Sound.{Snapshot, Sound};
 ghost use Rattle.snap_report.specs.Answer.{is_io_of, is_parity_io};
-ghost use Rattle.snap_config.specs.declared.options.ScrubWay.{ScrubWay};
+ghost use Rattle.array_setup.specs.declared.ways.ScrubWay.{ScrubWay};
 ghost use Rattle.stripe_findings.specs.Reading.{AreRead, stripes_of};
 ghost use Rattle.stripe_reader.specs.Columns.{folder_at};
 ghost use Rattle.snap_scrub.specs.Findings.{events_of};

@@ -4,9 +4,9 @@ ghost use Rattle.snap_scrub.specs.Plan.{candidates as candidates_of, is_candidat
 ghost use Rattle.snap_scrub.specs.Order.{order_in, takes_before, EndsOldest};
 
 use crate::order::{first_recent, info_of, share_of, stripe_order};
+use array_setup::{ScrubPlan, ScrubWay};
 use disk_model::NoMemory;
 use file_table::{Mark, Table};
-use snap_config::{ScrubPlan, ScrubWay};
 use std::alloc::Global;
 
 /// The stripes that a scrub checks, ascending: of the synced stripes that hold a block those that `way` asks for, where

@@ -1,10 +1,10 @@
 // The stripes that a scrub plans.
 ghost use Rattle.std.specs.Prelude.{◌≡◌, ◌<◌, ◌≤◌, [], length};
 
+use array_setup::{ScrubPlan, ScrubWay};
 use block_hash::{Digest16, Kind};
 use disk_model::{Meta, Path, Stamp, Text};
 use file_table::{BuildFault, Builder, Info, Mark, Shape, Table};
-use snap_config::{ScrubPlan, ScrubWay};
 use snap_scrub::plan;
 use std::alloc::Global;
 use std::test::Fail;

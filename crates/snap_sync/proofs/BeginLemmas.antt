@@ -2,15 +2,15 @@
 use Rattle.std.proofs.Common.{◌≡◌, List, [], length, All, inr, refl, arith}
 use Rattle.std.proofs.lemmas.List.Elements.{All-from_get_or}
 use Rattle.std.proofs.lemmas.List.FromFn.{length-map-range_with_len}
-use Rattle.array_scan.specs.Kept.{ListedFile, kept_lists}
-use Rattle.array_scan.specs.Listings.{ListsAll, RunsOut, FailsListing}
-use Rattle.array_scan.specs.declared.listing.ListingFault.{ListingFault}
-use Rattle.array_scan.specs.declared.listing.ListingFault.TheVariants as listing
+use Rattle.folder_listing.specs.Kept.{ListedFile, kept_lists}
+use Rattle.folder_listing.specs.Listings.{ListsAll, RunsOut, FailsListing}
+use Rattle.folder_listing.specs.declared.listing.ListingFault.{ListingFault}
+use Rattle.folder_listing.specs.declared.listing.ListingFault.TheVariants as listing
 use Rattle.disk_model.specs.Folder.{FolderView}
 use Rattle.disk_model.specs.Tree.{IsListing}
 use Rattle.file_table.specs.Table.{TableValue}
-use Rattle.snap_config.specs.Setup.{SetupValue}
-use Rattle.snap_config.specs.declared.options.SyncWay.{SyncWay}
+use Rattle.array_setup.specs.Setup.{SetupValue}
+use Rattle.array_setup.specs.declared.ways.SyncWay.{SyncWay}
 use Rattle.snap_sync.specs.Beginning.{BeginsNot}
 use Rattle.array_scan.specs.Layout.{all_sorted, layout, column_laid}
 use Rattle.array_scan.specs.Refusals.{refusal, IsCause}

@@ -25,8 +25,8 @@ use Rattle.snap_sync.specs.Course.{Outside, outside, plan_of, IsSyncWindow, Ends
 use Rattle.snap_sync.specs.Beginning.{LaysOut}
 use Rattle.snap_sync.specs.Schedule.{save_after}
 use Rattle.snap_sync.specs.declared.stripes.Pace.{Pace}
-use Rattle.snap_config.specs.Setup.{SetupValue}
-use Rattle.snap_config.specs.declared.options.SyncWay.{SyncWay}
+use Rattle.array_setup.specs.Setup.{SetupValue}
+use Rattle.array_setup.specs.declared.ways.SyncWay.{SyncWay}
 use Rattle.disk_model.specs.Folder.{FolderView}
 use Rattle.stripe_findings.specs.Findings.{events_of}
 use Rattle.stripe_findings.specs.Reading.{StripeReading, readings_in, is_verified}

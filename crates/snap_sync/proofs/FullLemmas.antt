@@ -15,7 +15,7 @@ use Rattle.disk_model.proofs.BytesLemmas.{length-resized}
 use Rattle.file_table.specs.Table.{TableValue}
 use Rattle.parity_writer.specs.Keeps.{HasByte, IsOutside}
 use Rattle.parity_writer.specs.Parity.{Row, Rows}
-use Rattle.snap_config.specs.Setup.{SetupValue}
+use Rattle.array_setup.specs.Setup.{SetupValue}
 use Rattle.snap_sync.specs.Calls.{level_bytes}
 use Rattle.snap_sync.specs.Closing.{closed, rows_of}
 use Rattle.snap_sync.specs.Images.{HasParity, IsOutsideRows}

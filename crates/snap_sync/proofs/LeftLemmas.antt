@@ -5,7 +5,7 @@ use Rattle.std.proofs.lemmas.Bool.{cases_lt, cases_Bool, not-true}
 use Rattle.std.proofs.lemmas.List.{append-nil, get_or-map, get_or-drop, get_or-take, length-map, length-drop, length-take, map-set, set-get_or, set_past, take-append-drop}
 use Rattle.std.proofs.lemmas.List.Elements.{filter-append}
 use Rattle.std.proofs.lemmas.List.FromFn.{fill_by_all, length-map-range_with_len, get_or-map-range_with_len}
-use Rattle.array_scan.specs.Kept.{ListedFile}
+use Rattle.folder_listing.specs.Kept.{ListedFile}
 use Rattle.array_scan.specs.Layout.{is_pending, pending_stripes}
 use Rattle.array_scan.specs.Own.{HoldsJust, own_files}
 use Rattle.block_hash.specs.declared.Digest16.{Digest16}

@@ -5,16 +5,16 @@ use Rattle.std.specs.FinMap as finite_map
 use Rattle.std.proofs.lemmas.Bool.{cases_Bool}
 use Rattle.std.proofs.lemmas.List.{take_all, get_or-map, length-map, ext_get_or}
 use Rattle.std.proofs.lemmas.List.FromFn.{length-map-range_with_len}
-use Rattle.array_scan.specs.Kept.{ListedFile, kept_lists}
+use Rattle.folder_listing.specs.Kept.{ListedFile, kept_lists}
 use Rattle.array_scan.specs.Layout.{layout, all_sorted, column_laid, pending_stripes}
-use Rattle.array_scan.specs.Listings.{Lists}
+use Rattle.folder_listing.specs.Listings.{Lists}
 use Rattle.disk_model.specs.Cause.{Rose}
 use Rattle.content_file.specs.Spelling.{spelling}
 use Rattle.disk_model.specs.Files.{Files, content_of}
 use Rattle.disk_model.specs.Folder.{FolderView, quiet_folder}
 use Rattle.disk_model.specs.Tree.{Tree, listing_of}
 use Rattle.file_table.specs.Table.{TableValue}
-use Rattle.snap_config.specs.Setup.{SetupValue}
+use Rattle.array_setup.specs.Setup.{SetupValue}
 use Rattle.stripe_reader.specs.Columns.{folder_at}
 use Rattle.stripe_reader.specs.Reading.{is_unread}
 use Rattle.parity_writer.specs.Parity.{Rows, with_row, no_rows}

@@ -6,7 +6,7 @@ use Rattle.std.proofs.lemmas.List.FromFn.{length-map-range_with_len}
 use Rattle.std.proofs.lemmas.List.{get_or_default, length-map, map-append, take-append-drop, take-take}
 use Rattle.std.proofs.lemmas.List.Elements.{filter-append}
 use Rattle.std.proofs.lemmas.List.Kept.{AllPairs-filter}
-use Rattle.array_scan.specs.Kept.{ListedFile, kept_files, kept_lists}
+use Rattle.folder_listing.specs.Kept.{ListedFile, kept_files, kept_lists}
 use Rattle.array_scan.specs.Layout.{is_pending, layout, pending_stripes}
 use Rattle.array_scan.specs.Own.{HoldsJust}
 use Rattle.content_file.specs.Spelling.{spelling}
@@ -19,7 +19,7 @@ use Rattle.file_table.specs.declared.shape.Shape.{Shape}
 use Rattle.parity_writer.specs.Keeps.{HasByte}
 use Rattle.parity_writer.specs.Parity.{Row, Rows, HoldsRows, no_rows}
 use Rattle.parity_writer.specs.Sound.{Snapshot, Sound}
-use Rattle.snap_config.specs.Setup.{SetupValue}
+use Rattle.array_setup.specs.Setup.{SetupValue}
 use Rattle.snap_sync.specs.Calls.{SyncPlan, level_bytes}
 use Rattle.snap_sync.specs.Closing.{closed, rows_of}
 use Rattle.snap_sync.specs.Images.{HasParity, KeepsSynced, MayStand, Opening, AtWork, rows_after, table_after}

@@ -5,9 +5,9 @@ use Rattle.std.specs.Option.{option_map}
 use Rattle.std.proofs.lemmas.List.{get_or-map, get_or-append-add, length-append, length-map}
 use Rattle.std.proofs.lemmas.List.Elements.{All-filter, All-nil}
 use Rattle.std.proofs.lemmas.List.FromFn.{get_or-map-range_with_len, length-map-range_with_len}
-use Rattle.array_scan.specs.Kept.{ListedFile, is_kept, kept_files, kept_lists}
+use Rattle.folder_listing.specs.Kept.{ListedFile, is_kept, kept_files, kept_lists}
 use Rattle.array_scan.specs.Layout.{layout}
-use Rattle.array_scan.specs.Listings.{Lists}
+use Rattle.folder_listing.specs.Listings.{Lists}
 use Rattle.array_scan.specs.Own.{HoldsJust, own_files}
 use Rattle.disk_model.specs.Folder.{FolderView}
 use Rattle.disk_model.specs.Tree.{Tree, File, file_of, meta_of, listing_of, IsListing}
@@ -16,7 +16,7 @@ use Rattle.file_table.specs.Cells.{CellView, cell_in, cell_seen}
 use Rattle.file_table.specs.Table.{Record, Column, TableValue, IsAt, block_count, column_at, record_in, no_column, no_record}
 use Rattle.file_table.specs.Valid.{IsValid, IsWhole}
 use Rattle.file_table.specs.declared.block.Cell.{Cell}
-use Rattle.snap_config.specs.Setup.{SetupValue}
+use Rattle.array_setup.specs.Setup.{SetupValue}
 use Rattle.stripe_reader.specs.Columns.{folder_at}
 use Rattle.stripe_reader.specs.Reading.{Task, given_by, task_at}
 use Rattle.stripe_reader.specs.Slot.{kept}

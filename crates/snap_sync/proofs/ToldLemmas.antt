@@ -13,8 +13,8 @@ use Rattle.std.proofs.lemmas.Cmp.{int_eq_equiv, tied_itself}
 use Rattle.std.proofs.lemmas.Nat.{mul-le}
 use Rattle.std.proofs.lemmas.List.{append-nil, get_or-map, length-drop, length-map, length-take}
 use Rattle.std.proofs.lemmas.List.Elements.{All-append, All-cons, All-nil}
-use Rattle.array_scan.specs.Fates.{same_meta}
-use Rattle.array_scan.specs.Kept.{ListedFile}
+use Rattle.folder_listing.specs.Kept.{same_meta}
+use Rattle.folder_listing.specs.Kept.{ListedFile}
 use Rattle.block_hash.specs.declared.Digest16.{Digest16}
 use Rattle.disk_model.specs.Bytes.{read_from}
 use Rattle.disk_model.specs.Tree.{Tree, File, file_of, meta_of, listing_of, IsListing, IsListedBefore}

@@ -1,15 +1,15 @@
 -- What comes before the vault is touched: the folders are listed, and their kept files laid out.
 use Rattle.std.specs.Prelude.{◌≡◌, List, length, None}
-use Rattle.array_scan.specs.Kept.{ListedFile, kept_lists}
+use Rattle.folder_listing.specs.Kept.{ListedFile, kept_lists}
 use Rattle.array_scan.specs.Layout.{layout, all_sorted}
-use Rattle.array_scan.specs.Listings.{ListsAll, FailsAt, RunsOut}
+use Rattle.folder_listing.specs.Listings.{ListsAll, FailsAt, RunsOut}
 use Rattle.array_scan.specs.Refusals.{refusal, IsCause}
 use Rattle.array_scan.specs.declared.fault.ScanFault.{ScanFault}
 use Rattle.disk_model.specs.Folder.{FolderView}
 use Rattle.file_table.specs.Table.{TableValue}
 use Rattle.file_table.specs.Valid.{IsValid}
-use Rattle.snap_config.specs.Setup.{SetupValue}
-use Rattle.snap_config.specs.declared.options.SyncWay.{SyncWay}
+use Rattle.array_setup.specs.Setup.{SetupValue}
+use Rattle.array_setup.specs.declared.ways.SyncWay.{SyncWay}
 use Rattle.snap_report.specs.declared.answer.RunFault.TheVariants.{Folder, Vault, Memory}
 use Rattle.snap_sync.specs.declared.fault.SyncFault.{SyncFault}
 use Rattle.snap_sync.specs.declared.fault.SyncFault.TheVariants.{Scan, Run}

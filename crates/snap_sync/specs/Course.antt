@@ -9,8 +9,8 @@ use Rattle.disk_model.specs.Ran.{Log, log_of}
 use Rattle.disk_model.specs.Sink.{SinkView}
 use Rattle.disk_model.specs.Vault.{VaultView, VaultState, VaultCall, VaultDone, ChangesBy, Holds, SomeCalls, copies_of, state_of}
 use Rattle.file_table.specs.Table.{TableValue}
-use Rattle.snap_config.specs.Setup.{SetupValue}
-use Rattle.snap_config.specs.declared.options.SyncWay.{SyncWay}
+use Rattle.array_setup.specs.Setup.{SetupValue}
+use Rattle.array_setup.specs.declared.ways.SyncWay.{SyncWay}
 use Rattle.snap_report.specs.EventLines.{lines_of}
 use Rattle.snap_report.specs.Report.{ReportView, AllGiven}
 use Rattle.snap_report.specs.State.{Puts, state_of as told_of}

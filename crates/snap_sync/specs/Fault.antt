@@ -1,6 +1,6 @@
 -- The faults of a sync, by those of its parts.
-use Rattle.array_scan.specs.declared.listing.ListingFault.{ListingFault}
-use Rattle.array_scan.specs.declared.listing.ListingFault.TheVariants as listing
+use Rattle.folder_listing.specs.declared.listing.ListingFault.{ListingFault}
+use Rattle.folder_listing.specs.declared.listing.ListingFault.TheVariants as listing
 use Rattle.snap_report.specs.declared.answer.RunFault.TheVariants as run
 use Rattle.snap_sync.specs.declared.fault.SyncFault.{SyncFault}
 use Rattle.snap_sync.specs.declared.fault.SyncFault.TheVariants.{Run}

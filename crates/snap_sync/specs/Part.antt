@@ -3,9 +3,9 @@ use Rattle.std.specs.Prelude.{◌≡◌, ◌⊎◌, ℕ, ◌<◌, List, ◌++◌
 use Rattle.std.specs.Prelude.{All, Contains, IsTrue}
 use Rattle.std.specs.List.{range_with_len}
 use Rattle.std.specs.FinMap as finite_map
-use Rattle.array_scan.specs.Kept.{ListedFile, kept_lists}
+use Rattle.folder_listing.specs.Kept.{ListedFile, kept_lists}
 use Rattle.array_scan.specs.Layout.{layout, pending_stripes}
-use Rattle.array_scan.specs.Listings.{ListsAll}
+use Rattle.folder_listing.specs.Listings.{ListsAll}
 use Rattle.content_file.specs.Spelling.{spelling}
 use Rattle.disk_model.specs.Cause.{Rose}
 use Rattle.disk_model.specs.Files.{Files, content_of}
@@ -13,7 +13,7 @@ use Rattle.disk_model.specs.Folder.{FolderView}
 use Rattle.disk_model.specs.Tree.{Tree, listing_of}
 use Rattle.file_table.specs.Table.{TableValue}
 use Rattle.file_table.specs.declared.info.Info.{Info}
-use Rattle.snap_config.specs.Setup.{SetupValue}
+use Rattle.array_setup.specs.Setup.{SetupValue}
 use Rattle.stripe_reader.specs.Columns.{folder_at}
 use Rattle.stripe_reader.specs.Reading.{given_by, task_at}
 use Rattle.stripe_reader.specs.Slot.{kept}

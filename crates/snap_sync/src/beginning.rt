@@ -1,16 +1,17 @@
 // What comes before the vault is touched.
 ghost use Rattle.std.specs.Prelude.{◌≡◌, IfOk, IfErr, length, map};
 ghost use Rattle.array_scan.specs.Layout.{pending_stripes};
-ghost use Rattle.snap_config.specs.Setup.{setup_value};
+ghost use Rattle.array_setup.specs.Setup.{setup_value};
 ghost use Rattle.snap_sync.specs.Beginning.{LaysOut, BeginsNot};
 ghost use Rattle.snap_sync.specs.Work.{IsRoomFor};
 
 use crate::SyncFault;
 use crate::room::Room;
-use array_scan::{Plan, lay_out_in_place, listings};
+use array_scan::{Plan, lay_out_in_place};
+use array_setup::{Setup, SyncWay};
 use disk_model::Folder;
 use file_table::Table;
-use snap_config::{Setup, SyncWay};
+use folder_listing::listings;
 use snap_report::RunFault;
 use std::alloc::Global;
 use std::thread::Threads;

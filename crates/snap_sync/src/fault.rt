@@ -2,8 +2,9 @@
 ghost use Rattle.std.specs.Prelude.{◌≡◌};
 ghost use Rattle.snap_sync.specs.Fault.{of_listing};
 
-use array_scan::{ListingFault, ScanFault};
+use array_scan::ScanFault;
 use file_table::Table;
+use folder_listing::ListingFault;
 use snap_report::RunFault;
 
 /// Why a sync did not end.

@@ -11,7 +11,7 @@ ghost use Rattle.file_table.specs.Table.{TableValue, column_at};
 ghost use Rattle.file_table.specs.Valid.{IsValid};
 ghost use Rattle.file_table.specs.declared.block.Cell.{Cell};
 ghost use Rattle.parity_writer.specs.Sound.{Snapshot};
-ghost use Rattle.snap_config.specs.Setup.{SetupValue};
+ghost use Rattle.array_setup.specs.Setup.{SetupValue};
 ghost use Rattle.snap_report.specs.declared.events.Event.TheVariants.{Io};
 ghost use Rattle.stripe_reader.specs.Columns.{folder_at};
 ghost use Rattle.snap_sync.specs.Calls.{SyncPlan};

@@ -1,7 +1,7 @@
 // A sync.
 ghost use Rattle.std.specs.Prelude.{◌≡◌, IfOk, IfErr, length, map};
 ghost use Rattle.disk_model.specs.Vault.{SomeCalls};
-ghost use Rattle.snap_config.specs.Setup.{setup_value};
+ghost use Rattle.array_setup.specs.Setup.{setup_value};
 ghost use Rattle.snap_sync.specs.Course.{IsArray, Syncs, SyncsNot, outside};
 
 use crate::SyncFault;
@@ -9,9 +9,9 @@ use crate::beginning::begin;
 use crate::carrying::carry_out;
 use crate::schedule::save_after;
 use crate::stripes::Pace;
+use array_setup::{Setup, SyncWay};
 use disk_model::{Folder, Sink, Vault};
 use file_table::Table;
-use snap_config::{Setup, SyncWay};
 use snap_report::{Lines, Report, RunFault};
 use std::alloc::Global;
 use std::thread::Threads;

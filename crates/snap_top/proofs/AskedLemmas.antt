@@ -6,7 +6,7 @@ use Rattle.disk_model.specs.Files.{Files}
 use Rattle.disk_model.specs.Vault.{copies_of}
 use Rattle.file_table.specs.Table.{TableValue}
 use Rattle.snap_config.specs.Config.{read_setup}
-use Rattle.snap_config.specs.Setup.{SetupValue}
+use Rattle.array_setup.specs.Setup.{SetupValue}
 use Rattle.snap_config.specs.declared.options.Command.{Command}
 use Rattle.snap_config.specs.declared.options.Options.{Options}
 use Rattle.snap_sync.specs.Part.{SyncRun}

@@ -10,7 +10,7 @@ use Rattle.disk_model.specs.Vault.{VaultView, VaultDone, GoesOn, state_of}
 use Rattle.disk_model.proofs.VaultLemmas.{no_calls, changes_start}
 use Rattle.file_table.specs.Table.{TableValue}
 use Rattle.snap_config.specs.declared.options.Command.{Command}
-use Rattle.snap_config.specs.declared.options.Selection.{Selection}
+use Rattle.array_setup.specs.declared.ways.Selection.{Selection}
 use Rattle.stripe_examiner.specs.Asking.{AsksSpare, is_held}
 use Rattle.snap_fix.specs.Beginning.{BeginsNot}
 use Rattle.snap_fix.specs.ByMode.{AreOpenFor, Repairs, RepairsNot}

@@ -22,7 +22,7 @@ use Rattle.content_file.specs.Spelling.{IsContent}
 use Rattle.content_file.specs.declared.loading.LoadFault.TheVariants as loads
 use Rattle.file_table.specs.Table.{TableValue}
 use Rattle.snap_config.specs.Config.{read_setup}
-use Rattle.snap_config.specs.Setup.{SetupValue, setup_value}
+use Rattle.array_setup.specs.Setup.{SetupValue, setup_value}
 use Rattle.snap_config.specs.declared.options.Command.{Command}
 use Rattle.snap_config.specs.declared.options.Command.TheVariants as commands
 use Rattle.file_restorer.specs.Breaking.{broke_parity}
@@ -45,7 +45,7 @@ use Rattle.snap_exercise.specs.Exercise.{is_well}
 use Rattle.snap_top.specs.Does.{DoesCommand, PrintsOrStays}
 use Rattle.snap_top.specs.Dup.{dup_text}
 use Rattle.snap_top.specs.Exercising.{Exercises}
-use Rattle.snap_config.specs.declared.options.SyncWay.{SyncWay}
+use Rattle.array_setup.specs.declared.ways.SyncWay.{SyncWay}
 use Rattle.snap_scrub.specs.Marks.{scrubbed}
 use Rattle.snap_top.specs.Scrubbing.{ScrubBreaks, ScrubsBy}
 use Rattle.snap_top.specs.Syncing.{SyncsBy, SyncBreaks, SyncRefuses, answer_of}

@@ -7,8 +7,8 @@ use Rattle.file_table.specs.Building.{BuildingValue, LacksBlock, IsNewName, IsLe
 use Rattle.file_table.specs.Table.{Column, records_of, blocks_of, positions_of, end_of}
 use Rattle.file_table.specs.declared.fault.BuildFault.{BuildFault}
 use Rattle.file_table.specs.declared.fault.BuildFault.TheVariants.{Name, Order, Nested, Range, Repeated, Blocks, Full, Length, Hash, State, Memory}
-use Rattle.snap_config.specs.Setup.{SetupValue, IsSetup}
-use Rattle.snap_config.specs.declared.setup.Disk.{Disk}
+use Rattle.array_setup.specs.Setup.{SetupValue, IsSetup}
+use Rattle.array_setup.specs.declared.setup.Disk.{Disk}
 use Rattle.snap_top.specs.Array.{empty_column}
 
 no_records : (disks : List Disk) → records_of (map empty_column disks) ≡ []

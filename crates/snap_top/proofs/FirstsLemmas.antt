@@ -4,8 +4,8 @@ use Rattle.std.specs.Prelude.{◌*◌, All, Some}
 use Rattle.std.specs.List.{flat_map, range_with_len}
 use Rattle.std.proofs.lemmas.Bool.{cases_lt}
 use Rattle.std.proofs.lemmas.List.{get_or-take, length-take}
-use Rattle.array_scan.specs.Kept.{ListedFile}
-use Rattle.array_scan.proofs.PlacingLemmas.{flat_range_more}
+use Rattle.folder_listing.specs.Kept.{ListedFile}
+use Rattle.folder_listing.proofs.JoinedLemmas.{flat_range_more}
 use Rattle.disk_model.specs.Bytes.{read_from}
 use Rattle.disk_model.specs.Files.{Files, parity_of}
 use Rattle.disk_model.specs.Tree.{Tree}

@@ -4,7 +4,7 @@ use Rattle.std.specs.Prelude.{All, count_by, sum_by}
 use Rattle.std.specs.List.{flat_map, range_with_len}
 use Rattle.std.proofs.lemmas.Grind.{flat_map-append}
 use Rattle.std.proofs.lemmas.List.{length-map, take_all}
-use Rattle.array_scan.specs.Kept.{ListedFile}
+use Rattle.folder_listing.specs.Kept.{ListedFile}
 use Rattle.disk_model.specs.Folder.{FolderView}
 use Rattle.disk_model.specs.Sink.{SinkView}
 use Rattle.disk_model.specs.Tree.{Tree}

@@ -6,11 +6,11 @@ use Rattle.disk_model.specs.Answer.{listing_answer}
 use Rattle.disk_model.specs.Folder.{FolderView, FolderDone, IsFolderReading, ListFiles}
 use Rattle.disk_model.specs.declared.answer.Answer.{Answer}
 use Rattle.disk_model.specs.declared.answer.Answer.TheVariants.{Done, Failed, OutOfMemory}
-use Rattle.array_scan.specs.Kept.{ListedFile}
-use Rattle.array_scan.specs.Listings.{ListsAll, FailsAt, IsAsked, ListsFirst, RunsOut}
+use Rattle.folder_listing.specs.Kept.{ListedFile}
+use Rattle.folder_listing.specs.Listings.{ListsAll, FailsAt, IsAsked, ListsFirst, RunsOut}
 use Rattle.file_table.specs.Table.{TableValue}
 use Rattle.file_table.specs.declared.shape.Shape.{Shape}
-use Rattle.snap_config.specs.declared.options.SyncWay.{SyncWay}
+use Rattle.array_setup.specs.declared.ways.SyncWay.{SyncWay}
 use Rattle.snap_report.specs.declared.answer.RunFault.TheVariants as runs
 use Rattle.snap_sync.specs.Beginning.{BeginsNot}
 use Rattle.stripe_findings.specs.Reading.{StripeReading}

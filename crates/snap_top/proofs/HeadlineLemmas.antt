@@ -51,7 +51,7 @@ use Rattle.snap_top.proofs.StoppingLemmas.{SaysOfStops, enough_again, stop_spare
 use Rattle.snap_top.proofs.UndamagedLemmas.{WholeLevelsHold}
 use Rattle.std.specs.Prelude.{Bool, Contains, Option, false, get_or, if◌then◌else◌, is_some}
 use Rattle.content_file.specs.Spelling.{spelling}
-use Rattle.snap_config.specs.declared.options.SyncWay.{SyncWay}
+use Rattle.array_setup.specs.declared.ways.SyncWay.{SyncWay}
 use Rattle.stripe_findings.specs.Reading.{StripeReading}
 use Rattle.snap_sync.specs.Soundness.{changed_without, row_or, snapshot_with}
 use Rattle.content_file.specs.Save.{HasSaved}

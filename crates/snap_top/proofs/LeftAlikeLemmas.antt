@@ -18,10 +18,10 @@ use Rattle.file_table.specs.declared.info.Info.{Info}
 use Rattle.parity_writer.specs.Keeps.{HasByte}
 use Rattle.parity_writer.specs.LevelReading.{LevelReading}
 use Rattle.parity_writer.specs.Parity.{Row, Rows}
-use Rattle.snap_config.specs.Setup.{SetupValue}
+use Rattle.array_setup.specs.Setup.{SetupValue}
 use Rattle.snap_config.specs.declared.options.Command.{Command}
 use Rattle.snap_config.specs.declared.options.Command.TheVariants as commands
-use Rattle.snap_config.specs.declared.options.ScrubWay.{ScrubWay}
+use Rattle.array_setup.specs.declared.ways.ScrubWay.{ScrubWay}
 use Rattle.snap_report.specs.EndLines.{scrub_text}
 use Rattle.snap_report.specs.EventLines.{lines_of}
 use Rattle.snap_report.specs.Telling.{Tells, between}

@@ -13,7 +13,7 @@ use Rattle.parity_split.specs.Split.{AreParts, loosely, split_view}
 use Rattle.snap_config.specs.Builder.{BuilderValue, no_lines}
 use Rattle.snap_config.specs.Config.{Refusal, at_line, finish, lacks_level, read_lines, read_setup, setup_of, then_read}
 use Rattle.snap_config.specs.Line.{lines_of}
-use Rattle.snap_config.specs.Setup.{SetupValue, IsSetup, setup_value}
+use Rattle.array_setup.specs.Setup.{SetupValue, IsSetup, setup_value}
 use Rattle.snap_config.specs.declared.options.Command.{Command}
 use Rattle.snap_config.specs.declared.why.Why.{Why}
 use Rattle.snap_config.specs.declared.why.Why.TheVariants.{TooLong, NoParity, NoContent, NoData}

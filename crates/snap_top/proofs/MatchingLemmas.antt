@@ -2,7 +2,7 @@
 use Rattle.std.proofs.Common.{◌≡◌, ℕ, zero, suc, ◌<◌, ◌≤◌, List, [], ◌∷◌, length, slice_get, None, Some, refl, ap₂, arith}
 use Rattle.std.proofs.lemmas.List.{length-map}
 use Rattle.file_table.specs.Table.{TableValue}
-use Rattle.snap_config.specs.Setup.{SetupValue}
+use Rattle.array_setup.specs.Setup.{SetupValue}
 use Rattle.snap_top.specs.Array.{column_names, disk_names}
 
 -- lists that have the same at each place are the same

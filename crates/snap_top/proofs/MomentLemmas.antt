@@ -30,7 +30,7 @@ use Rattle.snap_top.specs.Scrub.{MayStandMarked, ScrubRun}
 use Rattle.snap_top.specs.Task.{Did, fixes, reads_only, scrubs, syncs, may_stand}
 use Rattle.snap_top.specs.declared.end.End.{End}
 use Rattle.snap_top.specs.declared.end.End.TheVariants.{Exercised, Refused, Worked}
-use Rattle.snap_config.specs.Setup.{setup_value}
+use Rattle.array_setup.specs.Setup.{setup_value}
 use Rattle.snap_config.specs.declared.options.Options.{Options}
 use Rattle.snap_top.proofs.CompleteLemmas.{same_ok}
 use Rattle.snap_top.proofs.EndsSoundLemmas.{ends_sound}

@@ -20,11 +20,11 @@ use Rattle.stripe_reader.specs.Slot.{kept}
 use Rattle.stripe_reader.specs.SlotValue.{SlotValue}
 use Rattle.stripe_reader.specs.Starts.{StartsValue}
 use Rattle.stripe_reader.specs.WindowValue.{no_slot}
-use Rattle.snap_config.specs.Setup.{SetupValue}
+use Rattle.array_setup.specs.Setup.{SetupValue}
 use Rattle.snap_config.specs.declared.options.Command.{Command}
 use Rattle.snap_config.specs.declared.options.Command.TheVariants as commands
 use Rattle.snap_config.specs.declared.options.Options.{Options}
-use Rattle.snap_config.specs.declared.options.Selection.{Selection}
+use Rattle.array_setup.specs.declared.ways.Selection.{Selection}
 use Rattle.stripe_examiner.specs.Counts.{at_most}
 use Rattle.stripe_examiner.specs.Facts.{StripeFacts, gift_of, is_missing, slot_of}
 use Rattle.stripe_examiner.specs.Findings.{is_lost}

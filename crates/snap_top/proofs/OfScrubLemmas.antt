@@ -10,10 +10,10 @@ use Rattle.file_table.specs.Valid.{IsValid}
 use Rattle.parity_writer.specs.LevelReading.{LevelReading, IsReadingOf}
 use Rattle.parity_writer.specs.Parity.{HasLevel}
 use Rattle.parity_writer.specs.Sound.{Snapshot, Sound}
-use Rattle.snap_config.specs.Setup.{SetupValue}
+use Rattle.array_setup.specs.Setup.{SetupValue}
 use Rattle.snap_config.specs.declared.options.Command.{Command}
 use Rattle.snap_config.specs.declared.options.Command.TheVariants as commands
-use Rattle.snap_config.specs.declared.options.ScrubWay.{ScrubWay}
+use Rattle.array_setup.specs.declared.ways.ScrubWay.{ScrubWay}
 use Rattle.snap_report.specs.declared.answer.Answer.{Answer}
 use Rattle.snap_report.specs.declared.answer.Answer.TheVariants as answers
 use Rattle.snap_report.specs.declared.answer.RunFault.TheVariants as runs

@@ -2,7 +2,7 @@
 use Rattle.std.proofs.Common.{◌≡◌, ◌⊎◌, inl, inr, ⊎_elim, ℕ, ◌^◌, ◌<◌, ◌≤◌, List, ◌∷◌, ◌++◌, length, append_assoc, Bool, true, false, IsTrue, Option, None, Some, Ok, refl, sym, ap, ◌∙◌, subst, arith}
 use Rattle.std.proofs.lemmas.List.{ext_get_or, length-replicate}
 use Rattle.array_scan.specs.Keeping.{KeepsStripes}
-use Rattle.array_scan.specs.Kept.{ListedFile, kept_lists}
+use Rattle.folder_listing.specs.Kept.{ListedFile, kept_lists}
 use Rattle.array_scan.specs.Layout.{layout}
 use Rattle.content_file.specs.Load.{HasFailed, IsUseless}
 use Rattle.content_file.specs.Spelling.{IsContent, spelling}
@@ -14,10 +14,10 @@ use Rattle.disk_model.specs.Vault.{plain_done, VaultView, VaultState, VaultDone,
 use Rattle.file_table.specs.Table.{TableValue}
 use Rattle.file_table.specs.Valid.{IsValid}
 use Rattle.parity_writer.specs.Sound.{IsSynced}
-use Rattle.snap_config.specs.Setup.{SetupValue}
+use Rattle.array_setup.specs.Setup.{SetupValue}
 use Rattle.snap_config.specs.declared.options.Command.{Command}
 use Rattle.snap_config.specs.declared.options.Command.TheVariants as commands
-use Rattle.snap_config.specs.declared.options.SyncWay.{SyncWay}
+use Rattle.array_setup.specs.declared.ways.SyncWay.{SyncWay}
 use Rattle.snap_report.specs.declared.answer.Answer.{Answer}
 use Rattle.snap_report.specs.declared.answer.Answer.TheVariants as answers
 use Rattle.snap_report.specs.declared.answer.RunFault.TheVariants as runs

@@ -7,7 +7,7 @@ use Rattle.disk_model.specs.Vault.{VaultView}
 use Rattle.file_table.specs.Table.{TableValue}
 use Rattle.file_table.specs.Valid.{IsValid}
 use Rattle.file_table.specs.declared.shape.Shape.{Shape}
-use Rattle.snap_config.specs.Setup.{SetupValue}
+use Rattle.array_setup.specs.Setup.{SetupValue}
 use Rattle.snap_scrub.specs.Course.{MayStandScrubbed}
 use Rattle.snap_scrub.specs.Reading.{ScrubReading}
 use Rattle.snap_sync.specs.Calls.{SyncPlan}

@@ -9,7 +9,7 @@ use Rattle.disk_model.specs.Vault.{VaultView, state_of}
 use Rattle.disk_model.specs.declared.fault.OpenFault.{OpenFault}
 use Rattle.disk_model.specs.declared.fault.OpenFault.TheVariants as opens
 use Rattle.disk_model.proofs.GivenLemmas.{same_state, same_images}
-use Rattle.snap_config.specs.Setup.{IsSetup, SetupValue}
+use Rattle.array_setup.specs.Setup.{IsSetup, SetupValue}
 use Rattle.snap_config.specs.declared.options.Command.{Command}
 use Rattle.snap_config.specs.declared.options.Options.{Options}
 use Rattle.disk_model.specs.declared.draft.Draft.TheVariants.{Absent}

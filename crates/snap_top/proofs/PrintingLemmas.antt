@@ -4,7 +4,7 @@ use Rattle.disk_model.proofs.VaultLemmas.{no_calls}
 use Rattle.disk_model.specs.Sink.{SinkView}
 use Rattle.disk_model.specs.Vault.{SomeCalls, VaultState}
 use Rattle.file_table.specs.Table.{TableValue}
-use Rattle.snap_config.specs.Setup.{SetupValue}
+use Rattle.array_setup.specs.Setup.{SetupValue}
 use Rattle.snap_config.specs.declared.options.Command.{Command}
 use Rattle.snap_report.specs.Answer.{done_answer, status_of as answer_status}
 use Rattle.snap_report.specs.Telling.{Tells, between}

@@ -5,7 +5,7 @@ use Rattle.disk_model.specs.Vault.{ChangesBy}
 use Rattle.file_table.specs.Table.{TableValue}
 use Rattle.snap_config.specs.declared.options.Command.{Command}
 use Rattle.snap_config.specs.declared.options.Command.TheVariants as commands
-use Rattle.snap_config.specs.declared.options.Selection.{Selection}
+use Rattle.array_setup.specs.declared.ways.Selection.{Selection}
 use Rattle.repair_scope.specs.declared.scope.Mode.{Mode}
 use Rattle.repair_scope.specs.declared.scope.Mode.TheVariants as modes
 use Rattle.snap_report.specs.Answer.{done_answer, status_of as answer_status}
@@ -19,8 +19,8 @@ use Rattle.snap_top.specs.Does.{DoesCommand, PrintsOrStays}
 use Rattle.snap_top.specs.Dup.{dup_text}
 use Rattle.snap_top.specs.Exercising.{Exercises}
 use Rattle.snap_top.specs.Fixing.{FixesBy}
-use Rattle.snap_config.specs.declared.options.ScrubWay.{ScrubWay}
-use Rattle.snap_config.specs.declared.options.SyncWay.{SyncWay}
+use Rattle.array_setup.specs.declared.ways.ScrubWay.{ScrubWay}
+use Rattle.array_setup.specs.declared.ways.SyncWay.{SyncWay}
 use Rattle.snap_top.specs.Scrubbing.{ScrubsBy}
 use Rattle.snap_top.specs.Syncing.{SyncsBy, SyncRefuses}
 use Rattle.snap_top.specs.Task.{Task, Did, reads_only, may_stand, Left}

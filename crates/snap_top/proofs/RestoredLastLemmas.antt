@@ -12,7 +12,7 @@ use Rattle.disk_model.specs.declared.meta.Stamp.{Stamp}
 use Rattle.parity_writer.specs.Sound.{Snapshot, Sound}
 use Rattle.snap_config.specs.declared.options.Command.TheVariants as commands
 use Rattle.snap_config.specs.declared.options.Options.{Options}
-use Rattle.snap_config.specs.declared.options.Selection.{Selection}
+use Rattle.array_setup.specs.declared.ways.Selection.{Selection}
 use Rattle.snap_fix.specs.Fixing.{facts_of}
 use Rattle.snap_fix.specs.Genuine.{AreGenuine, HasGenuineFacts, AreGenuineOf}
 use Rattle.snap_fix.specs.Mended.{has_lost, Mended, is_wrong_level}

@@ -17,11 +17,11 @@ use Rattle.parity_writer.specs.Parity.{Row}
 use Rattle.parity_writer.specs.Sound.{Snapshot, Sound}
 use Rattle.stripe_reader.specs.Columns.{folder_at}
 use Rattle.stripe_reader.specs.Starts.{StartsValue}
-use Rattle.snap_config.specs.Setup.{SetupValue}
+use Rattle.array_setup.specs.Setup.{SetupValue}
 use Rattle.snap_config.specs.declared.options.Command.{Command}
 use Rattle.snap_config.specs.declared.options.Command.TheVariants as commands
 use Rattle.snap_config.specs.declared.options.Options.{Options}
-use Rattle.snap_config.specs.declared.options.Selection.{Selection}
+use Rattle.array_setup.specs.declared.ways.Selection.{Selection}
 use Rattle.stripe_examiner.specs.Counts.{at_most}
 use Rattle.snap_fix.specs.Ending.{Finishes}
 use Rattle.stripe_examiner.specs.Facts.{StripeFacts, gift_of, is_missing}

@@ -14,7 +14,7 @@ use Rattle.file_table.specs.Valid.{IsValid}
 use Rattle.file_table.specs.declared.shape.Shape.{Shape}
 use Rattle.parity_writer.specs.Parity.{Row, Rows}
 use Rattle.parity_writer.specs.Sound.{Snapshot}
-use Rattle.snap_config.specs.Setup.{SetupValue}
+use Rattle.array_setup.specs.Setup.{SetupValue}
 use Rattle.snap_sync.specs.Calls.{SyncPlan}
 use Rattle.snap_sync.specs.Images.{MayStand, Opening, AtWork, rows_after, table_after}
 use Rattle.snap_sync.specs.Part.{AllTell, IsFullSync, IsToldRun, IsVerifiedBy, SyncRun, TreesVerifyAll, layout_by, run_trees, without_check}

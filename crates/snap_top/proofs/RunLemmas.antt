@@ -16,8 +16,8 @@ use Rattle.content_file.specs.Load.{IsReadBelow}
 use Rattle.content_file.specs.declared.loading.LoadFault.{LoadFault}
 use Rattle.file_table.specs.Table.{TableValue}
 use Rattle.file_table.specs.Valid.{IsValid}
-use Rattle.snap_config.specs.Setup.{SetupValue, setup_value}
-use Rattle.snap_config.specs.declared.setup.Setup.{Setup}
+use Rattle.array_setup.specs.Setup.{SetupValue, setup_value}
+use Rattle.array_setup.specs.declared.setup.Setup.{Setup}
 use Rattle.snap_report.specs.Answer.{IsCaused}
 use Rattle.snap_report.specs.Report.{ReportView}
 use Rattle.snap_report.specs.declared.answer.Answer.{Answer}

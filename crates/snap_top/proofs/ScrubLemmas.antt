@@ -15,7 +15,7 @@ use Rattle.disk_model.proofs.VaultLemmas.{no_calls, changes_start}
 use Rattle.file_table.specs.Table.{TableValue}
 use Rattle.snap_config.specs.declared.options.Command.{Command}
 use Rattle.snap_config.specs.declared.options.Command.TheVariants as commands
-use Rattle.snap_config.specs.declared.options.ScrubWay.{ScrubWay}
+use Rattle.array_setup.specs.declared.ways.ScrubWay.{ScrubWay}
 use Rattle.snap_report.specs.Answer.{VaultFailed, done_answer, is_parity_io}
 use Rattle.snap_report.specs.EndLines.{scrub_text}
 use Rattle.snap_report.specs.EventLines.{lines_of}

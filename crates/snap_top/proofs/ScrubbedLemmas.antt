@@ -6,11 +6,11 @@ use Rattle.disk_model.specs.Cause.{RoseBy}
 use Rattle.disk_model.specs.Files.{Files}
 use Rattle.disk_model.specs.Vault.{Holds, copies_of}
 use Rattle.file_table.specs.Table.{TableValue}
-use Rattle.snap_config.specs.Setup.{SetupValue}
+use Rattle.array_setup.specs.Setup.{SetupValue}
 use Rattle.snap_config.specs.declared.options.Command.{Command}
 use Rattle.snap_config.specs.declared.options.Command.TheVariants as commands
 use Rattle.snap_config.specs.declared.options.Options.{Options}
-use Rattle.snap_config.specs.declared.options.ScrubWay.{ScrubWay}
+use Rattle.array_setup.specs.declared.ways.ScrubWay.{ScrubWay}
 use Rattle.snap_report.specs.Answer.{status_of as answer_status}
 use Rattle.snap_report.specs.EndLines.{scrub_text}
 use Rattle.snap_report.specs.EventLines.{lines_of}

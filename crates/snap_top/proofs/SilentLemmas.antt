@@ -6,7 +6,7 @@ use Rattle.disk_model.specs.declared.fault.OpenFault.{OpenFault}
 use Rattle.disk_model.specs.declared.fault.OpenFault.TheVariants as opens
 use Rattle.content_file.specs.declared.loading.LoadFault.{LoadFault}
 use Rattle.content_file.specs.declared.loading.LoadFault.TheVariants as loads
-use Rattle.snap_config.specs.Setup.{SetupValue, setup_value}
+use Rattle.array_setup.specs.Setup.{SetupValue, setup_value}
 use Rattle.snap_config.specs.declared.options.WordsFault.{WordsFault}
 use Rattle.snap_config.specs.declared.options.WordsFault.TheVariants as words
 use Rattle.snap_config.specs.declared.why.ConfigFault.{ConfigFault}

@@ -9,11 +9,11 @@ use Rattle.disk_model.specs.Files.{Files}
 use Rattle.disk_model.specs.Vault.{Holds, VaultState, copies_of}
 use Rattle.file_table.specs.Table.{TableValue}
 use Rattle.parity_writer.specs.Parity.{Rows}
-use Rattle.snap_config.specs.Setup.{SetupValue}
+use Rattle.array_setup.specs.Setup.{SetupValue}
 use Rattle.snap_config.specs.declared.options.Command.{Command}
 use Rattle.snap_config.specs.declared.options.Command.TheVariants as commands
 use Rattle.snap_config.specs.declared.options.Options.{Options}
-use Rattle.snap_config.specs.declared.options.SyncWay.{SyncWay}
+use Rattle.array_setup.specs.declared.ways.SyncWay.{SyncWay}
 use Rattle.snap_report.specs.Answer.{status_of as answer_status}
 use Rattle.snap_report.specs.declared.answer.Answer.{Answer}
 use Rattle.snap_report.specs.declared.answer.Answer.TheVariants as answers

@@ -20,7 +20,7 @@ use Rattle.file_table.specs.Table.{TableValue, Column, column_at}
 use Rattle.file_table.specs.declared.block.Cell.{Cell}
 use Rattle.snap_config.specs.declared.options.Command.{Command}
 use Rattle.snap_config.specs.declared.options.Command.TheVariants as commands
-use Rattle.snap_config.specs.declared.options.SyncWay.{SyncWay}
+use Rattle.array_setup.specs.declared.ways.SyncWay.{SyncWay}
 use Rattle.snap_report.specs.Answer.{Outside, IsCaused, FolderFailed, done_answer, is_parity_io, broke_vault}
 use Rattle.snap_report.specs.EventLines.{lines_of}
 use Rattle.snap_report.specs.Report.{ReportView}

@@ -14,7 +14,7 @@ use Rattle.parity_writer.specs.Parity.{Rows, no_rows, with_row}
 use Rattle.snap_config.specs.Builder.{BuilderValue, no_lines}
 use Rattle.snap_config.specs.Config.{Refusal, at_line, finish, lacks_level, read_lines, read_setup, setup_of, then_read}
 use Rattle.snap_config.specs.Line.{lines_of}
-use Rattle.snap_config.specs.Setup.{SetupValue}
+use Rattle.array_setup.specs.Setup.{SetupValue}
 use Rattle.snap_config.specs.declared.why.Why.TheVariants.{NoContent, NoData, NoParity, TooLong}
 use Rattle.snap_sync.specs.Calls.{no_reading}
 use Rattle.snap_sync.specs.Closing.{closed, rows_of, rows_with}

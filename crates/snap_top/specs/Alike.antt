@@ -3,7 +3,7 @@ use Rattle.std.specs.Prelude.{◌≡◌, ◌≢◌, ℕ, ◌<◌, length, filter
 use Rattle.disk_model.specs.Cause.{Rose}
 use Rattle.disk_model.specs.Vault.{copies_of}
 use Rattle.snap_config.specs.declared.options.Options.{Options}
-use Rattle.snap_config.specs.declared.options.Selection.{Selection}
+use Rattle.array_setup.specs.declared.ways.Selection.{Selection}
 use Rattle.snap_fix.specs.Ending.{Finishes}
 use Rattle.snap_fix.specs.Fixing.{facts_of}
 use Rattle.snap_report.specs.Kind.{is_finding}

@@ -12,11 +12,11 @@ use Rattle.disk_model.specs.Sink.{SinkView}
 use Rattle.disk_model.specs.Vault.{VaultView, ChangesBy, copies_of, state_of}
 use Rattle.file_table.specs.Table.{TableValue}
 use Rattle.snap_config.specs.Config.{read_setup}
-use Rattle.snap_config.specs.Setup.{SetupValue}
+use Rattle.array_setup.specs.Setup.{SetupValue}
 use Rattle.snap_config.specs.declared.options.Command.{Command}
 use Rattle.snap_config.specs.declared.options.Command.TheVariants as commands
 use Rattle.snap_config.specs.declared.options.Options.{Options}
-use Rattle.snap_config.specs.declared.options.SyncWay.{SyncWay}
+use Rattle.array_setup.specs.declared.ways.SyncWay.{SyncWay}
 use Rattle.snap_report.specs.Answer.{Gained, broke_folder, broke_vault}
 use Rattle.snap_sync.specs.Beginning.{RefusesLayout}
 use Rattle.snap_sync.specs.Work.{broke_sync}

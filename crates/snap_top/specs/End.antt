@@ -11,7 +11,7 @@ use Rattle.disk_model.specs.declared.fault.OpenFault.{OpenFault}
 use Rattle.disk_model.specs.declared.fault.OpenFault.TheVariants as opens
 use Rattle.file_table.specs.Table.{TableValue, record_at}
 use Rattle.snap_config.specs.OptionTable.{command_word, name_of, option_in}
-use Rattle.snap_config.specs.Setup.{SetupValue, setup_value}
+use Rattle.array_setup.specs.Setup.{SetupValue, setup_value}
 use Rattle.snap_config.specs.Why.{printed_why}
 use Rattle.snap_config.specs.declared.options.WordsFault.{WordsFault}
 use Rattle.snap_config.specs.declared.options.WordsFault.TheVariants as words

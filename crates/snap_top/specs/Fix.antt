@@ -1,7 +1,7 @@
 -- The fix of a run as a whole, said without what else the run touches.
 use Rattle.std.specs.Prelude.{◌≡◌, ◌⊎◌, ℕ, ◌<◌, List, ◌++◌, length, All, None, Some}
-use Rattle.array_scan.specs.Kept.{ListedFile}
-use Rattle.array_scan.specs.Listings.{ListsAll}
+use Rattle.folder_listing.specs.Kept.{ListedFile}
+use Rattle.folder_listing.specs.Listings.{ListsAll}
 use Rattle.content_file.specs.Spelling.{spelling}
 use Rattle.disk_model.specs.Files.{Files, content_of}
 use Rattle.disk_model.specs.Folder.{FolderView, FolderCall, ListFiles}
@@ -10,8 +10,8 @@ use Rattle.file_table.specs.Table.{TableValue}
 use Rattle.file_table.specs.Valid.{IsValid}
 use Rattle.parity_writer.specs.LevelReading.{LevelReading}
 use Rattle.parity_writer.specs.Sound.{Snapshot}
-use Rattle.snap_config.specs.Setup.{SetupValue}
-use Rattle.snap_config.specs.declared.options.Selection.{Selection}
+use Rattle.array_setup.specs.Setup.{SetupValue}
+use Rattle.array_setup.specs.declared.ways.Selection.{Selection}
 use Rattle.snap_fix.specs.Course.{IsPlan}
 use Rattle.stripe_examiner.specs.Facts.{StripeFacts, gift_of}
 use Rattle.snap_fix.specs.FixCourse.{FixFinds, IsFixCall}

@@ -2,10 +2,10 @@
 use Rattle.std.specs.Prelude.{ℕ, ◌&&◌, ◌||◌, nat_lt, List, [], ◌∷◌, length, get_or, bytes_eq, Bool, if◌then◌else◌, Option, None, Some}
 use Rattle.std.specs.List.{list_any, range_with_len}
 use Rattle.disk_model.specs.Name.{level_names}
-use Rattle.snap_config.specs.Setup.{SetupValue}
+use Rattle.array_setup.specs.Setup.{SetupValue}
 use Rattle.snap_config.specs.declared.options.Command.{Command}
 use Rattle.snap_config.specs.declared.options.Command.TheVariants as commands
-use Rattle.snap_config.specs.declared.setup.Disk.{Disk}
+use Rattle.array_setup.specs.declared.setup.Disk.{Disk}
 
 -- one of its disks has this name, or one of its levels
 abbrev pub names_disk : SetupValue → List ℕ → Bool

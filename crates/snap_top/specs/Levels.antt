@@ -6,7 +6,7 @@ use Rattle.disk_model.specs.Opener.{OpenerView}
 use Rattle.disk_model.specs.Vault.{IsSettled, VaultView}
 use Rattle.parity_split.specs.Split.{split_view}
 use Rattle.snap_config.specs.Config.{Refusal, read_setup}
-use Rattle.snap_config.specs.Setup.{SetupValue}
+use Rattle.array_setup.specs.Setup.{SetupValue}
 
 -- some level has several files
 abbrev pub is_split : List ℕ → Bool

@@ -3,7 +3,7 @@ use Rattle.std.specs.Prelude.{ℕ, Option, Ok}
 use Rattle.content_file.specs.Load.{HasFailed}
 use Rattle.disk_model.specs.Vault.{SomeCalls, VaultState, copies_of, state_of}
 use Rattle.file_table.specs.Table.{TableValue}
-use Rattle.snap_config.specs.Setup.{SetupValue}
+use Rattle.array_setup.specs.Setup.{SetupValue}
 use Rattle.snap_top.specs.Run.{BeginsWith, Entry, Exit, LoadsFrom, LoadsInOrder, ReadsCopies}
 use Rattle.snap_top.specs.Sync.{BeginsFrom}
 use Rattle.snap_top.specs.Views.{view_of}

@@ -13,7 +13,7 @@ use Rattle.parity_writer.specs.Sound.{Snapshot}
 use Rattle.snap_config.specs.declared.options.Command.{Command}
 use Rattle.snap_config.specs.declared.options.Command.TheVariants as commands
 use Rattle.snap_config.specs.declared.options.Options.{Options}
-use Rattle.snap_config.specs.declared.options.SyncWay.{SyncWay}
+use Rattle.array_setup.specs.declared.ways.SyncWay.{SyncWay}
 use Rattle.snap_report.specs.EventLines.{lines_of}
 use Rattle.snap_report.specs.Telling.{Tells, between}
 use Rattle.snap_report.specs.Text.{sync_text}

@@ -4,7 +4,7 @@ use Rattle.disk_model.specs.Cause.{Rose}
 use Rattle.disk_model.specs.Vault.{copies_of}
 use Rattle.file_table.specs.Table.{TableValue}
 use Rattle.file_table.specs.Valid.{IsValid}
-use Rattle.snap_config.specs.Setup.{SetupValue}
+use Rattle.array_setup.specs.Setup.{SetupValue}
 use Rattle.snap_config.specs.declared.options.Command.{Command}
 use Rattle.snap_report.specs.Telling.{Tells, between}
 use Rattle.snap_top.specs.Ended.{IsEndStatus}

@@ -5,7 +5,7 @@ use Rattle.content_file.specs.Spelling.{spelling}
 use Rattle.disk_model.specs.Cause.{RoseBy}
 use Rattle.disk_model.specs.Vault.{Holds, copies_of}
 use Rattle.file_table.specs.Table.{TableValue}
-use Rattle.snap_config.specs.declared.options.ScrubWay.{ScrubWay}
+use Rattle.array_setup.specs.declared.ways.ScrubWay.{ScrubWay}
 use Rattle.snap_report.specs.EndLines.{scrub_text}
 use Rattle.snap_report.specs.EventLines.{lines_of}
 use Rattle.snap_report.specs.Telling.{Tells, between}

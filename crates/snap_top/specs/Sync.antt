@@ -5,7 +5,7 @@ use Rattle.disk_model.specs.Files.{Files, content_of}
 use Rattle.disk_model.specs.Tree.{Tree}
 use Rattle.file_table.specs.Table.{TableValue}
 use Rattle.file_table.specs.Valid.{IsValid}
-use Rattle.snap_config.specs.Setup.{SetupValue}
+use Rattle.array_setup.specs.Setup.{SetupValue}
 use Rattle.snap_sync.specs.Images.{MayStand}
 use Rattle.snap_sync.specs.Part.{AllTell, IsListedRun, SyncRun, run_trees}
 use Rattle.snap_sync.specs.Soundness.{StandsOn}

@@ -6,8 +6,8 @@ use Rattle.content_file.specs.Spelling.{spelling}
 use Rattle.disk_model.specs.Folder.{FolderView}
 use Rattle.disk_model.specs.Vault.{VaultView, Holds}
 use Rattle.file_table.specs.Table.{TableValue}
-use Rattle.snap_config.specs.Setup.{SetupValue}
-use Rattle.snap_config.specs.declared.options.SyncWay.{SyncWay}
+use Rattle.array_setup.specs.Setup.{SetupValue}
+use Rattle.array_setup.specs.declared.ways.SyncWay.{SyncWay}
 use Rattle.snap_report.specs.EventLines.{lines_of}
 use Rattle.snap_report.specs.Telling.{Tells, between}
 use Rattle.snap_report.specs.Text.{sync_text}

@@ -7,7 +7,7 @@ use Rattle.disk_model.specs.Folder.{FolderView}
 use Rattle.disk_model.specs.Sink.{SinkView}
 use Rattle.disk_model.specs.Vault.{VaultState}
 use Rattle.file_table.specs.Table.{Column, TableValue}
-use Rattle.snap_config.specs.Setup.{SetupValue, setup_value}
+use Rattle.array_setup.specs.Setup.{SetupValue, setup_value}
 use Rattle.snap_config.specs.declared.options.Command.{Command}
 use Rattle.snap_config.specs.declared.options.Command.TheVariants as commands
 use Rattle.snap_report.specs.Answer.{done_answer}

@@ -1,6 +1,6 @@
 // The check of a run.
 ghost use Rattle.std.specs.Prelude.{◌≡◌, map};
-ghost use Rattle.snap_config.specs.Setup.{setup_value};
+ghost use Rattle.array_setup.specs.Setup.{setup_value};
 ghost use Rattle.snap_top.specs.Checking.{checks_as};
 ghost use Rattle.snap_top.specs.Does.{IsDone};
 ghost use Rattle.snap_top.specs.Syncing.{IsOpened};
@@ -8,9 +8,9 @@ ghost use Rattle.snap_top.specs.Task.{task_of};
 ghost use Rattle.snap_top.specs.Views.{world_view};
 
 use crate::job::{Done, Job};
+use array_setup::Selection;
 use disk_model::{Folder, Sink, Vault};
 use file_table::Table;
-use snap_config::Selection;
 use snap_fix::{Mode, NoSpare, repair};
 use snap_report::{Answer, Lines, Report};
 use std::alloc::Global;

@@ -1,6 +1,6 @@
 // The commands, over the table that was loaded.
 ghost use Rattle.std.specs.Prelude.{◌≡◌, length, map, false};
-ghost use Rattle.snap_config.specs.Setup.{setup_value};
+ghost use Rattle.array_setup.specs.Setup.{setup_value};
 ghost use Rattle.snap_config.specs.Words.{IsWay};
 ghost use Rattle.snap_report.specs.ListText.{list_text};
 ghost use Rattle.snap_report.specs.StatusText.{bad_in, status_text};

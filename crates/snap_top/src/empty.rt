@@ -1,13 +1,13 @@
 // The table of an array without content.
 ghost use Rattle.std.specs.Prelude.{◌≡◌, IfOk, IfErr};
 ghost use Rattle.file_table.specs.Valid.{IsValid};
-ghost use Rattle.snap_config.specs.Setup.{IsSetup, setup_value};
+ghost use Rattle.array_setup.specs.Setup.{IsSetup, setup_value};
 ghost use Rattle.snap_top.specs.Array.{empty_table};
 
+use array_setup::Setup;
 use block_hash::Kind;
 use disk_model::NoMemory;
 use file_table::{BuildFault, Builder, Shape, Table};
-use snap_config::Setup;
 use std::alloc::Global;
 
 fn build(alloc: Global, setup: &Setup, seed: [u8; 16]) -> Result<Table, BuildFault>

@@ -2,10 +2,11 @@
 ghost use Rattle.std.specs.Prelude.{◌≡◌};
 ghost use Rattle.snap_top.specs.End.{status_of, refusal_status, ending_status};
 
+use array_setup::Setup;
 use content_file::LoadFault;
 use disk_model::{OpenFault, Text};
 use file_table::Table;
-use snap_config::{ConfigFault, Setup, WordsFault};
+use snap_config::{ConfigFault, WordsFault};
 use snap_report::Answer;
 
 /// Why nothing was opened.

@@ -1,6 +1,7 @@
 // What a run is to do with what was opened, and what it leaves to be said.
+use array_setup::Setup;
 use file_table::Table;
-use snap_config::{Command, Setup};
+use snap_config::Command;
 use snap_report::Answer;
 
 /// A command, and the array that it is for.

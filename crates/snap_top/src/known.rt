@@ -1,10 +1,11 @@
 // Which names of disks and levels are known to a configuration.
 ghost use Rattle.std.specs.Prelude.{◌≡◌, ◌<◌, ◌&&◌, IfErr, IfOk, IfSome, None, Some, bytes_eq, length, nat_lt, slice_get};
-ghost use Rattle.snap_config.specs.Setup.{setup_value};
+ghost use Rattle.array_setup.specs.Setup.{setup_value};
 ghost use Rattle.snap_top.specs.Known.{first_unknown as first_unknown_of, is_known as is_known_to, names_disk as names_disk_of, names_level as names_level_of, unknown_in};
 
+use array_setup::{Selection, Setup};
 use disk_model::Text;
-use snap_config::{Command, Selection, Setup};
+use snap_config::Command;
 
 // Whether a disk has this name.
 fn names_disk(setup: &Setup, name: &str) -> bool

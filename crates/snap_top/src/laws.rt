@@ -9,7 +9,7 @@ ghost use Rattle.disk_model.specs.Tree.{Tree};
 ghost use Rattle.file_table.specs.Table.{TableValue};
 ghost use Rattle.file_table.specs.declared.block.Cell.{Cell};
 ghost use Rattle.parity_writer.specs.Sound.{Snapshot, Sound};
-ghost use Rattle.snap_config.specs.Setup.{SetupValue};
+ghost use Rattle.array_setup.specs.Setup.{SetupValue};
 ghost use Rattle.snap_fix.specs.Ending.{Finishes};
 ghost use Rattle.stripe_examiner.specs.Facts.{StripeFacts};
 ghost use Rattle.snap_fix.specs.Genuine.{IsIntactLevel};

@@ -1,13 +1,13 @@
 // Whether content and configuration are of one array.
 ghost use Rattle.std.specs.Prelude.{◌≡◌, ◌↔◌, IsTrue, MatchOption, option_map};
 ghost use Rattle.file_table.specs.Valid.{IsValid};
-ghost use Rattle.snap_config.specs.Setup.{IsSetup, setup_value};
+ghost use Rattle.array_setup.specs.Setup.{IsSetup, setup_value};
 ghost use Rattle.snap_top.specs.Array.{Matches, DiffersIn, DiffersFirst, column_names, disk_names};
 
 use crate::Difference;
 use crate::saying::{column_name, disk_name};
+use array_setup::Setup;
 use file_table::Table;
-use snap_config::Setup;
 
 fn is_same_name(one: Option<&str>, other: Option<&str>) -> bool
     ensures { IsTrue result ↔ (option_map (λ text. text.now) one.entry ≡ option_map (λ text. text.now) other.entry) }

@@ -2,7 +2,7 @@
 ghost use Rattle.std.specs.Prelude.{◌≡◌, ◌∷◌, [], map, false, IfOk, IfErr, OnErr, OnOk, IsTrue};
 ghost use Rattle.disk_model.specs.Moments.{SameImages};
 ghost use Rattle.disk_model.specs.Opener.{OpenerGoesOn, HoldsSame};
-ghost use Rattle.snap_config.specs.Setup.{IsSetup, setup_value};
+ghost use Rattle.array_setup.specs.Setup.{IsSetup, setup_value};
 ghost use Rattle.snap_config.specs.Words.{IsOptions, IsWay};
 ghost use Rattle.snap_top.specs.Task.{WorksOnArray};
 ghost use Rattle.snap_top.specs.Levels.{IsOpenedBy};
@@ -10,8 +10,9 @@ ghost use Rattle.snap_top.specs.Opening.{Says, ConfiguresNot, IsGivenFor, Refuse
 
 use crate::Refusal;
 use crate::known::known_command;
+use array_setup::Setup;
 use disk_model::{Opener, Text};
-use snap_config::{Command, ConfigFault, Options, Setup, read_config};
+use snap_config::{Command, ConfigFault, Options, read_config};
 use std::alloc::Global;
 
 /// An array that was opened, and what is to be done with it.

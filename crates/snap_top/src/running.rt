@@ -2,7 +2,7 @@
 ghost use Rattle.std.specs.Prelude.{◌≡◌, [], List, length, map, string_bytes, IfOk, IfErr, None, Ok, Option, ℕ};
 ghost use Rattle.file_table.specs.Valid.{IsValid};
 ghost use Rattle.parity_split.specs.Split.{split_view};
-ghost use Rattle.snap_config.specs.Setup.{IsSetup, setup_value};
+ghost use Rattle.array_setup.specs.Setup.{IsSetup, setup_value};
 ghost use Rattle.snap_config.specs.Words.{IsOptions, IsWay};
 ghost use Rattle.snap_top.specs.Complete.{IsSilent, RefusalsTouchNothing, SmoothRunsAreDone};
 ghost use Rattle.snap_top.specs.Levels.{IsOpenedBy, IsShapedBy, by_levels, is_split};

@@ -1,7 +1,7 @@
 // What is said of an end on the standard error. It needs no memory.
 ghost use Rattle.std.specs.Prelude.{◌≡◌, option_map, slice_get, false};
 ghost use Rattle.std.specs.List.{flat_map};
-ghost use Rattle.snap_config.specs.Setup.{setup_value};
+ghost use Rattle.array_setup.specs.Setup.{setup_value};
 ghost use Rattle.snap_report.specs.State.{Puts, state_of};
 ghost use Rattle.snap_report.specs.Telling.{Tells, Settled, between};
 ghost use Rattle.snap_top.specs.Array.{column_names, disk_names};
@@ -9,10 +9,11 @@ ghost use Rattle.snap_top.specs.End.{words_line, given_in, unfit_line, value_in,
 ghost use Rattle.snap_top.specs.Run.{IsSaid};
 
 use crate::{Difference, End, Ending, Refusal};
+use array_setup::Setup;
 use content_file::{Damage, Damages, LoadFault};
 use disk_model::{OpenFault, Sink};
 use file_table::Table;
-use snap_config::{ConfigFault, OptionName, Setup, WordsFault};
+use snap_config::{ConfigFault, OptionName, WordsFault};
 use snap_report::{Answer, Lines, Piece};
 
 // The name of the option in a row of the table of options.

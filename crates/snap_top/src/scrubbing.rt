@@ -1,6 +1,6 @@
 // The scrub of a run.
 ghost use Rattle.std.specs.Prelude.{◌≡◌, map};
-ghost use Rattle.snap_config.specs.Setup.{setup_value};
+ghost use Rattle.array_setup.specs.Setup.{setup_value};
 ghost use Rattle.snap_config.specs.declared.options.Command.TheVariants.{Scrub as ScrubCommand};
 ghost use Rattle.snap_top.specs.Does.{IsDone};
 ghost use Rattle.snap_top.specs.Syncing.{IsOpened};
@@ -8,9 +8,9 @@ ghost use Rattle.snap_top.specs.Task.{task_of};
 ghost use Rattle.snap_top.specs.Views.{world_view};
 
 use crate::job::{Done, Job};
+use array_setup::ScrubWay;
 use disk_model::{Folder, Sink, Vault};
 use file_table::Table;
-use snap_config::ScrubWay;
 use snap_report::{Answer, Lines, Report};
 use snap_scrub::laws::each_unread_level_is_told;
 use snap_scrub::scrub;

@@ -1,6 +1,6 @@
 // The sync of a run.
 ghost use Rattle.std.specs.Prelude.{◌≡◌, map};
-ghost use Rattle.snap_config.specs.Setup.{setup_value};
+ghost use Rattle.array_setup.specs.Setup.{setup_value};
 ghost use Rattle.snap_config.specs.Words.{IsWay};
 ghost use Rattle.snap_config.specs.declared.options.Command.TheVariants.{Sync as SyncCommand};
 ghost use Rattle.file_table.specs.Table.{TableValue};
@@ -12,9 +12,9 @@ ghost use Rattle.snap_top.specs.Views.{world_view};
 
 use crate::job::{Done, Job};
 use array_scan::ScanFault;
+use array_setup::SyncWay;
 use disk_model::{Folder, Sink, Vault};
 use file_table::Table;
-use snap_config::SyncWay;
 use snap_report::{Answer, Lines, Report, RunFault};
 use snap_sync::{SyncFault, sync};
 use std::alloc::Global;

@@ -10,9 +10,9 @@ use Rattle.disk_model.specs.Vault.{VaultView}
 use Rattle.disk_memory.specs.Folder.{fresh_folder}
 use Rattle.disk_memory.specs.Vault.{VaultValue, view_of}
 use Rattle.file_table.specs.Table.{TableValue}
-use Rattle.snap_config.specs.Setup.{SetupValue, setup_value}
+use Rattle.array_setup.specs.Setup.{SetupValue, setup_value}
 use Rattle.snap_config.specs.declared.options.Command.TheVariants as commands
-use Rattle.snap_config.specs.declared.options.Selection.{Selection}
+use Rattle.array_setup.specs.declared.ways.Selection.{Selection}
 use Rattle.snap_report.specs.Answer.{is_parity_io, status_of as answer_status}
 use Rattle.snap_report.specs.declared.answer.Answer.{Answer}
 use Rattle.snap_report.specs.declared.answer.Answer.TheVariants as answers

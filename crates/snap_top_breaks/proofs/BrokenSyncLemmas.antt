@@ -10,7 +10,7 @@ use Rattle.disk_memory.specs.Vault.{VaultValue, fresh_vault, view_of}
 use Rattle.snap_config.specs.declared.options.Command.{Command}
 use Rattle.snap_config.specs.declared.options.Command.TheVariants as commands
 use Rattle.snap_config.specs.declared.options.Options.{Options}
-use Rattle.snap_config.specs.declared.options.SyncWay.{SyncWay}
+use Rattle.array_setup.specs.declared.ways.SyncWay.{SyncWay}
 use Rattle.snap_sync.specs.Part.{AllTell, SyncRun}
 use Rattle.snap_top.specs.Ended.{has_ended}
 use Rattle.snap_top.specs.Levels.{said_by}

@@ -4,7 +4,7 @@ use Rattle.disk_model.specs.Files.{Files}
 use Rattle.disk_model.specs.Vault.{IsSettled, VaultView, copies_of}
 use Rattle.parity_split.specs.Joined.{seen}
 use Rattle.parity_split.specs.Split.{split_view}
-use Rattle.snap_config.specs.Setup.{SetupValue}
+use Rattle.array_setup.specs.Setup.{SetupValue}
 use Rattle.snap_top.specs.Levels.{by_parts, by_setup, is_split}
 use Rattle.snap_top.proofs.LevelsLemmas.{settled_by}
 

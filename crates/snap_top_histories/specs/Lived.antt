@@ -8,12 +8,12 @@ use Rattle.disk_model.specs.Tree.{Tree}
 use Rattle.disk_model.specs.Vault.{IsSettled, VaultView, copies_of}
 use Rattle.disk_memory.specs.Given.{HasNoDraft}
 use Rattle.snap_config.specs.Config.{read_setup}
-use Rattle.snap_config.specs.Setup.{SetupValue}
+use Rattle.array_setup.specs.Setup.{SetupValue}
 use Rattle.snap_config.specs.declared.options.Command.{Command}
 use Rattle.snap_config.specs.declared.options.Command.TheVariants as commands
 use Rattle.snap_config.specs.declared.options.Options.{Options}
-use Rattle.snap_config.specs.declared.options.Selection.{Selection}
-use Rattle.snap_config.specs.declared.options.SyncWay.{SyncWay}
+use Rattle.array_setup.specs.declared.ways.Selection.{Selection}
+use Rattle.array_setup.specs.declared.ways.SyncWay.{SyncWay}
 use Rattle.snap_sync.specs.Part.{trees_of}
 use Rattle.snap_top.specs.History.{LastSynced}
 use Rattle.snap_top.specs.Levels.{by_setup, said_by}

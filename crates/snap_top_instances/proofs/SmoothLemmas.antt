@@ -1,9 +1,9 @@
 -- A sync over content, in which nothing failed, is one that surely ends well.
 use Rattle.std.proofs.Common.{◌≡◌, ◌⊎◌, inl, inr, ⊎_elim, ℕ, ◌<◌, ◌≤◌, List, length, get_or, map, take, true, false, IsTrue, Option, None, Some, Result, Ok, IfOk, refl, sym, ap, ◌∙◌, subst, arith}
 use Rattle.std.proofs.lemmas.List.{ext_get_or}
-use Rattle.array_scan.specs.Kept.{ListedFile, kept_lists}
+use Rattle.folder_listing.specs.Kept.{ListedFile, kept_lists}
 use Rattle.array_scan.specs.Layout.{all_sorted}
-use Rattle.array_scan.specs.Listings.{ListsAll}
+use Rattle.folder_listing.specs.Listings.{ListsAll}
 use Rattle.array_scan.specs.Refusals.{IsCause, refusal}
 use Rattle.array_scan.specs.declared.fault.ScanFault.{ScanFault}
 use Rattle.array_scan.specs.declared.fault.ScanFault.TheVariants as scans
@@ -18,11 +18,11 @@ use Rattle.disk_model.specs.Vault.{VaultState, VaultView, copies_of, state_of}
 use Rattle.disk_memory.specs.Vault.{VaultValue, view_of as opened_view}
 use Rattle.file_table.specs.Table.{TableValue, records_in}
 use Rattle.snap_config.specs.Config.{read_setup}
-use Rattle.snap_config.specs.Setup.{SetupValue}
+use Rattle.array_setup.specs.Setup.{SetupValue}
 use Rattle.snap_config.specs.declared.options.Command.{Command}
 use Rattle.snap_config.specs.declared.options.Command.TheVariants as commands
 use Rattle.snap_config.specs.declared.options.Options.{Options}
-use Rattle.snap_config.specs.declared.options.SyncWay.{SyncWay}
+use Rattle.array_setup.specs.declared.ways.SyncWay.{SyncWay}
 use Rattle.snap_report.specs.Answer.{status_of as answer_status}
 use Rattle.snap_report.specs.declared.answer.Answer.{Answer}
 use Rattle.snap_report.specs.declared.answer.Answer.TheVariants as answers

@@ -1,12 +1,12 @@
 -- What words and a configuration ask for.
 use Rattle.std.specs.Prelude.{◌≡◌, ℕ, List, [], Bool, false, None, Some, Ok}
-use Rattle.snap_config.specs.Setup.{SetupValue}
+use Rattle.array_setup.specs.Setup.{SetupValue}
 use Rattle.snap_config.specs.declared.options.Command.{Command}
 use Rattle.snap_config.specs.declared.options.Options.{Options}
-use Rattle.snap_config.specs.declared.options.ScrubPlan.TheVariants as plans
-use Rattle.snap_config.specs.declared.options.ScrubWay.{ScrubWay}
-use Rattle.snap_config.specs.declared.options.Selection.{Selection}
-use Rattle.snap_config.specs.declared.options.SyncWay.{SyncWay}
+use Rattle.array_setup.specs.declared.ways.ScrubPlan.TheVariants as plans
+use Rattle.array_setup.specs.declared.ways.ScrubWay.{ScrubWay}
+use Rattle.array_setup.specs.declared.ways.Selection.{Selection}
+use Rattle.array_setup.specs.declared.ways.SyncWay.{SyncWay}
 use Rattle.snap_top.specs.Levels.{is_split, said_by}
 use Rattle.snap_top.specs.Opening.{asked_by}
 

@@ -7,7 +7,7 @@ use Rattle.disk_model.specs.Sink.{SinkView}
 use Rattle.disk_model.specs.Tree.{Tree}
 use Rattle.disk_model.specs.Vault.{VaultView}
 use Rattle.file_table.specs.Table.{TableValue}
-use Rattle.snap_config.specs.Setup.{SetupValue}
+use Rattle.array_setup.specs.Setup.{SetupValue}
 use Rattle.snap_sync.specs.Part.{IsFullSync}
 use Rattle.snap_top.specs.Headline.{AreStoppedSyncs, EndsInFull, Syncs, SyncsClean}
 use Rattle.snap_top.specs.Resumed.{RunOf}

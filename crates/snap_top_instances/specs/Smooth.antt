@@ -7,7 +7,7 @@ use Rattle.disk_model.specs.Vault.{VaultView, copies_of}
 use Rattle.file_table.specs.Table.{TableValue, records_in}
 use Rattle.snap_config.specs.declared.options.Command.TheVariants as commands
 use Rattle.snap_config.specs.declared.options.Options.{Options}
-use Rattle.snap_config.specs.declared.options.SyncWay.{SyncWay}
+use Rattle.array_setup.specs.declared.ways.SyncWay.{SyncWay}
 use Rattle.snap_top.specs.Complete.{IsSmooth}
 use Rattle.snap_top.specs.Opening.{asked_by}
 use Rattle.snap_top.specs.Resumed.{RunOf}

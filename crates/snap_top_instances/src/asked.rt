@@ -4,9 +4,8 @@ ghost use Rattle.snap_config.specs.declared.options.Command.TheVariants as comma
 ghost use Rattle.snap_top.specs.Levels.{is_split};
 ghost use Rattle.snap_top_instances.specs.Asked.{AsksFor, HasWholeLevels, everything, full_scrub, plain_sync};
 
-use snap_config::{
-    Command, ScrubPlan, ScrubWay, Selection, SyncWay, read_config, read_words_among,
-};
+use array_setup::{ScrubPlan, ScrubWay, Selection, SyncWay};
+use snap_config::{Command, read_config, read_words_among};
 use snap_top::COMMANDS;
 use std::alloc::Global;
 

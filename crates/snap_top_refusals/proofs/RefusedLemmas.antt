@@ -34,7 +34,7 @@ use Rattle.snap_top.specs.declared.end.End.{End}
 use Rattle.snap_top.specs.declared.end.End.TheVariants.{Exercised, Refused, Worked}
 use Rattle.snap_top.specs.declared.end.Ending.{Ending}
 use Rattle.snap_top.specs.declared.end.Ending.TheVariants.{Answered, NoTable, NotLoaded, OtherArray}
-use Rattle.snap_config.specs.Setup.{setup_value}
+use Rattle.array_setup.specs.Setup.{setup_value}
 use Rattle.snap_top.proofs.RefusalLemmas.{done_is_no_refusal, ending_untouched}
 use Rattle.snap_top_histories.specs.Lived.{HasHistory, IsLeftOf, IsNew, files_seen, standing_of}
 use Rattle.snap_top_histories.proofs.LivedLemmas.{extended}

@@ -15,7 +15,7 @@ use Rattle.disk_memory.specs.Vault.{VaultValue, fresh_vault, view_of}
 use Rattle.file_table.specs.Table.{TableValue}
 use Rattle.parity_writer.proofs.PaddedLemmas.{resized_byte}
 use Rattle.snap_config.specs.Config.{read_setup}
-use Rattle.snap_config.specs.Setup.{SetupValue}
+use Rattle.array_setup.specs.Setup.{SetupValue}
 use Rattle.snap_config.specs.declared.options.Command.TheVariants as commands
 use Rattle.snap_report.specs.Answer.{status_of as answer_status}
 use Rattle.snap_report.specs.declared.answer.Answer.{Answer}

@@ -5,7 +5,7 @@ use Rattle.disk_model.specs.Folder.{FolderView}
 use Rattle.disk_model.specs.Opener.{OpenerView}
 use Rattle.disk_model.specs.Sink.{SinkView}
 use Rattle.disk_model.specs.Vault.{VaultView}
-use Rattle.snap_config.specs.Setup.{SetupValue}
+use Rattle.array_setup.specs.Setup.{SetupValue}
 use Rattle.snap_sync.specs.Closing.{verified_in}
 use Rattle.snap_top.specs.Complete.{NothingBroke}
 use Rattle.snap_top.specs.Ended.{HasEnded, has_ended}

@@ -5,7 +5,7 @@ use Rattle.std.specs.Prelude.{filter, slice_index, slice_index_or}
 use Rattle.std.specs.List.{All, Contains, range_with_len}
 use Rattle.std.proofs.lemmas.List.{get_or_default, length-map}
 use Rattle.std.proofs.lemmas.List.Elements.{All-contains_itself}
-use Rattle.array_scan.specs.Kept.{each_column}
+use Rattle.folder_listing.specs.Kept.{each_column}
 use Rattle.cauchy.specs.Matrix.{parity_byte}
 use Rattle.file_table.specs.Table.{TableValue}
 use Rattle.file_table.specs.Valid.{IsValid}

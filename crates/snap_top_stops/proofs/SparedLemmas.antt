@@ -6,7 +6,7 @@ use Rattle.std.specs.Option.{option_map}
 use Rattle.std.proofs.lemmas.List.{get_or-map, get_or_default, length-map}
 use Rattle.std.proofs.lemmas.List.Folds.{list_any_at}
 use Rattle.std.proofs.lemmas.List.FromFn.{get_or-map-range_with_len, get_or-range_with_len, length-range_with_len}
-use Rattle.array_scan.specs.Kept.{ListedFile}
+use Rattle.folder_listing.specs.Kept.{ListedFile}
 use Rattle.disk_model.specs.Folder.{FolderView}
 use Rattle.disk_model.specs.Opener.{folder_held}
 use Rattle.disk_model.specs.Tree.{File, Tree, file_of, listing_of, meta_of, path_of}
@@ -17,7 +17,7 @@ use Rattle.file_restorer.specs.Mending.{cell_path}
 use Rattle.file_table.specs.Table.{Record, TableValue, info_at, no_record, record_at, records_in}
 use Rattle.file_table.specs.declared.block.Cell.{Cell}
 use Rattle.snap_config.specs.declared.options.Command.TheVariants as commands
-use Rattle.snap_config.specs.declared.options.Selection.{Selection}
+use Rattle.array_setup.specs.declared.ways.Selection.{Selection}
 use Rattle.snap_exercise.proofs.UndamagedLemmas.{found_tree}
 use Rattle.snap_fix.specs.Fixing.{facts_of}
 use Rattle.snap_fix.specs.Stopped.{file_or, file_placed}

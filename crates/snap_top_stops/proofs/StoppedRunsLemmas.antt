@@ -13,9 +13,9 @@ use Rattle.disk_model.specs.Vault.{VaultView, copies_of}
 use Rattle.disk_model.specs.declared.draft.Draft.TheVariants.{Absent}
 use Rattle.disk_memory.specs.Vault.{VaultValue, fresh_vault, view_of}
 use Rattle.snap_config.specs.Config.{read_setup}
-use Rattle.snap_config.specs.Setup.{SetupValue}
+use Rattle.array_setup.specs.Setup.{SetupValue}
 use Rattle.snap_config.specs.declared.options.Command.TheVariants as commands
-use Rattle.snap_config.specs.declared.options.SyncWay.{SyncWay}
+use Rattle.array_setup.specs.declared.ways.SyncWay.{SyncWay}
 use Rattle.snap_config.specs.declared.options.Options.{Options}
 use Rattle.snap_sync.specs.Images.{MayStand}
 use Rattle.snap_sync.specs.Part.{AllTell, SyncRun, trees_of}

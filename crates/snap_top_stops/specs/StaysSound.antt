@@ -8,7 +8,7 @@ use Rattle.disk_model.specs.Sink.{SinkView}
 use Rattle.disk_model.specs.Vault.{VaultView}
 use Rattle.snap_config.specs.declared.options.Command.TheVariants as commands
 use Rattle.snap_config.specs.declared.options.Options.{Options}
-use Rattle.snap_config.specs.declared.options.SyncWay.{SyncWay}
+use Rattle.array_setup.specs.declared.ways.SyncWay.{SyncWay}
 use Rattle.snap_top.specs.History.{AreSoundBy, Changes, IsChange, IsHistory, LastSynced, Runs, StaysSound, Step, synced_by}
 use Rattle.snap_top.specs.Moment.{StandsAfter, SyncsToItsEnd}
 use Rattle.snap_top.specs.Opening.{asked_by}

@@ -11,7 +11,7 @@ use Rattle.file_restorer.specs.State.{record_path}
 use Rattle.file_table.specs.Cells.{cell_in}
 use Rattle.file_table.specs.Table.{TableValue, column_at, records_in}
 use Rattle.file_table.specs.declared.block.Cell.{Cell}
-use Rattle.snap_config.specs.declared.options.Selection.{Selection}
+use Rattle.array_setup.specs.declared.ways.Selection.{Selection}
 use Rattle.snap_fix.specs.Fixing.{facts_of}
 use Rattle.snap_fix.specs.Stopped.{StandsInCell, file_placed}
 use Rattle.snap_sync.specs.Part.{tree_at, trees_of}

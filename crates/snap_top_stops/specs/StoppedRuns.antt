@@ -9,7 +9,7 @@ use Rattle.disk_model.specs.Sink.{SinkView}
 use Rattle.disk_model.specs.Tree.{Tree}
 use Rattle.disk_model.specs.Vault.{VaultView}
 use Rattle.file_table.specs.Table.{TableValue}
-use Rattle.snap_config.specs.Setup.{SetupValue}
+use Rattle.array_setup.specs.Setup.{SetupValue}
 use Rattle.snap_sync.specs.Part.{IsFullSync, SyncRun}
 use Rattle.snap_sync.specs.Resumed.{EndsAs}
 use Rattle.snap_top.specs.History.{AreSoundBy, LastSynced}

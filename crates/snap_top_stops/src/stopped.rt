@@ -11,13 +11,14 @@ ghost use Rattle.snap_top_histories.specs.Once.{IsLeftOfOne};
 ghost use Rattle.snap_top_instances.specs.Asked.{AsksFor};
 ghost use Rattle.snap_top_stops.specs.Stopped.{HasStripe, HoldsAt, IsCellAt, IsSparedAtStop, LacksAt, all_tell_calls, missing_alone};
 
+use array_setup::Selection;
 use content_file::laws::one_table_has_a_spelling;
 use content_file::load;
 use disk_memory::{MemFolder, MemOpener, MemSink, MemVault};
 use disk_model::laws::a_folder_stands_among_what_a_stop_may_leave;
 use disk_model::{FileFault, Folder, Opener, Path, Vault};
 use file_table::Table;
-use snap_config::{Command, Selection, read_words_among};
+use snap_config::{Command, read_words_among};
 use snap_top::COMMANDS;
 use snap_top::laws::{a_fix_of_what_is_left_meets_no_chance, headline};
 use snap_top_histories::taken::{Once, run_once, take_away};

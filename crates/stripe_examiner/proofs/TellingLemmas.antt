@@ -12,7 +12,7 @@ use Rattle.snap_report.specs.Report.{ReportView}
 use Rattle.snap_report.specs.Told.{Told}
 use Rattle.stripe_examiner.specs.Counts.{AreCounts}
 use Rattle.stripe_examiner.specs.declared.counts.Counts.{Counts}
-use Rattle.array_scan.proofs.PlacingLemmas.{range_more}
+use Rattle.folder_listing.proofs.JoinedLemmas.{range_more}
 
 -- the events of the numbers below one
 abbrev pub events_to : (ℕ → List Event) → ℕ → List Event

@@ -4,7 +4,7 @@ use Rattle.std.specs.Prelude.{◌≡◌, ℕ, ◌&&◌, not, List, [], length, f
 use Rattle.std.specs.List.{range_with_len}
 use Rattle.block_hash.specs.Hash.{hash}
 use Rattle.block_hash.specs.declared.Digest16.{Digest16}
-use Rattle.array_scan.specs.Kept.{each_column}
+use Rattle.folder_listing.specs.Kept.{each_column}
 use Rattle.file_table.specs.Cells.{CellView}
 use Rattle.file_table.specs.declared.shape.Shape.{Shape}
 use Rattle.parity_writer.specs.LevelsValue.{LevelValue}

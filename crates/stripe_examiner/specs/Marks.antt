@@ -1,7 +1,7 @@
 -- What became of the cells of a stripe in a window: a missing one has no bytes, and one that the spare gave has its block.
 use Rattle.std.specs.Prelude.{◌≡◌, ◌≢◌, ℕ, ◌<◌, List, [], length, map, filter, slice_index_or, take, Bool, true, false, if◌then◌else◌, Option, None, Some}
 use Rattle.std.specs.List.{range_with_len}
-use Rattle.array_scan.specs.Kept.{each_column}
+use Rattle.folder_listing.specs.Kept.{each_column}
 use Rattle.file_table.specs.Cells.{CellView}
 use Rattle.file_table.specs.declared.shape.Shape.{Shape}
 use Rattle.parity_writer.specs.LevelsValue.{LevelValue, LevelsValue}

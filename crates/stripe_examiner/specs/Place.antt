@@ -2,7 +2,7 @@
 use Rattle.std.specs.Prelude.{ℕ, List, [], length, map, get_or, true, Option, None, Some}
 use Rattle.disk_model.specs.Tree.{path_of}
 use Rattle.disk_model.specs.declared.meta.Meta.{Meta}
-use Rattle.array_scan.specs.Kept.{ListedFile, each_column}
+use Rattle.folder_listing.specs.Kept.{ListedFile, each_column}
 use Rattle.file_table.specs.Table.{Record, TableValue, records_in}
 use Rattle.repair_scope.specs.Blocked.{found_in}
 use Rattle.stripe_reader.specs.Starts.{StartsValue}

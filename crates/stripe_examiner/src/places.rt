@@ -2,16 +2,16 @@
 ghost use Rattle.std.specs.Prelude.{◌≡◌, ◌<◌, length, map, IfOk, All};
 ghost use Rattle.disk_model.specs.Tree.{IsListing, listed};
 ghost use Rattle.file_table.specs.Table.{Record, records_in};
-ghost use Rattle.array_scan.specs.Kept.{lists_of};
-ghost use Rattle.snap_config.specs.Setup.{setup_value};
+ghost use Rattle.folder_listing.specs.Kept.{lists_of};
+ghost use Rattle.array_setup.specs.Setup.{setup_value};
 ghost use Rattle.repair_scope.specs.Plan.{entries_of, names_of};
 ghost use Rattle.stripe_examiner.specs.Place.{start_of, starts_of};
 
-use array_scan::Listing;
+use array_setup::{Selection, Setup};
 use disk_model::{FileInfo, NoMemory, Path};
 use file_table::Table;
+use folder_listing::Listing;
 use repair_scope::{Entries, entries_of, find_listed, find_lost};
-use snap_config::{Selection, Setup};
 use std::alloc::Global;
 use stripe_reader::{Place, Start, Starts};
 

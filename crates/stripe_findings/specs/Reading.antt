@@ -7,7 +7,7 @@ use Rattle.disk_model.specs.Folder.{FolderView}
 use Rattle.disk_model.specs.declared.meta.Meta.{Meta}
 use Rattle.file_table.specs.Cells.{CellView, cell_view}
 use Rattle.file_table.specs.Table.{TableValue, column_at}
-use Rattle.array_scan.specs.Fates.{same_meta}
+use Rattle.folder_listing.specs.Kept.{same_meta}
 use Rattle.parity_writer.specs.Parity.{Row}
 use Rattle.parity_writer.specs.WindowRow.{bytes_of}
 use Rattle.stripe_reader.specs.Column.{ReadsColumn}

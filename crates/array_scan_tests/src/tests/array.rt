@@ -1,14 +1,14 @@
 // Arrays of one or two disks without files, and listings for them.
 ghost use Rattle.std.specs.Prelude.{◌≡◌, length, All, IfOk};
 ghost use Rattle.disk_model.specs.Tree.{IsListing, listed};
-ghost use Rattle.array_scan.specs.Kept.{lists_of};
+ghost use Rattle.folder_listing.specs.Kept.{lists_of};
 
-use array_scan::Listing;
+use array_setup::{Disk, Disks, Rules, Setup};
 use block_hash::Kind;
 use disk_memory::MemFolder;
 use disk_model::{FileInfo, Folder, Meta, Path, Places, Stamp, Text};
 use file_table::{BuildFault, Builder, Shape, Table};
-use snap_config::{Disk, Disks, Rules, Setup};
+use folder_listing::Listing;
 use std::alloc::Global;
 use std::test::Fail;
 

@@ -1,13 +1,14 @@
 // Layouts, and what is written of them.
 ghost use Rattle.std.specs.Prelude.{◌≡◌, ◌<◌, length, All};
 ghost use Rattle.disk_model.specs.Tree.{IsListing};
-ghost use Rattle.array_scan.specs.Kept.{lists_of};
+ghost use Rattle.folder_listing.specs.Kept.{lists_of};
 
 use crate::tests::array::{File, listed_files, no_files, setup};
 use crate::tests::synced::synced_plan;
-use array_scan::{Listing, Plan, ScanFault, lay_out, lay_out_in_place};
+use array_scan::{Plan, ScanFault, lay_out, lay_out_in_place};
+use array_setup::{Setup, SyncWay};
 use file_table::{Block, Table};
-use snap_config::{Setup, SyncWay};
+use folder_listing::Listing;
 use std::alloc::Global;
 use std::test::Fail;
 

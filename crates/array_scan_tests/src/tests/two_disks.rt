@@ -1,19 +1,20 @@
 // Two disks in one call, and what passes the limits.
 ghost use Rattle.std.specs.Prelude.{◌≡◌, ◌+◌, length, All, IfOk};
 ghost use Rattle.disk_model.specs.Tree.{IsListing, listed};
-ghost use Rattle.array_scan.specs.Kept.{lists_of};
+ghost use Rattle.folder_listing.specs.Kept.{lists_of};
 
 use crate::tests::array::{
     File, SHAPE, folder_of, large_file, listed_files, no_files, path, setup, setup_of_two,
 };
 use crate::tests::outcome::{EMPTY, PLAIN, lay, outcome_of};
 use crate::tests::synced::SYNCED;
-use array_scan::{Listing, ScanFault, listings};
+use array_scan::ScanFault;
+use array_setup::SyncWay;
 use block_hash::Digest16;
 use disk_memory::MemFolder;
 use disk_model::{FileInfo, Folder, Meta, Stamp, Text};
 use file_table::{Builder, Table};
-use snap_config::SyncWay;
+use folder_listing::{Listing, listings};
 use std::alloc::Global;
 use std::test::Fail;
 

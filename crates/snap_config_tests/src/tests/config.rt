@@ -1,7 +1,8 @@
 // Configurations, and what comes of them.
 use crate::tests::usual::USUAL;
+use array_setup::Disk;
 use disk_model::Text;
-use snap_config::{ConfigFault, Disk, read_config};
+use snap_config::{ConfigFault, read_config};
 use std::alloc::{AllocError, Global};
 use std::test::Fail;
 

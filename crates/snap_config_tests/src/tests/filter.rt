@@ -1,7 +1,8 @@
 // Which files are kept.
 use crate::tests::usual::USUAL;
+use array_setup::keeps;
 use disk_model::Path;
-use snap_config::{keeps, read_config};
+use snap_config::read_config;
 use std::test::Fail;
 
 const EXCLUDING: &str = "parity /d1/p\ncontent /c\ncontent /d1/c\ndata d1 /d1/\nexclude /a/\n";

@@ -1,6 +1,6 @@
 // Patterns, and the paths that they match.
+use array_setup::{PatternFault, matches, read_pattern};
 use disk_model::Path;
-use snap_config::{PatternFault, matches, read_pattern};
 use std::alloc::Global;
 use std::test::Fail;
 

@@ -1,8 +1,8 @@
 // Command lines, and what is asked by them. Words are parted by a bar; the program's name is left out.
 use crate::tests::refused_words::{REFUSED, Refusal, is_refused};
+use array_setup::{ScrubPlan, Selection};
 use snap_config::{
-    Command, CommandName, Options, ScrubPlan, Selection, WordsFault, log_name, read_words,
-    read_words_among,
+    Command, CommandName, Options, WordsFault, log_name, read_words, read_words_among,
 };
 use std::alloc::{AllocError, Global};
 use std::test::Fail;

@@ -4,9 +4,7 @@ ghost use Rattle.disk_model.specs.Cause.{Rose};
 ghost use Rattle.disk_model.specs.Folder.{quiet_keeping, quiet_keeping-is_folder};
 
 use disk_memory::{MemFolder, MemVault};
-use disk_model::{
-    Failed, FileFault, FileInfo, Folder, ListFault, Meta, Path, Stamp, count_write,
-};
+use disk_model::{Failed, FileFault, FileInfo, Folder, ListFault, Meta, Path, Stamp, count_write};
 use snap_top_memory::arrays::{CONFIG, Disk, ONE, Ran, SYNC, folder, run_with, vault};
 use snap_top_memory::contents::ONE_PENDING;
 use std::alloc::Global;

@@ -7,7 +7,7 @@ use Rattle.file_table.specs.Table.{Column, column_at}
 use Rattle.file_table.specs.Building.{BuildingValue}
 use Rattle.array_scan.specs.declared.sorting.Sorted.{Sorted}
 use Rattle.array_scan.specs.declared.sorting.ColumnFiles.{ColumnFiles}
-use Rattle.array_scan.specs.Kept.{each_column}
+use Rattle.folder_listing.specs.Kept.{each_column}
 use Rattle.array_scan.specs.Fates.{IsSound}
 use Rattle.array_scan.specs.Laying.{taken, all_needed, laid_records}
 use Rattle.array_scan.specs.Layout.{sorted_of, given_at, column_laid}

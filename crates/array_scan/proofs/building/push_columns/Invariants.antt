@@ -1,5 +1,5 @@
 use Rattle.std.proofs.Common.{◌≡◌, length}
-use Rattle.array_scan.specs.Kept.{each_column}
+use Rattle.folder_listing.specs.Kept.{each_column}
 use Rattle.array_scan.specs.Layout.{sorted_of, column_laid}
 use Rattle.array_scan.proofs.building.push_columns.Given as goal
 

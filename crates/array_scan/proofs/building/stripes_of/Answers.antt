@@ -6,14 +6,14 @@ use Rattle.file_table.specs.declared.block.Block.{Block}
 use Rattle.file_table.specs.Table.{Column, column_at, column_blocks, blocks_of, positions_of, end_of, no_column}
 use Rattle.file_table.specs.Valid.{most_blocks}
 use Rattle.array_scan.specs.declared.sorting.Sorted.{Sorted}
-use Rattle.array_scan.specs.Kept.{each_column}
+use Rattle.folder_listing.specs.Kept.{each_column}
 use Rattle.array_scan.specs.Fates.{IsSound}
 use Rattle.array_scan.specs.Laying.{taken, all_needed, blocks_laid}
 use Rattle.array_scan.specs.Layout.{sorted_of, given_at, column_laid, columns_laid}
 use Rattle.array_scan.specs.Marks.{StandBelow}
 use Rattle.array_scan.proofs.ColumnLemmas.{files_at, files_sound, positions_at, given_count, column_count}
 use Rattle.array_scan.proofs.EndLemmas.{end_of_blocks-append}
-use Rattle.array_scan.proofs.LaidLemmas.{all_of_flat}
+use Rattle.folder_listing.proofs.JoinedLemmas.{all_of_flat}
 use Rattle.array_scan.proofs.PushingLemmas.{length-free}
 use Rattle.array_scan.proofs.building.stripes_of.Goals as goal
 

@@ -1,6 +1,6 @@
 use Rattle.std.proofs.Common.{◌≡◌}
 use Rattle.file_table.specs.Table.{blocks_of, positions_of, end_of}
-use Rattle.array_scan.specs.Kept.{each_column}
+use Rattle.folder_listing.specs.Kept.{each_column}
 use Rattle.array_scan.specs.Layout.{sorted_of, column_laid}
 use Rattle.array_scan.proofs.building.stripes_of.Given as goal
 

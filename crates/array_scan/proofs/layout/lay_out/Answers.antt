@@ -1,8 +1,8 @@
 use Rattle.std.proofs.Common.{◌≡◌, List, None, ap, sym, subst, ◌∙◌}
-use Rattle.snap_config.specs.Setup.{setup_value}
+use Rattle.array_setup.specs.Setup.{setup_value}
 use Rattle.array_scan.specs.declared.sorting.ColumnFiles.{ColumnFiles}
 use Rattle.array_scan.specs.declared.sorting.Sorted.{Sorted}
-use Rattle.array_scan.specs.Kept.{kept_lists, lists_of}
+use Rattle.folder_listing.specs.Kept.{kept_lists, lists_of}
 use Rattle.array_scan.specs.Layout.{sorted_of, all_sorted, laid_table, AreSound}
 use Rattle.array_scan.specs.Refusals.{refusal}
 use Rattle.array_scan.proofs.RefusalLemmas.{is_cause, few_blocks}
@@ -10,7 +10,7 @@ use Rattle.std.proofs.Common.{length, All}
 use Rattle.std.proofs.lemmas.List.{length-map}
 use Rattle.file_table.specs.Valid.{IsValid}
 use Rattle.array_scan.specs.Fates.{HasMeta}
-use Rattle.array_scan.specs.Kept.{files_of}
+use Rattle.folder_listing.specs.Kept.{files_of}
 use Rattle.array_scan.proofs.KeptLemmas.{are_kept}
 use Rattle.array_scan.proofs.LaidLemmas.{IsValid-layout}
 use Rattle.array_scan.proofs.RefusalLemmas.{few_files}

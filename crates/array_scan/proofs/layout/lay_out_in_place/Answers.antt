@@ -1,7 +1,7 @@
 use Rattle.std.proofs.Common.{◌≡◌, sym, subst}
 use Rattle.file_table.specs.Valid.{IsValid}
-use Rattle.snap_config.specs.Setup.{setup_value}
-use Rattle.array_scan.specs.Kept.{kept_lists, lists_of}
+use Rattle.array_setup.specs.Setup.{setup_value}
+use Rattle.folder_listing.specs.Kept.{kept_lists, lists_of}
 use Rattle.array_scan.proofs.LawLemmas.{own_layout, own_unrefused}
 use Rattle.array_scan.proofs.layout.lay_out_in_place.Goals as goal
 

@@ -5,7 +5,7 @@ use Rattle.std.proofs.lemmas.List.Elements.{filter-append}
 use Rattle.file_table.specs.declared.info.Info.{Info}
 use Rattle.file_table.specs.Table.{info_at}
 use Rattle.array_scan.specs.Layout.{is_pending}
-use Rattle.array_scan.proofs.PlacingLemmas.{range_more}
+use Rattle.folder_listing.proofs.JoinedLemmas.{range_more}
 use Rattle.array_scan.proofs.layout.pending_stripes.Goals as goal
 use Rattle.array_scan.proofs.layout.pending_stripes.Goals.{then-is_pending+in_ok-push, else-is_pending}
 

@@ -6,10 +6,10 @@ use Rattle.disk_model.specs.Stamp.{IsStamp}
 use Rattle.disk_model.specs.Tree.{listed}
 use Rattle.disk_model.specs.declared.meta.FileInfo.{FileInfo}
 use Rattle.file_table.specs.Table.{column_at}
-use Rattle.snap_config.specs.Setup.{setup_value}
+use Rattle.array_setup.specs.Setup.{setup_value}
 use Rattle.array_scan.specs.declared.sorting.Sorted.{Sorted}
 use Rattle.array_scan.specs.declared.sorting.ColumnFiles.{ColumnFiles}
-use Rattle.array_scan.specs.Kept.{ListedFile, each_column, files_of, lists_of, kept_files, kept_lists}
+use Rattle.folder_listing.specs.Kept.{ListedFile, each_column, files_of, lists_of, kept_files, kept_lists}
 use Rattle.array_scan.specs.Fates.{sorted_files, HasMeta}
 use Rattle.array_scan.specs.Layout.{sorted_of, sorted_at, AreSound}
 use Rattle.array_scan.proofs.KeptLemmas.{kept_at, kept_stamps, kept_sound}

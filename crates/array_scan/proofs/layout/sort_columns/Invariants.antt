@@ -1,6 +1,6 @@
 use Rattle.std.proofs.Common.{◌≡◌, All}
-use Rattle.snap_config.specs.Setup.{setup_value}
-use Rattle.array_scan.specs.Kept.{each_column, kept_lists, lists_of}
+use Rattle.array_setup.specs.Setup.{setup_value}
+use Rattle.folder_listing.specs.Kept.{each_column, kept_lists, lists_of}
 use Rattle.array_scan.specs.Fates.{HasMeta}
 use Rattle.array_scan.specs.Layout.{sorted_of, sorted_at}
 use Rattle.array_scan.proofs.layout.sort_columns.Given as goal

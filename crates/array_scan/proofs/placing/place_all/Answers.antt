@@ -6,14 +6,15 @@ use Rattle.file_table.specs.Table.{column_at}
 use Rattle.file_table.specs.Valid.{most_blocks}
 use Rattle.array_scan.specs.declared.placing.Given.{Given}
 use Rattle.array_scan.specs.declared.sorting.Sorted.{Sorted}
-use Rattle.array_scan.specs.Kept.{each_column}
+use Rattle.folder_listing.specs.Kept.{each_column}
 use Rattle.array_scan.specs.Fates.{IsSound, AreFates}
 use Rattle.array_scan.specs.Laying.{given, touched}
 use Rattle.array_scan.specs.Layout.{sorted_of, given_of, given_at, touched_at}
 use Rattle.array_scan.specs.Refusals.{size_of}
 use Rattle.array_scan.specs.Marks.{AreTouched}
 use Rattle.array_scan.proofs.ColumnLemmas.{files_at, files_sound, column_count}
-use Rattle.array_scan.proofs.PlacingLemmas.{unmarked, written, column_within, flat_range_more}
+use Rattle.array_scan.proofs.PlacingLemmas.{unmarked, written, column_within}
+use Rattle.folder_listing.proofs.JoinedLemmas.{flat_range_more}
 use Rattle.array_scan.proofs.placing.place_all.Goals as goal
 
 pub loop-d-init : goal.loop-d-init

@@ -1,6 +1,6 @@
 use Rattle.std.proofs.Common.{◌≡◌, length}
 use Rattle.std.specs.List.{flat_map, range_with_len}
-use Rattle.array_scan.specs.Kept.{each_column}
+use Rattle.folder_listing.specs.Kept.{each_column}
 use Rattle.array_scan.specs.Layout.{sorted_of, given_of, given_at, touched_at}
 use Rattle.array_scan.specs.Marks.{AreTouched}
 use Rattle.array_scan.proofs.placing.place_all.Given as goal

@@ -7,7 +7,7 @@ use Rattle.disk_model.specs.declared.meta.Meta.{Meta}
 use Rattle.disk_model.specs.Tree.{listed}
 use Rattle.file_table.specs.Table.{column_at, no_meta}
 use Rattle.array_scan.specs.declared.sorting.Fate.{Fate}
-use Rattle.array_scan.specs.Kept.{ListedFile}
+use Rattle.folder_listing.specs.Kept.{ListedFile}
 use Rattle.array_scan.specs.Fates.{file_of, is_number, is_listed, record_with, may_move, fate_of}
 use Rattle.array_scan.specs.Lost.{left_by}
 use Rattle.array_scan.proofs.FatesLemmas.{any_mapped, left_like, left_before, left_after, fate_is, file_at}

@@ -1,6 +1,6 @@
 use Rattle.std.proofs.Common.{◌≡◌, ℕ, ◌≤◌, List, length, get_or, false}
 use Rattle.file_table.specs.Table.{column_at}
-use Rattle.array_scan.specs.Kept.{ListedFile}
+use Rattle.folder_listing.specs.Kept.{ListedFile}
 use Rattle.array_scan.specs.Fates.{is_listed}
 use Rattle.array_scan.specs.Lost.{Offers}
 use Rattle.array_scan.proofs.FatesLemmas.{vanished_from}

@@ -1,7 +1,7 @@
 use Rattle.std.proofs.Common.{◌≡◌, ℕ, ◌<◌, length, map, take, All, IfSome, Option}
 use Rattle.disk_model.specs.Tree.{listed}
 use Rattle.file_table.specs.Table.{column_at}
-use Rattle.array_scan.specs.Kept.{ListedFile}
+use Rattle.folder_listing.specs.Kept.{ListedFile}
 use Rattle.array_scan.specs.Fates.{record_with}
 use Rattle.array_scan.proofs.sorting.named.Given as goal
 

@@ -10,7 +10,7 @@ use Rattle.file_table.specs.Table.{Record, column_at, no_meta}
 use Rattle.std.proofs.lemmas.List.Elements.{All-push}
 use Rattle.array_scan.specs.declared.sorting.Fate.{Fate}
 use Rattle.array_scan.specs.declared.sorting.Sorted.{Sorted}
-use Rattle.array_scan.specs.Kept.{ListedFile}
+use Rattle.folder_listing.specs.Kept.{ListedFile}
 use Rattle.array_scan.specs.Fates.{file_of, fate_of, sorted_file, IsSound, HasMeta}
 use Rattle.array_scan.proofs.FatesLemmas.{file_at}
 use Rattle.array_scan.proofs.SortedLemmas.{sorted_sound}

@@ -2,8 +2,8 @@ use Rattle.std.proofs.Common.{◌<◌, List, ◌∷◌, [], ◌++◌, length, ta
 use Rattle.std.proofs.lemmas.List.{append-nil}
 use Rattle.disk_model.specs.Tree.{listed}
 use Rattle.file_table.specs.Table.{column_at}
-use Rattle.snap_config.specs.Setup.{setup_value}
-use Rattle.array_scan.specs.Kept.{ListedFile, kept_files}
+use Rattle.array_setup.specs.Setup.{setup_value}
+use Rattle.folder_listing.specs.Kept.{ListedFile, kept_files}
 use Rattle.array_scan.specs.Own.{own_files}
 use Rattle.array_scan.proofs.UnchangedLemmas.{kept_more, own_more}
 use Rattle.array_scan.proofs.unchanged.is_column_unchanged.Goals as goal

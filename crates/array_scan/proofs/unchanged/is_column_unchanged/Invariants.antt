@@ -1,8 +1,8 @@
 use Rattle.std.proofs.Common.{◌≡◌, ◌≤◌, length, take}
 use Rattle.disk_model.specs.Tree.{listed}
 use Rattle.file_table.specs.Table.{column_at}
-use Rattle.snap_config.specs.Setup.{setup_value}
-use Rattle.array_scan.specs.Kept.{kept_files}
+use Rattle.array_setup.specs.Setup.{setup_value}
+use Rattle.folder_listing.specs.Kept.{kept_files}
 use Rattle.array_scan.specs.Own.{own_files}
 use Rattle.array_scan.proofs.unchanged.is_column_unchanged.Given as goal
 

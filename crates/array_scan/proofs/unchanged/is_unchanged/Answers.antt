@@ -1,8 +1,8 @@
 use Rattle.std.proofs.Common.{◌≡◌, ℕ, [], length, get_or, ◌∙◌, arith}
 use Rattle.std.proofs.lemmas.List.{length-map}
 use Rattle.std.proofs.lemmas.List.FromFn.{length-map-range_with_len}
-use Rattle.snap_config.specs.Setup.{setup_value}
-use Rattle.array_scan.specs.Kept.{files_of, kept_files, lists_of}
+use Rattle.array_setup.specs.Setup.{setup_value}
+use Rattle.folder_listing.specs.Kept.{files_of, kept_files, lists_of}
 use Rattle.array_scan.proofs.KeptLemmas.{kept_each}
 use Rattle.array_scan.proofs.unchanged.is_unchanged.Goals as goal
 

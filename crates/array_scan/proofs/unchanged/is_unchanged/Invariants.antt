@@ -1,7 +1,7 @@
 use Rattle.std.proofs.Common.{◌≡◌, ◌<◌, ℕ, [], get_or}
 use Rattle.file_table.specs.Table.{column_at}
-use Rattle.snap_config.specs.Setup.{setup_value}
-use Rattle.array_scan.specs.Kept.{kept_files, lists_of}
+use Rattle.array_setup.specs.Setup.{setup_value}
+use Rattle.folder_listing.specs.Kept.{kept_files, lists_of}
 use Rattle.array_scan.specs.Own.{own_files}
 use Rattle.array_scan.proofs.unchanged.is_unchanged.Given as goal
 

@@ -1,7 +1,7 @@
 use Rattle.std.proofs.Common.{◌<◌, ◌∙◌, [], get_or, length, map, sym, ap, subst, arith, List, ℕ}
 use Rattle.disk_model.specs.Tree.{IsListing, listed}
-use Rattle.array_scan.specs.Kept.{ListedFile, lists_of}
-use Rattle.snap_config.specs.Setup.{setup_value}
+use Rattle.folder_listing.specs.Kept.{ListedFile, lists_of}
+use Rattle.array_setup.specs.Setup.{setup_value}
 use Rattle.repair_scope.specs.Plan.{column_entries, entry_of, names_of}
 use Rattle.file_table.specs.Table.{records_in}
 use Rattle.repair_scope.proofs.PlacingLemmas.{list_at, listing_at, name_at, column_more}

@@ -1,6 +1,6 @@
 use Rattle.std.proofs.Common.{◌≡◌, map}
-use Rattle.array_scan.specs.Kept.{each_column, lists_of}
-use Rattle.snap_config.specs.Setup.{setup_value}
+use Rattle.folder_listing.specs.Kept.{each_column, lists_of}
+use Rattle.array_setup.specs.Setup.{setup_value}
 use Rattle.repair_scope.specs.Plan.{column_entries, names_of}
 use Rattle.repair_scope.proofs.entries.entries_of.Given as goal
 

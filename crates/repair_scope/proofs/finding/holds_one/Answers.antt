@@ -3,7 +3,7 @@ use Rattle.std.specs.List.{list_any, starts_with}
 use Rattle.std.specs.Prelude.{nat_eq}
 use Rattle.disk_model.specs.Path.{lost_suffix}
 use Rattle.disk_model.specs.Tree.{listed}
-use Rattle.array_scan.specs.Kept.{ListedFile}
+use Rattle.folder_listing.specs.Kept.{ListedFile}
 use Rattle.repair_scope.proofs.PlacingLemmas.{directory_bytes}
 use Rattle.repair_scope.proofs.finding.holds_one.Goals as goal
 use Rattle.repair_scope.proofs.finding.holds_one.Goals.{then-lost, else-lost}

@@ -1,5 +1,5 @@
 use Rattle.std.proofs.Common.{◌≡◌, map, take}
-use Rattle.snap_config.specs.declared.setup.Disk.{Disk}
+use Rattle.array_setup.specs.declared.setup.Disk.{Disk}
 use Rattle.snap_config.proofs.config.folders.Given as goal
 
 abbrev pub invariant-loop-disk : goal.invariant-loop-disk

@@ -1,5 +1,5 @@
 use Rattle.std.proofs.Common.{rules}
-use Rattle.snap_config.specs.Setup.{setup_value}
+use Rattle.array_setup.specs.Setup.{setup_value}
 use Rattle.snap_config.specs.Line.{lines_of}
 use Rattle.snap_config.specs.Reading.{builder_value}
 use Rattle.snap_config.proofs.SetupLemmas.{setup_ok, size_read}

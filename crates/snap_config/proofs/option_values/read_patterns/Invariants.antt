@@ -1,6 +1,6 @@
 use Rattle.std.proofs.Common.{◌≡◌, map, take, true}
 use Rattle.std.specs.List.{list_all}
-use Rattle.snap_config.specs.Pattern.{is_pattern}
+use Rattle.array_setup.specs.Pattern.{is_pattern}
 use Rattle.snap_config.proofs.option_values.read_patterns.Given as goal
 
 -- the patterns so far

@@ -1,7 +1,7 @@
 use Rattle.std.proofs.Common.{map, refl, sym, ap, ◌∙◌, length, inl}
 use Rattle.std.proofs.lemmas.List.{length-map}
 use Rattle.disk_calm.specs.Calm.{calm_folder_view, calm_value}
-use Rattle.snap_config.specs.Setup.{setup_value}
+use Rattle.array_setup.specs.Setup.{setup_value}
 use Rattle.snap_exercise.proofs.EngineLemmas.{checked_by}
 use Rattle.snap_exercise.proofs.engines.check_array.Goals as goal
 

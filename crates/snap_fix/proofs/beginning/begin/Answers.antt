@@ -1,8 +1,8 @@
 use Rattle.std.proofs.Common.{All, sym, subst, arith}
 use Rattle.std.proofs.lemmas.List.{length-map}
 use Rattle.disk_model.specs.Tree.{IsListing}
-use Rattle.snap_config.specs.Setup.{setup_value}
-use Rattle.array_scan.specs.Kept.{lists_of}
+use Rattle.array_setup.specs.Setup.{setup_value}
+use Rattle.folder_listing.specs.Kept.{lists_of}
 use Rattle.repair_scope.specs.Plan.{EntriesFit, names_of}
 use Rattle.snap_fix.proofs.BeginningLemmas.{lists_are_listings, all_listed, entries_fit}
 use Rattle.snap_fix.proofs.beginning.begin.Goals as goal

@@ -1,6 +1,6 @@
 use Rattle.std.proofs.Common.{◌≡◌, map, sym, ap, ◌∙◌, subst}
 use Rattle.std.proofs.lemmas.List.{length-map}
-use Rattle.snap_config.specs.Setup.{setup_value}
+use Rattle.array_setup.specs.Setup.{setup_value}
 use Rattle.repair_scope.specs.declared.scope.Mode.{Mode}
 use Rattle.snap_fix.specs.Beginning.{BeginsNot}
 use Rattle.snap_fix.specs.ByMode.{AreOpenFor}

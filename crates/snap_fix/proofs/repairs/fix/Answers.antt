@@ -1,5 +1,5 @@
 use Rattle.std.proofs.Common.{inr, map}
-use Rattle.snap_config.specs.Setup.{setup_value}
+use Rattle.array_setup.specs.Setup.{setup_value}
 use Rattle.repair_scope.specs.Plan.{names_of}
 use Rattle.snap_fix.proofs.AnswerLemmas.{if_err, if_ok}
 use Rattle.snap_fix.proofs.repairs.fix.Goals as goal

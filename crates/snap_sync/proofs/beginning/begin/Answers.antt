@@ -3,9 +3,9 @@ use Rattle.std.proofs.lemmas.List.{length-map}
 use Rattle.disk_model.specs.Tree.{IsListing}
 use Rattle.file_table.specs.Valid.{IsValid}
 use Rattle.file_table.specs.Table.{TableValue}
-use Rattle.snap_config.specs.Setup.{setup_value}
-use Rattle.array_scan.specs.Kept.{lists_of}
-use Rattle.array_scan.specs.Listings.{ListsAll}
+use Rattle.array_setup.specs.Setup.{setup_value}
+use Rattle.folder_listing.specs.Kept.{lists_of}
+use Rattle.folder_listing.specs.Listings.{ListsAll}
 use Rattle.snap_sync.specs.Beginning.{BeginsNot}
 use Rattle.snap_sync.specs.declared.fault.SyncFault.TheVariants.{Scan}
 use Rattle.snap_sync.proofs.BeginLemmas.{lists_are_listings, layout_refused, all_listed}

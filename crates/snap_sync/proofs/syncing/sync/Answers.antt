@@ -1,9 +1,9 @@
 -- The folders were listed and the table laid out: then it is carried out.
 use Rattle.std.proofs.Common.{◌*◌, ℕ, length, sym, ap, ap₂, ◌∙◌}
 use Rattle.std.proofs.lemmas.List.{length-map}
-use Rattle.array_scan.specs.Kept.{kept_lists}
+use Rattle.folder_listing.specs.Kept.{kept_lists}
 use Rattle.file_table.specs.Table.{TableValue}
-use Rattle.snap_config.specs.Setup.{setup_value}
+use Rattle.array_setup.specs.Setup.{setup_value}
 use Rattle.snap_sync.specs.Schedule.{save_after}
 use Rattle.snap_sync.specs.declared.stripes.Pace.{Pace}
 use Rattle.snap_sync.proofs.BeginLemmas.{layout_width}

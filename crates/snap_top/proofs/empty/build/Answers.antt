@@ -1,5 +1,5 @@
 use Rattle.std.proofs.Common.{ap, length, refl, ◌∙◌, arith}
-use Rattle.snap_config.specs.Setup.{setup_value}
+use Rattle.array_setup.specs.Setup.{setup_value}
 use Rattle.snap_top.proofs.EmptyLemmas.{push_memory, finish_memory, next_is_new, lacks_none, ends_at_none, some_columns}
 use Rattle.snap_top.proofs.empty.build.Goals as goal
 

@@ -1,5 +1,5 @@
 use Rattle.std.proofs.Common.{sym, ap, ◌∙◌}
-use Rattle.snap_config.specs.Setup.{setup_value}
+use Rattle.array_setup.specs.Setup.{setup_value}
 use Rattle.snap_top.specs.Known.{is_known as is_known_to}
 use Rattle.snap_top.proofs.KnownLemmas.{unknown_at}
 use Rattle.snap_top.proofs.known.first_unknown.Goals as goal

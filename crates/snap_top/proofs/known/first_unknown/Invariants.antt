@@ -1,5 +1,5 @@
 use Rattle.std.proofs.Common.{◌≡◌, drop}
-use Rattle.snap_config.specs.Setup.{setup_value}
+use Rattle.array_setup.specs.Setup.{setup_value}
 use Rattle.snap_top.specs.Known.{first_unknown as first_unknown_of}
 use Rattle.snap_top.proofs.known.first_unknown.Given as goal
 

@@ -1,5 +1,5 @@
 use Rattle.std.proofs.Common.{arith, ap, length}
-use Rattle.snap_config.specs.Setup.{setup_value}
+use Rattle.array_setup.specs.Setup.{setup_value}
 use Rattle.snap_top.proofs.MatchingLemmas.{same_by_places, length-columns, length-disks}
 use Rattle.snap_top.proofs.matching.first_other_disk.Goals as goal
 

@@ -1,5 +1,5 @@
 use Rattle.std.proofs.Common.{refl, ap, ◌∙◌, arith}
-use Rattle.snap_config.specs.Setup.{setup_value}
+use Rattle.array_setup.specs.Setup.{setup_value}
 use Rattle.snap_top.specs.Known.{unknown_in}
 use Rattle.snap_top.proofs.OpeningLemmas.{given_for, unopened, images_given, as_many_levels}
 use Rattle.snap_top.proofs.opening.open_all.Goals as goal

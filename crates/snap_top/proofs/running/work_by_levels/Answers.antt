@@ -1,5 +1,5 @@
 use Rattle.std.proofs.Common.{◌≡◌, false, true, ap, sym, ◌∙◌}
-use Rattle.snap_config.specs.Setup.{setup_value}
+use Rattle.array_setup.specs.Setup.{setup_value}
 use Rattle.snap_top.specs.Levels.{is_split}
 use Rattle.snap_top.specs.Task.{task_of}
 use Rattle.snap_top.proofs.LevelsLemmas.{whole_levels, works_split, works_whole}

@@ -1,5 +1,5 @@
 use Rattle.std.proofs.Common.{length, ap, sym, ◌∙◌}
-use Rattle.snap_config.specs.Setup.{setup_value}
+use Rattle.array_setup.specs.Setup.{setup_value}
 use Rattle.snap_top.proofs.LevelsLemmas.{shaped_parts, works_on_base}
 use Rattle.snap_top.proofs.running.work_split.Goals as goal
 

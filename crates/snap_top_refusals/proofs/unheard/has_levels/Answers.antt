@@ -1,7 +1,7 @@
 use Rattle.std.proofs.Common.{◌≡◌, ◌<◌, List, ℕ, None, Ok, length, arith, sym, ap, ◌∙◌, subst}
 use Rattle.std.proofs.lemmas.List.{take_all}
 use Rattle.snap_config.specs.Config.{read_setup}
-use Rattle.snap_config.specs.Setup.{SetupValue, setup_value}
+use Rattle.array_setup.specs.Setup.{SetupValue, setup_value}
 use Rattle.snap_top.specs.Levels.{is_split}
 use Rattle.snap_top_instances.proofs.SaidLemmas.{said_whole}
 use Rattle.snap_top_refusals.proofs.unheard.has_levels.Goals as goal

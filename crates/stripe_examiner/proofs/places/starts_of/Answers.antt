@@ -1,7 +1,7 @@
 use Rattle.std.proofs.Common.{◌<◌, ◌∙◌, length, map, sym, ap, subst, arith, List}
 use Rattle.disk_model.specs.Tree.{IsListing, listed}
 use Rattle.file_table.specs.Table.{Record, records_in}
-use Rattle.array_scan.specs.Kept.{ListedFile, lists_of}
+use Rattle.folder_listing.specs.Kept.{ListedFile, lists_of}
 use Rattle.stripe_examiner.specs.Place.{start_of, column_starts}
 use Rattle.repair_scope.proofs.PlacingLemmas.{list_at, listing_at, column_more}
 use Rattle.stripe_examiner.proofs.places.starts_of.Goals as goal

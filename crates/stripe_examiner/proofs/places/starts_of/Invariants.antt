@@ -1,5 +1,5 @@
 use Rattle.std.proofs.Common.{◌≡◌, map}
-use Rattle.array_scan.specs.Kept.{each_column, lists_of}
+use Rattle.folder_listing.specs.Kept.{each_column, lists_of}
 use Rattle.stripe_examiner.specs.Place.{column_starts}
 use Rattle.stripe_examiner.proofs.places.starts_of.Given as goal
 

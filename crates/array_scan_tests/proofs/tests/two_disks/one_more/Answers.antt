@@ -2,7 +2,7 @@ use Rattle.std.proofs.Common.{All, ap, sym, subst, ◌∙◌}
 use Rattle.std.proofs.lemmas.List.{map-append}
 use Rattle.std.proofs.lemmas.List.Elements.{All-push}
 use Rattle.disk_model.specs.Tree.{IsListing, listed}
-use Rattle.array_scan.specs.Kept.{files_of, lists_of}
+use Rattle.folder_listing.specs.Kept.{files_of, lists_of}
 use Rattle.array_scan_tests.proofs.tests.two_disks.one_more.Goals as goal
 
 pub returns-clause-order : goal.returns-clause-order

@@ -1,9 +1,0 @@
-use Rattle.std.proofs.Common.{length}
-use Rattle.snap_config.proofs.GlobLemmas.{IsStripped}
-use Rattle.snap_config.proofs.glob.strip.Given as goal
-
-abbrev pub invariant-loop-first : goal.invariant-loop-first
-invariant-loop-first l = IsStripped l.part l.name l.wanted l.rest
-
-abbrev pub decreases-loop-first : goal.decreases-loop-first
-decreases-loop-first l = length l.wanted

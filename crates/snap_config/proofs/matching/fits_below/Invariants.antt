@@ -1,9 +1,0 @@
-use Rattle.std.proofs.Common.{length}
-use Rattle.snap_config.proofs.PathLemmas.{IsBelowLeft}
-use Rattle.snap_config.proofs.matching.fits_below.Given as goal
-
-abbrev pub invariant-loop-part : goal.invariant-loop-part
-invariant-loop-part l = IsBelowLeft l.pattern l.path l.wanted l.rest
-
-abbrev pub decreases-loop-part : goal.decreases-loop-part
-decreases-loop-part l = length l.rest
