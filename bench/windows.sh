@@ -205,7 +205,7 @@ fn main(rt: HostRuntime) -> io::Result<()> {
     let Ok(places) = places(alloc, folder.as_str()) else {
         return Ok(());
     };
-    let Ok(mut opened) = DiskOpener::new(rt).open(alloc, &places) else {
+    let Ok(mut opened) = DiskOpener::new(alloc, rt).open(alloc, &places) else {
         return Ok(());
     };
     let Ok(mut window) = Window::make(alloc, COLUMNS, 16, BLOCK) else {
