@@ -3,7 +3,7 @@
 //!
 //! Proved: each call gives what its definition says, and refuses exactly what that refuses. Running out of
 //! memory is the one answer without a condition.
-//! Not here: how configurations and words are read (`snap_config`, where the tests stand too).
+//! Not here: how configurations and words are read (`snap_config`; the tests stand in `snap_config_tests`).
 //!
 //! | call | code | definition |
 //! |---|---|---|

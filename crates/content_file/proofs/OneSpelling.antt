@@ -44,3 +44,6 @@ spelling_apart a b x y valid_a valid_b e =
 
 pub no_front : (a b : TableValue) (x : List ℕ) → IsValid a → IsValid b → spelling b ≡ spelling a ++ x → (a ≡ b) × (x ≡ [])
 no_front a b x valid_a valid_b e = spelling_apart a b x [] valid_a valid_b (sym e ∙ sym (append-nil (spelling b)))
+
+pub one_spelled : (a b : TableValue) → IsValid a → IsValid b → spelling a ≡ spelling b → a ≡ b
+one_spelled a b valid_a valid_b e = (spelling_apart a b [] [] valid_a valid_b (ap (λ (s : List ℕ). s ++ []) e)).0

@@ -11,7 +11,7 @@ use Rattle.content_file.specs.declared.fault.Refusal.{Refusal}
 use Rattle.content_file.specs.declared.fault.Refusal.TheVariants as refusals
 use Rattle.content_file.specs.Flaw.{Short, Length, Damage, Good, Bad}
 use Rattle.content_file.specs.FirstFlaw.{first_flaw, read_content, read_end}
-use Rattle.content_file.specs.Spelling.{spelling}
+use Rattle.content_file.specs.Spelling.{Spells}
 use Rattle.content_file.specs.Body.{IsAtEnd, StopsAt, table_of}
 use Rattle.content_file.specs.ReadingOn.{read_rest}
 
@@ -22,7 +22,7 @@ IsFaultOf bytes faults.Memory = Unit {0}
 
 -- Bytes give the table that they spell, or are refused.
 abbrev pub Decodes : List ℕ → Result TableValue DecodeFault → Type 0
-Decodes bytes (Ok table) = IsValid table × (bytes ≡ spelling table)
+Decodes bytes (Ok table) = IsValid table × Spells table bytes
 Decodes bytes (Err fault) = IsFaultOf bytes fault
 
 -- No field of bytes is wrong, but for one that may be cut off.

@@ -9,7 +9,7 @@ use Rattle.disk_model.specs.Vault.{VaultView, VaultCall, VaultDone, plain_done, 
 use Rattle.file_table.specs.Table.{TableValue}
 use Rattle.file_table.specs.Valid.{IsValid}
 use Rattle.content_file.specs.Save.{piece_size}
-use Rattle.content_file.specs.Spelling.{spelling, IsContent}
+use Rattle.content_file.specs.Spelling.{HoldsTable, IsContent}
 use Rattle.content_file.specs.Flaw.{Damage}
 use Rattle.content_file.specs.FirstFlaw.{first_flaw}
 use Rattle.content_file.specs.Damages.{damages_below}
@@ -145,7 +145,7 @@ IsFedBy (Some decoder) held = (bytes : List ℕ) × (held ≡ Some bytes) × Has
 -- what a copy that was read holds: this table, or nothing
 abbrev pub IsCopyOf : VaultView → ℕ → Option TableValue → Type 0
 IsCopyOf v copy None = IsTrue v.tells → content_of v.files copy ≡ None
-IsCopyOf v copy (Some table) = IsValid table × (IsTrue v.tells → content_of v.files copy ≡ Some (spelling table))
+IsCopyOf v copy (Some table) = IsValid table × (IsTrue v.tells → HoldsTable table (content_of v.files copy))
 
 -- a copy holds bytes whose first wrong field is this
 pub record HasDamage (v : VaultView) (copy : ℕ) (damage : Damage) : Type 0 where
@@ -178,7 +178,7 @@ pub record LoadsTable (old new : VaultView) (table : TableValue) : Type 0 where
   pub copy : ℕ
   pub within : copy < copies_of old
   pub valid : IsValid table
-  pub held : IsTrue old.tells → content_of old.files copy ≡ Some (spelling table)
+  pub held : IsTrue old.tells → HoldsTable table (content_of old.files copy)
   pub read : IsReadWell old new copy
   pub pieces : ReadsInPieces (copy + 1) old new
   pub earlier : IsTrue old.tells → (k : ℕ) → k < copy → IsUseless old k ⊎ HasFailed old new k

@@ -72,8 +72,16 @@ body table = magic ++ shape_bytes table.shape ++ to_le_bytes w32 (length table.i
 abbrev pub spelling : TableValue → List ℕ
 spelling table = body table ++ sha256 (body table)
 
--- bytes are in the grammar where they are the spelling of a valid table
+-- Bytes spell a table, as they are read: they are its one spelling.
+abbrev pub Spells : TableValue → List ℕ → Type 0
+Spells table bytes = bytes ≡ spelling table
+
+-- the same of what a copy holds, if it is there: it is, and its bytes spell a table
+abbrev pub HoldsTable : TableValue → Option (List ℕ) → Type 0
+HoldsTable table held = held ≡ Some (spelling table)
+
+-- bytes are in the grammar where they spell a valid table
 pub record IsContent (bytes : List ℕ) : Type 0 where
   pub table : TableValue
   pub valid : IsValid table
-  pub spelled : bytes ≡ spelling table
+  pub spelled : Spells table bytes

@@ -3,7 +3,7 @@ ghost use Rattle.std.specs.Prelude.{◌≡◌, ◌≢◌, IfOk, OnOk, IfErr, Non
 ghost use Rattle.file_table.specs.Valid.{IsValid};
 ghost use Rattle.content_file.specs.Decoding.{IsFaultOf};
 ghost use Rattle.content_file.specs.FirstFlaw.{first_flaw};
-ghost use Rattle.content_file.specs.Spelling.{spelling, IsContent};
+ghost use Rattle.content_file.specs.Spelling.{IsContent, Spells};
 
 use crate::{DecodeFault, Decoder};
 use file_table::Table;
@@ -12,7 +12,7 @@ use std::alloc::Global;
 /// The table that the bytes spell, or their first wrong field.
 pub fn decode(alloc: Global, bytes: &[u8]) -> Result<Table, DecodeFault>
     ensures valid { IfOk result IsValid }
-    ensures found { IfOk result (λ table. bytes.now ≡ spelling table) }
+    ensures found { IfOk result (λ table. Spells table bytes.now) }
     ensures flawless { OnOk result (first_flaw bytes.now ≡ None) }
     ensures flawed { IfErr result (λ fault. IsFaultOf bytes.now fault) }
     ensures damaged { IfErr result (λ fault. fault ≢ DecodeFault.Memory → ¬ (IsContent bytes.now)) }

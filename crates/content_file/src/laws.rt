@@ -1,12 +1,12 @@
 //! What follows for the format as a whole. The calls do nothing: their contracts are laws.
-ghost use Rattle.std.specs.Prelude.{◌≡◌, ◌≢◌, ◌↔◌, ℕ, ◌<◌, ◌≤◌, List, [], ◌++◌, length, All, None, Some};
+ghost use Rattle.std.specs.Prelude.{◌≡◌, ◌≢◌, ◌↔◌, ℕ, ◌<◌, ◌≤◌, List, [], ◌++◌, length, All, Option, None, Some};
 ghost use Rattle.std.specs.List.{flat_map, range_with_len};
 ghost use Rattle.file_table.specs.Table.{TableValue};
 ghost use Rattle.file_table.specs.Valid.{IsValid};
 ghost use Rattle.content_file.specs.FirstFlaw.{first_flaw, read_content};
 ghost use Rattle.content_file.specs.Flaw.{Damage, Good, Short};
 ghost use Rattle.content_file.specs.Save.{piece_of, piece_count};
-ghost use Rattle.content_file.specs.Spelling.{spelling, IsContent};
+ghost use Rattle.content_file.specs.Spelling.{spelling, HoldsTable, IsContent, Spells};
 
 /// No spelling begins another: one that stands at the front of bytes tells its table, and where it ends.
 pub fn no_spelling_begins_another()
@@ -14,9 +14,20 @@ pub fn no_spelling_begins_another()
         spelling b ≡ spelling a ++ x → (a ≡ b) × (x ≡ []) }
 {}
 
-/// Two tables with one spelling are one table.
+/// Two tables that one copy holds are one table.
 pub fn one_table_has_a_spelling()
-    ensures { (a b : TableValue) → IsValid a → IsValid b → spelling a ≡ spelling b → a ≡ b }
+    ensures { (a b : TableValue) (held : Option (List ℕ)) → IsValid a → IsValid b →
+        HoldsTable a held → HoldsTable b held → a ≡ b }
+{}
+
+/// Two tables that the same bytes spell are one table. A table is spelled by its spelling, and held where the bytes that
+/// are there spell it.
+pub fn bytes_spell_one_table()
+    ensures one { (a b : TableValue) (bytes : List ℕ) → IsValid a → IsValid b →
+        Spells a bytes → Spells b bytes → a ≡ b }
+    ensures spelled { (table : TableValue) → Spells table (spelling table) }
+    ensures held { (table : TableValue) (bytes : List ℕ) → HoldsTable table (Some bytes) ↔ Spells table bytes }
+    ensures absent { (table : TableValue) → ¬ (HoldsTable table None) }
 {}
 
 /// From bytes that begin with a spelling, the table and the rest are known.
@@ -33,7 +44,7 @@ pub fn only_content_has_no_flaw()
 /// Reading field by field gives a table that the bytes spell, and each table from its spelling.
 pub fn reading_gives_the_table()
     ensures read { (bytes : List ℕ) (table : TableValue) → All (λ byte. byte < 256) bytes →
-        read_content bytes ≡ Good table → IsValid table × (bytes ≡ spelling table) }
+        read_content bytes ≡ Good table → IsValid table × Spells table bytes }
     ensures spelled { (table : TableValue) → IsValid table → read_content (spelling table) ≡ Good table }
 {}
 

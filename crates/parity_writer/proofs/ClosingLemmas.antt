@@ -1,5 +1,5 @@
 -- What is seen of a stripe that is closed, and what stays sound.
-use Rattle.std.proofs.Common.{◌≡◌, ◌≢◌, inl, inr, ℕ, zero, suc, ◌<◌, List, [], ◌∷◌, length, map, get_or, Bool, false, if◌then◌else◌, Option, None, Some, refl, sym, ◌∙◌, ap, ap₂, subst, arith}
+use Rattle.std.proofs.Common.{◌≡◌, ◌≢◌, inl, inr, ℕ, zero, suc, ◌<◌, List, [], ◌∷◌, length, map, get_or, Bool, if◌then◌else◌, Option, None, Some, refl, sym, ◌∙◌, ap, ap₂, subst, arith}
 use Rattle.std.specs.List.{All, AllPairs}
 use Rattle.std.specs.Option.{option_map}
 use Rattle.std.proofs.lemmas.Bool.{cases_eq, eq-eqb, ne_eqb}
@@ -10,9 +10,10 @@ use Rattle.file_table.specs.Cells.{CellView, StripeView, seen_with, cell_view, s
 use Rattle.file_table.specs.Table.{Column, TableValue}
 use Rattle.file_table.specs.declared.info.Info.{Info}
 use Rattle.file_table.specs.declared.shape.Shape.{Shape}
-use Rattle.parity_writer.specs.Closing.{Closing, closed_by, snapshot_by, changed_by, closed_by_all, snapshot_by_all, changed_by_all, IsClosing}
+use Rattle.parity_writer.specs.Closing.{Closing, closed_by, snapshot_by, changed_behind, changed_by, closed_by_all, snapshot_by_all, changed_by_all, IsClosing}
 use Rattle.parity_writer.specs.Parity.{Row, HasLevel}
-use Rattle.parity_writer.specs.Sound.{IsSynced, Snapshot, IsBlockAt, IsRowOf, Sound}
+use Rattle.parity_writer.proofs.CellsLemmas.{cells_of, one_more, row_has_cells, rows_by}
+use Rattle.parity_writer.specs.Sound.{IsSynced, IsBlockAt, IsRowOf, Sound, Closed, last_row, newest, HasCells, closed_cells, closed_cell}
 
 -- what file_table says of closing a stripe
 abbrev pub LeavesTheOthers : Type 0
@@ -79,29 +80,37 @@ module _ (leaves : LeavesTheOthers) where
       mark = sym (ap (λ (seen : StripeView). seen.info.mark) (leaves table closing.stripe stripe closing.info closing.hashes other)) ∙ synced.mark;
     }
 
-    here : (snapshot : Snapshot) → stripe ≡ closing.stripe → snapshot_by closing snapshot stripe ≡ closing.row
-    here snapshot same = ap (λ (b : Bool). if b then closing.row else snapshot stripe) (eq-eqb stripe closing.stripe same)
+    here : (snapshot : Closed) → stripe ≡ closing.stripe → last_row (snapshot_by closing snapshot) stripe ≡ closing.row
+    here snapshot same = ap (λ (b : Bool). newest (if b then closing.row ∷ snapshot stripe else snapshot stripe)) (eq-eqb stripe closing.stripe same)
 
-    there : (snapshot : Snapshot) → stripe ≢ closing.stripe → snapshot_by closing snapshot stripe ≡ snapshot stripe
-    there snapshot other = ap (λ (b : Bool). if b then closing.row else snapshot stripe) (ne_eqb stripe closing.stripe other)
+    there : (snapshot : Closed) → stripe ≢ closing.stripe → last_row (snapshot_by closing snapshot) stripe ≡ last_row snapshot stripe
+    there snapshot other = ap (λ (b : Bool). newest (if b then closing.row ∷ snapshot stripe else snapshot stripe)) (ne_eqb stripe closing.stripe other)
 
-    there_changed : (is_changed : ℕ → ℕ → Bool) (level : ℕ) → stripe ≢ closing.stripe → changed_by closing is_changed stripe level ≡ is_changed stripe level
-    there_changed is_changed level other = ap (λ (b : Bool). if b then false else is_changed stripe level) (ne_eqb stripe closing.stripe other)
+    there_changed : (is_changed : ℕ → ℕ → Bool) (level : ℕ) → stripe ≢ closing.stripe → changed_by table.shape.levels closing is_changed stripe level ≡ is_changed stripe level
+    there_changed is_changed level other = ap (λ (b : Bool). if b then changed_behind table.shape.levels is_changed stripe level else is_changed stripe level) (ne_eqb stripe closing.stripe other)
 
   -- one stripe is closed
-  pub closed_sound : (closing : Closing) (table : TableValue) (files : Files) (snapshot : Snapshot) (is_changed : ℕ → ℕ → Bool) → Sound table files snapshot is_changed → IsClosing table closing
+  pub closed_sound : (closing : Closing) (table : TableValue) (files : Files) (snapshot : Closed) (is_changed : ℕ → ℕ → Bool) → Sound table files snapshot is_changed → IsClosing table closing
       → ((level : ℕ) → level < table.shape.levels → HasLevel table.shape.block_size level closing.stripe closing.row (parity_of files level))
-      → Sound (closed_by closing table) files (snapshot_by closing snapshot) (changed_by closing is_changed)
+      → Sound (closed_by closing table) files (snapshot_by closing snapshot) (changed_by table.shape.levels closing is_changed)
   closed_sound closing table files snapshot is_changed sound closes holds = record {
-    rows = λ stripe synced. elim (cases_eq stripe closing.stripe) [
+    was_closed = λ stripe synced. elim (cases_eq stripe closing.stripe) [
       | inl same ↦
-          subst (λ (row : Row). IsRowOf table.shape (stripe_view (closed_by closing table) stripe) row) (sym (here closing table stripe snapshot same))
-          (subst (λ (at : ℕ). IsRowOf table.shape (stripe_view (closed_by closing table) at) closing.row) (sym same) closes)
+          subst (λ (b : Bool). 0 < length (if b then closing.row ∷ snapshot stripe else snapshot stripe)) (sym (eq-eqb stripe closing.stripe same)) (one_more closing.row (snapshot stripe))
       | inr other ↦
-          subst (λ (row : Row). IsRowOf table.shape (stripe_view (closed_by closing table) stripe) row) (sym (there closing table stripe snapshot other))
-          (subst (λ (seen : StripeView). IsRowOf table.shape seen (snapshot stripe)) (sym (leaves table closing.stripe stripe closing.info closing.hashes other))
-          (sound.rows stripe (was_synced closing table stripe other synced)))
+          subst (λ (b : Bool). 0 < length (if b then closing.row ∷ snapshot stripe else snapshot stripe)) (sym (ne_eqb stripe closing.stripe other))
+          (sound.was_closed stripe (was_synced closing table stripe other synced))
     ];
+    rows = rows_by (closed_by closing table) (snapshot_by closing snapshot) (λ stripe synced. elim (cases_eq stripe closing.stripe) [
+      | inl same ↦
+          subst (λ (row : Row). HasCells table.shape (closed_cells (closed_by closing table) stripe) row) (sym (here closing table stripe snapshot same))
+          (subst (λ (at : ℕ). HasCells table.shape (closed_cells (closed_by closing table) at) closing.row) (sym same)
+          (row_has_cells table.shape (stripe_view (closed_by closing table) closing.stripe) closing.row closes))
+      | inr other ↦
+          subst (λ (row : Row). HasCells table.shape (closed_cells (closed_by closing table) stripe) row) (sym (there closing table stripe snapshot other))
+          (subst (λ (seen : StripeView). HasCells table.shape (map (closed_cell table.shape) seen.cells) (last_row snapshot stripe)) (sym (leaves table closing.stripe stripe closing.info closing.hashes other))
+          (cells_of table files snapshot is_changed sound stripe (was_synced closing table stripe other synced)))
+    ]);
     sums = λ stripe level synced below unchanged. elim (cases_eq stripe closing.stripe) [
       | inl same ↦
           subst (λ (row : Row). HasLevel table.shape.block_size level stripe row (parity_of files level)) (sym (here closing table stripe snapshot same))
@@ -123,28 +132,30 @@ module _ (leaves : LeavesTheOthers) where
         (one ∙ ap (views_with closing.hashes) (sym before) ∙ sym two) closes
 
     -- stripes are closed one after another
-    pub all_closed_sound : (closings : List Closing) (table : TableValue) (files : Files) (snapshot : Snapshot) (is_changed : ℕ → ℕ → Bool) → AllPairs (λ (a b : Closing). a.stripe ≢ b.stripe) closings
+    pub all_closed_sound : (closings : List Closing) (table : TableValue) (files : Files) (snapshot : Closed) (is_changed : ℕ → ℕ → Bool) → AllPairs (λ (a b : Closing). a.stripe ≢ b.stripe) closings
         → All (IsClosing table) closings
         → All (λ (closing : Closing). (level : ℕ) → level < table.shape.levels → HasLevel table.shape.block_size level closing.stripe closing.row (parity_of files level)) closings
         → Sound table files snapshot is_changed
-        → Sound (closed_by_all closings table) files (snapshot_by_all closings snapshot) (changed_by_all closings is_changed)
+        → Sound (closed_by_all closings table) files (snapshot_by_all closings snapshot) (changed_by_all table.shape.levels closings is_changed)
     all_closed_sound [] table files snapshot is_changed once close hold sound = sound
     all_closed_sound (closing ∷ closings) table files snapshot is_changed once close hold sound =
-        all_closed_sound closings (closed_by closing table) files (snapshot_by closing snapshot) (changed_by closing is_changed)
+        all_closed_sound closings (closed_by closing table) files (snapshot_by closing snapshot) (changed_by table.shape.levels closing is_changed)
         (λ i j d less below. once (suc i) (suc j) d (omega (arith, less)) (omega (arith, below)))
         (λ k d below. still_closing closing (get_or closings k d) table (λ same. once 0 (suc k) d (omega arith) (omega (arith, below)) (sym same)) (close (suc k) d (omega (arith, below))))
         (λ k d below. hold (suc k) d (omega (arith, below)))
         (closed_sound closing table files snapshot is_changed sound (close 0 closing (omega arith)) (hold 0 closing (omega arith)))
 
 -- fewer stripes are synced, and those as before
-pub fewer_synced_sound : (table other : TableValue) (files : Files) (snapshot : Snapshot) (is_changed : ℕ → ℕ → Bool) → Sound table files snapshot is_changed → other.shape ≡ table.shape
+pub fewer_synced_sound : (table other : TableValue) (files : Files) (snapshot : Closed) (is_changed : ℕ → ℕ → Bool) → Sound table files snapshot is_changed → other.shape ≡ table.shape
     → ((stripe : ℕ) → IsSynced other stripe → IsSynced table stripe × ((stripe_view other stripe).cells ≡ (stripe_view table stripe).cells)) → Sound other files snapshot is_changed
 fewer_synced_sound table other files snapshot is_changed sound same_shape were = record {
-  rows = λ stripe synced.
+  was_closed = λ stripe synced. sound.was_closed stripe (were stripe synced).0;
+  rows = rows_by other snapshot (λ stripe synced.
       let was = were stripe synced in
-      subst (λ (shape : Shape). IsRowOf shape (stripe_view other stripe) (snapshot stripe)) (sym same_shape)
-      (same_row table (stripe_view table stripe) (stripe_view other stripe) (snapshot stripe) (sym was.1) (sound.rows stripe was.0));
+      subst (λ (shape : Shape). HasCells shape (map (closed_cell shape) (stripe_view other stripe).cells) (last_row snapshot stripe)) (sym same_shape)
+      (subst (λ (cells : List (Option CellView)). HasCells table.shape (map (closed_cell table.shape) cells) (last_row snapshot stripe)) (sym was.1)
+      (cells_of table files snapshot is_changed sound stripe was.0)));
   sums = λ stripe level synced below unchanged.
-      subst (λ (shape : Shape). HasLevel shape.block_size level stripe (snapshot stripe) (parity_of files level)) (sym same_shape)
+      subst (λ (shape : Shape). HasLevel shape.block_size level stripe (last_row snapshot stripe) (parity_of files level)) (sym same_shape)
       (sound.sums stripe level (were stripe synced).0 (omega (arith, below, ap (λ (shape : Shape). shape.levels) same_shape)) unchanged);
 }

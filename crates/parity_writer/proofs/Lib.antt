@@ -7,6 +7,8 @@ pub mod SettleLemmas
 pub mod SumLemmas
 pub mod WriteLemmas
 pub mod ChosenLemmas
+pub mod CellsLemmas
+pub mod HashedCells
 pub mod SoundLemmas
 pub mod ClosingLemmas
 pub mod ReadRowLemmas

@@ -1,14 +1,16 @@
 //! What follows from the definitions of parity and of soundness. The calls do nothing: their contracts are laws.
 ghost use Rattle.std.specs.Prelude.{◌≡◌, ◌≢◌, ◌↔◌, ℕ, ◌+◌, ◌*◌, ◌<◌, ◌≤◌, List, length, map, get_or, slice_set};
 ghost use Rattle.std.specs.Prelude.{◌^◌, count_by, Bool, true, false, None, Some, All, AllPairs};
-ghost use Rattle.cauchy.specs.Matrix.{parity_byte, parity_of as level_of};
+ghost use Rattle.cauchy.specs.Matrix.{byte_of, parity_byte, parity_of as level_of};
 ghost use Rattle.disk_model.specs.Bytes.{read_from};
 ghost use Rattle.disk_model.specs.Cause.{RoseBy};
 ghost use Rattle.disk_model.specs.Files.{Files, parity_of};
 ghost use Rattle.disk_model.specs.Folder.{FolderView};
-ghost use Rattle.file_table.specs.Cells.{stripe_view};
+ghost use Rattle.file_table.specs.Cells.{StripeView, stripe_view};
 ghost use Rattle.file_table.specs.Table.{TableValue};
+ghost use Rattle.file_table.specs.Valid.{IsValid};
 ghost use Rattle.file_table.specs.declared.info.Info.{Info};
+ghost use Rattle.file_table.specs.declared.shape.Shape.{Shape};
 ghost use Rattle.parity_writer.specs.Chosen.{Choice, IsChosen, stripe_in, is_chosen, rows_with};
 ghost use Rattle.parity_writer.specs.Closing.{Closing, IsClosing, closing_of, closed_by, snapshot_by, changed_by};
 ghost use Rattle.parity_writer.specs.Closing.{closed_by_all, snapshot_by_all, changed_by_all};
@@ -17,7 +19,7 @@ ghost use Rattle.parity_writer.specs.LevelReading.{LevelReading, has_failed, kep
 ghost use Rattle.parity_writer.specs.Parity.{HasLevel, Row, Rows, HoldsRows, no_rows, padded};
 ghost use Rattle.parity_writer.specs.Parity.{IsParityOver, SameElsewhere, WritesBlocks};
 ghost use Rattle.parity_writer.specs.Rows.{HasLengths};
-ghost use Rattle.parity_writer.specs.Sound.{IsSynced, Snapshot, Sound};
+ghost use Rattle.parity_writer.specs.Sound.{Closed, HasCells, IsRowOf, IsSynced, Sound, closed_cell, closed_cells};
 ghost use Rattle.parity_writer.specs.WindowRow.{digests_at, row_at};
 ghost use Rattle.parity_writer.specs.declared.levels.LevelRead.TheVariants as here;
 ghost use Rattle.stripe_reader.specs.Reading.{CellReading};
@@ -25,28 +27,31 @@ ghost use Rattle.stripe_reader.specs.Readings.{IsThere, ReadsStripe, bytes_read,
 ghost use Rattle.stripe_reader.specs.Starts.{StartsValue};
 ghost use Rattle.stripe_reader.specs.WindowValue.{Fits, WindowValue, lane_at, window_given};
 
-use cauchy::laws::same_bytes;
-use file_table::laws::{closing_a_stripe_gives_its_hashes, closing_a_stripe_leaves_the_others};
+use cauchy::laws::{no_block, same_bytes};
+use file_table::laws::{
+    a_cell_stands_at_its_position, closing_a_stripe_gives_its_hashes,
+    closing_a_stripe_leaves_the_others,
+};
 use stripe_reader::laws::a_reading_is_of_its_cell;
 
 /// Where no chosen stripe is synced, a sound table is sound after the chosen stripes were written, and wherever that
 /// was stopped.
 pub fn writing_other_stripes_stays_sound()
-    ensures { (table : TableValue) (old new : Files) (snapshot : Snapshot) (is_changed : ℕ → ℕ → Bool)
+    ensures { (table : TableValue) (old new : Files) (snapshot : Closed) (is_changed : ℕ → ℕ → Bool)
         (choice : Choice) → Sound table old snapshot is_changed → WritesBlocks table.shape.block_size (IsChosen choice) old new →
         ((stripe : ℕ) → IsChosen choice stripe → IsSynced table stripe → ⊥) → Sound table new snapshot is_changed }
 {}
 
 /// Where each byte below a length is kept, and the blocks of all stripes lie below it, a sound table stays sound.
 pub fn setting_lengths_stays_sound()
-    ensures { (table : TableValue) (old new : Files) (snapshot : Snapshot) (is_changed : ℕ → ℕ → Bool) (bytes : ℕ) →
+    ensures { (table : TableValue) (old new : Files) (snapshot : Closed) (is_changed : ℕ → ℕ → Bool) (bytes : ℕ) →
         Sound table old snapshot is_changed → KeepsAt (λ i. i < bytes) old new →
         length table.infos * table.shape.block_size ≤ bytes → Sound table new snapshot is_changed }
 {}
 
 /// A table of the same shape is as sound, where each of its synced stripes is synced in the other one with the same cells.
 pub fn a_table_with_fewer_synced_stripes_is_as_sound()
-    ensures { (table other : TableValue) (files : Files) (snapshot : Snapshot) (is_changed : ℕ → ℕ → Bool) →
+    ensures { (table other : TableValue) (files : Files) (snapshot : Closed) (is_changed : ℕ → ℕ → Bool) →
         Sound table files snapshot is_changed → other.shape ≡ table.shape →
         ((stripe : ℕ) → IsSynced other stripe →
         IsSynced table stripe × ((stripe_view other stripe).cells ≡ (stripe_view table stripe).cells)) →
@@ -56,7 +61,7 @@ pub fn a_table_with_fewer_synced_stripes_is_as_sound()
 /// Files with the same levels are as sound: what a stop may leave of a vault that was settled is as sound as what it
 /// reads.
 pub fn the_same_levels_are_as_sound()
-    ensures { (table : TableValue) (levels : ℕ) (old new : Files) (snapshot : Snapshot) (is_changed : ℕ → ℕ → Bool) →
+    ensures { (table : TableValue) (levels : ℕ) (old new : Files) (snapshot : Closed) (is_changed : ℕ → ℕ → Bool) →
         Sound table old snapshot is_changed → table.shape.levels ≤ levels → SameParities levels old new →
         Sound table new snapshot is_changed }
 {}
@@ -96,6 +101,27 @@ pub fn a_padded_row_has_the_same_levels()
     same_bytes();
 }
 
+/// A row with the recorded hashes of a stripe has the cells that close it. In a valid table it is the other way round too
+/// for a synced stripe, where the row has as many blocks.
+pub fn a_row_has_the_cells_that_close_it()
+    ensures cells { (shape : Shape) (seen : StripeView) (row : Row) → IsRowOf shape seen row →
+        HasCells shape (map (closed_cell shape) seen.cells) row }
+    ensures row { (table : TableValue) (stripe : ℕ) (row : Row) → IsValid table → IsSynced table stripe →
+        length row ≡ length table.columns → HasCells table.shape (closed_cells table stripe) row →
+        IsRowOf table.shape (stripe_view table stripe) row }
+{
+    a_cell_stands_at_its_position();
+}
+
+/// Rows with the same bytes have the same levels, though one has more columns: what it has there counts as zeros.
+pub fn rows_of_the_same_bytes_have_the_same_levels()
+    ensures { (level block_size : ℕ) (one other : Row) → ((column p : ℕ) → byte_of one column p ≡ byte_of other column p) →
+        (i : ℕ) → i < block_size → parity_byte level one i ≡ parity_byte level other i }
+{
+    no_block();
+    same_bytes();
+}
+
 /// The rows after a window was written, where its stripes are distinct: a chosen stripe has its row of the window,
 /// and any other stripe the row that it had.
 pub fn a_chosen_stripe_has_its_row()
@@ -107,27 +133,29 @@ pub fn a_chosen_stripe_has_its_row()
         rows_with window choice count rows stripe ≡ rows stripe }
 {}
 
-/// A stripe that is closed with the hashes of its row, where parity holds that row: the table is sound then, with the
-/// snapshot changed at that stripe alone, and nothing of the stripe counts as changed from outside any more.
+/// A stripe that is closed with the hashes of its row, where parity holds that row: the table is sound then, with this
+/// row in front of the others of that stripe alone, and none of the table's levels of the stripe counts as changed from
+/// outside any more.
 pub fn closing_a_written_stripe_stays_sound()
-    ensures { (table : TableValue) (files : Files) (snapshot : Snapshot) (is_changed : ℕ → ℕ → Bool) (closing : Closing)
+    ensures { (table : TableValue) (files : Files) (snapshot : Closed) (is_changed : ℕ → ℕ → Bool) (closing : Closing)
         (levels : ℕ) (rows : Rows) → Sound table files snapshot is_changed → IsClosing table closing →
         table.shape.levels ≤ levels → HoldsRows levels table.shape.block_size rows files →
         rows closing.stripe ≡ Some closing.row →
-        Sound (closed_by closing table) files (snapshot_by closing snapshot) (changed_by closing is_changed) }
+        Sound (closed_by closing table) files (snapshot_by closing snapshot)
+        (changed_by table.shape.levels closing is_changed) }
 {
     closing_a_stripe_leaves_the_others();
 }
 
 /// The same for distinct stripes that are closed one after another.
 pub fn closing_written_stripes_stays_sound()
-    ensures { (table : TableValue) (files : Files) (snapshot : Snapshot) (is_changed : ℕ → ℕ → Bool)
+    ensures { (table : TableValue) (files : Files) (snapshot : Closed) (is_changed : ℕ → ℕ → Bool)
         (closings : List Closing) (levels : ℕ) (rows : Rows) → Sound table files snapshot is_changed →
         AllPairs (λ (a b : Closing). a.stripe ≢ b.stripe) closings → All (IsClosing table) closings →
         table.shape.levels ≤ levels → HoldsRows levels table.shape.block_size rows files →
         All (λ (closing : Closing). rows closing.stripe ≡ Some closing.row) closings →
         Sound (closed_by_all closings table) files (snapshot_by_all closings snapshot)
-        (changed_by_all closings is_changed) }
+        (changed_by_all table.shape.levels closings is_changed) }
 {
     closing_a_stripe_gives_its_hashes();
     closing_a_stripe_leaves_the_others();
@@ -135,7 +163,7 @@ pub fn closing_written_stripes_stays_sound()
 
 /// What is sound with fewer blocks changed from outside, is sound with more.
 pub fn more_changes_are_as_sound()
-    ensures { (table : TableValue) (files : Files) (snapshot : Snapshot) (is_changed others : ℕ → ℕ → Bool) →
+    ensures { (table : TableValue) (files : Files) (snapshot : Closed) (is_changed others : ℕ → ℕ → Bool) →
         Sound table files snapshot is_changed →
         ((stripe level : ℕ) → others stripe level ≡ false → is_changed stripe level ≡ false) →
         Sound table files snapshot others }

@@ -1,6 +1,6 @@
 -- What a fix leaves of the files of its table, where it leaves no finding.
 use Rattle.std.proofs.Common.{◌≡◌, ◌⊎◌, inl, inr, ⊎_elim, ℕ, zero, suc, ◌<◌, ◌&&◌, ◌||◌, List, [], ◌∷◌, ◌++◌, length, get_or, Bool, true, false, if◌then◌else◌, IsTrue, Option, None, Some, refl, sym, ap, ap₂, ◌∙◌, subst, arith}
-use Rattle.std.specs.Prelude.{All, bytes_eq, count_by, is_some, not}
+use Rattle.std.specs.Prelude.{All, bytes_eq, count_by, not}
 use Rattle.std.specs.Cmp.Lexicographic.{nat_list_cmp_total}
 use Rattle.std.specs.FinMap as finite
 use Rattle.std.specs.FinMap.{nat_cmp-IsAntisymmetric, slice_cmp-IsAntisymmetric}
@@ -28,7 +28,6 @@ use Rattle.snap_fix.proofs.FixCountLemmas.{count_append}
 use Rattle.snap_report.specs.Kind.{is_left}
 use Rattle.snap_report.specs.declared.events.Event.{Event}
 use Rattle.snap_report.specs.declared.events.Event.TheVariants as event
-use Rattle.stripe_examiner.specs.Facts.{is_missing}
 use Rattle.stripe_examiner.specs.Findings.{all_cell_events, all_level_events, all_level_io_events, all_lost_events, changed_event, column_events, file_events, is_lost, lost_event, lost_events, opening_events, record_events, stripe_events, unsynced_events}
 use Rattle.repair_scope.specs.Plan.{FixPlan, cell_at, entry_at, is_audit}
 use Rattle.repair_scope.specs.declared.entry.Entry.{Entry}
@@ -98,10 +97,10 @@ loses_by false false true stripe d i (Some cell) is there none = absurd (let cla
 loses_by false false false stripe d i (Some cell) is there none = and_none (is_of i (Some cell))
 
 lost_part : (plan : FixPlan) (mended : Mended) → count_by is_left (mended_events plan mended) ≡ 0
-    → count_by is_left (all_lost_events plan mended.facts.stripe (is_missing plan mended.facts) (is_some mended.facts.row)) ≡ 0
+    → count_by is_left (all_lost_events plan mended.facts.stripe (is_lost plan mended.facts)) ≡ 0
 lost_part plan mended none =
     let facts = mended.facts in
-    let lost = all_lost_events plan facts.stripe (is_missing plan facts) (is_some facts.row) in
+    let lost = all_lost_events plan facts.stripe (is_lost plan facts) in
     let levels = all_level_events plan facts.stripe facts.levels facts.row in
     let ios = all_level_io_events plan facts.stripe facts.levels in
     let cells = all_cell_events plan facts.stripe facts.slots in
@@ -117,9 +116,9 @@ pub none_lost : (plan : FixPlan) (stripes : List Mended) → is_audit plan.scope
 none_lost plan stripes audits none answered d i below = list_any_none (loses plan d i) stripes (λ k e within.
     let mended : Mended = get_or stripes k e in
     let facts = mended.facts in
-    loses_by (is_audit plan.scope.mode) (is_lost plan facts.stripe (is_missing plan facts d) (is_some facts.row) d) (is_gone plan mended d) facts.stripe d i (cell_at plan facts.stripe d) audits
+    loses_by (is_audit plan.scope.mode) (is_lost plan facts d) (is_gone plan mended d) facts.stripe d i (cell_at plan facts.stripe d) audits
     (gone_none (is_repaired plan facts d) (answer_of mended d) (answered k e within d below))
-    (range_none (λ (c : ℕ). lost_events plan facts.stripe (is_missing plan facts c) (is_some facts.row) c) (length plan.table.columns) d below (lost_part plan mended (flat_none (mended_events plan) stripes e none k within))))
+    (range_none (λ (c : ℕ). lost_events plan facts.stripe (is_lost plan facts c) c) (length plan.table.columns) d below (lost_part plan mended (flat_none (mended_events plan) stripes e none k within))))
 
 -- ---- the files of a record
 

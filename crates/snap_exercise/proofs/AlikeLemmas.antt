@@ -82,8 +82,8 @@ module _ (determined : IsDetermined) (plan : FixPlan) (valid : IsValid plan.tabl
   repaired : (d : ℕ) → is_repaired plan one.facts d ≡ is_repaired plan other.facts d
   repaired d =
       ap (λ (facts : StripeFacts). is_repaired plan facts d) mid_is
-      ∙ ap (λ (damaged : Bool). selects_cell plan other.facts.stripe d && damaged && is_some (known_block other.facts d) && not (is_blocked_cell plan d (cell_at plan other.facts.stripe d)))
-      (damaged_same (seen_at plan other.facts.stripe d) (slot_of one.facts d) (slot_of other.facts d) (alike d))
+      ∙ ap (λ (damaged : Bool). selects_cell plan other.facts.stripe d && damaged && is_some (known_block plan other.facts d) && not (is_blocked_cell plan d (cell_at plan other.facts.stripe d)))
+      (damaged_same plan.table.shape.kind (seen_at plan other.facts.stripe d) (slot_of one.facts d) (slot_of other.facts d) (alike d))
 
   is_written_same : (d : ℕ) → d < many → is_written plan one d ≡ is_written plan other d
   is_written_same d below = both_and (is_repaired plan one.facts d) (is_repaired plan other.facts d) (answer_of one d) (answer_of other d) (repaired d) (fits d below) (fits_then d below)

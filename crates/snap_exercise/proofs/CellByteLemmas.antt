@@ -21,7 +21,7 @@ use Rattle.file_table.specs.declared.block.Cell.{Cell}
 use Rattle.file_table.specs.declared.shape.Shape.{Shape}
 use Rattle.parity_writer.specs.Keeps.{HasByte}
 use Rattle.parity_writer.specs.Parity.{Row}
-use Rattle.parity_writer.specs.Sound.{IsBlockAt}
+use Rattle.parity_writer.specs.Sound.{IsBlockAt, IsRowOf}
 use Rattle.parity_writer.specs.WindowRow.{bytes_of}
 use Rattle.snap_exercise.proofs.SeenLemmas.{KeptAlike, bytes_same}
 use Rattle.snap_exercise.proofs.UndamagedLemmas.{CameOf, given_came, read_byte}
@@ -31,7 +31,8 @@ use Rattle.snap_fix.specs.Mended.{Mended, answer_of, has_lost, is_blocked_cell}
 use Rattle.snap_fix.specs.Restored.{HasFixed, HasFixedRecord, HoldsCell, IsNotWritten, RestoresGenuine}
 use Rattle.snap_sync.proofs.CellLemmas.{IsWhole, whole_of}
 use Rattle.stripe_examiner.proofs.CellFactsLemmas.{given_found}
-use Rattle.stripe_examiner.specs.Facts.{IsGift, StripeFacts, agrees, damaged_at, is_damaged, slot_of}
+use Rattle.stripe_reader.specs.Agreeing.{matches_digest}
+use Rattle.stripe_examiner.specs.Facts.{IsGift, StripeFacts, damaged_at, is_damaged, slot_of}
 use Rattle.repair_scope.specs.Plan.{FixPlan, cell_at, entry_at, seen_at, selects_cell}
 use Rattle.stripe_examiner.specs.Present.{IsPresent}
 use Rattle.stripe_examiner.specs.Showing.{known_block}
@@ -77,9 +78,9 @@ not_false : (b : Bool) → not b ≡ false → b ≡ true
 not_false true is = refl
 not_false false is = absurd (let clash : true ≡ false = is in cc)
 
-agreed : (recorded came : Option Digest16) (mine its : Digest16) → recorded ≡ Some mine → came ≡ Some its → agrees recorded came ≡ true → recorded ≡ Some its
+agreed : (recorded came : Option Digest16) (mine its : Digest16) → recorded ≡ Some mine → came ≡ Some its → matches_digest recorded came ≡ true → recorded ≡ Some its
 agreed recorded came mine its recorded_is came_is is =
-    let both : agrees (Some mine) (Some its) ≡ true = sym (ap₂ (λ (a b : Option Digest16). agrees a b) recorded_is came_is) ∙ is in
+    let both : matches_digest (Some mine) (Some its) ≡ true = sym (ap₂ (λ (a b : Option Digest16). matches_digest a b) recorded_is came_is) ∙ is in
     let same : mine.0 ≡ its.0 = (bytes_eq-Decides mine.0 its.0).0 both in
     recorded_is ∙ ap (λ (bytes : List ℕ). let digest : Digest16 = record { 0 = bytes } in Some digest) same
 
@@ -92,7 +93,7 @@ module _ (restores : RestoresGenuine) (leaves : LeavesBytes) (plan : FixPlan) (s
     (fixed : HasFixed plan starts stripes finishes firsts news) (d : ℕ) (below : d < length plan.table.columns) (tells : IsTrue (folder_at firsts d).tells)
     (facts : StripeFacts) (one : Contains (facts_of stripes) facts) (cell : Cell) (cell_is : cell_at plan facts.stripe d ≡ Some cell) (inside : cell.rec < length (records_in plan.table d))
     (selected : selects_cell plan facts.stripe d ≡ true) (free : (entry_at plan d cell.rec).blocked ≡ false) (whole_file : has_lost plan stripes d cell.rec ≡ false)
-    (row : Row) (genuine : HasGenuineFacts plan starts firsts row facts) (bytes : AreRowBytes row) (is_intact : ℕ → Bool) (intact : TellsIntactLevels plan facts row is_intact) (can : IsRestorableStripe plan facts is_intact)
+    (row : Row) (genuine : HasGenuineFacts plan starts firsts row facts) (exactly : IsRowOf plan.table.shape (stripe_view plan.table facts.stripe) row) (bytes : AreRowBytes row) (is_intact : ℕ → Bool) (intact : TellsIntactLevels plan facts row is_intact) (can : IsRestorableStripe plan facts is_intact)
     (no_lost : file_of (folder_at firsts d).tree (path_of (record_path (records_in plan.table d) cell.rec) true) ≡ None)
     (alike : (mended : Mended) → Contains stripes mended → cell_at plan mended.facts.stripe d ≡ Some cell → damaged_at plan mended.facts d ≡ damaged_at plan facts d)
     (file : File) (there : file_of (folder_at news d).tree (path_of (record_path (records_in plan.table d) cell.rec) false) ≡ Some file) where
@@ -130,7 +131,7 @@ module _ (restores : RestoresGenuine) (leaves : LeavesBytes) (plan : FixPlan) (s
   by_restored : damaged_at plan facts d ≡ true → (p : ℕ) → p < n → HasIt file.bytes p
   by_restored damaged p under =
       let holds : HoldsCell plan.table d cell (has_lost plan stripes d cell.rec) (byte_of row d) (folder_at news d).tree
-      = restores plan starts stripes finishes firsts news facts d cell row is_intact fixed (record { one = one; column = below; cell_is = cell_is; selected = selected; damaged = damaged }) genuine bytes intact free tells (inr can) in
+      = restores plan starts stripes finishes firsts news facts d cell row is_intact fixed (record { one = one; column = below; cell_is = cell_is; selected = selected; damaged = damaged }) genuine bytes intact free tells (record { sought = (and_parts _ _ genuine.searched).0; had = inr can }) in
       let plain : HoldsCell plan.table d cell false (byte_of row d) (folder_at news d).tree = subst (λ (b : Bool). HoldsCell plan.table d cell b (byte_of row d) (folder_at news d).tree) whole_file holds in
       let both : Some plain.file ≡ Some file = sym plain.there ∙ there in
       let same : plain.file ≡ file = cc in
@@ -141,11 +142,11 @@ module _ (restores : RestoresGenuine) (leaves : LeavesBytes) (plan : FixPlan) (s
     present : IsPresent shape (folder_at firsts d) (task_at plan.table starts d facts.stripe) slot
     present = genuine.present 0 facts (omega arith) d below
 
-    passes : (is_some slot.digest && agrees here.hash slot.digest) ≡ true
-    passes = not_false (is_some slot.digest && agrees here.hash slot.digest) (ap (λ (v : Option CellView). is_damaged v slot) (sym seen_is) ∙ right)
+    passes : (is_some slot.digest && matches_digest here.hash slot.digest) ≡ true
+    passes = not_false (is_some slot.digest && matches_digest here.hash slot.digest) (ap (λ (v : Option CellView). is_damaged plan.table.shape.kind v slot) (sym seen_is) ∙ right)
 
     whole : IsWhole present.reading
-    whole = whole_of shape present.reading (ap (λ (digest : Option Digest16). is_some digest) (sym present.digest) ∙ (and_parts (is_some slot.digest) (agrees here.hash slot.digest) passes).0)
+    whole = whole_of shape present.reading (ap (λ (digest : Option Digest16). is_some digest) (sym present.digest) ∙ (and_parts (is_some slot.digest) (matches_digest here.hash slot.digest) passes).0)
 
     abbrev its_start : Start
     its_start = start_in (starts_at starts.columns d) cell.rec
@@ -168,10 +169,10 @@ module _ (restores : RestoresGenuine) (leaves : LeavesBytes) (plan : FixPlan) (s
     was : IsBlockAt shape (Some here) (get_or row d [])
     was =
         let long : length (stripe_view plan.table facts.stripe).cells ≡ length plan.table.columns = length-map plan.table.columns (λ (its : Column). cell_view its facts.stripe) in
-        subst (λ (v : Option CellView). IsBlockAt shape v (get_or row d [])) (get_or-map (λ (its : Column). cell_view its facts.stripe) plan.table.columns d no_column None below ∙ seen_is) (genuine.was.blocks d (omega (arith, below, long)))
+        subst (λ (v : Option CellView). IsBlockAt shape v (get_or row d [])) (get_or-map (λ (its : Column). cell_view its facts.stripe) plan.table.columns d no_column None below ∙ seen_is) (exactly.blocks d (omega (arith, below, long)))
 
     hash_is : here.hash ≡ Some its_digest
-    hash_is = agreed here.hash slot.digest _ its_digest was.hash (present.digest ∙ ap (λ (its : CellReading). (kept shape its).digest) whole.is) (and_parts (is_some slot.digest) (agrees here.hash slot.digest) passes).1
+    hash_is = agreed here.hash slot.digest _ its_digest was.hash (present.digest ∙ ap (λ (its : CellReading). (kept shape its).digest) whole.is) (and_parts (is_some slot.digest) (matches_digest here.hash slot.digest) passes).1
 
     gift : IsGift shape here (bytes_of slot)
     gift = subst (IsGift shape here) (sym bytes_are) (record { long = placed.1; hash_is = hash_is })
@@ -181,7 +182,7 @@ module _ (restores : RestoresGenuine) (leaves : LeavesBytes) (plan : FixPlan) (s
 
     unwritten : IsNotWritten plan stripes d cell
     unwritten mended among its =
-        unwritten_by (selects_cell plan mended.facts.stripe d) (damaged_at plan mended.facts d) (is_some (known_block mended.facts d)) (not (is_blocked_cell plan d (cell_at plan mended.facts.stripe d))) (answer_of mended d)
+        unwritten_by (selects_cell plan mended.facts.stripe d) (damaged_at plan mended.facts d) (is_some (known_block plan mended.facts d)) (not (is_blocked_cell plan d (cell_at plan mended.facts.stripe d))) (answer_of mended d)
         (alike mended among its ∙ right)
 
     by_left : (p : ℕ) → p < n → HasIt file.bytes p

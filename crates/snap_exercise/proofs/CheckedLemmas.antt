@@ -240,7 +240,7 @@ module _ (laid : IsLaidByTrees) (read : IsReadByTrees) (leaves : LeavesTheOthers
           (verified_of laid read leaves gives exactly no_change finds n synced fixed checked last is facts.stripe below)
           (seen_before laid read leaves gives exactly no_change finds n synced fixed checked last is facts.stripe d below under)
 
-      right : is_damaged (seen_at plan facts.stripe d) (slot_of facts d) ≡ false
+      right : is_damaged plan.table.shape.kind (seen_at plan facts.stripe d) (slot_of facts d) ≡ false
       right = undamaged finds start its_table differs_so (trees n) (trees n) (lists_of n) d facts.stripe under listed refl
           (verified_of laid read leaves gives exactly no_change finds n synced fixed checked last is facts.stripe below)
           (seen_before laid read leaves gives exactly no_change finds n synced fixed checked last is facts.stripe d below under) (slot_of facts d) alike

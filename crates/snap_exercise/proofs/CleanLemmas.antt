@@ -18,8 +18,10 @@ use Rattle.snap_exercise.proofs.AlikeLemmas.{in_range}
 use Rattle.snap_exercise.proofs.ClosingLemmas.{flat_empty}
 use Rattle.snap_report.specs.declared.events.Event.{Event}
 use Rattle.snap_report.specs.declared.events.Event.TheVariants as event
-use Rattle.stripe_examiner.specs.Facts.{StripeFacts, agrees, is_damaged, is_missing, slot_of}
-use Rattle.stripe_examiner.specs.Findings.{all_cell_events, all_level_events, all_level_io_events, all_lost_events, cell_events, differs, is_unread, is_unread_level, is_wrong, is_wrong_by, level_events, level_io_events, lost_event, lost_events, read_events, silent_event, stripe_events, unsynced_events}
+use Rattle.stripe_reader.specs.Agreeing.{matches_digest}
+use Rattle.stripe_examiner.specs.Facts.{StripeFacts, damaged_at, is_damaged, slot_of}
+use Rattle.stripe_examiner.specs.Showing.{known_block}
+use Rattle.stripe_examiner.specs.Findings.{all_cell_events, all_level_events, all_level_io_events, all_lost_events, cell_events, differs, is_unread, is_unread_level, is_wrong, is_wrong_by, level_events, level_io_events, is_lost, lost_event, lost_events, read_events, silent_event, stripe_events, unsynced_events, may_write_level}
 use Rattle.repair_scope.specs.Plan.{FixPlan, cell_at, entry_at, has_selected_cell, is_audit, is_synced, seen_at, selects_cell, selects_level}
 use Rattle.repair_scope.specs.Selected.{is_as_recorded}
 use Rattle.repair_scope.specs.declared.entry.Entry.{Entry}
@@ -50,22 +52,22 @@ not_so false is = absurd (let clash : true ≡ false = is in cc)
 
 -- ---- a cell
 
-silent_by : (stripe d : ℕ) (cell : Cell) (recorded came : Option Digest16) → agrees recorded came ≡ true → silent_event stripe d cell recorded came ≡ []
+silent_by : (stripe d : ℕ) (cell : Cell) (recorded came : Option Digest16) → matches_digest recorded came ≡ true → silent_event stripe d cell recorded came ≡ []
 silent_by stripe d cell None came is = refl
 silent_by stripe d cell (Some mine) None is = refl
 silent_by stripe d cell (Some mine) (Some its) is = ap (λ (b : Bool). if b then [] else event.Silent stripe d cell.rec cell.index mine its ∷ []) is
 
-cell_clean : (plan : FixPlan) (stripe d : ℕ) (cell : Option Cell) (slot : SlotValue) → cell_at plan stripe d ≡ cell → is_damaged (seen_at plan stripe d) slot ≡ false → is_unread slot.cell.found ≡ false → read_events plan stripe slot d cell ≡ []
+cell_clean : (plan : FixPlan) (stripe d : ℕ) (cell : Option Cell) (slot : SlotValue) → cell_at plan stripe d ≡ cell → is_damaged plan.table.shape.kind (seen_at plan stripe d) slot ≡ false → is_unread slot.cell.found ≡ false → read_events plan stripe slot d cell ≡ []
 cell_clean plan stripe d None slot is right came = refl
 cell_clean plan stripe d (Some cell) slot is right came =
     let seen : CellView = cell_seen (column_at plan.table.columns d) cell in
     let entry : Entry = entry_at plan d cell.rec in
     let seen_is : seen_at plan stripe d ≡ Some seen = ap (option_map (cell_seen (column_at plan.table.columns d))) is in
-    let passes : (is_some slot.digest && agrees seen.hash slot.digest) ≡ true
-    = not_so (is_some slot.digest && agrees seen.hash slot.digest) (ap (λ (v : Option CellView). is_damaged v slot) (sym seen_is) ∙ right) in
+    let passes : (is_some slot.digest && matches_digest seen.hash slot.digest) ≡ true
+    = not_so (is_some slot.digest && matches_digest seen.hash slot.digest) (ap (λ (v : Option CellView). is_damaged plan.table.shape.kind v slot) (sym seen_is) ∙ right) in
     ap (λ (b : Bool). if b then event.Io stripe d cell.rec cell.index ∷ [] else if is_as_recorded seen.meta entry.listed then silent_event stripe d cell seen.hash slot.digest else []) came
     ∙ if_nil (is_as_recorded seen.meta entry.listed) (silent_event stripe d cell seen.hash slot.digest)
-    (silent_by stripe d cell seen.hash slot.digest (and_parts (is_some slot.digest) (agrees seen.hash slot.digest) passes).1)
+    (silent_by stripe d cell seen.hash slot.digest (and_parts (is_some slot.digest) (matches_digest seen.hash slot.digest) passes).1)
 
 -- ---- a level
 
@@ -82,17 +84,16 @@ unsynced_none true true has stripe is = refl
 unsynced_none false true has stripe is = refl
 unsynced_none audit false has stripe is = absurd (let clash : false ≡ true = is in cc)
 
-lost_none : (audit selected missing known : Bool) (events : List Event) → known ≡ true → (if not audit && (selected && missing && not known) then events else []) ≡ []
-lost_none true selected missing known events is = refl
-lost_none false false missing known events is = refl
+lost_none : (audit selected damaged known : Bool) (events : List Event) → damaged ≡ false → (if not audit && (selected && (damaged && not known)) then events else []) ≡ []
+lost_none true selected damaged known events is = refl
+lost_none false false damaged known events is = refl
 lost_none false true false known events is = refl
-lost_none false true true true events is = refl
-lost_none false true true false events is = absurd (let clash : false ≡ true = is in cc)
+lost_none false true true known events is = absurd (let clash : true ≡ false = is in cc)
 
 -- What is known of a stripe that is clean.
 pub record IsClean (plan : FixPlan) (facts : StripeFacts) (row : Row) : Type 0 where
   pub synced : is_synced plan facts.stripe ≡ true
-  pub right : (d : ℕ) → d < length plan.table.columns → is_damaged (seen_at plan facts.stripe d) (slot_of facts d) ≡ false
+  pub right : (d : ℕ) → d < length plan.table.columns → is_damaged plan.table.shape.kind (seen_at plan facts.stripe d) (slot_of facts d) ≡ false
   pub came : (d : ℕ) → d < length plan.table.columns → is_unread (slot_of facts d).cell.found ≡ false
   pub whole : (r : ℕ) → r < length facts.levels → (get_or facts.levels r no_level).state ≡ here.Bytes
   pub sums : (r : ℕ) → r < length facts.levels → (get_or facts.levels r no_level).block ≡ level_of r plan.table.shape.block_size row
@@ -100,7 +101,7 @@ pub record IsClean (plan : FixPlan) (facts : StripeFacts) (row : Row) : Type 0 w
 
 pub none_found : (plan : FixPlan) (facts : StripeFacts) (row : Row) → IsClean plan facts row → stripe_events plan facts ≡ []
 none_found plan facts row is =
-    let lost = all_lost_events plan facts.stripe (is_missing plan facts) (is_some facts.row) in
+    let lost = all_lost_events plan facts.stripe (is_lost plan facts) in
     let levels = all_level_events plan facts.stripe facts.levels facts.row in
     let ios = all_level_io_events plan facts.stripe facts.levels in
     let cells = all_cell_events plan facts.stripe facts.slots in
@@ -117,8 +118,8 @@ none_found plan facts row is =
     (both_empty levels lost
     (range_empty (λ r. level_events plan facts.stripe (get_or facts.levels r no_level) facts.row r) (length facts.levels) (λ r below.
     never (is_wrong plan facts.stripe (get_or facts.levels r no_level) facts.row r) (event.Parity facts.stripe r ∷ [])
-    (ap (λ (b : Bool). selects_level plan facts.stripe r && b) (level_right plan.table.shape.block_size r (get_or facts.levels r no_level) facts.row row (is.whole r below) (is.sums r below) is.known)
-    ∙ and_false (selects_level plan facts.stripe r))))
-    (range_empty (λ d. lost_events plan facts.stripe (is_missing plan facts d) (is_some facts.row) d) (length plan.table.columns) (λ d below.
-    lost_none (is_audit plan.scope.mode) (selects_cell plan facts.stripe d) (is_missing plan facts d) (is_some facts.row) (lost_event facts.stripe d (cell_at plan facts.stripe d))
-    (ap (λ (known : Option Row). is_some known) is.known))))))
+    (ap (λ (b : Bool). may_write_level plan facts.stripe r && b) (level_right plan.table.shape.block_size r (get_or facts.levels r no_level) facts.row row (is.whole r below) (is.sums r below) is.known)
+    ∙ and_false (may_write_level plan facts.stripe r))))
+    (range_empty (λ d. lost_events plan facts.stripe (is_lost plan facts d) d) (length plan.table.columns) (λ d below.
+    lost_none (is_audit plan.scope.mode) (selects_cell plan facts.stripe d) (damaged_at plan facts d) (is_some (known_block plan facts d)) (lost_event facts.stripe d (cell_at plan facts.stripe d))
+    (is.right d below))))))

@@ -16,8 +16,10 @@ use Rattle.snap_fix.proofs.FixCountLemmas.{count_append}
 use Rattle.snap_report.specs.Kind.{is_left}
 use Rattle.snap_report.specs.declared.events.Event.{Event}
 use Rattle.snap_report.specs.declared.events.Event.TheVariants as event
-use Rattle.stripe_examiner.specs.Facts.{StripeFacts, is_missing}
-use Rattle.stripe_examiner.specs.Findings.{all_cell_events, all_level_events, all_level_io_events, all_lost_events, blocked_event, cell_events, changed_event, column_events, is_unread, is_unread_level, is_wrong, level_events, level_io_events, lost_event, lost_events, opening_events, read_event, read_events, record_events, silent_event, stripe_events, unsynced_events}
+use Rattle.parity_writer.specs.Parity.{Row}
+use Rattle.stripe_examiner.specs.Facts.{StripeFacts, damaged_at, gift_of}
+use Rattle.stripe_examiner.specs.Showing.{known_block, known_by}
+use Rattle.stripe_examiner.specs.Findings.{all_cell_events, all_level_events, all_level_io_events, all_lost_events, blocked_event, cell_events, changed_event, column_events, is_unread, is_unread_level, is_wrong, level_events, level_io_events, is_lost, lost_event, lost_events, opening_events, read_event, read_events, record_events, silent_event, stripe_events, unsynced_events}
 use Rattle.repair_scope.specs.Plan.{FixPlan, cell_at, entry_at, has_selected_cell, is_audit, is_synced, selects_cell, selects_level}
 use Rattle.repair_scope.specs.Selected.{is_as_recorded}
 use Rattle.repair_scope.specs.declared.entry.Entry.{Entry}
@@ -81,9 +83,9 @@ unsynced_by true true has stripe is = refl
 unsynced_by false true has stripe is = refl
 unsynced_by audit false has stripe is = absurd (let clash : false ≡ true = is in cc)
 
-lost_by : (audit selected missing known : Bool) (events : List Event) → known ≡ true → left_in (if not audit && (selected && missing && not known) then events else []) ≡ 0
-lost_by true selected missing known events is = refl
-lost_by false false missing known events is = refl
+lost_by : (audit selected damaged known : Bool) (events : List Event) → known ≡ true → left_in (if not audit && (selected && (damaged && not known)) then events else []) ≡ 0
+lost_by true selected damaged known events is = refl
+lost_by false false damaged known events is = refl
 lost_by false true false known events is = refl
 lost_by false true true true events is = refl
 lost_by false true true false events is = absurd (let clash : false ≡ true = is in cc)
@@ -95,6 +97,14 @@ fixed_left stripe d (Some cell) = refl
 news_left : (repaired answer : Bool) (stripe d : ℕ) (cell : Option Cell) → (repaired ≡ true → answer ≡ true) → left_in (if repaired then mended_event stripe d cell answer else []) ≡ 0
 news_left true answer stripe d cell says = ap (λ (b : Bool). left_in (mended_event stripe d cell b)) (says refl) ∙ fixed_left stripe d cell
 news_left false answer stripe d cell says = refl
+
+-- in a synced stripe each block is known where the row is
+known_where_row : (synced : Bool) (gift : Option (List ℕ)) (row : Option Row) (d : ℕ) → synced ≡ true → is_some row ≡ true
+    → (let it : Option (List ℕ) = (if synced then known_by synced gift row d else None) in is_some it ≡ true)
+known_where_row false gift row d is some = absurd (let clash : false ≡ true = is in cc)
+known_where_row true (Some given) row d is some = refl
+known_where_row true None (Some row) d is some = refl
+known_where_row true None None d is some = absurd (let clash : false ≡ true = some in cc)
 
 -- What is known of a stripe of which nothing is left: it is synced, its row is known, and no level is wrong.
 pub record IsMended (plan : FixPlan) (facts : StripeFacts) : Type 0 where
@@ -114,7 +124,7 @@ module _ (plan : FixPlan) (mended : Mended) (is : IsMended plan mended.facts) (a
 
   stripe_left : left_in (stripe_events plan facts) ≡ 0
   stripe_left =
-      let lost = all_lost_events plan facts.stripe (is_missing plan facts) (is_some facts.row) in
+      let lost = all_lost_events plan facts.stripe (is_lost plan facts) in
       let levels = all_level_events plan facts.stripe facts.levels facts.row in
       let ios = all_level_io_events plan facts.stripe facts.levels in
       let cells = all_cell_events plan facts.stripe facts.slots in
@@ -129,8 +139,9 @@ module _ (plan : FixPlan) (mended : Mended) (is : IsMended plan mended.facts) (a
       (both_left levels lost
       (range_left (λ r. level_events plan facts.stripe (get_or facts.levels r no_level) facts.row r) (length facts.levels) (λ r below.
       if_left (is_wrong plan facts.stripe (get_or facts.levels r no_level) facts.row r) (event.Parity facts.stripe r ∷ []) refl))
-      (range_left (λ d. lost_events plan facts.stripe (is_missing plan facts d) (is_some facts.row) d) many (λ d below.
-      lost_by (is_audit plan.scope.mode) (selects_cell plan facts.stripe d) (is_missing plan facts d) (is_some facts.row) (lost_event facts.stripe d (cell_at plan facts.stripe d)) is.known)))))
+      (range_left (λ d. lost_events plan facts.stripe (is_lost plan facts d) d) many (λ d below.
+      lost_by (is_audit plan.scope.mode) (selects_cell plan facts.stripe d) (damaged_at plan facts d) (is_some (known_block plan facts d)) (lost_event facts.stripe d (cell_at plan facts.stripe d))
+      (known_where_row (is_synced plan facts.stripe) (gift_of facts d) facts.row d is.synced is.known))))))
 
   pub mended_left : left_in (mended_events plan mended) ≡ 0
   mended_left = both_left (stripe_events plan facts) (all_cell_news plan mended ++ all_level_news plan facts) stripe_left

@@ -11,13 +11,13 @@ use Rattle.disk_model.specs.Bytes.{read_from}
 use Rattle.disk_model.specs.Files.{Files, parity_of}
 use Rattle.disk_model.specs.Folder.{FolderView}
 use Rattle.disk_model.specs.Tree.{Tree, listing_of}
-use Rattle.file_table.specs.Cells.{cell_view}
+use Rattle.file_table.specs.Cells.{cell_view, stripe_view}
 use Rattle.file_table.specs.Closing.{DiffersInHashesAndInfos}
 use Rattle.file_table.specs.Table.{TableValue, column_at, info_at, is_synced_mark, no_info}
 use Rattle.parity_writer.specs.LevelReading.{kept_level}
 use Rattle.parity_writer.specs.LevelsValue.{no_level}
 use Rattle.parity_writer.specs.Parity.{HasLevel, HoldsRows, Row}
-use Rattle.parity_writer.specs.Sound.{IsSynced as IsSyncedStripe, Snapshot, Sound}
+use Rattle.parity_writer.specs.Sound.{IsSynced as IsSyncedStripe, Sound, Closed, last_row, IsRowOf}
 use Rattle.snap_exercise.specs.Exercise.{Summary}
 use Rattle.snap_exercise.specs.Exercised.{Array, IsCourse, IsExercise, damaged_lists, damaged_trees, fix_plan, readings_of, start_of, table_of_sync, vault_of}
 use Rattle.snap_exercise.specs.Generated.{first_table, moment, setup, trees, turned_tree}
@@ -30,7 +30,7 @@ use Rattle.snap_exercise.proofs.IntactLemmas.{WholeLevelsHold, restorable, tells
 use Rattle.snap_exercise.proofs.LawLemmas.{IsLaidByTrees, IsReadByTrees, eight, readings_are, start_is}
 use Rattle.snap_exercise.proofs.LeftLemmas.{IsMended, all_left, none_wrong, opening_left}
 use Rattle.snap_exercise.proofs.SeenLemmas.{IsDetermined}
-use Rattle.snap_exercise.proofs.SnapshotLemmas.{all_bare, row_bytes, seen_is, sound_by, synced_at, verified_at}
+use Rattle.snap_exercise.proofs.SnapshotLemmas.{all_bare, row_bytes, row_there, seen_is, sound_by, synced_at, verified_at}
 use Rattle.snap_exercise.proofs.UndamagedLemmas.{undamaged}
 use Rattle.snap_exercise.proofs.WholeLemmas.{one_summary}
 use Rattle.snap_fix.specs.Fixing.{facts_of}
@@ -56,13 +56,17 @@ use Rattle.stripe_examiner.specs.Present.{ArePresent}
 use Rattle.stripe_findings.specs.Reading.{AreRead, StripeReading, is_verified}
 use Rattle.stripe_reader.specs.Starts.{StartsValue}
 
+-- of each stripe the row that its sync reads, and none before it
+abbrev only_rows : ℕ → Closed
+only_rows n stripe = snapshot n stripe ∷ []
+
 -- what snap_fix says of a stripe in which no hash is met by chance
 abbrev pub GivesFacts : Type 0
-GivesFacts = (plan : FixPlan) (starts : StartsValue) (firsts : List FolderView) (read : Files) (rows : Snapshot) (is_changed : ℕ → ℕ → Bool) (stripes : List StripeFacts) (facts : StripeFacts)
-    → AreGenuineOf plan starts firsts read rows is_changed stripes → Contains stripes facts → is_searched plan facts.stripe ≡ true → HasGenuineFacts plan starts firsts (rows facts.stripe) facts
+GivesFacts = (plan : FixPlan) (starts : StartsValue) (firsts : List FolderView) (read : Files) (rows : Closed) (is_changed : ℕ → ℕ → Bool) (stripes : List StripeFacts) (facts : StripeFacts)
+    → AreGenuineOf plan starts firsts read rows is_changed stripes → Contains stripes facts → is_searched plan facts.stripe ≡ true → HasGenuineFacts plan starts firsts (last_row rows facts.stripe) facts
 
 abbrev pub WrongWasChanged : Type 0
-WrongWasChanged = (plan : FixPlan) (starts : StartsValue) (firsts : List FolderView) (read : Files) (rows : Snapshot) (is_changed : ℕ → ℕ → Bool) (stripes : List StripeFacts) (facts : StripeFacts) (r : ℕ)
+WrongWasChanged = (plan : FixPlan) (starts : StartsValue) (firsts : List FolderView) (read : Files) (rows : Closed) (is_changed : ℕ → ℕ → Bool) (stripes : List StripeFacts) (facts : StripeFacts) (r : ℕ)
     → AreGenuineOf plan starts firsts read rows is_changed stripes → Contains stripes facts → is_wrong_level plan facts r ≡ true → is_changed facts.stripe r ≡ true
 
 abbrev pub KnownByCounting : Type 0
@@ -123,11 +127,14 @@ module _ (laid : IsLaidByTrees) (read : IsReadByTrees) (leaves : LeavesTheOthers
   holds_rows = subst (λ (rs : List StripeReading). HoldsRows start.shape.levels start.shape.block_size (rows_of start rs) files) (take_all (length (readings_of n)) (readings_of n) (omega arith))
       (parity_of_number laid read n synced fixed checked last is).rows_held
 
-  sound : Sound table files (snapshot n) (λ stripe level. false)
+  sound : Sound table files (only_rows n) (λ stripe level. false)
   sound = sound_by start (trees n) (bare n) leaves gives verified moment finds is.sync.listed new.folders are_read folders files holds_rows
 
-  pub sound_of : Sound table files (snapshot n) (λ stripe level. false)
+  pub sound_of : Sound table files (only_rows n) (λ stripe level. false)
   sound_of = sound
+
+  row_of_stripe : (s : ℕ) → IsSyncedStripe table s → IsRowOf table.shape (stripe_view table s) (snapshot n s)
+  row_of_stripe = row_there start (trees n) (bare n) leaves gives verified moment finds is.sync.listed new.folders are_read folders
 
   pub verified_of : (s : ℕ) → s < length start.infos → is_verified start (reading_by start (trees n) s) ≡ true
   verified_of = verified_at start (trees n) (bare n) leaves gives verified moment
@@ -174,7 +181,7 @@ module _ (laid : IsLaidByTrees) (read : IsReadByTrees) (leaves : LeavesTheOthers
 
   module _ (saves : SavesValid) (gives_facts : GivesFacts) (was_changed : WrongWasChanged) (by_counting : KnownByCounting) (holds : WholeLevelsHold) (just : IsOfKept)
       (genuine : AreGenuine is.fix.plan (snapshot n) found) where
-    are_genuine : AreGenuineOf plan starts is.fix.mids files (snapshot n) (λ stripe level. false) found
+    are_genuine : AreGenuineOf plan starts is.fix.mids files (only_rows n) (λ stripe level. false) found
     are_genuine = record {
       valid = valid_of_number laid read n synced fixed checked last is saves;
       are = fix_is.seen.are;
@@ -231,7 +238,10 @@ module _ (laid : IsLaidByTrees) (read : IsReadByTrees) (leaves : LeavesTheOthers
           (slot_of facts d) (fix_is.seen.came.slots k d within lt))
 
       pub is_genuine : HasGenuineFacts plan starts is.fix.mids (snapshot n facts.stripe) facts
-      is_genuine = gives_facts plan starts is.fix.mids files (snapshot n) (λ stripe level. false) found facts are_genuine one searched
+      is_genuine = gives_facts plan starts is.fix.mids files (only_rows n) (λ stripe level. false) found facts are_genuine one searched
+
+      pub its_row : IsRowOf table.shape (stripe_view table facts.stripe) (snapshot n facts.stripe)
+      its_row = row_of_stripe facts.stripe synced_stripe
 
       pub its_bytes : AreRowBytes (snapshot n facts.stripe)
       its_bytes = row_bytes start (trees n) (bare n) leaves gives verified moment finds is.sync.listed new.folders are_read folders facts.stripe below
@@ -249,7 +259,7 @@ module _ (laid : IsLaidByTrees) (read : IsReadByTrees) (leaves : LeavesTheOthers
       is_mended = record {
         synced = is_synced_there;
         known = known;
-        right = λ r. not_true (is_wrong_level plan facts r) (λ wrong. was_changed plan starts is.fix.mids files (snapshot n) (λ stripe level. false) found facts r are_genuine one wrong);
+        right = λ r. not_true (is_wrong_level plan facts r) (λ wrong. was_changed plan starts is.fix.mids files (only_rows n) (λ stripe level. false) found facts r are_genuine one wrong);
       }
 
     abbrev facts_in : Mended → StripeFacts

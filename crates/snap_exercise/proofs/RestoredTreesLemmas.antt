@@ -39,7 +39,7 @@ use Rattle.snap_exercise.proofs.FreeLemmas.{IsOfKept, all_free}
 use Rattle.snap_exercise.proofs.HeldLemmas.{tree_of_folder}
 use Rattle.snap_exercise.proofs.IntactLemmas.{WholeLevelsHold}
 use Rattle.snap_exercise.proofs.LawLemmas.{IsLaidByTrees, IsReadByTrees}
-use Rattle.snap_exercise.proofs.MendsLemmas.{GivesFacts, KnownByCounting, WrongWasChanged, columns_of_start, is_genuine, its_bytes, its_intact, its_restorable, left_none, seen_before, verified_of}
+use Rattle.snap_exercise.proofs.MendsLemmas.{GivesFacts, KnownByCounting, WrongWasChanged, columns_of_start, is_genuine, its_bytes, its_intact, its_restorable, its_row, left_none, seen_before, verified_of}
 use Rattle.snap_exercise.proofs.NamedLemmas.{HasNoOthers, IsOfFile, damaged_others, few_files, file_at, made_file, made_record, no_others, not_lost, record_made, tree_is}
 use Rattle.snap_exercise.proofs.UndamagedLemmas.{row_byte}
 use Rattle.snap_exercise.proofs.WholeLemmas.{first_is, kept, left_of_number, many_fixed, selected_of, tells}
@@ -268,6 +268,7 @@ module _ (laid : IsLaidByTrees) (read : IsReadByTrees) (leaves : LeavesTheOthers
             = byte_at restores leaves_bytes plan starts stripes is.fix.finishes mids news has_fixed d below (its_tells d below) facts (All-contains_itself found s no_facts within) cell cell_is inside selected
             (all_free just n d i few below inside) (none_lost d i below) (snapshot n facts.stripe)
             (is_genuine laid read leaves gives exactly no_change finds n synced fixed checked last is saves gives_facts was_changed by_counting holds just genuine s within)
+            (its_row laid read leaves gives exactly no_change finds n synced fixed checked last is saves gives_facts was_changed by_counting holds just genuine s within)
             (its_bytes laid read leaves gives exactly no_change finds n synced fixed checked last is saves gives_facts was_changed by_counting holds just genuine s within)
             (λ r. true)
             (its_intact laid read leaves gives exactly no_change finds n synced fixed checked last is saves gives_facts was_changed by_counting holds just genuine s within)

@@ -14,11 +14,14 @@ use Rattle.parity_writer.specs.WindowRow.{bytes_found, bytes_of}
 use Rattle.snap_report.specs.declared.events.Event.{Event}
 use Rattle.snap_report.specs.declared.events.Event.TheVariants as event
 use Rattle.stripe_examiner.specs.Alike.{AreReadAlike, SeeAlike}
-use Rattle.stripe_examiner.specs.Facts.{StripeFacts, agrees, gift_of, gift_or, is_damaged, is_missing, row_before, slot_of, wanted_at, wanted_in}
-use Rattle.stripe_examiner.specs.Findings.{all_cell_events, all_level_events, all_level_io_events, all_lost_events, cell_events, events_of, is_unread, read_event, read_events, silent_event, stripe_events, unsynced_events}
+use Rattle.stripe_reader.specs.Agreeing.{matches_digest}
+use Rattle.block_hash.specs.declared.Kind.{Kind}
+use Rattle.stripe_examiner.specs.Facts.{StripeFacts, gift_of, gift_or, is_damaged, is_missing, row_before, slot_of, wanted_at, wanted_in}
+use Rattle.stripe_examiner.specs.Findings.{all_cell_events, all_level_events, all_level_io_events, all_lost_events, cell_events, events_of, is_lost, is_unread, read_event, read_events, silent_event, stripe_events, unsynced_events}
 use Rattle.stripe_examiner.specs.Known.{AreFacts, IsKnown, IsTried}
 use Rattle.stripe_examiner.specs.Looking.{facts_at}
 use Rattle.repair_scope.specs.Plan.{FixPlan, cell_at, entry_at, is_searched, seen_at, selects_cell}
+use Rattle.stripe_examiner.specs.Showing.{known_block}
 use Rattle.repair_scope.specs.Selected.{is_as_recorded}
 use Rattle.repair_scope.specs.declared.entry.Entry.{Entry}
 use Rattle.stripe_examiner.specs.declared.search.Wanted.{Wanted}
@@ -51,9 +54,9 @@ kept_both one other third a b = record {
   block = a.block ∙ sym b.block;
 }
 
-pub damaged_same : (seen : Option CellView) (one other : SlotValue) → KeptAlike one other → is_damaged seen one ≡ is_damaged seen other
-damaged_same None one other alike = refl
-damaged_same (Some cell) one other alike = ap (λ (came : Option Digest16). not (is_some came && agrees cell.hash came)) alike.digest
+pub damaged_same : (kind : Kind) (seen : Option CellView) (one other : SlotValue) → KeptAlike one other → is_damaged kind seen one ≡ is_damaged kind seen other
+damaged_same kind None one other alike = refl
+damaged_same kind (Some cell) one other alike = ap (λ (came : Option Digest16). not (is_some came && matches_digest cell.hash came)) alike.digest
 
 pub bytes_same : (one other : SlotValue) → KeptAlike one other → bytes_of one ≡ bytes_of other
 bytes_same one other alike =
@@ -95,7 +98,7 @@ module _ (determined : IsDetermined) (plan : FixPlan) (valid : IsValid plan.tabl
   mid = record other { slots = one.slots }
 
   missing : (d : ℕ) → is_missing plan mid d ≡ is_missing plan other d
-  missing d = ap (λ (damaged : Bool). damaged && not (is_some (gift_of other d))) (damaged_same (seen_at plan other.stripe d) (slot_of one d) (slot_of other d) (alike d))
+  missing d = ap (λ (damaged : Bool). damaged && not (is_some (gift_of other d))) (damaged_same plan.table.shape.kind (seen_at plan other.stripe d) (slot_of one d) (slot_of other d) (alike d))
 
   missing_same : ◌≡◌ {A = ℕ → Bool} (λ d. is_missing plan mid d) (λ d. is_missing plan other d)
   missing_same = fun_ext missing
@@ -136,6 +139,11 @@ module _ (determined : IsDetermined) (plan : FixPlan) (valid : IsValid plan.tabl
   cells_same : all_cell_events plan other.stripe one.slots ≡ all_cell_events plan other.stripe other.slots
   cells_same = ap (λ (of : ℕ → List Event). flat_map of (range_with_len 0 columns)) (fun_ext (λ (d : ℕ). cell_events_same plan other.stripe d (slot_of one d) (slot_of other d) (alike d)))
 
+  lost_same : ◌≡◌ {A = ℕ → Bool} (λ d. is_lost plan mid d) (λ d. is_lost plan other d)
+  lost_same = fun_ext (λ (d : ℕ).
+      ap (λ (damaged : Bool). selects_cell plan other.stripe d && (damaged && not (is_some (known_block plan other d))))
+      (damaged_same plan.table.shape.kind (seen_at plan other.stripe d) (slot_of one d) (slot_of other d) (alike d)))
+
   pub told_same : stripe_events plan one ≡ stripe_events plan other
   told_same =
       ap (stripe_events plan) is_mid
@@ -143,7 +151,7 @@ module _ (determined : IsDetermined) (plan : FixPlan) (valid : IsValid plan.tabl
       unsynced_events plan other.stripe ++ (cells
       ++ (all_level_io_events plan other.stripe other.levels
       ++ (all_level_events plan other.stripe other.levels other.row
-      ++ all_lost_events plan other.stripe lost (is_some other.row))))) cells_same missing_same
+      ++ all_lost_events plan other.stripe lost)))) cells_same lost_same
 
 -- ---- stripes
 

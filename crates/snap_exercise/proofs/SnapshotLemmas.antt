@@ -18,6 +18,7 @@ use Rattle.file_table.specs.Table.{Column, TableValue, blocks_of, column_at, end
 use Rattle.file_table.specs.declared.info.Info.{Info}
 use Rattle.file_table.specs.declared.shape.Shape.{Shape}
 use Rattle.parity_writer.specs.Parity.{HasLevel, HoldsRows, Row, no_rows}
+use Rattle.parity_writer.proofs.CellsLemmas.{one_more, row_has_cells, rows_by}
 use Rattle.parity_writer.specs.Sound.{IsRowOf, IsSynced, Sound}
 use Rattle.parity_writer.specs.WindowRow.{bytes_of}
 use Rattle.snap_exercise.proofs.AlikeLemmas.{in_range}
@@ -185,17 +186,22 @@ module _ (start : TableValue) (trees : List Tree) (bare : (stripe : ℕ) → inf
           (λ past. subst (λ (bs : List ℕ). get_or bs p 0 < 256) (sym (get_or_past (row_at s) c [] (omega (arith, past, length-map reading.slots bytes_of)))) (omega arith))
           (cases_lt c (length reading.slots))
 
+      same_shape : table.shape ≡ start.shape
+      same_shape = shape_closed start now all_read start
+
+      -- a synced stripe has the recorded hashes of its row
+      pub row_there : (s : ℕ) → IsSynced table s → IsRowOf table.shape (stripe_view table s) (row_at s)
+      row_there s synced =
+          let below : s < length start.infos = omega (arith, synced.within, long_table) in
+          subst (λ (shape : Shape). IsRowOf shape (stripe_view table s) (row_at s)) (sym same_shape) (subst (λ (view : StripeView). IsRowOf start.shape view (row_at s)) (sym (view_is s below)) (row_was s below))
+
       -- so the table is sound, with nothing changed from outside
-      pub sound_by : (files : Files) → HoldsRows start.shape.levels start.shape.block_size (rows_of start all_read) files → Sound table files row_at (λ stripe level. false)
+      pub sound_by : (files : Files) → HoldsRows start.shape.levels start.shape.block_size (rows_of start all_read) files → Sound table files (λ s. row_at s ∷ []) (λ stripe level. false)
       sound_by files holds = record {
-        rows = λ s synced.
-            let below : s < length start.infos = omega (arith, synced.within, long_table) in
-            subst (λ (shape : Shape). IsRowOf shape (stripe_view table s) (row_at s)) (sym same_shape) (subst (λ (view : StripeView). IsRowOf start.shape view (row_at s)) (sym (view_is s below)) (row_was s below));
+        was_closed = λ s synced. one_more (row_at s) [];
+        rows = rows_by table (λ s. row_at s ∷ []) (λ s synced. row_has_cells table.shape (stripe_view table s) (row_at s) (row_there s synced));
         sums = λ s level synced within unchanged.
             let below : s < length start.infos = omega (arith, synced.within, long_table) in
             let inside : level < start.shape.levels = omega (arith, within, ap (λ (shape : Shape). shape.levels) same_shape) in
             subst (λ (shape : Shape). HasLevel shape.block_size level s (row_at s) (parity_of files level)) (sym same_shape) (holds.level level s (row_at s) inside (row_is s below));
       }
-        where
-          same_shape : table.shape ≡ start.shape
-          same_shape = shape_closed start now all_read start

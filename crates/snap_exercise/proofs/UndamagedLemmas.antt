@@ -37,7 +37,9 @@ use Rattle.snap_sync.proofs.CellLemmas.{FindsCells, IsWhole, seen_task, task_see
 use Rattle.snap_sync.proofs.GivenLemmas.{right_in}
 use Rattle.snap_sync.proofs.SeenLemmas.{view_with}
 use Rattle.snap_sync.proofs.TasksLemmas.{task_at-same}
-use Rattle.stripe_examiner.specs.Facts.{agrees as matches, is_damaged}
+use Rattle.block_hash.specs.declared.Kind.{Kind}
+use Rattle.stripe_examiner.specs.Facts.{is_damaged}
+use Rattle.stripe_reader.specs.Agreeing.{matches_digest}
 use Rattle.stripe_examiner.proofs.CellFactsLemmas.{given_found}
 use Rattle.repair_scope.proofs.LookUpLemmas.{tied_paths}
 use Rattle.repair_scope.specs.Listed.{path_cmp}
@@ -134,9 +136,9 @@ read_byte file at n p bytes is long below =
 
 -- ---- a cell
 
-none_damaged : (digest : Option Digest16) (slot : SlotValue) → is_damaged (view_with digest None) slot ≡ false
-none_damaged None slot = refl
-none_damaged (Some given) slot = refl
+none_damaged : (kind : Kind) (digest : Option Digest16) (slot : SlotValue) → is_damaged kind (view_with digest None) slot ≡ false
+none_damaged kind None slot = refl
+none_damaged kind (Some given) slot = refl
 
 module _ (finds : FindsCells) (start table : TableValue) (differs : DiffersInHashesAndInfos start table) (trees others : List Tree) (lists : List (List ListedFile)) (d stripe : ℕ) (below : d < length start.columns)
     (listed : get_or lists d [] ≡ listing_of (tree_at trees d)) (same : tree_at others d ≡ tree_at trees d) (verified : is_verified start (reading_by start trees stripe) ≡ true)
@@ -236,10 +238,10 @@ module _ (finds : FindsCells) (start table : TableValue) (differs : DiffersInHas
     abbrev digest : Digest16
     digest = record { 0 = hash start.shape.kind start.shape.seed whole.bytes }
 
-    right_cell : (slot : SlotValue) → KeptAlike slot (held_slot table lists others d stripe) → is_damaged (seen_in table stripe d) slot ≡ false
+    right_cell : (slot : SlotValue) → KeptAlike slot (held_slot table lists others d stripe) → is_damaged table.shape.kind (seen_in table stripe d) slot ≡ false
     right_cell slot alike =
-        ap (λ (v : Option CellView). is_damaged v slot) (seen_is ∙ ap₂ (λ (given : Option Digest16) (v : Option CellView). view_with given v) (ap (λ (its : SlotValue). its.digest) kept_is) view)
-        ∙ ap (λ (given : Option Digest16). not (is_some given && matches (Some digest) given)) (alike.digest ∙ ap (λ (its : SlotValue). its.digest) held_is)
+        ap (λ (v : Option CellView). is_damaged table.shape.kind v slot) (seen_is ∙ ap₂ (λ (given : Option Digest16) (v : Option CellView). view_with given v) (ap (λ (its : SlotValue). its.digest) kept_is) view)
+        ∙ ap (λ (given : Option Digest16). not (is_some given && matches_digest (Some digest) given)) (alike.digest ∙ ap (λ (its : SlotValue). its.digest) held_is)
         ∙ ap not ((bytes_eq-Decides digest.0 digest.0).1 refl)
 
   -- so what is held of it is what was read
@@ -253,10 +255,10 @@ module _ (finds : FindsCells) (start table : TableValue) (differs : DiffersInHas
           ∙ sym (ap (λ (found : Option Cell). kept start.shape (given_by tree (cell_task size column (starts_at (recorded_starts start).columns d) found))) is)
       by (Some cell) is = held_is cell is ∙ sym (kept_is cell is)
 
-  by_cell : (found : Option Cell) → cell_in column stripe ≡ found → (slot : SlotValue) → KeptAlike slot (held_slot table lists others d stripe) → is_damaged (seen_in table stripe d) slot ≡ false
+  by_cell : (found : Option Cell) → cell_in column stripe ≡ found → (slot : SlotValue) → KeptAlike slot (held_slot table lists others d stripe) → is_damaged table.shape.kind (seen_in table stripe d) slot ≡ false
   by_cell None is slot alike =
-      ap (λ (v : Option CellView). is_damaged v slot) (seen_is ∙ ap (view_with read.digest) (ap (option_map (cell_seen column)) is)) ∙ none_damaged read.digest slot
+      ap (λ (v : Option CellView). is_damaged table.shape.kind v slot) (seen_is ∙ ap (view_with read.digest) (ap (option_map (cell_seen column)) is)) ∙ none_damaged table.shape.kind read.digest slot
   by_cell (Some cell) is slot alike = right_cell cell is slot alike
 
-  pub undamaged : (slot : SlotValue) → KeptAlike slot (held_slot table lists others d stripe) → is_damaged (seen_in table stripe d) slot ≡ false
+  pub undamaged : (slot : SlotValue) → KeptAlike slot (held_slot table lists others d stripe) → is_damaged table.shape.kind (seen_in table stripe d) slot ≡ false
   undamaged = by_cell (cell_in column stripe) refl

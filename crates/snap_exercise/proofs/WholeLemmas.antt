@@ -39,8 +39,8 @@ use Rattle.snap_sync.specs.Part.{AllTell, tree_at, trees_of}
 use Rattle.snap_sync.specs.declared.syncing.SyncEnd.{SyncEnd}
 use Rattle.stripe_examiner.specs.Counts.{at_most}
 use Rattle.stripe_examiner.specs.Facts.{StripeFacts}
-use Rattle.stripe_examiner.specs.Findings.{is_wrong_by, opening_events}
-use Rattle.repair_scope.specs.Plan.{FixPlan, column_entries, entry_at, entry_of, is_audit, names_of, no_entry, selects_level}
+use Rattle.stripe_examiner.specs.Findings.{is_wrong_by, opening_events, may_write_level}
+use Rattle.repair_scope.specs.Plan.{FixPlan, column_entries, entry_at, entry_of, is_audit, names_of, no_entry}
 use Rattle.repair_scope.specs.declared.entry.Entry.{Entry}
 use Rattle.repair_scope.specs.declared.scope.Mode.TheVariants as modes
 use Rattle.stripe_reader.specs.Columns.{folder_at}
@@ -150,8 +150,8 @@ count_none p m r below none = by_value (p r) refl
 not_wrong : (plan : FixPlan) (facts : StripeFacts) → count_by (is_wrong_level plan facts) (range_with_len 0 (length facts.levels)) ≡ 0 → (r : ℕ) → is_wrong_level plan facts r ≡ false
 not_wrong plan facts none r = ⊎_elim
     (λ below. count_none (is_wrong_level plan facts) (length facts.levels) r below none)
-    (λ past. ap (λ (level : LevelValue). selects_level plan facts.stripe r && is_wrong_by plan.table.shape.block_size r level.state level.block facts.row) (get_or_past facts.levels r no_level past)
-    ∙ and_none (selects_level plan facts.stripe r))
+    (λ past. ap (λ (level : LevelValue). may_write_level plan facts.stripe r && is_wrong_by plan.table.shape.block_size r level.state level.block facts.row) (get_or_past facts.levels r no_level past)
+    ∙ and_none (may_write_level plan facts.stripe r))
     (cases_lt r (length facts.levels))
 
 abbrev facts_in : Mended → StripeFacts

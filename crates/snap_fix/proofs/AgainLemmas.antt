@@ -27,7 +27,9 @@ use Rattle.stripe_reader.specs.Starts.{no_start, start_in, starts_at}
 use Rattle.stripe_reader.specs.declared.starts.Place.{Place}
 use Rattle.stripe_reader.specs.declared.starts.Place.TheVariants.{Plain, Lost, Nowhere}
 use Rattle.stripe_reader.specs.declared.starts.Start.{Start}
-use Rattle.stripe_examiner.specs.Facts.{StripeFacts, agrees, damaged_at, is_damaged, slot_of}
+use Rattle.block_hash.specs.declared.Kind.{Kind}
+use Rattle.stripe_reader.specs.Agreeing.{agrees, matches_digest}
+use Rattle.stripe_examiner.specs.Facts.{StripeFacts, damaged_at, is_damaged, slot_of}
 use Rattle.stripe_examiner.specs.Findings.{is_unread as is_not_found}
 use Rattle.stripe_examiner.specs.Place.{start_of, column_starts, starts_of}
 use Rattle.stripe_examiner.specs.Looking.{numbers_of}
@@ -173,10 +175,10 @@ found_unread shape (Part seen got) = refl
 found_unread shape (Whole seen bytes) = refl
 
 -- a cell that isn't damaged has its digest
-right_digest : (seen : CellView) (slot : SlotValue) → is_damaged (Some seen) slot ≡ false → is_some slot.digest ≡ true
-right_digest seen slot is = by (is_some slot.digest) is
+right_digest : (kind : Kind) (seen : CellView) (slot : SlotValue) → is_damaged kind (Some seen) slot ≡ false → is_some slot.digest ≡ true
+right_digest kind seen slot is = by (is_some slot.digest) is
   where
-    by : (b : Bool) → not (b && agrees seen.hash slot.digest) ≡ false → b ≡ true
+    by : (b : Bool) → not (b && agrees kind seen.hash slot) ≡ false → b ≡ true
     by true it = refl
     by false it = absurd (let clash : true ≡ false = it in cc)
 
@@ -255,7 +257,7 @@ module _ (stop : FixStop) (stops : IsStop stop) (cell : Cell) (facts : StripeFac
   right_first found right =
       let slot : SlotValue = slot_of facts stop.d in
       let present = found.present in
-      let has : is_some slot.digest ≡ true = right_digest (cell_seen column cell) slot (ap (λ (seen : Option CellView). is_damaged seen slot) (sym seen_is) ∙ right) in
+      let has : is_some slot.digest ≡ true = right_digest shape.kind (cell_seen column cell) slot (ap (λ (seen : Option CellView). is_damaged shape.kind seen slot) (sym seen_is) ∙ right) in
       let whole = with_digest shape present.reading (ap (λ (digest : Option Digest16). is_some digest) (sym present.digest) ∙ has) in
       let start : Start = start_in (starts_at (starts_of table found.lists).columns stop.d) cell.rec in
       let fit : IsStartIn stop.first path start = listed_start stop.plan found.lists stop.d stop.first stops.column found.listed cell.rec within in
@@ -310,18 +312,18 @@ module _ (stop : FixStop) (stops : IsStop stop) (cell : Cell) (facts : StripeFac
       ∙ ap (λ (tree : Tree). given_by tree (file_task start.place start.size path at n)) next.found.holds
       ∙ gives_back stop.left path at n start first.0 fit many gives in
       let digest : slot.digest ≡ (slot_of facts stop.d).digest = present.digest ∙ ap (λ (it : CellReading). (kept shape it).digest) reading ∙ sym first.2 in
-      ap₂ (λ (t : TableValue) (s : ℕ). is_damaged (seen_in t s stop.d) slot) next.table next.stripe
+      ap₂ (λ (t : TableValue) (s : ℕ). is_damaged t.shape.kind (seen_in t s stop.d) slot) next.table next.stripe
       ∙ same_damage (seen_in table facts.stripe stop.d) slot (slot_of facts stop.d) digest ∙ right
     where
-      same_damage : (seen : Option CellView) (one other : SlotValue) → one.digest ≡ other.digest → is_damaged seen one ≡ is_damaged seen other
+      same_damage : (seen : Option CellView) (one other : SlotValue) → one.digest ≡ other.digest → is_damaged shape.kind seen one ≡ is_damaged shape.kind seen other
       same_damage None one other same = refl
-      same_damage (Some seen) one other same = ap (λ (it : Option Digest16). not (is_some it && agrees seen.hash it)) same
+      same_damage (Some seen) one other same = ap (λ (it : Option Digest16). not (is_some it && matches_digest seen.hash it)) same
 
 -- where no cell is, none is damaged
 pub no_cell_right : (stop : FixStop) (plan : FixPlan) (facts again : StripeFacts) → cell_at stop.plan facts.stripe stop.d ≡ None → IsFoundAgain stop plan facts again → damaged_at plan again stop.d ≡ false
 no_cell_right stop plan facts again none next =
-    ap₂ (λ (t : TableValue) (s : ℕ). is_damaged (seen_in t s stop.d) (slot_of again stop.d)) next.table next.stripe
-    ∙ ap (λ (found : Option Cell). is_damaged (option_map (cell_seen (column_at stop.plan.table.columns stop.d)) found) (slot_of again stop.d)) none
+    ap₂ (λ (t : TableValue) (s : ℕ). is_damaged t.shape.kind (seen_in t s stop.d) (slot_of again stop.d)) next.table next.stripe
+    ∙ ap (λ (found : Option Cell). is_damaged stop.plan.table.shape.kind (option_map (cell_seen (column_at stop.plan.table.columns stop.d)) found) (slot_of again stop.d)) none
 
 -- ---- a stripe that the fix looked at
 
@@ -370,7 +372,7 @@ module _ (stop : FixStop) (facts : StripeFacts) (looked : IsLookedAt stop facts)
         let stripe : mended.facts.stripe ≡ facts.stripe
         = sym (cell_in-Some column mended.facts.stripe cell here).position_is ∙ (cell_in-Some column facts.stripe cell cell_is).position_is in
         let its : mended.facts ≡ facts = same_facts mended one stripe in
-        ap (λ (it : StripeFacts). is_repaired stop.plan it stop.d) its ∙ unwritten (selects_cell stop.plan facts.stripe stop.d) (damaged_at stop.plan facts stop.d) (is_some (known_block facts stop.d)) (not (is_blocked_cell stop.plan stop.d (cell_at stop.plan facts.stripe stop.d))) right;
+        ap (λ (it : StripeFacts). is_repaired stop.plan it stop.d) its ∙ unwritten (selects_cell stop.plan facts.stripe stop.d) (damaged_at stop.plan facts stop.d) (is_some (known_block stop.plan facts stop.d)) (not (is_blocked_cell stop.plan stop.d (cell_at stop.plan facts.stripe stop.d))) right;
   }
     where
       unwritten : (a b c e : Bool) → b ≡ false → (a && b && c && e) ≡ false

@@ -1,6 +1,6 @@
 -- What an audit finds nothing of.
 use Rattle.std.proofs.Common.{◌≡◌, ◌↔◌, ℕ, ◌<◌, ◌&&◌, ◌++◌, List, [], ◌∷◌, length, get_or, Bool, true, false, Option, None, Some, refl, sym, ap, subst, arith}
-use Rattle.std.specs.Prelude.{bytes_eq, count_by, is_some, not, if◌then◌else◌}
+use Rattle.std.specs.Prelude.{bytes_eq, count_by, not, if◌then◌else◌}
 use Rattle.std.specs.List.{All, Contains, flat_map, range_with_len}
 use Rattle.std.proofs.lemmas.List.Elements.{All-cons, All-contains, All-contains_itself, All-head, All-nil, All-tail}
 use Rattle.std.proofs.lemmas.List.FromFn.{get_or-range_with_len, length-range_with_len}
@@ -19,7 +19,7 @@ use Rattle.stripe_reader.specs.SlotValue.{SlotValue}
 use Rattle.repair_scope.specs.declared.entry.Entry.{Entry}
 use Rattle.repair_scope.specs.declared.scope.Mode.TheVariants.{Audit}
 use Rattle.stripe_examiner.specs.Counts.{at_most}
-use Rattle.stripe_examiner.specs.Facts.{StripeFacts, is_missing, slot_of}
+use Rattle.stripe_examiner.specs.Facts.{StripeFacts, slot_of}
 use Rattle.stripe_examiner.specs.Findings.{all_cell_events, all_level_events, all_level_io_events, all_lost_events, cell_events, column_events, events_of, file_events, is_lost, is_unread, lost_event, lost_events, opening_events, read_event, read_events, record_events, silent_event, stripe_events, unsynced_events}
 use Rattle.stripe_examiner.specs.Known.{AreFacts, IsTried}
 use Rattle.repair_scope.specs.Plan.{FixPlan, cell_at, entry_at, has_selected, has_selected_cell, is_audit, is_in_scope, is_synced, selects_cell}
@@ -164,17 +164,17 @@ module _ (plan : FixPlan) (stripes : List StripeFacts) (audit : plan.scope.mode 
   abbrev parity_events : StripeFacts → List Event
   parity_events facts =
       all_level_io_events plan facts.stripe facts.levels ++ (all_level_events plan facts.stripe facts.levels facts.row
-      ++ all_lost_events plan facts.stripe (is_missing plan facts) (is_some facts.row))
+      ++ all_lost_events plan facts.stripe (is_lost plan facts))
 
   no_parity : (facts : StripeFacts) → AreFacts plan facts → FindsNone (parity_events facts)
   no_parity facts it =
-      let lost = all_lost_events plan facts.stripe (is_missing plan facts) (is_some facts.row) in
+      let lost = all_lost_events plan facts.stripe (is_lost plan facts) in
       none_both (all_level_io_events plan facts.stripe facts.levels) (all_level_events plan facts.stripe facts.levels facts.row ++ lost)
       (subst (λ (levels : List LevelValue). FindsNone (all_level_io_events plan facts.stripe levels)) (sym (no_levels facts it)) refl)
       (none_both (all_level_events plan facts.stripe facts.levels facts.row) lost
       (subst (λ (levels : List LevelValue). FindsNone (all_level_events plan facts.stripe levels facts.row)) (sym (no_levels facts it)) refl)
-      (none_flat_range (λ (d : ℕ). lost_events plan facts.stripe (is_missing plan facts d) (is_some facts.row) d) (length plan.table.columns)
-      (λ d below. untold (is_audit plan.scope.mode) (is_lost plan facts.stripe (is_missing plan facts d) (is_some facts.row) d) (lost_event facts.stripe d (cell_at plan facts.stripe d)) is)))
+      (none_flat_range (λ (d : ℕ). lost_events plan facts.stripe (is_lost plan facts d) d) (length plan.table.columns)
+      (λ d below. untold (is_audit plan.scope.mode) (is_lost plan facts d) (lost_event facts.stripe d (cell_at plan facts.stripe d)) is)))
 
   no_pending : (facts : StripeFacts) → FindsNone (unsynced_events plan facts.stripe)
   no_pending facts = untold_stripe (is_audit plan.scope.mode) (is_synced plan facts.stripe) (has_selected_cell plan facts.stripe) facts.stripe is

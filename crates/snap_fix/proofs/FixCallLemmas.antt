@@ -34,7 +34,7 @@ pub for_cell : (plan : FixPlan) (facts : StripeFacts) (d : ℕ) (cell : Cell) (p
     → cell_at plan facts.stripe d ≡ Some cell → path ≡ record_path (records_in plan.table d) cell.rec → IsForRecord plan d cell.rec path
 for_cell plan facts d cell path repaired cell_is path_is =
     let here = cell_at plan facts.stripe d in
-    let parts = and_parts (selects_cell plan facts.stripe d) (damaged_at plan facts d) (is_some (known_block facts d)) (not (is_blocked_cell plan d here)) repaired in
+    let parts = and_parts (selects_cell plan facts.stripe d) (damaged_at plan facts d) (is_some (known_block plan facts d)) (not (is_blocked_cell plan d here)) repaired in
     record {
       within = (cell_in-Some (column_at plan.table.columns d) facts.stripe cell cell_is).within;
       path_is = path_is;

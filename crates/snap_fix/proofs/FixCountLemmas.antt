@@ -1,5 +1,5 @@
 -- Of the events of stripes that are written anew: how many tell a reading that failed.
-use Rattle.std.proofs.Common.{◌≡◌, inl, inr, ℕ, zero, suc, ◌+◌, ◌<◌, ◌≤◌, ◌==◌, ◌&&◌, List, [], ◌∷◌, ◌++◌, length, take, get_or, cond, is_some, bytes_eq, Bool, true, false, if◌then◌else◌, Option, None, Some, refl, ap, ◌∙◌, subst, arith}
+use Rattle.std.proofs.Common.{◌≡◌, inl, inr, ℕ, zero, suc, ◌+◌, ◌<◌, ◌≤◌, ◌==◌, ◌&&◌, List, [], ◌∷◌, ◌++◌, length, take, get_or, cond, bytes_eq, Bool, true, false, if◌then◌else◌, Option, None, Some, refl, ap, ◌∙◌, subst, arith}
 use Rattle.std.specs.List.{count_by, sum_by, flat_map, range_with_len}
 use Rattle.std.proofs.lemmas.Bool.{cases_eq, eq-eqb, ne_eqb}
 use Rattle.std.proofs.lemmas.List.{take_more, take_all}
@@ -17,8 +17,8 @@ use Rattle.snap_report.specs.declared.events.Event.{Event}
 use Rattle.snap_report.specs.declared.events.Event.TheVariants.{Unsynced, Silent, Io, ParityIo, Parity, Lost, Fixed, FixedParity}
 use Rattle.stripe_reader.specs.SlotValue.{SlotValue}
 use Rattle.repair_scope.specs.declared.entry.Entry.{Entry}
-use Rattle.stripe_examiner.specs.Facts.{StripeFacts, slot_of, is_missing}
-use Rattle.stripe_examiner.specs.Findings.{unsynced_events, silent_event, is_unread, read_event, read_events, cell_events, is_unread_level, level_io_events, level_events, lost_event, lost_events, all_cell_events, all_level_io_events, all_level_events, all_lost_events, stripe_events}
+use Rattle.stripe_examiner.specs.Facts.{StripeFacts, slot_of}
+use Rattle.stripe_examiner.specs.Findings.{unsynced_events, silent_event, is_unread, read_event, read_events, cell_events, is_unread_level, level_io_events, level_events, is_lost, lost_event, lost_events, all_cell_events, all_level_io_events, all_level_events, all_lost_events, stripe_events}
 use Rattle.snap_fix.specs.Fixing.{facts_of}
 use Rattle.stripe_examiner.specs.Looking.{slots_of, unread_cells}
 use Rattle.snap_fix.specs.Mended.{Mended, answer_of, is_repaired, is_wrong_level, fixed_event, mended_event, cell_news, level_news, all_cell_news, all_level_news, mended_events, all_mended_events}
@@ -140,8 +140,8 @@ module _ (p : Event → Bool) (none : PassesNone p) where
   none_levels plan facts = none_of_each p (λ r. level_events plan facts.stripe (get_or facts.levels r no_level) facts.row r)
       (λ r. none_if p (Parity facts.stripe r ∷ []) (one_event (Parity facts.stripe r) (none.parity facts.stripe r)) _) (range_with_len 0 (length facts.levels))
 
-  none_lost_cells : (plan : FixPlan) (stripe : ℕ) (missing : ℕ → Bool) (known : Bool) → count_by p (all_lost_events plan stripe missing known) ≡ 0
-  none_lost_cells plan stripe missing known = none_of_each p (λ d. lost_events plan stripe (missing d) known d)
+  none_lost_cells : (plan : FixPlan) (stripe : ℕ) (is_lost_at : ℕ → Bool) → count_by p (all_lost_events plan stripe is_lost_at) ≡ 0
+  none_lost_cells plan stripe is_lost_at = none_of_each p (λ d. lost_events plan stripe (is_lost_at d) d)
       (λ d. none_if p (lost_event stripe d (cell_at plan stripe d)) (none_lost stripe d (cell_at plan stripe d)) _) (range_with_len 0 (length plan.table.columns))
 
   -- so it counts what is told of the readings
@@ -153,13 +153,13 @@ module _ (p : Event → Bool) (none : PassesNone p) where
       let cells = all_cell_events plan facts.stripe facts.slots in
       let ios = all_level_io_events plan facts.stripe facts.levels in
       let levels = all_level_events plan facts.stripe facts.levels facts.row in
-      let lost = all_lost_events plan facts.stripe (is_missing plan facts) (is_some facts.row) in
+      let lost = all_lost_events plan facts.stripe (is_lost plan facts) in
       let a = count_append p (stripe_events plan facts) news in
       let b = count_append p (unsynced_events plan facts.stripe) (cells ++ (ios ++ (levels ++ lost))) in
       let c = count_append p cells (ios ++ (levels ++ lost)) in
       let e = count_append p ios (levels ++ lost) in
       let f = count_append p levels lost in
-      omega (arith, a, b, c, e, f, none_news plan mended, none_unsynced plan facts.stripe, none_levels plan facts, none_lost_cells plan facts.stripe (is_missing plan facts) (is_some facts.row))
+      omega (arith, a, b, c, e, f, none_news plan mended, none_unsynced plan facts.stripe, none_levels plan facts, none_lost_cells plan facts.stripe (is_lost plan facts))
 
 -- ---- cells
 

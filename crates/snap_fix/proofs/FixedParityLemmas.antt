@@ -13,12 +13,12 @@ use Rattle.snap_report.specs.declared.pages.Lines.{Lines}
 use Rattle.snap_report.proofs.ToldLemmas.{told_nothing}
 use Rattle.stripe_reader.specs.WindowValue.{WindowValue}
 use Rattle.stripe_examiner.specs.Facts.{StripeFacts}
-use Rattle.stripe_examiner.specs.Findings.{is_wrong_by}
+use Rattle.stripe_examiner.specs.Findings.{is_wrong_by, may_write_level}
 use Rattle.snap_fix.specs.FixSteps.{MendsNotParity, MendsParity, ShowsTried}
 use Rattle.stripe_examiner.specs.Known.{IsTried}
 use Rattle.stripe_examiner.specs.Marks.{levels_read}
 use Rattle.snap_fix.specs.Mended.{all_level_news, is_wrong_level, level_news}
-use Rattle.repair_scope.specs.Plan.{FixPlan, is_searched, selects_level}
+use Rattle.repair_scope.specs.Plan.{FixPlan, is_searched}
 use Rattle.snap_fix.specs.Repairing.{FlagsWritten, LevelsOutside, MendsLevels, MendsNotLevels, ShowsLevels, levels_outside}
 use Rattle.snap_fix.specs.Underway.{IsMendedLevel, KeepsLevels, done_well, wrong_write, wrong_writes}
 use Rattle.stripe_examiner.proofs.TellingLemmas.{told_as}
@@ -47,7 +47,7 @@ none_wrong : (plan : FixPlan) (facts : StripeFacts) → facts.row ≡ None → (
 none_wrong plan facts none r =
     let size : ℕ = plan.table.shape.block_size in
     let level : LevelValue = get_or facts.levels r no_level in
-    and_false (selects_level plan facts.stripe r) (is_wrong_by size r level.state level.block facts.row)
+    and_false (may_write_level plan facts.stripe r) (is_wrong_by size r level.state level.block facts.row)
     (ap (is_wrong_by size r level.state level.block) none ∙ not_wrong_by size r level.state level.block)
 
 -- ---- of a stripe of the window

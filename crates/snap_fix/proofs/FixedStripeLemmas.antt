@@ -12,7 +12,7 @@ use Rattle.snap_report.proofs.ToldLemmas.{told_then}
 use Rattle.stripe_reader.specs.Starts.{StartsValue}
 use Rattle.stripe_reader.specs.WindowValue.{WindowValue}
 use Rattle.snap_fix.specs.declared.fixing.Totals.{Totals}
-use Rattle.stripe_examiner.specs.declared.marking.CellMark.{CellMark}
+use Rattle.stripe_examiner.specs.declared.marking.SlotMark.{SlotMark}
 use Rattle.stripe_examiner.specs.declared.room.StripeRoom.{StripeRoom}
 use Rattle.file_restorer.specs.declared.state.FileState.{FileState}
 use Rattle.snap_fix.specs.declared.repairing.Repaired.{Repaired}
@@ -47,8 +47,8 @@ module _ (plan : FixPlan) (facts : StripeFacts) (stripe i : ℕ) (window : Windo
     row = it.shows.shows.row;
   }
 
-  pub shows_marks : (marks : List CellMark) → marks ≡ own.marks.items → ShowsFacts plan facts i marks own.known window
-  shows_marks marks same = subst (λ (all : List CellMark). ShowsFacts plan facts i all own.known window) (sym same) it.shows.shows
+  pub shows_marks : (marks : List SlotMark) → marks ≡ own.marks.items → ShowsFacts plan facts i marks own.known window
+  shows_marks marks same = subst (λ (all : List SlotMark). ShowsFacts plan facts i all own.known window) (sym same) it.shows.shows
 
 -- the flags may be said otherwise
 pub parity_for : {W R : Type 0} (view : W → SinkView) (standing : R → ReportView) (stands : R → List Event → Type 0) (plan : FixPlan) (facts : StripeFacts)
@@ -74,7 +74,7 @@ fits_with plan starts states written folders vault one other lines reports fits 
 -- ---- it is told and written
 
 module _ {W R : Type 0} (view : W → SinkView) (standing : R → ReportView) (stands : R → List Event → Type 0)
-    (plan : FixPlan) (facts : StripeFacts) (stripe i : ℕ) (stripe_is : facts.stripe ≡ stripe) (window : WindowValue) (marks : List CellMark) (known : Bool)
+    (plan : FixPlan) (facts : StripeFacts) (stripe i : ℕ) (stripe_is : facts.stripe ≡ stripe) (window : WindowValue) (marks : List SlotMark) (known : Bool)
     (shown : ShowsFacts plan facts i marks known window) (old : FixScene W R) (lines : Lines W) (reports : List R)
     (told : Told view standing stands plan.table.columns (stripe_events plan facts) old.lines lines old.reports reports) where
   abbrev found : List Event

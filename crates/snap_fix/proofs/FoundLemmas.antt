@@ -1,6 +1,6 @@
 -- A fix finds what a check finds, and tells besides what it did.
 use Rattle.std.proofs.Common.{◌≡◌, ◌≢◌, ℕ, suc, ◌<◌, ◌&&◌, ◌++◌, List, [], ◌∷◌, length, get_or, Bool, true, false, Option, None, Some, IsTrue, refl, sym, ap₂, ◌∙◌, subst, inl, inr, arith}
-use Rattle.std.specs.Prelude.{bytes_eq, filter, is_some, not, if◌then◌else◌}
+use Rattle.std.specs.Prelude.{bytes_eq, filter, not, if◌then◌else◌}
 use Rattle.std.specs.List.{flat_map, range_with_len}
 use Rattle.std.proofs.lemmas.Bool.{false≢true}
 use Rattle.std.proofs.lemmas.List.{append-nil}
@@ -28,7 +28,7 @@ use Rattle.file_restorer.specs.declared.finishing.Finish.TheVariants.{Kept, Rest
 use Rattle.file_restorer.specs.declared.state.FileState.{FileState}
 use Rattle.snap_fix.specs.Course.{check_events}
 use Rattle.snap_fix.specs.Ending.{IsDone, all_finish_news, column_news_at, finish_at, finish_news, finishes_at, is_finished, record_news, stamp_news, state_at, states_at}
-use Rattle.stripe_examiner.specs.Facts.{StripeFacts, is_missing}
+use Rattle.stripe_examiner.specs.Facts.{StripeFacts}
 use Rattle.stripe_examiner.specs.Findings.{all_cell_events, all_level_events, all_level_io_events, all_lost_events, blocked_event, cell_events, changed_event, column_events, events_of, file_events, is_lost, is_unread, is_unread_level, is_wrong, level_events, level_io_events, lost_event, lost_events, opening_events, read_event, read_events, record_events, silent_event, stripe_events, unsynced_events}
 use Rattle.file_restorer.specs.Finishing.{lost_finish, stamped_finish, whole_finish, is_changed, is_stamped}
 use Rattle.snap_fix.specs.FixCourse.{Written, fix_events}
@@ -141,7 +141,7 @@ module _ (plan : FixPlan) (facts : StripeFacts) where
   wrong_of = all_level_events plan facts.stripe facts.levels facts.row
 
   abbrev lost_of : List Event
-  lost_of = all_lost_events plan facts.stripe (is_missing plan facts) (is_some facts.row)
+  lost_of = all_lost_events plan facts.stripe (is_lost plan facts)
 
   found_cells : AllFound cells_of
   found_cells =
@@ -161,8 +161,8 @@ module _ (plan : FixPlan) (facts : StripeFacts) where
 
   found_unknown : AllFound lost_of
   found_unknown =
-      all_each (λ d. lost_events plan facts.stripe (is_missing plan facts d) (is_some facts.row) d) (range_with_len 0 (length plan.table.columns)) (λ d.
-      all_where (not (is_audit plan.scope.mode) && is_lost plan facts.stripe (is_missing plan facts d) (is_some facts.row) d) (lost_event facts.stripe d (cell_at plan facts.stripe d))
+      all_each (λ d. lost_events plan facts.stripe (is_lost plan facts d) d) (range_with_len 0 (length plan.table.columns)) (λ d.
+      all_where (not (is_audit plan.scope.mode) && is_lost plan facts d) (lost_event facts.stripe d (cell_at plan facts.stripe d))
       (found_lost facts.stripe d (cell_at plan facts.stripe d)))
 
   found_of_stripe : AllFound (stripe_events plan facts)

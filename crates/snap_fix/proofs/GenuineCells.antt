@@ -24,9 +24,11 @@ use Rattle.stripe_reader.specs.WindowValue.{no_slot}
 use Rattle.stripe_reader.specs.declared.slot.Found.{Found}
 use Rattle.stripe_reader.specs.declared.starts.Place.{Place}
 use Rattle.stripe_reader.specs.declared.starts.Place.TheVariants as place
-use Rattle.stripe_examiner.specs.Facts.{StripeFacts, IsGift, IsGiftFor, agrees, bytes_before, damaged_at, gift_of, gift_or, is_damaged, is_missing, slot_of}
+use Rattle.stripe_reader.specs.Agreeing.{matches_digest}
+use Rattle.stripe_examiner.specs.Facts.{StripeFacts, IsGift, IsGiftFor, bytes_before, damaged_at, gift_of, gift_or, is_damaged, is_missing, slot_of}
 use Rattle.stripe_examiner.specs.Present.{IsPresent}
-use Rattle.snap_fix.specs.Genuine.{HasGenuineFacts, IsBlockIn}
+use Rattle.snap_fix.specs.Genuine.{IsBlockIn}
+use Rattle.snap_fix.proofs.ExactLemmas.{HasExactFacts}
 use Rattle.repair_scope.specs.Plan.{FixPlan, seen_at}
 use Rattle.stripe_examiner.proofs.CellFactsLemmas.{given_found}
 
@@ -66,7 +68,7 @@ recorded_as bytes = Some (record { 0 = bytes })
 -- a cell that is not damaged came whole, with its recorded hash
 right_cell : (shape : Shape) (cell : CellView) (recorded : Digest16) (reading : CellReading) → cell.hash ≡ Some recorded
     → ((seen : Meta) (bytes : List ℕ) → reading ≡ Whole seen bytes → length bytes ≡ real_length shape cell)
-    → is_damaged (Some cell) (kept shape reading) ≡ false → IsGift shape cell (bytes_of (kept shape reading))
+    → is_damaged shape.kind (Some cell) (kept shape reading) ≡ false → IsGift shape cell (bytes_of (kept shape reading))
 right_cell shape cell recorded NoBlock is long fine = let clash : true ≡ false = fine in absurd cc
 right_cell shape cell recorded Nowhere is long fine = let clash : true ≡ false = fine in absurd cc
 right_cell shape cell recorded Beyond is long fine = let clash : true ≡ false = fine in absurd cc
@@ -76,8 +78,8 @@ right_cell shape cell recorded (Part seen got) is long fine = let clash : true �
 right_cell shape cell recorded (Whole seen bytes) is long fine =
     let came : Digest16 = record { 0 = hash shape.kind shape.seed bytes } in
     let real : length bytes ≡ real_length shape cell = long seen bytes refl in
-    let same : agrees (Some recorded) (Some came) ≡ true =
-    ap (λ (it : Option Digest16). agrees it (Some came)) (sym is) ∙ not_false (agrees cell.hash (Some came)) fine in
+    let same : matches_digest (Some recorded) (Some came) ≡ true =
+    ap (λ (it : Option Digest16). matches_digest it (Some came)) (sym is) ∙ not_false (matches_digest cell.hash (Some came)) fine in
     let alike : recorded.0 ≡ hash shape.kind shape.seed bytes = (bytes_eq-Decides recorded.0 (hash shape.kind shape.seed bytes)).0 same in
     let gift : IsGift shape cell bytes = record { long = real; hash_is = is ∙ ap recorded_as alike } in
     subst (IsGift shape cell) (sym (whole_bytes shape seen bytes (omega (arith, real)))) gift
@@ -91,7 +93,7 @@ given_within (gift ∷ gifts) (suc d) bytes is = omega (arith, given_within gift
 -- ---- the cells of a stripe
 
 module _ (plan : FixPlan) (starts : StartsValue) (firsts : List FolderView) (snapshot : Row) (facts : StripeFacts)
-    (has : HasGenuineFacts plan starts firsts snapshot facts) where
+    (has : HasExactFacts plan starts firsts snapshot facts) where
   abbrev shape : Shape
   shape = plan.table.shape
 
@@ -151,9 +153,9 @@ module _ (plan : FixPlan) (starts : StartsValue) (firsts : List FolderView) (sna
           let view_is : Some view ≡ Some cell = some in
           let same : view ≡ cell = cc in
           let by : IsReadingBy (task d (Some at)) there.reading = subst (λ (found : Option Cell). IsReadingBy (task d found) there.reading) is there.is_of.by in
-          let undamaged : is_damaged (Some cell) (kept shape there.reading) ≡ false =
-          ap (λ (digest : Option Digest16). not (is_some digest && agrees cell.hash digest)) (sym there.digest)
-          ∙ ap (λ (it : Option CellView). is_damaged it (slot_of facts d)) (sym seen_is) ∙ fine in
+          let undamaged : is_damaged shape.kind (Some cell) (kept shape there.reading) ≡ false =
+          ap (λ (digest : Option Digest16). not (is_some digest && matches_digest cell.hash digest)) (sym there.digest)
+          ∙ ap (λ (it : Option CellView). is_damaged shape.kind it (slot_of facts d)) (sym seen_is) ∙ fine in
           subst (IsGift shape cell) (sym (present_bytes shape (folder_at firsts d) (task_at plan.table starts d facts.stripe) (slot_of facts d) there))
           (right_cell shape cell _ there.reading block.hash
           (λ meta bytes reading_is.

@@ -8,8 +8,8 @@ use Rattle.std.proofs.lemmas.List.{get_or-map, get_or_past, length-map}
 use Rattle.std.proofs.lemmas.List.Elements.{All-from_get_or, All-filter, filter_passes}
 use Rattle.std.proofs.lemmas.List.FromFn.{get_or-map-range_with_len, get_or-range_with_len, length-map-range_with_len, length-range_with_len}
 use Rattle.std.proofs.lemmas.Grind.{same_number_lists}
-use Rattle.block_hash.specs.Hash.{hash}
-use Rattle.block_hash.specs.declared.Digest16.{Digest16}
+use Rattle.block_hash.specs.declared.Kind.{Kind}
+use Rattle.stripe_reader.specs.Agreeing.{hashed}
 use Rattle.gf256.specs.Field.{field_sum}
 use Rattle.cauchy.specs.Field.{product}
 use Rattle.cauchy.specs.Matrix.{byte_of}
@@ -29,7 +29,8 @@ use Rattle.stripe_reader.specs.SlotValue.{SlotValue}
 use Rattle.stripe_reader.specs.Starts.{StartsValue}
 use Rattle.stripe_examiner.specs.declared.search.Wanted.{Wanted}
 use Rattle.stripe_examiner.specs.Facts.{StripeFacts, bytes_before, gift_of, gift_or, hash_or_none, is_damaged, is_missing, missing_in, row_before, slot_of, wanted_by, wanted_in}
-use Rattle.snap_fix.specs.Genuine.{HasGenuineFacts, IsRestorableStripe, IsSameRow, TellsIntactLevels, lost_of}
+use Rattle.snap_fix.specs.Genuine.{IsRestorableStripe, IsSameRow, TellsIntactLevels, lost_of}
+use Rattle.snap_fix.proofs.ExactLemmas.{HasExactFacts}
 use Rattle.stripe_examiner.specs.Known.{AreRemainders, IsKnown, IsSearchOf, IsTried, whole_level, whole_levels}
 use Rattle.repair_scope.specs.Plan.{FixPlan, seen_at}
 use Rattle.stripe_examiner.specs.Restorable.{AgreesOutside, AreBlocksOf, HasRemainders, IsLost, IsSnapshotOf, LostStripe, filled, padded_block, SomeAccepted}
@@ -98,9 +99,6 @@ resized_twice block size real fits =
     let inside : i < real = omega (arith, within, length-resized (resized block size) real) in
     resized_byte (resized block size) real i inside ∙ resized_byte block size i (omega (arith, inside, fits)) ∙ sym (resized_byte block real i inside))
 
-abbrev hashed : Shape → List ℕ → Digest16
-hashed shape bytes = record { 0 = hash shape.kind shape.seed bytes }
-
 right_wanted : (shape : Shape) (d : ℕ) (cell : CellView) (block : List ℕ) → IsBlockOf shape cell block
     → IsRightBlock shape (wanted_by shape d (Some cell)) (resized block shape.block_size)
 right_wanted shape d cell block is = record {
@@ -114,14 +112,14 @@ right_wanted shape d cell block is = record {
 }
 
 -- a missing cell is a cell
-missing_cell : (seen : Option CellView) (slot : SlotValue) (given : Bool) → (is_damaged seen slot && given) ≡ true → (cell : CellView) × (seen ≡ Some cell)
-missing_cell None slot given absent = absurd cc
-missing_cell (Some cell) slot given absent = (cell, refl)
+missing_cell : (kind : Kind) (seen : Option CellView) (slot : SlotValue) (given : Bool) → (is_damaged kind seen slot && given) ≡ true → (cell : CellView) × (seen ≡ Some cell)
+missing_cell kind None slot given absent = absurd cc
+missing_cell kind (Some cell) slot given absent = (cell, refl)
 
 -- ---- the stripe as it is searched
 
 module _ (plan : FixPlan) (starts : StartsValue) (firsts : List FolderView) (snapshot : Row) (facts : StripeFacts)
-    (has : HasGenuineFacts plan starts firsts snapshot facts) where
+    (has : HasExactFacts plan starts firsts snapshot facts) where
   abbrev shape : Shape
   shape = plan.table.shape
 
@@ -183,7 +181,7 @@ module _ (plan : FixPlan) (starts : StartsValue) (firsts : List FolderView) (sna
       let place : j < length missing = omega (arith, within, wanted_count) in
       let d : ℕ = get_or missing j 0 in
       let one = passing (is_missing plan facts) columns j place in
-      let cell = missing_cell (seen d) (slot_of facts d) _ one.1 in
+      let cell = missing_cell shape.kind (seen d) (slot_of facts d) _ one.1 in
       let is : wanted_of wanteds j ≡ wanted_by shape d (Some cell.0) =
       get_or-map (λ k. wanted_by shape k (seen k)) missing j 0 no_wanted place ∙ ap (wanted_by shape d) cell.1 in
       let block : IsBlockOf shape cell.0 (get_or snapshot d []) =

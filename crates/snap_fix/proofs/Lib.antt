@@ -62,6 +62,7 @@ mod FixFilesLemmas
 mod FixStartedLemmas
 mod FixBrokenLemmas
 mod FixCourseLemmas
+pub mod ExactLemmas
 pub mod GenuineCells
 pub mod GenuineLemmas
 pub mod SoundFixLemmas

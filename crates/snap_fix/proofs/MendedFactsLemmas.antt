@@ -1,42 +1,35 @@
 -- What the marks of a stripe say of its facts, and the writes and the losses of one stripe more.
-use Rattle.std.proofs.Common.{◌≡◌, ◌⊎◌, inl, inr, ℕ, ◌<◌, List, [], ◌∷◌, ◌++◌, length, get_or, set, Bool, true, false, if◌then◌else◌, Option, None, Some, refl, sym, ap, ap₂, ◌∙◌, arith, zero-add}
+use Rattle.std.proofs.Common.{◌≡◌, ◌⊎◌, inl, inr, ℕ, ◌<◌, List, [], ◌∷◌, ◌++◌, length, get_or, set, Bool, true, false, if◌then◌else◌, Option, Some, refl, sym, ap, ap₂, ◌∙◌, arith, zero-add}
 use Rattle.std.specs.Prelude.{◌&&◌, ◌||◌, ◌==◌, not, is_some}
-use Rattle.std.proofs.Math.Bool.{or-false}
+use Rattle.std.proofs.Math.Bool.{and-false, or-false}
 use Rattle.std.proofs.lemmas.Bool.{cases_eq, eq-eqb, ne_eqb}
 use Rattle.std.proofs.lemmas.Grind.{flat_map-append}
 use Rattle.std.proofs.lemmas.List.{append-nil, ext_get_or, length-set, get_or-set_same, get_or-set_other}
 use Rattle.std.proofs.lemmas.List.Folds.{list_any-append}
 use Rattle.std.proofs.lemmas.List.FromFn.{length-map-range_with_len, get_or-map-range_with_len}
 use Rattle.file_table.specs.declared.block.Cell.{Cell}
-use Rattle.parity_writer.specs.Parity.{Row}
 use Rattle.stripe_reader.specs.WindowValue.{WindowValue}
-use Rattle.stripe_examiner.specs.declared.marking.CellMark.{CellMark}
-use Rattle.stripe_examiner.specs.declared.marking.CellMark.TheVariants.{Right, Given, Missing}
-use Rattle.stripe_examiner.specs.Facts.{StripeFacts, gift_of, damaged_at, is_missing}
-use Rattle.stripe_examiner.specs.Findings.{is_lost}
-use Rattle.stripe_examiner.specs.Marks.{mark_in, row_if, is_marked_missing}
+use Rattle.stripe_examiner.specs.declared.marking.SlotMark.{SlotMark}
+use Rattle.stripe_examiner.specs.Facts.{StripeFacts, damaged_at}
+use Rattle.stripe_examiner.specs.Findings.{is_lost, is_lost_by}
+use Rattle.stripe_examiner.specs.Marks.{mark_in}
 use Rattle.snap_fix.specs.Mended.{Mended, is_blocked_cell, is_repaired, is_written, is_of, loses, has_lost, write_of, writes_in, writes_of, column_writes, answer_of}
-use Rattle.stripe_examiner.specs.Showing.{known_by, known_block, block_or_none, ShowsFacts, is_damaged_mark, is_given_mark}
+use Rattle.stripe_examiner.specs.Showing.{known_block, block_or_none, ShowsFacts, is_damaged_mark, is_known_mark}
 use Rattle.file_restorer.specs.Mending.{block_start, with_write}
-use Rattle.repair_scope.specs.Plan.{FixPlan, cell_at, selects_cell}
-use Rattle.snap_fix.specs.RepairSteps.{is_repaired_by, is_lost_by}
+use Rattle.repair_scope.specs.Plan.{FixPlan, cell_at, is_synced, selects_cell}
+use Rattle.snap_fix.specs.RepairSteps.{is_repaired_by}
 use Rattle.file_restorer.specs.State.{Write}
+use Rattle.stripe_examiner.proofs.ShownLemmas.{known_shown, lost_shown as lost_as_shown}
 
 -- ---- what the marks say
 
-known_some : (gift : Option (List ℕ)) (row : Option Row) (d : ℕ) → is_some (known_by gift row d) ≡ (is_some gift || is_some row)
-known_some (Some given) row d = refl
-known_some None None d = refl
-known_some None (Some row) d = refl
-
-row_some : (known : Bool) (window : WindowValue) (i : ℕ) → is_some (row_if known window i) ≡ known
-row_some true window i = refl
-row_some false window i = refl
-
-missing_mark : (mark : CellMark) → (is_damaged_mark mark && not (is_given_mark mark)) ≡ is_marked_missing mark
-missing_mark Right = refl
-missing_mark Given = refl
-missing_mark Missing = refl
+-- of a cell that is not damaged it doesn't matter whether its block is known
+with_damaged : (selected damaged known free marked known_marked : Bool) → damaged ≡ marked → (damaged ≡ true → known ≡ known_marked)
+    → (selected && damaged && known && free) ≡ (selected && marked && known_marked && free)
+with_damaged selected true known free marked known_marked same known_is = ap₂ (λ (m k : Bool). selected && m && k && free) same (known_is refl)
+with_damaged selected false known free marked known_marked same known_is =
+    ap (λ (b : Bool). b && known && free) (and-false selected) ∙ sym (ap (λ (b : Bool). b && known_marked && free) (and-false selected))
+    ∙ ap (λ (m : Bool). selected && m && known_marked && free) same
 
 pub and_parts : (a b c e : Bool) → (a && b && c && e) ≡ true → (a ≡ true) × (b ≡ true) × (c ≡ true) × (e ≡ true)
 and_parts true true true true is = (refl, refl, refl, refl)
@@ -62,24 +55,21 @@ and_parts false b c e is = absurd (by b c e is)
     by false false true holds = cc
     by false false false holds = cc
 
-module _ (plan : FixPlan) (facts : StripeFacts) (stripe i d : ℕ) (window : WindowValue) (marks : List CellMark) (known : Bool)
+module _ (plan : FixPlan) (facts : StripeFacts) (stripe i d : ℕ) (window : WindowValue) (marks : List SlotMark) (known : Bool)
     (within : d < length plan.table.columns) (stripe_is : facts.stripe ≡ stripe) (shows : ShowsFacts plan facts i marks known window) where
-  pub row_known : is_some facts.row ≡ known
-  row_known = ap (λ (row : Option Row). is_some row) shows.row ∙ row_some known window i
-
-  pub block_known : is_some (known_block facts d) ≡ (is_given_mark (mark_in marks d) || known)
-  block_known = known_some (gift_of facts d) facts.row d ∙ ap₂ (λ (g k : Bool). g || k) (shows.given d within) row_known
+  pub block_known : damaged_at plan facts d ≡ true → is_some (known_block plan facts d) ≡ is_known_mark (is_synced plan stripe) (mark_in marks d) known
+  block_known damaged =
+      known_shown plan facts i marks known window shows d within damaged
+      ∙ ap (λ (s : ℕ). is_known_mark (is_synced plan s) (mark_in marks d) known) stripe_is
 
   pub repaired_shown : is_repaired plan facts d ≡ is_repaired_by plan stripe (mark_in marks d) known d
   repaired_shown =
-      ap (λ (s : ℕ). selects_cell plan s d && damaged_at plan facts d && is_some (known_block facts d) && not (is_blocked_cell plan d (cell_at plan s d))) stripe_is
-      ∙ ap₂ (λ (b k : Bool). selects_cell plan stripe d && b && k && not (is_blocked_cell plan d (cell_at plan stripe d))) (shows.damaged d within) block_known
+      ap (λ (s : ℕ). selects_cell plan s d && damaged_at plan facts d && is_some (known_block plan facts d) && not (is_blocked_cell plan d (cell_at plan s d))) stripe_is
+      ∙ with_damaged (selects_cell plan stripe d) (damaged_at plan facts d) (is_some (known_block plan facts d)) (not (is_blocked_cell plan d (cell_at plan stripe d)))
+      (is_damaged_mark (mark_in marks d).cell) (is_known_mark (is_synced plan stripe) (mark_in marks d) known) (shows.damaged d within) block_known
 
-  pub lost_shown : is_lost plan facts.stripe (is_missing plan facts d) (is_some facts.row) d ≡ is_lost_by plan stripe (mark_in marks d) known d
-  lost_shown =
-      ap (λ (s : ℕ). is_lost plan s (is_missing plan facts d) (is_some facts.row) d) stripe_is
-      ∙ ap₂ (λ (m k : Bool). is_lost plan stripe m k d)
-      (ap₂ (λ (b g : Bool). b && not g) (shows.damaged d within) (shows.given d within) ∙ missing_mark (mark_in marks d)) row_known
+  pub lost_shown : is_lost plan facts d ≡ is_lost_by plan stripe (mark_in marks d) known d
+  lost_shown = lost_as_shown plan facts i marks known window shows d within ∙ ap (λ (s : ℕ). is_lost_by plan s (mark_in marks d) known d) stripe_is
 
 -- ---- one stripe more
 
@@ -114,7 +104,7 @@ module _ (plan : FixPlan) (stripes : List Mended) (mended : Mended) (d : ℕ) wh
 
   -- a block of a record was written
   pub writes_more : (n : ℕ) (cell : Cell) (bytes : List ℕ) → cell.rec < n → cell_at plan mended.facts.stripe d ≡ Some cell → is_written plan mended d ≡ true
-      → bytes ≡ block_or_none (known_block mended.facts d)
+      → bytes ≡ block_or_none (known_block plan mended.facts d)
       → column_writes plan (stripes ++ mended ∷ []) d n ≡ with_write (column_writes plan stripes d n) cell.rec (record { at = block_start plan.table cell; bytes = bytes })
   writes_more n cell bytes rec cell_is written bytes_are = ext_get_or [] (column_writes plan (stripes ++ mended ∷ []) d n) (set before cell.rec more)
       (long (stripes ++ mended ∷ []) n ∙ sym (length-set before cell.rec more ∙ long stripes n))
@@ -152,7 +142,7 @@ module _ (plan : FixPlan) (stripes : List Mended) (mended : Mended) (d : ℕ) wh
 
 -- what a stripe loses of a record, by what becomes of its cell
 pub loses_by : (plan : FixPlan) (d i : ℕ) (mended : Mended) (lost repaired answer : Bool)
-    → is_lost plan mended.facts.stripe (is_missing plan mended.facts d) (is_some mended.facts.row) d ≡ lost
+    → is_lost plan mended.facts d ≡ lost
     → is_repaired plan mended.facts d ≡ repaired → answer_of mended d ≡ answer
     → loses plan d i mended ≡ (is_of i (cell_at plan mended.facts.stripe d) && (lost || (repaired && not answer)))
 loses_by plan d i mended lost repaired answer lost_is repaired_is answer_is =

@@ -30,10 +30,10 @@ use Rattle.snap_report.proofs.ToldLemmas.{told_then, told_nothing}
 use Rattle.stripe_reader.specs.WindowValue.{WindowValue}
 use Rattle.snap_fix.specs.BrokenStripe.{FailsAtLevel, HoldsBelow}
 use Rattle.stripe_examiner.specs.Facts.{StripeFacts}
-use Rattle.stripe_examiner.specs.Findings.{is_wrong, is_wrong_by}
+use Rattle.stripe_examiner.specs.Findings.{is_wrong, is_wrong_by, may_write_level}
 use Rattle.stripe_examiner.specs.Marks.{row_if}
 use Rattle.snap_fix.specs.Mended.{is_wrong_level, level_news}
-use Rattle.repair_scope.specs.Plan.{FixPlan, selects_level}
+use Rattle.repair_scope.specs.Plan.{FixPlan}
 use Rattle.snap_fix.specs.Repairing.{LevelsOutside, ShowsLevels, MendsLevels, MendsNotLevels, levels_outside}
 use Rattle.snap_fix.specs.RepairSteps.{WritesLevel, WritesNotLevel}
 use Rattle.snap_fix.specs.Underway.{AddsZeros, KeepsLevels, IsMendedLevel, HoldsWrong, done_well, level_write, wrong_write}
@@ -99,7 +99,7 @@ module _ {W R : Type 0} (view : W → SinkView) (standing : R → ReportView) (s
 pub known_where_wrong : (plan : FixPlan) (stripe i r : ℕ) (level : LevelValue) (known : Bool) (window : WindowValue)
     → is_wrong plan stripe level (row_if known window i) r ≡ true → known ≡ true
 known_where_wrong plan stripe i r level true window is = refl
-known_where_wrong plan stripe i r level false window is = absurd (by (selects_level plan stripe r) level.state is)
+known_where_wrong plan stripe i r level false window is = absurd (by (may_write_level plan stripe r) level.state is)
   where
     by : (selected : Bool) (state : LevelRead) → (selected && is_wrong_by plan.table.shape.block_size r state level.block None) ≡ true → ⊥
     by false state holds = cc
@@ -110,7 +110,7 @@ known_where_wrong plan stripe i r level false window is = absurd (by (selects_le
 -- a level past those of a stripe is not wrong
 none_past : (plan : FixPlan) (facts : StripeFacts) (r : ℕ) → length facts.levels ≤ r → is_wrong_level plan facts r ≡ false
 none_past plan facts r past =
-    ap (λ (level : LevelValue). is_wrong plan facts.stripe level facts.row r) (get_or_past facts.levels r no_level past) ∙ by (selects_level plan facts.stripe r)
+    ap (λ (level : LevelValue). is_wrong plan facts.stripe level facts.row r) (get_or_past facts.levels r no_level past) ∙ by (may_write_level plan facts.stripe r)
   where
     by : (selected : Bool) → (selected && false) ≡ false
     by false = refl

@@ -92,10 +92,10 @@ module _ (plan : FixPlan) (stripes : List Mended) (d : ℕ) (valid : IsValid pla
 
   -- it is no longer than a block
   block_short : (mended : Mended) (other : Cell) → AreFacts plan mended.facts → cell_at plan mended.facts.stripe d ≡ Some other → is_repaired plan mended.facts d ≡ true
-      → length (block_or_none (known_block mended.facts d)) ≤ size
+      → length (block_or_none (known_block plan mended.facts d)) ≤ size
   block_short mended other are other_is repaired =
       let facts = mended.facts in
-      let parts = and_parts (selects_cell plan facts.stripe d) (damaged_at plan facts d) (is_some (known_block facts d)) (not (is_blocked_cell plan d (cell_at plan facts.stripe d))) repaired in
+      let parts = and_parts (selects_cell plan facts.stripe d) (damaged_at plan facts d) (is_some (known_block plan facts d)) (not (is_blocked_cell plan d (cell_at plan facts.stripe d))) repaired in
       let of = column_at plan.table.columns d in
       let long = known_long plan facts are valid.shape.levels.most d (cell_seen of other) column (ap (option_map (cell_seen of)) other_is) parts.1 parts.2 in
       omega (arith, long)
@@ -111,7 +111,7 @@ module _ (plan : FixPlan) (stripes : List Mended) (d : ℕ) (valid : IsValid pla
           → All here (if same && written then write_of plan d mended.facts (Some other) else [])
       by_flags other other_is true true same written =
           let repaired = and_first (is_repaired plan mended.facts d) (answer_of mended d) written in
-          let bytes = block_or_none (known_block mended.facts d) in
+          let bytes = block_or_none (known_block plan mended.facts d) in
           All-cons here (record { at = other.index * size; bytes = bytes }) []
           (blocks_apart size n (length bytes) cell.index other.index i few (block_short mended other are other_is repaired)
           (other_block mended.facts other other_is apart (eqb-true other.rec cell.rec same)) near)

@@ -15,7 +15,7 @@ use Rattle.snap_report.proofs.ToldLemmas.{told_nothing}
 use Rattle.stripe_reader.specs.Starts.{StartsValue, StartsFit, starts_at, start_in}
 use Rattle.stripe_reader.specs.WindowValue.{WindowValue}
 use Rattle.stripe_reader.specs.declared.starts.Place.TheVariants.{Nowhere}
-use Rattle.stripe_examiner.specs.declared.marking.CellMark.{CellMark}
+use Rattle.stripe_examiner.specs.declared.marking.SlotMark.{SlotMark}
 use Rattle.snap_fix.specs.declared.repairing.Repaired.{Repaired}
 use Rattle.file_restorer.specs.declared.state.FileState.{FileState}
 use Rattle.stripe_examiner.specs.Counts.{AreCounts}
@@ -23,7 +23,8 @@ use Rattle.stripe_examiner.specs.Marks.{mark_in}
 use Rattle.snap_fix.specs.Mended.{Mended, is_gone, is_repaired, is_written, is_of, loses, column_writes, answer_of, cell_news, mended_event}
 use Rattle.file_restorer.specs.Mending.{StatesFit, with_state}
 use Rattle.repair_scope.specs.Plan.{FixPlan, cell_at}
-use Rattle.snap_fix.specs.RepairSteps.{ColumnOutside, IsMendedAs, CanMendColumn, MendsColumn, is_repaired_by, is_lost_by}
+use Rattle.snap_fix.specs.RepairSteps.{ColumnOutside, IsMendedAs, CanMendColumn, MendsColumn, is_repaired_by}
+use Rattle.stripe_examiner.specs.Findings.{is_lost_by}
 use Rattle.file_restorer.specs.Order.{FolderWrites}
 use Rattle.file_restorer.specs.State.{AreStepCalls, Write, HoldsTold, FolderMakesBy, KeepsStarts, state_in}
 use Rattle.snap_fix.specs.StripeOrder.{stripe_writes}
@@ -42,9 +43,9 @@ abbrev pub none_written : Repaired
 none_written = record { blocks = 0; counts = record { found = 0; left = 0 } }
 
 module _ {W R : Type 0} (view : W → SinkView) (standing : R → ReportView) (stands : R → List Event → Type 0)
-    (plan : FixPlan) (stripe i d : ℕ) (window : WindowValue) (marks : List CellMark) (known : Bool) (old : ColumnOutside W R)
+    (plan : FixPlan) (stripe i d : ℕ) (window : WindowValue) (marks : List SlotMark) (known : Bool) (old : ColumnOutside W R)
     (can : CanMendColumn plan stripe i d window marks known old.starts old.states old.folder) where
-  abbrev mark : CellMark
+  abbrev mark : SlotMark
   mark = mark_in marks d
 
   abbrev Shown : Bool → Mended → Type 0

@@ -13,7 +13,7 @@ use Rattle.snap_report.proofs.ToldLemmas.{told_nothing, told_then}
 use Rattle.stripe_reader.specs.Columns.{folder_at}
 use Rattle.stripe_reader.specs.Starts.{StartsFit, starts_at}
 use Rattle.stripe_reader.specs.WindowValue.{WindowValue}
-use Rattle.stripe_examiner.specs.declared.marking.CellMark.{CellMark}
+use Rattle.stripe_examiner.specs.declared.marking.SlotMark.{SlotMark}
 use Rattle.snap_fix.specs.declared.repairing.Repaired.{Repaired}
 use Rattle.stripe_examiner.specs.Counts.{AreCounts}
 use Rattle.stripe_examiner.specs.Facts.{StripeFacts}
@@ -32,7 +32,7 @@ use Rattle.snap_fix.proofs.StartsKeptLemmas.{fails_before, keeps_starts_same, ke
 use Rattle.stripe_examiner.proofs.TellingLemmas.{Joins, events_to, events_to-more, told_as}
 
 module _ {W R : Type 0} (view : W → SinkView) (standing : R → ReportView) (stands : R → List Event → Type 0)
-    (plan : FixPlan) (stripe i : ℕ) (window : WindowValue) (marks : List CellMark) (known : Bool) (old : FilesOutside W R) where
+    (plan : FixPlan) (stripe i : ℕ) (window : WindowValue) (marks : List SlotMark) (known : Bool) (old : FilesOutside W R) where
   abbrev Shows : StripeFacts → Type 0
   Shows facts = ShowsFacts plan facts i marks known window
 

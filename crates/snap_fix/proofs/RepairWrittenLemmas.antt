@@ -15,18 +15,19 @@ use Rattle.stripe_reader.specs.Starts.{StartsValue, StartsFit, starts_at, start_
 use Rattle.stripe_reader.specs.WindowValue.{WindowValue, slot_at}
 use Rattle.stripe_reader.specs.declared.starts.Place.{Place}
 use Rattle.stripe_reader.specs.declared.starts.Place.TheVariants.{Lost, Nowhere}
-use Rattle.stripe_examiner.specs.declared.marking.CellMark.{CellMark}
+use Rattle.stripe_examiner.specs.declared.marking.SlotMark.{SlotMark}
 use Rattle.snap_fix.specs.declared.repairing.Repaired.{Repaired}
 use Rattle.file_restorer.specs.declared.state.FileState.{FileState}
 use Rattle.stripe_examiner.specs.Counts.{AreCounts}
 use Rattle.stripe_examiner.specs.Facts.{StripeFacts, damaged_at}
 use Rattle.stripe_examiner.specs.Marks.{mark_in}
 use Rattle.snap_fix.specs.Mended.{Mended, is_gone, is_repaired, is_written, is_of, loses, column_writes, writes_in, answer_of, cell_news, mended_event, is_blocked_cell}
-use Rattle.stripe_examiner.specs.Showing.{known_block, block_or_none, ShowsFacts, is_damaged_mark, is_given_mark}
+use Rattle.stripe_examiner.specs.Showing.{known_block, block_or_none, ShowsFacts, is_damaged_mark, is_known_mark}
 use Rattle.file_restorer.specs.Breaking.{StepFails}
 use Rattle.file_restorer.specs.Mending.{StatesFit, IsBlockCall, CanWrite, block_start, cell_path, mended_writes, with_state}
-use Rattle.repair_scope.specs.Plan.{FixPlan, cell_at, entry_at, selects_cell}
-use Rattle.snap_fix.specs.RepairSteps.{ColumnOutside, IsMendedAs, CanMendColumn, MendsColumn, MendsNotColumn, WritesBlockOf, WritesNotBlockOf, is_repaired_by, is_lost_by}
+use Rattle.repair_scope.specs.Plan.{FixPlan, cell_at, entry_at, is_synced, selects_cell}
+use Rattle.snap_fix.specs.RepairSteps.{ColumnOutside, IsMendedAs, CanMendColumn, MendsColumn, MendsNotColumn, WritesBlockOf, WritesNotBlockOf, is_repaired_by}
+use Rattle.stripe_examiner.specs.Findings.{is_lost_by}
 use Rattle.file_restorer.specs.Order.{FolderWrites, block_calls}
 use Rattle.file_restorer.specs.State.{AreStepCalls, StopsAtMissing, Write, HoldsTold, FolderMakesBy, KeepsStarts, StaysPlace, StepMakes, has_some, size_after, state_in}
 use Rattle.snap_fix.specs.Underway.{AreMendCalls, IsMendCall, SetsUpOneOf, calls_of_cell, repair_calls}
@@ -41,9 +42,9 @@ use Rattle.snap_fix.proofs.WritesLemmas.{writes_in-other, writes_in-here}
 use Rattle.snap_fix.proofs.RepairMarkLemmas.{or_true, or_swap, not_blocked, not_lost_by}
 
 module _ {W R : Type 0} (view : W → SinkView) (standing : R → ReportView) (stands : R → List Event → Type 0)
-    (plan : FixPlan) (stripe i d : ℕ) (window : WindowValue) (marks : List CellMark) (known : Bool) (old : ColumnOutside W R)
+    (plan : FixPlan) (stripe i d : ℕ) (window : WindowValue) (marks : List SlotMark) (known : Bool) (old : ColumnOutside W R)
     (can : CanMendColumn plan stripe i d window marks known old.starts old.states old.folder) where
-  abbrev mark : CellMark
+  abbrev mark : SlotMark
   mark = mark_in marks d
 
   abbrev Shown : Bool → Mended → Type 0
@@ -56,8 +57,8 @@ module _ {W R : Type 0} (view : W → SinkView) (standing : R → ReportView) (s
   long = omega (arith, can.within, can.states_fit.columns)
 
   module _ (cell : Cell) (cell_is : cell_at plan stripe d ≡ Some cell) (rec : cell.rec < records) (goes : is_repaired_by plan stripe mark known d ≡ true) where
-    abbrev parts : (selects_cell plan stripe d ≡ true) × (is_damaged_mark mark ≡ true) × ((is_given_mark mark || known) ≡ true) × (not (is_blocked_cell plan d (cell_at plan stripe d)) ≡ true)
-    parts = and_parts (selects_cell plan stripe d) (is_damaged_mark mark) (is_given_mark mark || known) (not (is_blocked_cell plan d (cell_at plan stripe d))) goes
+    abbrev parts : (selects_cell plan stripe d ≡ true) × (is_damaged_mark mark.cell ≡ true) × (is_known_mark (is_synced plan stripe) mark known ≡ true) × (not (is_blocked_cell plan d (cell_at plan stripe d)) ≡ true)
+    parts = and_parts (selects_cell plan stripe d) (is_damaged_mark mark.cell) (is_known_mark (is_synced plan stripe) mark known) (not (is_blocked_cell plan d (cell_at plan stripe d))) goes
 
     pub is_free : (entry_at plan d cell.rec).blocked ≡ false
     is_free = not_blocked (entry_at plan d cell.rec).blocked (ap (λ (c : Option Cell). not (is_blocked_cell plan d c)) (sym cell_is) ∙ parts.3)
@@ -69,8 +70,8 @@ module _ {W R : Type 0} (view : W → SinkView) (standing : R → ReportView) (s
     damaged_of : (facts : StripeFacts) → ShowsFacts plan facts i marks known window → damaged_at plan facts d ≡ true
     damaged_of facts shows = shows.damaged d can.within ∙ parts.1
 
-    block_of : (facts : StripeFacts) → facts.stripe ≡ stripe → ShowsFacts plan facts i marks known window → bytes_of (slot_at window i d) ≡ block_or_none (known_block facts d)
-    block_of facts is shows = shows.block d can.within (damaged_of facts shows) (block_known plan facts stripe i d window marks known can.within is shows ∙ parts.2)
+    block_of : (facts : StripeFacts) → facts.stripe ≡ stripe → ShowsFacts plan facts i marks known window → bytes_of (slot_at window i d) ≡ block_or_none (known_block plan facts d)
+    block_of facts is shows = shows.block d can.within (damaged_of facts shows) (block_known plan facts stripe i d window marks known can.within is shows (damaged_of facts shows) ∙ parts.2)
 
     repaired_of : (facts : StripeFacts) → facts.stripe ≡ stripe → ShowsFacts plan facts i marks known window → is_repaired plan facts d ≡ true
     repaired_of facts is shows = repaired_shown plan facts stripe i d window marks known can.within is shows ∙ goes
@@ -83,7 +84,7 @@ module _ {W R : Type 0} (view : W → SinkView) (standing : R → ReportView) (s
       block = index;
       long = ap (λ (bs : List ℕ). length bs) (bytes_are ∙ block_of can.facts can.stripe_is can.shows)
           ∙ can.shows.long d cell can.within (cell_of can.facts can.stripe_is) (damaged_of can.facts can.shows)
-          (block_known plan can.facts stripe i d window marks known can.within can.stripe_is can.shows ∙ parts.2);
+          (block_known plan can.facts stripe i d window marks known can.within can.stripe_is can.shows (damaged_of can.facts can.shows) ∙ parts.2);
       starts_fit = can.starts_fit;
       states_fit = can.states_fit;
       is_open = can.underway.calls.goes_on.closed ∙ can.fixable.is_open (omega (arith, rec));
@@ -232,8 +233,9 @@ module _ {W R : Type 0} (view : W → SinkView) (standing : R → ReportView) (s
             (repaired_of mended.facts shown.stripe_is shown.shows) shown.answer_is
             ∙ ap₂ (λ (c : Option Cell) (l : Bool). is_of k c && (l || not writes.written)) (cell_of mended.facts shown.stripe_is) (not_lost mark goes)
           where
-            not_lost : (m : CellMark) → is_repaired_by plan stripe m known d ≡ true → is_lost_by plan stripe m known d ≡ false
-            not_lost m repaired = not_lost_by (selects_cell plan stripe d) m known (not (is_blocked_cell plan d (cell_at plan stripe d))) repaired
+            not_lost : (m : SlotMark) → is_repaired_by plan stripe m known d ≡ true → is_lost_by plan stripe m known d ≡ false
+            not_lost m repaired =
+                not_lost_by (selects_cell plan stripe d) (is_damaged_mark m.cell) (is_known_mark (is_synced plan stripe) m known) (not (is_blocked_cell plan d (cell_at plan stripe d))) repaired
 
         lost_is : (mended : Mended) → Shown writes.written mended → (k : ℕ) → k < records → (cell.rec ≡ k) ⊎ (cell.rec ≡ k → ⊥)
             → (state_in new.states d k).lost ≡ ((state_in old.states d k).lost || loses plan d k mended)

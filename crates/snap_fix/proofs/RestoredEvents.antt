@@ -24,12 +24,12 @@ use Rattle.repair_scope.specs.declared.entry.Entry.{Entry}
 use Rattle.file_restorer.specs.declared.finishing.Finish.{Finish}
 use Rattle.file_restorer.specs.declared.finishing.Finish.TheVariants.{Kept, Restored, Unstamped, Renamed, Gone}
 use Rattle.snap_fix.specs.Ending.{all_finish_news, column_news_at, finish_news, record_news, finish_at, finishes_at, is_finished, stamp_news}
-use Rattle.stripe_examiner.specs.Facts.{StripeFacts, damaged_at, gift_of, is_missing}
+use Rattle.stripe_examiner.specs.Facts.{StripeFacts, damaged_at}
 use Rattle.stripe_examiner.specs.Findings.{all_cell_events, all_level_events, all_level_io_events, all_lost_events, blocked_event, cell_events, changed_event, column_events, file_events, is_lost, is_unread, is_wrong, is_unread_level, level_events, level_io_events, lost_event, lost_events, opening_events, read_event, read_events, record_events, silent_event, stripe_events, unsynced_events}
 use Rattle.snap_fix.specs.FixCourse.{fix_events}
 use Rattle.snap_fix.specs.Fixing.{facts_of}
 use Rattle.snap_fix.specs.Mended.{Mended, all_cell_news, all_level_news, all_mended_events, AnswersFit, answer_of, cell_news, fixed_event, is_repaired, is_wrong_level, level_news, mended_event, mended_events}
-use Rattle.stripe_examiner.specs.Showing.{known_by}
+use Rattle.stripe_examiner.specs.Showing.{is_unknown, known_block}
 use Rattle.repair_scope.specs.Plan.{FixPlan, cell_at, entry_at, is_audit, is_synced, has_selected_cell, selects_cell, selects_level}
 use Rattle.snap_fix.specs.Restored.{HasFixed, IsUnknownCell}
 use Rattle.repair_scope.specs.Selected.{is_as_recorded}
@@ -172,19 +172,17 @@ module _ (Q : ℕ → ℕ → ℕ → ℕ → Type 0) where
   -- of all stripes
   module _ (plan : FixPlan) (stripes : List Mended) (finishes : List (List Finish))
       (lost : (mended : Mended) (d : ℕ) (cell : Cell) → Contains stripes mended → d < length plan.table.columns → cell_at plan mended.facts.stripe d ≡ Some cell
-      → is_lost plan mended.facts.stripe (is_missing plan mended.facts d) (is_some mended.facts.row) d ≡ true → Q mended.facts.stripe d cell.rec cell.index)
+      → is_lost plan mended.facts d ≡ true → Q mended.facts.stripe d cell.rec cell.index)
       (gone : (mended : Mended) (d : ℕ) (cell : Cell) → Contains stripes mended → d < length plan.table.columns → cell_at plan mended.facts.stripe d ≡ Some cell
       → is_repaired plan mended.facts d ≡ true → answer_of mended d ≡ false → Q mended.facts.stripe d cell.rec cell.index) where
-    all_lost : (mended : Mended) → Contains stripes mended → All Only (all_lost_events plan mended.facts.stripe (is_missing plan mended.facts) (is_some mended.facts.row))
+    all_lost : (mended : Mended) → Contains stripes mended → All Only (all_lost_events plan mended.facts.stripe (is_lost plan mended.facts))
     all_lost mended one =
         let stripe : ℕ = mended.facts.stripe in
-        let missing : ℕ → Bool = is_missing plan mended.facts in
-        let known : Bool = is_some mended.facts.row in
-        all_below (λ d. lost_events plan stripe (missing d) known d) (length plan.table.columns) (λ d below.
-        all_where (not (is_audit plan.scope.mode) && is_lost plan stripe (missing d) known d) (lost_event stripe d (cell_at plan stripe d))
+        all_below (λ d. lost_events plan stripe (is_lost plan mended.facts d) d) (length plan.table.columns) (λ d below.
+        all_where (not (is_audit plan.scope.mode) && is_lost plan mended.facts d) (lost_event stripe d (cell_at plan stripe d))
         (λ is. all_lost_of stripe d (cell_at plan stripe d)
         (λ cell cell_is. lost mended d cell one below cell_is
-        (and_parts (not (is_audit plan.scope.mode)) (is_lost plan stripe (is_missing plan mended.facts d) (is_some mended.facts.row) d) is).1)))
+        (and_parts (not (is_audit plan.scope.mode)) (is_lost plan mended.facts d) is).1)))
 
     all_news : (mended : Mended) → Contains stripes mended → All Only (all_cell_news plan mended)
     all_news mended one =
@@ -198,7 +196,7 @@ module _ (Q : ℕ → ℕ → ℕ → ℕ → Type 0) where
     all_of_stripe mended one =
         let facts : StripeFacts = mended.facts in
         let stripe : ℕ = mended.facts.stripe in
-        let lost_of : List Event = all_lost_events plan stripe (is_missing plan facts) (is_some facts.row) in
+        let lost_of : List Event = all_lost_events plan stripe (is_lost plan facts) in
         let wrong_of : List Event = all_level_events plan stripe facts.levels facts.row in
         let io_of : List Event = all_level_io_events plan stripe facts.levels in
         let cells_of : List Event = all_cell_events plan stripe facts.slots in
@@ -218,10 +216,9 @@ module _ (Q : ℕ → ℕ → ℕ → ℕ → Type 0) where
 
 -- ---- the cells that are told to be lost
 
-unknown_where : (gift : Option (List ℕ)) (row : Option Row) (d : ℕ) → not (is_some gift) ≡ true → not (is_some row) ≡ true → is_some (known_by gift row d) ≡ false
-unknown_where (Some bytes) row d no_gift no_row = absurd cc
-unknown_where None (Some row) d no_gift no_row = absurd cc
-unknown_where None None d no_gift no_row = refl
+not_set : (b : Bool) → not b ≡ true → b ≡ false
+not_set true is = absurd cc
+not_set false is = refl
 
 pub contains_facts : (stripes : List Mended) (mended : Mended) → Contains stripes mended → Contains (facts_of stripes) mended.facts
 contains_facts stripes mended one =
@@ -234,16 +231,15 @@ module _ (plan : FixPlan) (starts : StartsValue) (stripes : List Mended) (finish
   IsUnknown stripe d rec index = IsTrue (folder_at firsts d).tells → IsUnknownCell plan (facts_of stripes) stripe d (let cell : Cell = record { rec = rec; index = index } in cell)
 
   lost_is_unknown : (mended : Mended) (d : ℕ) (cell : Cell) → Contains stripes mended → d < length plan.table.columns → cell_at plan mended.facts.stripe d ≡ Some cell
-      → is_lost plan mended.facts.stripe (is_missing plan mended.facts d) (is_some mended.facts.row) d ≡ true → IsUnknown mended.facts.stripe d cell.rec cell.index
+      → is_lost plan mended.facts d ≡ true → IsUnknown mended.facts.stripe d cell.rec cell.index
   lost_is_unknown mended d cell one below cell_is is tells =
-      let outer = and_parts (selects_cell plan mended.facts.stripe d && is_missing plan mended.facts d) (not (is_some mended.facts.row)) is in
-      let inner = and_parts (selects_cell plan mended.facts.stripe d) (is_missing plan mended.facts d) outer.0 in
-      let missing = and_parts (damaged_at plan mended.facts d) (not (is_some (gift_of mended.facts d))) inner.1 in
+      let outer = and_parts (selects_cell plan mended.facts.stripe d) (is_unknown plan mended.facts d) is in
+      let inner = and_parts (damaged_at plan mended.facts d) (not (is_some (known_block plan mended.facts d))) outer.1 in
       record {
         facts = mended.facts;
         number = refl;
-        is = record { one = contains_facts stripes mended one; column = below; cell_is = cell_is; selected = inner.0; damaged = missing.0 };
-        unknown = unknown_where (gift_of mended.facts d) mended.facts.row d missing.1 outer.1;
+        is = record { one = contains_facts stripes mended one; column = below; cell_is = cell_is; selected = outer.0; damaged = inner.0 };
+        unknown = not_set (is_some (known_block plan mended.facts d)) inner.1;
       }
 
   none_is_gone : (mended : Mended) (d : ℕ) (cell : Cell) → Contains stripes mended → d < length plan.table.columns → cell_at plan mended.facts.stripe d ≡ Some cell

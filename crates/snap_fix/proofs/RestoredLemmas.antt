@@ -1,5 +1,5 @@
 -- What a fix leaves of damaged cells: what could be had of them is in their files, and the others are told.
-use Rattle.std.proofs.Common.{◌≡◌, ◌↔◌, ℕ, zero, suc, ◌+◌, ◌*◌, ◌<◌, ◌&&◌, List, [], ◌∷◌, ◌++◌, length, get_or, Bool, true, false, Option, None, Some, IsTrue, refl, sym, ap, ap₂, ◌∙◌, subst, inl, inr, arith}
+use Rattle.std.proofs.Common.{◌≡◌, ◌↔◌, ℕ, zero, suc, ◌+◌, ◌*◌, ◌<◌, ◌&&◌, List, [], ◌∷◌, ◌++◌, length, get_or, Bool, true, false, Option, None, Some, IsTrue, ◌⊎◌, refl, sym, ap, ap₂, ◌∙◌, subst, inl, inr, arith}
 use Rattle.std.specs.Prelude.{is_some, not, if◌then◌else◌, slice_index}
 use Rattle.std.specs.List.{Contains, flat_map, range_with_len}
 use Rattle.std.proofs.lemmas.Bool.{and_parts, and_from, false≢true}
@@ -30,21 +30,23 @@ use Rattle.file_restorer.specs.declared.finishing.Finish.{Finish}
 use Rattle.file_restorer.specs.declared.finishing.Finish.TheVariants.{Kept, Renamed}
 use Rattle.file_restorer.specs.declared.state.FileState.{FileState}
 use Rattle.snap_fix.specs.Ending.{FinishesColumn, HoldsEnd, StandsEnd, IsDone, all_finish_news, finish_at, finishes_at, is_finished, states_at}
-use Rattle.stripe_examiner.specs.Facts.{StripeFacts, damaged_at, gift_of, is_missing}
+use Rattle.stripe_examiner.specs.Facts.{StripeFacts, damaged_at, gift_of}
 use Rattle.stripe_examiner.specs.Findings.{all_cell_events, all_level_events, all_level_io_events, is_lost, lost_event, lost_events, opening_events, stripe_events, unsynced_events}
 use Rattle.file_restorer.specs.Finishing.{StandsLost, bytes_now, finish_of, lost_finish, whole_finish}
 use Rattle.snap_fix.specs.FixCourse.{Written, fix_events}
 use Rattle.snap_fix.specs.Fixing.{facts_of}
-use Rattle.snap_fix.specs.Genuine.{HasGenuineFacts, IsBlockIn, TellsIntactLevels}
+use Rattle.snap_fix.specs.Genuine.{IsBlockIn, IsRestorableStripe, TellsIntactLevels}
+use Rattle.snap_fix.proofs.ExactLemmas.{HasExactFacts}
 use Rattle.snap_fix.specs.Mended.{Mended, all_cell_news, all_level_news, all_mended_events, answer_of, column_writes, has_lost, is_blocked_cell, is_repaired, is_written, mended_events, writes_of}
 use Rattle.stripe_examiner.specs.Showing.{block_or_none, known_block, known_by}
 use Rattle.file_restorer.specs.Mending.{block_start, cell_path}
 use Rattle.repair_scope.specs.Plan.{FixPlan, cell_at, entry_at, is_audit, is_searched, is_synced, is_in_scope, has_selected, selects_cell}
-use Rattle.snap_fix.specs.Restored.{CanBeHad, HasFixed, HoldsCell, IsDamagedCell}
+use Rattle.snap_fix.specs.Restored.{CanBeHad, HasFixed, HoldsCell, IsDamagedCell, IsGivenBlock}
 use Rattle.file_restorer.specs.State.{HoldsBy, HoldsRecord, IsTouched, Write, bytes_or, bytes_placed, place_then, puts, stands, state_in}
 use Rattle.snap_fix.specs.Underway.{IsColumnUnderway}
 use Rattle.snap_fix.proofs.GenuineCells.{given_is}
 use Rattle.snap_fix.proofs.GenuineLemmas.{known_by_count, row_same}
+use Rattle.stripe_examiner.proofs.ShownLemmas.{known_block_is}
 use Rattle.snap_fix.proofs.RestoredWrites.{block_is_written, repaired_parts, some_are_written}
 
 -- ---- of one file
@@ -102,7 +104,7 @@ mended_of plan stripes facts d cell it =
 
 module _ (plan : FixPlan) (starts : StartsValue) (stripes : List Mended) (finishes : List (List Finish)) (firsts news : List FolderView)
     (has : HasFixed plan starts stripes finishes firsts news) (mended : Mended) (d : ℕ) (cell : Cell) (one : IsDamagedOf plan stripes mended d cell)
-    (free : (entry_at plan d cell.rec).blocked ≡ false) (known : is_some (known_block mended.facts d) ≡ true) (tells : IsTrue (folder_at firsts d).tells) where
+    (free : (entry_at plan d cell.rec).blocked ≡ false) (known : is_some (known_block plan mended.facts d) ≡ true) (tells : IsTrue (folder_at firsts d).tells) where
   abbrev facts : StripeFacts
   facts = mended.facts
 
@@ -169,13 +171,13 @@ module _ (plan : FixPlan) (starts : StartsValue) (stripes : List Mended) (finish
   real = block_length plan.table.shape.block_size (record_at plan.table.columns d i).meta.size cell.index
 
   abbrev byte : ℕ → ℕ
-  byte p = get_or (block_or_none (known_block facts d)) p 0
+  byte p = get_or (block_or_none (known_block plan facts d)) p 0
 
   -- the file has the block once all is written
   has_block : (p : ℕ) → p < real → HasByte held.file.bytes (block_start plan.table cell + p) (byte p)
   has_block p less =
       subst (λ (bytes : List ℕ). HasByte bytes (block_start plan.table cell + p) (byte p)) (sym held.bytes)
-      (subst (λ (it : Mended). HasByte (puts (bytes_placed (folder_at firsts d).tree path) all_writes) (block_start plan.table cell + p) (get_or (block_or_none (known_block it.facts d)) p 0)) one.one.2
+      (subst (λ (it : Mended). HasByte (puts (bytes_placed (folder_at firsts d).tree path) all_writes) (block_start plan.table cell + p) (get_or (block_or_none (known_block plan it.facts d)) p 0)) one.one.2
       (block_is_written plan starts stripes finishes firsts news has d one.column mended one.one.0 cell (bytes_placed (folder_at firsts d).tree path) p
       one.one.1 cell_there written_there less))
 
@@ -238,53 +240,60 @@ module _ (plan : FixPlan) (starts : StartsValue) (stripes : List Mended) (finish
 
 -- ---- which blocks are known
 
-known_by_gift : (gift : Option (List ℕ)) (row : Option Row) (d : ℕ) → is_some gift ≡ true → is_some (known_by gift row d) ≡ true
+known_by_gift : (gift : Option (List ℕ)) (row : Option Row) (d : ℕ) → is_some gift ≡ true → is_some (known_by true gift row d) ≡ true
 known_by_gift None row d some = absurd cc
 known_by_gift (Some bytes) row d some = refl
 
-known_by_row : (gift : Option (List ℕ)) (row : Option Row) (d : ℕ) → is_some row ≡ true → is_some (known_by gift row d) ≡ true
+known_by_row : (gift : Option (List ℕ)) (row : Option Row) (d : ℕ) → is_some row ≡ true → is_some (known_by true gift row d) ≡ true
 known_by_row (Some bytes) row d some = refl
 known_by_row None None d some = absurd cc
 known_by_row None (Some row) d some = refl
 
 module _ (plan : FixPlan) (starts : StartsValue) (firsts : List FolderView) (snapshot : Row) (facts : StripeFacts)
-    (has : HasGenuineFacts plan starts firsts snapshot facts) (nothing : (a : ℕ) → product a 0 ≡ 0) (d : ℕ) where
+    (has : HasExactFacts plan starts firsts snapshot facts) (nothing : (a : ℕ) → product a 0 ≡ 0) (d : ℕ) where
   -- a known block is the snapshot's
-  pub known_is : is_some (known_block facts d) ≡ true → IsBlockIn plan.table.shape.block_size snapshot d (block_or_none (known_block facts d))
-  known_is some = by (gift_of facts d) facts.row refl refl some
+  pub known_is : is_some (known_block plan facts d) ≡ true → IsBlockIn plan.table.shape.block_size snapshot d (block_or_none (known_block plan facts d))
+  known_is =
+      subst (λ (block : Option (List ℕ)). is_some block ≡ true → IsBlockIn plan.table.shape.block_size snapshot d (block_or_none block)) (sym (known_block_is plan facts has.are d))
+      (by (gift_of facts d) facts.row refl refl)
     where
-      by : (gift : Option (List ℕ)) (row : Option Row) → gift_of facts d ≡ gift → facts.row ≡ row → is_some (known_by gift row d) ≡ true
-          → IsBlockIn plan.table.shape.block_size snapshot d (block_or_none (known_by gift row d))
+      by : (gift : Option (List ℕ)) (row : Option Row) → gift_of facts d ≡ gift → facts.row ≡ row → is_some (known_by true gift row d) ≡ true
+          → IsBlockIn plan.table.shape.block_size snapshot d (block_or_none (known_by true gift row d))
       by (Some bytes) row gift_is row_is there = given_is plan starts firsts snapshot facts has d bytes gift_is
       by None None gift_is row_is there = absurd cc
       by None (Some row) gift_is row_is there = λ p less. (row_same plan starts firsts snapshot facts has nothing row row_is).bytes d p less
 
   module _ (bytes : AreBytes snapshot) (is_intact : ℕ → Bool) (tells : TellsIntactLevels plan facts snapshot is_intact) where
-    pub known_where_had : CanBeHad plan facts is_intact d → is_some (known_block facts d) ≡ true
-    known_where_had (inl given) = known_by_gift (gift_of facts d) facts.row d given
-    known_where_had (inr enough) = known_by_row (gift_of facts d) facts.row d ((known_by_count plan starts firsts snapshot facts has nothing bytes is_intact tells).1 enough)
+    some_known : is_some (known_block plan facts d) ≡ is_some (known_by true (gift_of facts d) facts.row d)
+    some_known = ap (λ (block : Option (List ℕ)). is_some block) (known_block_is plan facts has.are d)
 
-    had_where_known : (gift : Option (List ℕ)) (row : Option Row) → gift_of facts d ≡ gift → facts.row ≡ row → is_some (known_by gift row d) ≡ true → CanBeHad plan facts is_intact d
-    had_where_known (Some bytes) row gift_is row_is there = inl (ap is_some gift_is)
-    had_where_known None None gift_is row_is there = absurd cc
-    had_where_known None (Some row) gift_is row_is there = inr ((known_by_count plan starts firsts snapshot facts has nothing bytes is_intact tells).0 (ap is_some row_is))
-
-    pub known_as_had : is_some (known_block facts d) ≡ true ↔ CanBeHad plan facts is_intact d
-    known_as_had = (had_where_known (gift_of facts d) facts.row refl refl, known_where_had)
-
-    pub unknown_where_not : (CanBeHad plan facts is_intact d → ⊥) → is_some (known_block facts d) ≡ false
-    unknown_where_not never = by (is_some (known_block facts d)) refl
+    pub known_where_had : CanBeHad plan facts is_intact d → is_some (known_block plan facts d) ≡ true
+    known_where_had can = some_known ∙ by can.had
       where
-        by : (b : Bool) → is_some (known_block facts d) ≡ b → b ≡ false
+        by : IsGivenBlock plan facts d ⊎ IsRestorableStripe plan facts is_intact → is_some (known_by true (gift_of facts d) facts.row d) ≡ true
+        by (inl given) = known_by_gift (gift_of facts d) facts.row d given.1
+        by (inr enough) = known_by_row (gift_of facts d) facts.row d ((known_by_count plan starts firsts snapshot facts has nothing bytes is_intact tells).1 enough)
+
+    synced : is_synced plan facts.stripe ≡ true
+    synced = (and_parts (is_synced plan facts.stripe) (not (is_audit plan.scope.mode)) has.searched).0
+
+    had_where_known : (gift : Option (List ℕ)) (row : Option Row) → gift_of facts d ≡ gift → facts.row ≡ row → is_some (known_by true gift row d) ≡ true → CanBeHad plan facts is_intact d
+    had_where_known (Some bytes) row gift_is row_is there = record { sought = synced; had = inl (synced, ap is_some gift_is) }
+    had_where_known None None gift_is row_is there = absurd cc
+    had_where_known None (Some row) gift_is row_is there =
+        record { sought = synced; had = inr ((known_by_count plan starts firsts snapshot facts has nothing bytes is_intact tells).0 (ap is_some row_is)) }
+
+    pub known_as_had : is_some (known_block plan facts d) ≡ true ↔ CanBeHad plan facts is_intact d
+    known_as_had = (λ some. had_where_known (gift_of facts d) facts.row refl refl (sym some_known ∙ some), known_where_had)
+
+    pub unknown_where_not : (CanBeHad plan facts is_intact d → ⊥) → is_some (known_block plan facts d) ≡ false
+    unknown_where_not never = by (is_some (known_block plan facts d)) refl
+      where
+        by : (b : Bool) → is_some (known_block plan facts d) ≡ b → b ≡ false
         by false is = refl
         by true is = absurd (never (known_as_had.0 is))
 
 -- ---- a cell whose block can't be had
-
-none_is_known : (gift : Option (List ℕ)) (row : Option Row) (d : ℕ) → is_some (known_by gift row d) ≡ false → (is_some gift ≡ false) × (is_some row ≡ false)
-none_is_known (Some bytes) row d none = absurd cc
-none_is_known None (Some row) d none = absurd cc
-none_is_known None None d none = (refl, refl)
 
 pub contains_flat : {X A : Type 0} (f : X → List A) (xs : List X) (k : ℕ) (d : X) (a : A) → k < length xs → Contains (f (get_or xs k d)) a → Contains (flat_map f xs) a
 contains_flat f [] k d a within there = absurd (omega (arith, within))
@@ -295,17 +304,15 @@ abbrev lost_of_cell : ℕ → ℕ → Cell → Event
 lost_of_cell stripe d cell = event.Lost stripe d cell.rec cell.index
 
 module _ (plan : FixPlan) (stripes : List Mended) (finishes : List (List Finish)) (mended : Mended) (d : ℕ) (cell : Cell)
-    (one : IsDamagedOf plan stripes mended d cell) (unknown : is_some (known_block mended.facts d) ≡ false) where
+    (one : IsDamagedOf plan stripes mended d cell) (unknown : is_some (known_block plan mended.facts d) ≡ false) where
   abbrev facts_here : StripeFacts
   facts_here = mended.facts
 
   abbrev stripe : ℕ
   stripe = mended.facts.stripe
 
-  cell_is_lost : is_lost plan stripe (is_missing plan facts_here d) (is_some facts_here.row) d ≡ true
-  cell_is_lost =
-      let none = none_is_known (gift_of facts_here d) facts_here.row d unknown in
-      and_from _ _ (and_from _ _ one.selected (and_from _ _ one.damaged (ap not none.0))) (ap not none.1)
+  cell_is_lost : is_lost plan facts_here d ≡ true
+  cell_is_lost = and_from _ _ one.selected (and_from _ _ one.damaged (ap not unknown))
 
   lost_is_not_repaired : is_repaired plan facts_here d ≡ false
   lost_is_not_repaired = by (is_repaired plan facts_here d) refl
@@ -317,7 +324,7 @@ module _ (plan : FixPlan) (stripes : List Mended) (finishes : List (List Finish)
   lost_is_told : is_audit plan.scope.mode ≡ false → Contains (fix_events plan stripes finishes) (lost_of_cell stripe d cell)
   lost_is_told parity =
       let columns : ℕ = length plan.table.columns in
-      let lost_by : ℕ → List Event = λ k. lost_events plan stripe (is_missing plan facts_here k) (is_some facts_here.row) k in
+      let lost_by : ℕ → List Event = λ k. lost_events plan stripe (is_lost plan facts_here k) k in
       let here : lost_by d ≡ lost_of_cell stripe d cell ∷ [] =
       ap₂ (λ (audit lost : Bool). if not audit && lost then lost_event stripe d (cell_at plan stripe d) else []) parity cell_is_lost
       ∙ ap (lost_event stripe d) one.cell_is in
@@ -339,7 +346,7 @@ module _ (plan : FixPlan) (stripes : List Mended) (finishes : List (List Finish)
       Contains-append_right (opening_events plan) (all_mended_events plan stripes ++ all_finish_news plan finishes) _
       (Contains-append_left (all_mended_events plan stripes) (all_finish_news plan finishes) _ in_all)
 
-  pub lost_here : is_audit plan.scope.mode ≡ false → (is_lost plan stripe (is_missing plan facts_here d) (is_some facts_here.row) d ≡ true)
+  pub lost_here : is_audit plan.scope.mode ≡ false → (is_lost plan facts_here d ≡ true)
       × Contains (fix_events plan stripes finishes) (lost_of_cell stripe d cell) × (is_repaired plan facts_here d ≡ false)
   lost_here parity = (cell_is_lost, lost_is_told parity, lost_is_not_repaired)
 
@@ -368,18 +375,18 @@ module _ (plan : FixPlan) (stripes : List Mended) (facts : StripeFacts) (d : ℕ
 
   -- with a known block it is held
   pub held_by : (starts : StartsValue) (finishes : List (List Finish)) (firsts news : List FolderView) → HasFixed plan starts stripes finishes firsts news
-      → (entry_at plan d cell.rec).blocked ≡ false → is_some (known_block facts d) ≡ true → IsTrue (folder_at firsts d).tells
-      → HoldsCell plan.table d cell (has_lost plan stripes d cell.rec) (slice_index (block_or_none (known_block facts d))) (folder_at news d).tree
+      → (entry_at plan d cell.rec).blocked ≡ false → is_some (known_block plan facts d) ≡ true → IsTrue (folder_at firsts d).tells
+      → HoldsCell plan.table d cell (has_lost plan stripes d cell.rec) (slice_index (block_or_none (known_block plan facts d))) (folder_at news d).tree
   held_by starts finishes firsts news has free known tells =
-      subst (λ (its : StripeFacts). is_some (known_block its d) ≡ true
-      → HoldsCell plan.table d cell (has_lost plan stripes d cell.rec) (slice_index (block_or_none (known_block its d))) (folder_at news d).tree) of.facts_are
+      subst (λ (its : StripeFacts). is_some (known_block plan its d) ≡ true
+      → HoldsCell plan.table d cell (has_lost plan stripes d cell.rec) (slice_index (block_or_none (known_block plan its d))) (folder_at news d).tree) of.facts_are
       (λ there. cell_held plan starts stripes finishes firsts news has of.mended d cell of.is free there tells) known
 
   -- and without one it is lost
-  pub lost_by : (finishes : List (List Finish)) → is_some (known_block facts d) ≡ false → is_audit plan.scope.mode ≡ false
-      → (is_lost plan facts.stripe (is_missing plan facts d) (is_some facts.row) d ≡ true)
+  pub lost_by : (finishes : List (List Finish)) → is_some (known_block plan facts d) ≡ false → is_audit plan.scope.mode ≡ false
+      → (is_lost plan facts d ≡ true)
       × Contains (fix_events plan stripes finishes) (lost_of_cell facts.stripe d cell) × (is_repaired plan facts d ≡ false)
   lost_by finishes unknown parity =
-      subst (λ (its : StripeFacts). is_some (known_block its d) ≡ false → (is_lost plan its.stripe (is_missing plan its d) (is_some its.row) d ≡ true)
+      subst (λ (its : StripeFacts). is_some (known_block plan its d) ≡ false → (is_lost plan its d ≡ true)
       × Contains (fix_events plan stripes finishes) (lost_of_cell its.stripe d cell) × (is_repaired plan its d ≡ false)) of.facts_are
       (λ there. lost_here plan stripes finishes of.mended d cell of.is there parity) unknown

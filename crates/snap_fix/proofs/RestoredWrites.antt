@@ -106,18 +106,18 @@ some_written f none (mended ∷ stripes) (suc k) within some = has_some_right (f
 pub record IsRepaired (plan : FixPlan) (facts : StripeFacts) (d : ℕ) : Type 0 where
   pub selected : selects_cell plan facts.stripe d ≡ true
   pub damaged : damaged_at plan facts d ≡ true
-  pub known : is_some (known_block facts d) ≡ true
+  pub known : is_some (known_block plan facts d) ≡ true
   pub free : not (is_blocked_cell plan d (cell_at plan facts.stripe d)) ≡ true
 
 pub repaired_parts : (plan : FixPlan) (facts : StripeFacts) (d : ℕ) → is_repaired plan facts d ≡ true → IsRepaired plan facts d
 repaired_parts plan facts d is =
-    let one = and_parts (selects_cell plan facts.stripe d && damaged_at plan facts d && is_some (known_block facts d)) (not (is_blocked_cell plan d (cell_at plan facts.stripe d))) is in
-    let two = and_parts (selects_cell plan facts.stripe d && damaged_at plan facts d) (is_some (known_block facts d)) one.0 in
+    let one = and_parts (selects_cell plan facts.stripe d && damaged_at plan facts d && is_some (known_block plan facts d)) (not (is_blocked_cell plan d (cell_at plan facts.stripe d))) is in
+    let two = and_parts (selects_cell plan facts.stripe d && damaged_at plan facts d) (is_some (known_block plan facts d)) one.0 in
     let three = and_parts (selects_cell plan facts.stripe d) (damaged_at plan facts d) two.0 in
     record { selected = three.0; damaged = three.1; known = two.1; free = one.1 }
 
 abbrev pub write_at : FixPlan → ℕ → StripeFacts → Cell → Write
-write_at plan d facts cell = record { at = block_start plan.table cell; bytes = block_or_none (known_block facts d) }
+write_at plan d facts cell = record { at = block_start plan.table cell; bytes = block_or_none (known_block plan facts d) }
 
 module _ (plan : FixPlan) (starts : StartsValue) (stripes : List Mended) (finishes : List (List Finish)) (firsts news : List FolderView)
     (has : HasFixed plan starts stripes finishes firsts news) (d : ℕ) (column : d < length plan.table.columns) (none : Mended) where
@@ -164,7 +164,7 @@ module _ (plan : FixPlan) (starts : StartsValue) (stripes : List Mended) (finish
 
   -- the block that is written has its real length
   write_long : (k : ℕ) (cell : Cell) → k < length stripes → cell_at plan (facts k).stripe d ≡ Some cell → is_repaired plan (facts k) d ≡ true
-      → length (block_or_none (known_block (facts k) d)) ≡ block_length size (record_at plan.table.columns d cell.rec).meta.size cell.index
+      → length (block_or_none (known_block plan (facts k) d)) ≡ block_length size (record_at plan.table.columns d cell.rec).meta.size cell.index
   write_long k cell within cell_is repaired =
       let parts = repaired_parts plan (facts k) d repaired in
       known_long plan (facts k) (facts_are k within) (omega (arith, has.valid.shape.levels.most)) d (cell_seen (column_at plan.table.columns d) cell) column
@@ -221,9 +221,9 @@ module _ (plan : FixPlan) (starts : StartsValue) (stripes : List Mended) (finish
   -- its bytes are in the file once all is written
   pub block_is_written : (k : ℕ) (cell : Cell) (file : List ℕ) (p : ℕ) → k < length stripes → cell_at plan (facts k).stripe d ≡ Some cell → is_written plan (mended k) d ≡ true
       → p < block_length size (record_at plan.table.columns d cell.rec).meta.size cell.index
-      → HasByte (puts file (writes_of plan stripes d cell.rec)) (block_start plan.table cell + p) (get_or (block_or_none (known_block (facts k) d)) p 0)
+      → HasByte (puts file (writes_of plan stripes d cell.rec)) (block_start plan.table cell + p) (get_or (block_or_none (known_block plan (facts k) d)) p 0)
   block_is_written k cell file p within cell_is written less =
-      let bytes : List ℕ = block_or_none (known_block (facts k) d) in
+      let bytes : List ℕ = block_or_none (known_block plan (facts k) d) in
       let repaired = (and_parts (is_repaired plan (facts k) d) (answer_of (mended k) d) written).0 in
       let long = write_long k cell within cell_is repaired in
       written_then (writes_in plan d cell.rec) (block_start plan.table cell + p) none (get_or bytes p 0) (write_at plan d (facts k) cell)

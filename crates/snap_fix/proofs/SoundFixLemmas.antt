@@ -11,13 +11,11 @@ use Rattle.cauchy.specs.Matrix.{byte_of, entry_of, parity_byte, parity_of as lev
 use Rattle.disk_model.specs.Bytes.{read_from}
 use Rattle.disk_model.specs.Files.{Files, parity_of}
 use Rattle.disk_model.specs.Folder.{FolderView}
-use Rattle.file_table.specs.Table.{TableValue, info_at, is_synced_mark}
-use Rattle.file_table.specs.declared.info.Mark.{Mark}
-use Rattle.file_table.specs.declared.info.Mark.TheVariants.{Pending, Synced}
+use Rattle.file_table.specs.Table.{TableValue}
 use Rattle.parity_writer.specs.LevelReading.{LevelReading, kept_level}
 use Rattle.parity_writer.specs.LevelsValue.{LevelValue, no_level}
 use Rattle.parity_writer.specs.Parity.{HasLevel, Row}
-use Rattle.parity_writer.specs.Sound.{IsSynced, Snapshot, Sound}
+use Rattle.parity_writer.specs.Sound.{Sound, Closed, last_row, across}
 use Rattle.parity_writer.specs.declared.levels.LevelRead.{LevelRead}
 use Rattle.parity_writer.specs.declared.levels.LevelRead.TheVariants as here
 use Rattle.parity_writer.proofs.SumLemmas.{byte_of_level, length-level, level_of_bytes}
@@ -27,14 +25,17 @@ use Rattle.stripe_reader.specs.Columns.{folder_at}
 use Rattle.stripe_reader.specs.Reading.{task_at}
 use Rattle.stripe_reader.specs.Starts.{StartsValue}
 use Rattle.stripe_examiner.specs.Facts.{StripeFacts, slot_of}
-use Rattle.stripe_examiner.specs.Findings.{is_wrong_by}
+use Rattle.stripe_examiner.specs.Findings.{is_wrong_by, may_write_level}
 use Rattle.stripe_examiner.specs.Present.{IsPresent}
 use Rattle.snap_fix.specs.Genuine.{AreGenuineOf, HasGenuineFacts, IsLevelOf, IsGenuine, IsSameRow}
 use Rattle.stripe_examiner.specs.Known.{AreFacts, IsTried}
 use Rattle.snap_fix.specs.Mended.{is_wrong_level}
-use Rattle.repair_scope.specs.Plan.{FixPlan, is_searched, selects_level}
+use Rattle.repair_scope.specs.Plan.{FixPlan, is_searched}
 use Rattle.snap_fix.specs.Underway.{HoldsWrong, IsMendedLevel, KeepsLevels}
+pub use Rattle.snap_fix.proofs.ExactLemmas.{searched_is_synced}
+use Rattle.snap_fix.proofs.ExactLemmas.{RowOfCells, SameParity, exact, level_from_wide, level_of_wide}
 use Rattle.snap_fix.proofs.GenuineLemmas.{row_same}
+use Rattle.parity_writer.proofs.CellsLemmas.{cells_of}
 use Rattle.stripe_examiner.proofs.RestorableSums.{sum_below-same}
 
 -- ---- the same rows have the same levels
@@ -92,17 +93,7 @@ searched_or_none : (plan : FixPlan) (facts : StripeFacts) (row : Row) (b : Bool)
 searched_or_none plan facts row true tried known = refl
 searched_or_none plan facts row false tried known = let clash : Some row ≡ None = sym known ∙ tried.2 in absurd cc
 
-synced_mark : (mark : Mark) → is_synced_mark mark ≡ true → mark ≡ Synced
-synced_mark Pending is = absurd cc
-synced_mark Synced is = refl
-
 module _ (plan : FixPlan) (facts : StripeFacts) (are : AreFacts plan facts) where
-  pub searched_is_synced : is_searched plan facts.stripe ≡ true → IsSynced plan.table facts.stripe
-  searched_is_synced searched = record {
-    within = are.within;
-    mark = synced_mark (info_at plan.table.infos facts.stripe).mark (and_parts _ _ searched).0;
-  }
-
   module _ (r : ℕ) (wrong : is_wrong_level plan facts r ≡ true) where
     abbrev size : ℕ
     size = plan.table.shape.block_size
@@ -111,7 +102,7 @@ module _ (plan : FixPlan) (facts : StripeFacts) (are : AreFacts plan facts) wher
     level = get_or facts.levels r no_level
 
     pub wrong_by : is_wrong_by size r level.state level.block facts.row ≡ true
-    wrong_by = (and_parts (selects_level plan facts.stripe r) (is_wrong_by size r level.state level.block facts.row) wrong).1
+    wrong_by = (and_parts (may_write_level plan facts.stripe r) (is_wrong_by size r level.state level.block facts.row) wrong).1
 
     pub row_of_wrong : (known : Row) × (facts.row ≡ Some known)
     row_of_wrong = wrong_row size r level.state level.block facts.row wrong_by
@@ -129,19 +120,21 @@ module _ (plan : FixPlan) (facts : StripeFacts) (are : AreFacts plan facts) wher
 
 -- ---- a level that was written is the snapshot's
 
-pub mended_level : (plan : FixPlan) (starts : StartsValue) (firsts : List FolderView) (snapshot : Row) (facts : StripeFacts) (left : Files) (r : ℕ)
+pub mended_level : RowOfCells → SameParity → (plan : FixPlan) (starts : StartsValue) (firsts : List FolderView) (snapshot : Row) (facts : StripeFacts) (left : Files) (r : ℕ)
     → ((a : ℕ) → product a 0 ≡ 0) → HasGenuineFacts plan starts firsts snapshot facts → HoldsWrong plan facts left → is_wrong_level plan facts r ≡ true
     → HasLevel plan.table.shape.block_size r facts.stripe snapshot (parity_of left r)
-mended_level plan starts firsts snapshot facts left r nothing has holds wrong =
+mended_level row_of same plan starts firsts snapshot facts left r nothing has holds wrong =
+    let wide : Row = across (length plan.table.columns) snapshot in
     let known = row_of_wrong plan facts has.are r wrong in
-    same_has_level plan.table.shape.block_size r facts.stripe known.0 snapshot (parity_of left r)
-    (row_same plan starts firsts snapshot facts has nothing known.0 known.1) (holds r known.0 wrong known.1)
+    level_from_wide plan facts snapshot has.was same r facts.stripe (parity_of left r)
+    (same_has_level plan.table.shape.block_size r facts.stripe known.0 wide (parity_of left r)
+    (row_same plan starts firsts wide facts (exact row_of plan starts firsts snapshot facts has) nothing known.0 known.1) (holds r known.0 wrong known.1))
 
 -- ---- stripes that were looked at where the vault was sound
 
-module _ (plan : FixPlan) (starts : StartsValue) (firsts : List FolderView) (read : Files) (snapshot : Snapshot)
+module _ (plan : FixPlan) (starts : StartsValue) (firsts : List FolderView) (read : Files) (snapshot : Closed)
     (is_changed : ℕ → ℕ → Bool) (stripes : List StripeFacts) (are : AreGenuineOf plan starts firsts read snapshot is_changed stripes)
-    (nothing : (a : ℕ) → product a 0 ≡ 0) where
+    (nothing : (a : ℕ) → product a 0 ≡ 0) (row_of : RowOfCells) (same_parity_of : SameParity) where
   abbrev PresentOf : StripeFacts → Type 0
   PresentOf it = (d : ℕ) → d < length plan.table.columns → IsPresent plan.table.shape (folder_at firsts d) (task_at plan.table starts d it.stripe) (slot_of it d)
 
@@ -151,7 +144,7 @@ module _ (plan : FixPlan) (starts : StartsValue) (firsts : List FolderView) (rea
   facts_of_one : (facts : StripeFacts) → Contains stripes facts → AreFacts plan facts
   facts_of_one facts one = All-contains (AreFacts plan) stripes facts are.are one
 
-  pub genuine_facts : (facts : StripeFacts) → Contains stripes facts → is_searched plan facts.stripe ≡ true → HasGenuineFacts plan starts firsts (snapshot facts.stripe) facts
+  pub genuine_facts : (facts : StripeFacts) → Contains stripes facts → is_searched plan facts.stripe ≡ true → HasGenuineFacts plan starts firsts (last_row snapshot facts.stripe) facts
   genuine_facts facts one searched =
       let these = facts_of_one facts one in
       let synced = searched_is_synced plan facts these searched in
@@ -162,8 +155,8 @@ module _ (plan : FixPlan) (starts : StartsValue) (firsts : List FolderView) (rea
         present = λ k other within.
             let here : get_or stripes one.0 facts ≡ get_or (facts ∷ []) k other = one.2 ∙ only k other within in
             subst (λ (it : StripeFacts). PresentOf it) here (are.present one.0 facts one.1);
-        was = are.sound.rows facts.stripe synced;
-        genuine = All-contains (λ (it : StripeFacts). IsTrue (is_searched plan it.stripe) → IsGenuine plan (snapshot it.stripe) it) stripes facts are.genuine one searched;
+        was = cells_of plan.table read snapshot is_changed are.sound facts.stripe synced;
+        genuine = All-contains (λ (it : StripeFacts). IsTrue (is_searched plan it.stripe) → IsGenuine plan (last_row snapshot it.stripe) it) stripes facts are.genuine one searched;
       }
     where
       only : (k : ℕ) (other : StripeFacts) → k < length (facts ∷ []) → facts ≡ get_or (facts ∷ []) k other
@@ -186,12 +179,14 @@ module _ (plan : FixPlan) (starts : StartsValue) (firsts : List FolderView) (rea
           let within = wrong_is_read plan facts these r wrong in
           let has = genuine_facts facts one searched in
           let synced = searched_is_synced plan facts these searched in
+          let wide : Row = across (length plan.table.columns) (last_row snapshot facts.stripe) in
           let level : IsLevelOf plan.table.shape.block_size facts.stripe r read (get_or facts.levels r no_level) =
           All-contains LevelsAre stripes facts are.levels one r within in
-          let right = right_level read plan.table.shape.block_size facts.stripe r level.reading (get_or facts.levels r no_level) known.0 (snapshot facts.stripe)
+          let right = right_level read plan.table.shape.block_size facts.stripe r level.reading (get_or facts.levels r no_level) known.0 wide
           level.is_of level.is_kept
-          (row_same plan starts firsts (snapshot facts.stripe) facts has nothing known.0 known.1)
-          (are.sound.sums facts.stripe r synced (wrong_is_level plan facts these r wrong) is) in
+          (row_same plan starts firsts wide facts (exact row_of plan starts firsts (last_row snapshot facts.stripe) facts has) nothing known.0 known.1)
+          (level_of_wide plan facts (last_row snapshot facts.stripe) has.was same_parity_of r facts.stripe (parity_of read r)
+          (are.sound.sums facts.stripe r synced (wrong_is_level plan facts these r wrong) is)) in
           absurd (false≢true (sym right
           ∙ ap (is_wrong_by plan.table.shape.block_size r (get_or facts.levels r no_level).state (get_or facts.levels r no_level).block) (sym known.1)
           ∙ wrong_by plan facts these r wrong))
@@ -200,12 +195,13 @@ module _ (plan : FixPlan) (starts : StartsValue) (firsts : List FolderView) (rea
   pub still_sound : (table : TableValue) (files left : Files) → table.shape.block_size ≡ plan.table.shape.block_size
       → KeepsLevels plan.table.shape.block_size (IsMendedLevel plan stripes) files left → Sound table files snapshot is_changed → Sound table left snapshot is_changed
   still_sound table files left same keeps sound = record {
+    was_closed = sound.was_closed;
     rows = sound.rows;
     sums = λ stripe level synced below out.
         let size : ℕ = plan.table.shape.block_size in
-        let was : HasLevel size level stripe (snapshot stripe) (parity_of files level) =
-        subst (λ (n : ℕ). HasLevel n level stripe (snapshot stripe) (parity_of files level)) same (sound.sums stripe level synced below out) in
-        subst (λ (n : ℕ). HasLevel n level stripe (snapshot stripe) (parity_of left level)) (sym same)
+        let was : HasLevel size level stripe (last_row snapshot stripe) (parity_of files level) =
+        subst (λ (n : ℕ). HasLevel n level stripe (last_row snapshot stripe) (parity_of files level)) same (sound.sums stripe level synced below out) in
+        subst (λ (n : ℕ). HasLevel n level stripe (last_row snapshot stripe) (parity_of left level)) (sym same)
         (λ i within. keeps.bytes level (stripe * size + i) _
         (λ one is_one. apart size size stripe one i refl (λ equal. not_mended stripe level one out is_one equal) within)
         (was i within));

@@ -33,7 +33,7 @@ module _ (stop : FixStop) (stops : IsStop stop) (cell : Cell) (spared : IsCellSp
       let plan = stop.plan in
       let facts = writes.mended.facts in
       let its = writes.writes in
-      let parts = and_parts (selects_cell plan facts.stripe stop.d) (damaged_at plan facts stop.d) (is_some (known_block facts stop.d)) (not (is_blocked_cell plan stop.d (cell_at plan facts.stripe stop.d))) its.repaired in
+      let parts = and_parts (selects_cell plan facts.stripe stop.d) (damaged_at plan facts stop.d) (is_some (known_block plan facts stop.d)) (not (is_blocked_cell plan stop.d (cell_at plan facts.stripe stop.d))) its.repaired in
       let of = column_at plan.table.columns stop.d in
       let long = known_long plan facts (All-contains (AreFacts plan) (facts_of stop.stripes) facts spared.are (contains_facts stop.stripes writes.mended writes.is_one)) stops.valid.shape.levels.most stop.d (cell_seen of its.cell) stops.column (ap (option_map (cell_seen of)) its.cell_is) parts.1 parts.2 in
       omega (arith, long, ap (λ (all : List ℕ). length all) its.bytes_are)

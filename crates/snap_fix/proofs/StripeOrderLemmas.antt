@@ -61,11 +61,11 @@ put_first start state writes path first later some held is = by state.touched so
 pub cell_written : (plan : FixPlan) (d : ℕ) (first : Tree) (before : List Mended) (mended : Mended) (cell : Cell) (old new : FolderView) (start : Start) (state : FileState) (writes : List Write) (later : Tree)
     → is_written plan mended d ≡ true → cell_at plan mended.facts.stripe d ≡ Some cell → HoldsRecord start state writes (cell_path plan.table d cell) first later
     → state.touched ≡ has_some (writes_of plan before d cell.rec)
-    → FolderWrites (block_calls start.place state.touched (cell_path plan.table d cell) (block_start plan.table cell) (block_or_none (known_block mended.facts d))) old new
+    → FolderWrites (block_calls start.place state.touched (cell_path plan.table d cell) (block_start plan.table cell) (block_or_none (known_block plan mended.facts d))) old new
     → FolderWrites (stripe_writes plan d first before mended) old new
 cell_written plan d first before mended cell old new start state writes later written cell_is held touched wrote =
     let path : List ℕ = cell_path plan.table d cell in
-    let write : FolderCall = WriteAt path (block_start plan.table cell) (block_or_none (known_block mended.facts d)) in
+    let write : FolderCall = WriteAt path (block_start plan.table cell) (block_or_none (known_block plan mended.facts d)) in
     subst (λ (yes : Bool). FolderWrites (if yes then cell_calls plan d first before mended.facts (cell_at plan mended.facts.stripe d) else []) old new) (sym written)
     (subst (λ (there : Option Cell). FolderWrites (cell_calls plan d first before mended.facts there) old new) (sym cell_is)
     (subst (λ (calls : List FolderCall). FolderWrites (calls ++ write ∷ []) old new)

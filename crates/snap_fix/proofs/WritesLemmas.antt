@@ -56,11 +56,11 @@ module _ (plan : FixPlan) (mended : Mended) (d i : ℕ) where
 
   -- its block, where it is the record's
   pub writes_in-here : (cell : Cell) (written : Bool) → cell_at plan mended.facts.stripe d ≡ Some cell → cell.rec ≡ i → is_written plan mended d ≡ written
-      → writes_in plan d i mended ≡ (if written then record { at = block_start plan.table cell; bytes = block_or_none (known_block mended.facts d) } ∷ [] else [])
+      → writes_in plan d i mended ≡ (if written then record { at = block_start plan.table cell; bytes = block_or_none (known_block plan mended.facts d) } ∷ [] else [])
   writes_in-here cell written cell_is same written_is = ap₂ write_by written_is cell_is
       ∙ ap (λ (b : Bool). if b && written then write_of plan d mended.facts (Some cell) else []) (eq-eqb cell.rec i same)
       ∙ by written
     where
-      by : (b : Bool) → (if true && b then write_of plan d mended.facts (Some cell) else []) ≡ (if b then record { at = block_start plan.table cell; bytes = block_or_none (known_block mended.facts d) } ∷ [] else [])
+      by : (b : Bool) → (if true && b then write_of plan d mended.facts (Some cell) else []) ≡ (if b then record { at = block_start plan.table cell; bytes = block_or_none (known_block plan mended.facts d) } ∷ [] else [])
       by true = refl
       by false = refl

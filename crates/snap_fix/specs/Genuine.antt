@@ -4,12 +4,13 @@ use Rattle.cauchy.specs.Matrix.{byte_of}
 use Rattle.disk_model.specs.Bytes.{read_from}
 use Rattle.disk_model.specs.Files.{Files, parity_of}
 use Rattle.disk_model.specs.Folder.{FolderView}
-use Rattle.file_table.specs.Cells.{CellView, stripe_view}
+use Rattle.file_table.specs.Cells.{CellView}
+use Rattle.file_table.specs.Table.{TableValue}
 use Rattle.file_table.specs.Valid.{IsValid}
 use Rattle.parity_writer.specs.LevelReading.{LevelReading, kept_level}
 use Rattle.parity_writer.specs.LevelsValue.{LevelValue, no_level}
 use Rattle.parity_writer.specs.Parity.{Row}
-use Rattle.parity_writer.specs.Sound.{Snapshot, Sound, IsRowOf}
+use Rattle.parity_writer.specs.Sound.{Closed, HasCells, Snapshot, Sound, closed_cells, last_row}
 use Rattle.parity_writer.specs.WindowRow.{bytes_of}
 use Rattle.stripe_reader.specs.Starts.{StartsValue}
 use Rattle.stripe_examiner.specs.Facts.{StripeFacts, IsGift, gift_of, missing_in, row_before, slot_of, wanted_in}
@@ -57,13 +58,17 @@ pub record HasGenuineFacts (plan : FixPlan) (starts : StartsValue) (firsts : Lis
   pub are : AreFacts plan facts
   pub searched : is_searched plan facts.stripe ≡ true
   pub present : ArePresent plan starts firsts (facts ∷ [])
-  pub was : IsRowOf plan.table.shape (stripe_view plan.table facts.stripe) snapshot
+  pub was : HasCells plan.table.shape (closed_cells plan.table facts.stripe) snapshot
   pub genuine : IsGenuine plan snapshot facts
 
 -- so it is of each stripe in which a recovery is tried
 abbrev pub AreGenuine : FixPlan → Snapshot → List StripeFacts → Type 0
 AreGenuine plan snapshot stripes =
     All (λ (facts : StripeFacts). IsTrue (is_searched plan facts.stripe) → IsGenuine plan (snapshot facts.stripe) facts) stripes
+
+-- of the rows that a stripe was closed with, the one that is searched for there by this table: the newest
+abbrev pub held_row : TableValue → Closed → Snapshot
+held_row table snapshot stripe = last_row snapshot stripe
 
 -- what is kept of a level of a stripe was read of these files, or the level was not read
 pub record IsLevelOf (block_size stripe level : ℕ) (files : Files) (kept : LevelValue) : Type 0 where
@@ -79,14 +84,14 @@ AreLevelsIn block_size files stripes =
 
 -- Stripes that were looked at: their facts are of what stood in the folders at first and of the levels of files in which the table was
 -- sound; and what has a recorded hash is the snapshot's.
-pub record AreGenuineOf (plan : FixPlan) (starts : StartsValue) (firsts : List FolderView) (files : Files) (snapshot : Snapshot)
+pub record AreGenuineOf (plan : FixPlan) (starts : StartsValue) (firsts : List FolderView) (files : Files) (snapshot : Closed)
     (is_changed : ℕ → ℕ → Bool) (stripes : List StripeFacts) : Type 0 where
   pub valid : IsValid plan.table
   pub are : All (AreFacts plan) stripes
   pub present : ArePresent plan starts firsts stripes
   pub levels : AreLevelsIn plan.table.shape.block_size files stripes
   pub sound : Sound plan.table files snapshot is_changed
-  pub genuine : AreGenuine plan snapshot stripes
+  pub genuine : AreGenuine plan (held_row plan.table snapshot) stripes
 
 -- a level that was read whole is the sum of the snapshot's row
 abbrev pub IsIntactLevel : FixPlan → StripeFacts → Row → ℕ → Type 0

@@ -7,7 +7,7 @@ use Rattle.parity_writer.specs.LevelsValue.{no_level}
 use Rattle.snap_report.specs.declared.events.Event.{Event}
 use Rattle.snap_report.specs.declared.events.Event.TheVariants.{Fixed, FixedParity}
 use Rattle.stripe_reader.specs.Columns.{folder_at}
-use Rattle.stripe_examiner.specs.Facts.{StripeFacts, damaged_at, is_missing}
+use Rattle.stripe_examiner.specs.Facts.{StripeFacts, damaged_at}
 use Rattle.stripe_examiner.specs.Findings.{is_lost, is_wrong, lost_event, stripe_events}
 use Rattle.repair_scope.specs.Plan.{FixPlan, cell_at, entry_at, selects_cell}
 use Rattle.stripe_examiner.specs.Showing.{block_or_none, known_block}
@@ -29,7 +29,7 @@ is_blocked_cell plan d (Some cell) = (entry_at plan d cell.rec).blocked
 -- a cell is to be written: it is selected and damaged, its block is known, and its file isn't blocked
 abbrev pub is_repaired : FixPlan → StripeFacts → ℕ → Bool
 is_repaired plan facts d =
-    selects_cell plan facts.stripe d && damaged_at plan facts d && is_some (known_block facts d)
+    selects_cell plan facts.stripe d && damaged_at plan facts d && is_some (known_block plan facts d)
     && not (is_blocked_cell plan d (cell_at plan facts.stripe d))
 
 abbrev pub is_written : FixPlan → Mended → ℕ → Bool
@@ -96,9 +96,7 @@ is_of i (Some cell) = cell.rec == i
 abbrev pub loses : FixPlan → ℕ → ℕ → Mended → Bool
 loses plan d i mended =
     let facts = mended.facts in
-    is_of i (cell_at plan facts.stripe d)
-    && (is_lost plan facts.stripe (is_missing plan facts d) (is_some facts.row) d
-    || is_gone plan mended d)
+    is_of i (cell_at plan facts.stripe d) && (is_lost plan facts d || is_gone plan mended d)
 
 abbrev pub has_lost : FixPlan → List Mended → ℕ → ℕ → Bool
 has_lost plan stripes d i = list_any (loses plan d i) stripes
@@ -107,7 +105,7 @@ has_lost plan stripes d i = list_any (loses plan d i) stripes
 abbrev pub write_of : FixPlan → ℕ → StripeFacts → Option Cell → List Write
 write_of plan d facts None = []
 write_of plan d facts (Some cell) =
-    record { at = cell.index * plan.table.shape.block_size; bytes = block_or_none (known_block facts d) } ∷ []
+    record { at = cell.index * plan.table.shape.block_size; bytes = block_or_none (known_block plan facts d) } ∷ []
 
 abbrev pub writes_in : FixPlan → ℕ → ℕ → Mended → List Write
 writes_in plan d i mended =

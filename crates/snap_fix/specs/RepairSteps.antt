@@ -21,21 +21,19 @@ use Rattle.snap_report.specs.declared.pages.Lines.{Lines}
 use Rattle.stripe_reader.specs.Starts.{StartsValue, StartsFit, starts_at, start_in}
 use Rattle.stripe_reader.specs.WindowValue.{WindowValue}
 use Rattle.stripe_reader.specs.declared.starts.Place.{Place}
-use Rattle.stripe_examiner.specs.declared.marking.CellMark.{CellMark}
+use Rattle.stripe_examiner.specs.declared.marking.SlotMark.{SlotMark}
 use Rattle.snap_fix.specs.declared.repairing.Repaired.{Repaired}
 use Rattle.file_restorer.specs.declared.state.FileState.{FileState}
 use Rattle.stripe_examiner.specs.Counts.{AreCounts}
 use Rattle.stripe_examiner.specs.Facts.{StripeFacts}
-use Rattle.stripe_examiner.specs.Findings.{is_lost}
-use Rattle.stripe_examiner.specs.Marks.{is_marked_missing}
 use Rattle.snap_fix.specs.Mended.{Mended, answer_of, cell_news, is_repaired, is_written, is_blocked_cell, mended_event}
 use Rattle.file_restorer.specs.Mending.{StatesFit, IsFree, IsBlockCall, block_start, cell_path, mended_writes, with_place, with_state}
 use Rattle.file_restorer.specs.Order.{FolderWrites, block_calls}
-use Rattle.repair_scope.specs.Plan.{FixPlan, cell_at, selects_cell}
+use Rattle.repair_scope.specs.Plan.{FixPlan, cell_at, is_synced, selects_cell}
 use Rattle.snap_fix.specs.Repairing.{LevelsOutside}
 use Rattle.file_restorer.specs.State.{Write, HoldsTold, FolderMakesBy, KeepsStarts, StaysPlace, StepMakes, size_after, state_in}
 use Rattle.snap_fix.specs.Underway.{AreMendCalls, FailsInMend, IsFixable, IsColumnUnderway, done_well}
-use Rattle.stripe_examiner.specs.Showing.{ShowsFacts, is_damaged_mark, is_given_mark}
+use Rattle.stripe_examiner.specs.Showing.{ShowsFacts, is_damaged_mark, is_known_mark}
 
 -- ---- one cell
 
@@ -51,17 +49,14 @@ abbrev pub column_outside : {W R : Type 0} → StartsValue → List (List FileSt
 column_outside starts states folder lines reports =
     record { starts = starts; states = states; folder = folder; lines = lines; reports = reports }
 
--- by its mark, the cell of a column is to be written, or is lost
-abbrev pub is_repaired_by : FixPlan → ℕ → CellMark → Bool → ℕ → Bool
+-- by its marks, the cell of a column is to be written
+abbrev pub is_repaired_by : FixPlan → ℕ → SlotMark → Bool → ℕ → Bool
 is_repaired_by plan stripe mark known d =
-    selects_cell plan stripe d && is_damaged_mark mark && (is_given_mark mark || known)
+    selects_cell plan stripe d && is_damaged_mark mark.cell && is_known_mark (is_synced plan stripe) mark known
     && not (is_blocked_cell plan d (cell_at plan stripe d))
 
-abbrev pub is_lost_by : FixPlan → ℕ → CellMark → Bool → ℕ → Bool
-is_lost_by plan stripe mark known d = is_lost plan stripe (is_marked_missing mark) known d
-
 -- the facts of a stripe are shown, and fit the answer of a column
-pub record IsMendedAs (plan : FixPlan) (stripe i d : ℕ) (window : WindowValue) (marks : List CellMark) (known answer : Bool)
+pub record IsMendedAs (plan : FixPlan) (stripe i d : ℕ) (window : WindowValue) (marks : List SlotMark) (known answer : Bool)
     (mended : Mended) : Type 0 where
   pub stripe_is : mended.facts.stripe ≡ stripe
   pub shows : ShowsFacts plan mended.facts i marks known window
@@ -74,7 +69,7 @@ pub record KeepsColumns (d : ℕ) (starts : StartsValue) (states : List (List Fi
   pub same_states : (k : ℕ) → k ≢ d → get_or states_new k [] ≡ get_or states k []
 
 -- the cell of a column can be written: the stripe's facts are shown, and the fix of the column is underway
-pub record CanMendColumn (plan : FixPlan) (stripe i d : ℕ) (window : WindowValue) (marks : List CellMark) (known : Bool)
+pub record CanMendColumn (plan : FixPlan) (stripe i d : ℕ) (window : WindowValue) (marks : List SlotMark) (known : Bool)
     (starts : StartsValue) (states : List (List FileState)) (folder : FolderView) : Type 0 where
   pub within : d < length plan.table.columns
   pub starts_fit : StartsFit plan.table starts
@@ -90,7 +85,7 @@ pub record CanMendColumn (plan : FixPlan) (stripe i d : ℕ) (window : WindowVal
 
 -- The cell of a column was written where it is to be, and that told: whichever the facts of the stripe, the column goes on with it.
 pub record MendsColumn {W R : Type 0} (view : W → SinkView) (standing : R → ReportView) (stands : R → List Event → Type 0)
-    (plan : FixPlan) (stripe i d : ℕ) (window : WindowValue) (marks : List CellMark) (known : Bool)
+    (plan : FixPlan) (stripe i d : ℕ) (window : WindowValue) (marks : List SlotMark) (known : Bool)
     (old new : ColumnOutside W R) (repaired : Repaired) : Type 0 where
   pub answer : Bool
   pub starts_fit : StartsFit plan.table new.starts
@@ -113,7 +108,7 @@ pub record MendsColumn {W R : Type 0} (view : W → SinkView) (standing : R → 
 
 -- A call of its folder failed, the last of such calls, and nothing was told.
 pub record MendsNotColumn {W R : Type 0} (view : W → SinkView) (standing : R → ReportView) (stands : R → List Event → Type 0)
-    (plan : FixPlan) (stripe i d : ℕ) (window : WindowValue) (marks : List CellMark) (known : Bool)
+    (plan : FixPlan) (stripe i d : ℕ) (window : WindowValue) (marks : List SlotMark) (known : Bool)
     (old new : ColumnOutside W R) : Type 0 where
   pub told : Told view standing stands plan.table.columns [] old.lines new.lines old.reports new.reports
   pub fails : (mended : Mended) → mended.facts.stripe ≡ stripe → ShowsFacts plan mended.facts i marks known window

@@ -16,7 +16,7 @@ use Rattle.snap_report.specs.declared.pages.Lines.{Lines}
 use Rattle.stripe_reader.specs.Columns.{folder_at}
 use Rattle.stripe_reader.specs.Starts.{StartsValue, StartsFit}
 use Rattle.stripe_reader.specs.WindowValue.{WindowValue}
-use Rattle.stripe_examiner.specs.declared.marking.CellMark.{CellMark}
+use Rattle.stripe_examiner.specs.declared.marking.SlotMark.{SlotMark}
 use Rattle.snap_fix.specs.declared.repairing.Repaired.{Repaired}
 use Rattle.file_restorer.specs.declared.state.FileState.{FileState}
 use Rattle.stripe_examiner.specs.Counts.{AreCounts}
@@ -44,7 +44,7 @@ outside starts states folders lines reports =
     record { starts = starts; states = states; folders = folders; lines = lines; reports = reports }
 
 -- the files of a stripe can be written: its facts are shown, and the fix is underway
-pub record CanMend (plan : FixPlan) (stripe i : ℕ) (window : WindowValue) (marks : List CellMark) (known : Bool)
+pub record CanMend (plan : FixPlan) (stripe i : ℕ) (window : WindowValue) (marks : List SlotMark) (known : Bool)
     (starts : StartsValue) (states : List (List FileState)) (folders : List FolderView) : Type 0 where
   pub folders_are : length folders ≡ length plan.table.columns
   pub starts_fit : StartsFit plan.table starts
@@ -64,7 +64,7 @@ pub record FailsInCell (disk : ℕ) (plan : FixPlan) (starts : StartsValue) (men
 
 -- All known blocks of the stripe were written: whichever its facts, and whatever the fix did before, it goes on with this stripe.
 pub record MendsFiles {W R : Type 0} (view : W → SinkView) (standing : R → ReportView) (stands : R → List Event → Type 0)
-    (plan : FixPlan) (stripe i : ℕ) (window : WindowValue) (marks : List CellMark) (known : Bool)
+    (plan : FixPlan) (stripe i : ℕ) (window : WindowValue) (marks : List SlotMark) (known : Bool)
     (old new : FilesOutside W R) (repaired : Repaired) : Type 0 where
   pub answers : List Bool
   pub as_many : length answers ≡ length plan.table.columns
@@ -90,7 +90,7 @@ pub record MendsFiles {W R : Type 0} (view : W → SinkView) (standing : R → R
 -- The folder of a column failed, in a call that neither looks nor reads, and no more calls were made. Just what is told
 -- of the columns before it was told.
 pub record MendsNotFiles {W R : Type 0} (view : W → SinkView) (standing : R → ReportView) (stands : R → List Event → Type 0)
-    (plan : FixPlan) (stripe i : ℕ) (window : WindowValue) (marks : List CellMark) (known : Bool)
+    (plan : FixPlan) (stripe i : ℕ) (window : WindowValue) (marks : List SlotMark) (known : Bool)
     (old new : FilesOutside W R) (disk : ℕ) : Type 0 where
   pub folders : length new.folders ≡ length old.folders
   pub broke : (facts : StripeFacts) → facts.stripe ≡ stripe → ShowsFacts plan facts i marks known window

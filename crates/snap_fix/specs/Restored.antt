@@ -17,7 +17,7 @@ use Rattle.stripe_reader.specs.Reading.{block_length}
 use Rattle.stripe_reader.specs.Starts.{StartsValue}
 use Rattle.stripe_reader.specs.declared.starts.Place.TheVariants.{Plain, Nowhere}
 use Rattle.file_restorer.specs.declared.finishing.Finish.{Finish}
-use Rattle.stripe_examiner.specs.Facts.{StripeFacts, damaged_at, gift_of, is_missing}
+use Rattle.stripe_examiner.specs.Facts.{StripeFacts, damaged_at, gift_of, is_sought}
 use Rattle.stripe_examiner.specs.Findings.{is_lost}
 use Rattle.snap_fix.specs.Ending.{is_finished}
 use Rattle.snap_fix.specs.FixCourse.{FixesFiles, fix_events}
@@ -29,7 +29,7 @@ use Rattle.snap_fix.specs.Mended.{AnswersFit, Mended, has_lost, is_repaired, is_
 use Rattle.stripe_examiner.specs.Showing.{known_block}
 use Rattle.file_restorer.specs.Mending.{block_start, cell_path}
 use Rattle.file_restorer.specs.State.{has_some, place_in, record_path}
-use Rattle.repair_scope.specs.Plan.{FixPlan, cell_at, entry_at, selects_cell, stripes_of}
+use Rattle.repair_scope.specs.Plan.{FixPlan, cell_at, entry_at, is_synced, selects_cell, stripes_of}
 
 -- A fix that ended: it found these facts of the stripes of its plan, and did that to the files.
 pub record HasFixed (plan : FixPlan) (starts : StartsValue) (stripes : List Mended) (finishes : List (List Finish)) (firsts news : List FolderView) : Type 0 where
@@ -67,11 +67,16 @@ pub record IsUnknownCell (plan : FixPlan) (stripes : List StripeFacts) (stripe d
   pub facts : StripeFacts
   pub number : facts.stripe ≡ stripe
   pub is : IsDamagedCell plan stripes facts d cell
-  pub unknown : is_some (known_block facts d) ≡ false
+  pub unknown : is_some (known_block plan facts d) ≡ false
 
--- its block can be had: the spare gave it, or its stripe is restorable
-abbrev pub CanBeHad : FixPlan → StripeFacts → (ℕ → Bool) → ℕ → Type 0
-CanBeHad plan facts is_intact d = (is_some (gift_of facts d) ≡ true) ⊎ IsRestorableStripe plan facts is_intact
+-- its block was given by the spare, in a synced stripe
+abbrev pub IsGivenBlock : FixPlan → StripeFacts → ℕ → Type 0
+IsGivenBlock plan facts d = (is_synced plan facts.stripe ≡ true) × (is_some (gift_of facts d) ≡ true)
+
+-- its block can be had: it is sought, and it was given, or its stripe is restorable
+pub record CanBeHad (plan : FixPlan) (facts : StripeFacts) (is_intact : ℕ → Bool) (d : ℕ) : Type 0 where
+  pub sought : is_sought plan facts.stripe d ≡ true
+  pub had : IsGivenBlock plan facts d ⊎ IsRestorableStripe plan facts is_intact
 
 -- The file of a record stands under PATH, or under PATH`.unrecoverable`, and has these bytes in the place of the block of a cell, at its
 -- real length.
@@ -136,6 +141,6 @@ LosesGenuine = (plan : FixPlan) (starts : StartsValue) (stripes : List Mended) (
     (facts : StripeFacts) (d : ℕ) (cell : Cell) (snapshot : Row) (is_intact : ℕ → Bool)
     → IsDamagedCell plan (facts_of stripes) facts d cell → HasGenuineFacts plan starts firsts snapshot facts → AreBytes snapshot
     → TellsIntactLevels plan facts snapshot is_intact → (CanBeHad plan facts is_intact d → ⊥)
-    → (is_lost plan facts.stripe (is_missing plan facts d) (is_some facts.row) d ≡ true)
+    → (is_lost plan facts d ≡ true)
     × Contains (fix_events plan stripes finishes) (event.Lost facts.stripe d cell.rec cell.index)
     × (is_repaired plan facts d ≡ false)

@@ -18,7 +18,7 @@ cell_calls plan d first before facts None = []
 cell_calls plan d first before facts (Some cell) =
     let path = cell_path plan.table d cell in
     (if has_some (writes_of plan before d cell.rec) then [] else set_up_calls (place_in first path) path)
-    ++ WriteAt path (block_start plan.table cell) (block_or_none (known_block facts d)) ∷ []
+    ++ WriteAt path (block_start plan.table cell) (block_or_none (known_block plan facts d)) ∷ []
 
 -- those of a stripe after some, and of stripes, one after another, after some
 abbrev pub stripe_writes : FixPlan → ℕ → Tree → List Mended → Mended → List FolderCall

@@ -49,7 +49,7 @@ pub record WritesCell (plan : FixPlan) (d : ℕ) (facts : StripeFacts) (path : L
   pub cell_is : cell_at plan facts.stripe d ≡ Some cell
   pub path_is : path ≡ record_path (records_in plan.table d) cell.rec
   pub at_is : at ≡ block_start plan.table cell
-  pub bytes_are : bytes ≡ block_or_none (known_block facts d)
+  pub bytes_are : bytes ≡ block_or_none (known_block plan facts d)
 
 -- in one of the stripes
 pub record WritesOneOf (plan : FixPlan) (d : ℕ) (stripes : List Mended) (path : List ℕ) (at : ℕ) (bytes : List ℕ)
@@ -91,7 +91,7 @@ IsMendCall plan starts d stripes (Rename path false) = SetsUpOneOf plan starts d
 abbrev pub calls_of_cell : FixPlan → ℕ → StripeFacts → Place → Bool → Option Cell → List FolderCall
 calls_of_cell plan d facts place touched None = []
 calls_of_cell plan d facts place touched (Some cell) =
-    block_calls place touched (cell_path plan.table d cell) (block_start plan.table cell) (block_or_none (known_block facts d))
+    block_calls place touched (cell_path plan.table d cell) (block_start plan.table cell) (block_or_none (known_block plan facts d))
 
 -- those of a stripe, where the block is to be written
 abbrev pub repair_calls : FixPlan → ℕ → StripeFacts → Place → Bool → List FolderCall

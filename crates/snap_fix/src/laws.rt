@@ -1,6 +1,6 @@
 //! What follows of a search for lost blocks, and of a fix that is stopped. The calls do nothing: their contracts are laws.
 
-ghost use Rattle.std.specs.Prelude.{◌≡◌, ◌↔◌, ℕ, ◌+◌, ◌*◌, ◌<◌, ◌≤◌, Bool, true, false, List, [], length, slice_index, slice_index_or, All, count_by, Contains, is_some, Some, IsTrue, filter, get_or};
+ghost use Rattle.std.specs.Prelude.{◌≡◌, ◌↔◌, ℕ, ◌+◌, ◌*◌, ◌<◌, ◌≤◌, Bool, true, false, List, [], length, slice_index, slice_index_or, All, count_by, Contains, is_some, None, Some, IsTrue, filter, get_or};
 ghost use Rattle.folder_listing.specs.Kept.{ListedFile};
 ghost use Rattle.cauchy.specs.Matrix.{byte_of, parity_byte};
 ghost use Rattle.cauchy.specs.Recovery.{AreBytes, others_sum};
@@ -12,7 +12,7 @@ ghost use Rattle.file_table.specs.Table.{TableValue, record_at, records_in};
 ghost use Rattle.file_table.specs.declared.block.Cell.{Cell};
 ghost use Rattle.parity_writer.specs.Keeps.{HasByte};
 ghost use Rattle.parity_writer.specs.Parity.{HasLevel, Row};
-ghost use Rattle.parity_writer.specs.Sound.{Snapshot, Sound};
+ghost use Rattle.parity_writer.specs.Sound.{Closed, Sound, across};
 ghost use Rattle.array_setup.specs.declared.ways.Selection.{Selection};
 ghost use Rattle.snap_report.specs.Kind.{is_finding};
 ghost use Rattle.snap_report.specs.declared.events.Event.TheVariants as event;
@@ -25,16 +25,16 @@ ghost use Rattle.snap_fix.specs.Again.{IsFoundAgain, IsFoundIn, IsLookedAt};
 ghost use Rattle.snap_fix.specs.Audited.{FindsNothing};
 ghost use Rattle.snap_fix.specs.Course.{IsPlan, check_events};
 ghost use Rattle.snap_fix.specs.Ending.{is_finished};
-ghost use Rattle.stripe_examiner.specs.Facts.{StripeFacts, damaged_at, gift_of, is_missing};
+ghost use Rattle.stripe_examiner.specs.Facts.{StripeFacts, damaged_at, gift_of};
 ghost use Rattle.stripe_examiner.specs.Findings.{is_lost};
 ghost use Rattle.snap_fix.specs.FixCourse.{fix_events};
 ghost use Rattle.snap_fix.specs.Fixing.{facts_of};
 ghost use Rattle.snap_fix.specs.Found.{AreAllWritten, DifferInMode, IsNoneGone};
-ghost use Rattle.snap_fix.specs.Genuine.{AreGenuineOf, HasGenuineFacts, IsBlockIn, IsRestorableStripe, IsSameRow, TellsIntactLevels};
+ghost use Rattle.snap_fix.specs.Genuine.{AreGenuineOf, HasGenuineFacts, IsBlockIn, IsRestorableStripe, IsSameRow, TellsIntactLevels, held_row};
 ghost use Rattle.stripe_examiner.specs.Known.{AreFacts};
 ghost use Rattle.snap_fix.specs.Mended.{Mended, has_lost, is_repaired, is_wrong_level};
 ghost use Rattle.stripe_examiner.specs.Showing.{block_or_none, known_block};
-ghost use Rattle.repair_scope.specs.Plan.{FixPlan, entry_at, is_audit, is_searched, stripes_of};
+ghost use Rattle.repair_scope.specs.Plan.{FixPlan, entry_at, is_audit, is_searched, is_synced, stripes_of};
 ghost use Rattle.stripe_examiner.specs.Place.{starts_of};
 ghost use Rattle.stripe_examiner.specs.Restorable.{Accepts, AreBlocksOf, CanAccept, CandidatesAreGenuine, Follows, IsIntact, IsKnownBeside, IsLost, IsOneOf, IsRestorable, IsSnapshotOf, LostStripe, SearchFinds, SearchFindsNone, SomeAccepted, TellsIntact, row_with};
 ghost use Rattle.snap_fix.specs.Restored.{CanBeHad, HasFinished, HasFixed, HasFixedRecord, HoldsCell, IsDamagedCell, IsNotWritten, IsUnknownCell, LosesGenuine, RestoresGenuine, StandsFinished};
@@ -48,6 +48,9 @@ ghost use Rattle.parity_writer.specs.LevelReading.{LevelReading};
 use cauchy::laws::one_solution;
 use disk_model::laws::a_file_that_no_call_names_stays;
 use gf256::laws::products;
+use parity_writer::laws::{
+    a_row_has_the_cells_that_close_it, rows_of_the_same_bytes_have_the_same_levels,
+};
 
 /// The row with accepted blocks in its lost columns has the levels that they follow from. It is as it was in all other
 /// columns, and in these it has the blocks, with their recorded hashes.
@@ -149,7 +152,7 @@ pub fn a_known_row_is_the_snapshots()
     ensures known { (plan : FixPlan) (starts : StartsValue) (firsts : List FolderView)
         (snapshot row : Row) (facts : StripeFacts) →
         HasGenuineFacts plan starts firsts snapshot facts → facts.row ≡ Some row →
-        IsSameRow plan.table.shape.block_size row snapshot }
+        IsSameRow plan.table.shape.block_size row (across (length plan.table.columns) snapshot) }
     ensures restorable { (plan : FixPlan) (starts : StartsValue) (firsts : List FolderView)
         (snapshot : Row) (facts : StripeFacts) (is_intact : ℕ → Bool) →
         HasGenuineFacts plan starts firsts snapshot facts → AreBytes snapshot →
@@ -160,26 +163,28 @@ pub fn a_known_row_is_the_snapshots()
         HasGenuineFacts plan starts firsts snapshot facts → gift_of facts d ≡ Some bytes →
         IsBlockIn plan.table.shape.block_size snapshot d bytes }
 {
+    a_row_has_the_cells_that_close_it();
     products();
+    rows_of_the_same_bytes_have_the_same_levels();
 }
 
 /// A level that a fix writes was changed from outside since its stripe was synced. So parity that was sound stays
 /// sound, for each table with this snapshot, and the levels that were written are the snapshot's again.
 pub fn a_fix_keeps_what_is_sound()
     ensures facts { (plan : FixPlan) (starts : StartsValue) (firsts : List FolderView)
-        (read : Files) (snapshot : Snapshot)
+        (read : Files) (snapshot : Closed)
         (is_changed : ℕ → ℕ → Bool) (stripes : List StripeFacts) (facts : StripeFacts) →
         AreGenuineOf plan starts firsts read snapshot is_changed stripes →
         Contains stripes facts → is_searched plan facts.stripe ≡ true →
-        HasGenuineFacts plan starts firsts (snapshot facts.stripe) facts }
+        HasGenuineFacts plan starts firsts (held_row plan.table snapshot facts.stripe) facts }
     ensures wrong { (plan : FixPlan) (starts : StartsValue) (firsts : List FolderView)
-        (read : Files) (snapshot : Snapshot)
+        (read : Files) (snapshot : Closed)
         (is_changed : ℕ → ℕ → Bool) (stripes : List StripeFacts) (facts : StripeFacts) (r : ℕ) →
         AreGenuineOf plan starts firsts read snapshot is_changed stripes →
         Contains stripes facts → is_wrong_level plan facts r ≡ true →
         is_changed facts.stripe r ≡ true }
     ensures sound { (plan : FixPlan) (starts : StartsValue) (firsts : List FolderView)
-        (read : Files) (snapshot : Snapshot)
+        (read : Files) (snapshot : Closed)
         (is_changed : ℕ → ℕ → Bool) (stripes : List StripeFacts) (table : TableValue)
         (files left : Files) →
         AreGenuineOf plan starts firsts read snapshot is_changed stripes →
@@ -192,7 +197,9 @@ pub fn a_fix_keeps_what_is_sound()
         is_wrong_level plan facts r ≡ true →
         HasLevel plan.table.shape.block_size r facts.stripe snapshot (parity_of left r) }
 {
+    a_row_has_the_cells_that_close_it();
     products();
+    rows_of_the_same_bytes_have_the_same_levels();
 }
 
 /// What a fix leaves of a selected damaged cell. If its block is known and its record isn't blocked, the file of the
@@ -204,13 +211,13 @@ pub fn a_fix_restores()
         (finishes : List (List Finish)) (firsts news : List FolderView) (facts : StripeFacts) (d : ℕ)
         (cell : Cell) → HasFixed plan starts stripes finishes firsts news →
         IsDamagedCell plan (facts_of stripes) facts d cell → (entry_at plan d cell.rec).blocked ≡ false →
-        IsTrue (folder_at firsts d).tells → is_some (known_block facts d) ≡ true →
+        IsTrue (folder_at firsts d).tells → is_some (known_block plan facts d) ≡ true →
         HoldsCell plan.table d cell (has_lost plan stripes d cell.rec)
-        (slice_index (block_or_none (known_block facts d))) (folder_at news d).tree }
+        (slice_index (block_or_none (known_block plan facts d))) (folder_at news d).tree }
     ensures lost { (plan : FixPlan) (stripes : List Mended) (finishes : List (List Finish))
         (facts : StripeFacts) (d : ℕ) (cell : Cell) → IsDamagedCell plan (facts_of stripes) facts d cell →
-        is_audit plan.scope.mode ≡ false → is_some (known_block facts d) ≡ false →
-        (is_lost plan facts.stripe (is_missing plan facts d) (is_some facts.row) d ≡ true)
+        is_audit plan.scope.mode ≡ false → is_some (known_block plan facts d) ≡ false →
+        (is_lost plan facts d ≡ true)
         × Contains (fix_events plan stripes finishes) (event.Lost facts.stripe d cell.rec cell.index)
         × (is_repaired plan facts d ≡ false) }
     // No other cell of such a folder is told to be lost.
@@ -223,12 +230,22 @@ pub fn a_fix_restores()
         (snapshot : Row) (facts : StripeFacts) (is_intact : ℕ → Bool) (d : ℕ) →
         HasGenuineFacts plan starts firsts snapshot facts → AreBytes snapshot →
         TellsIntactLevels plan facts snapshot is_intact →
-        (is_some (known_block facts d) ≡ true ↔ CanBeHad plan facts is_intact d) }
+        (is_some (known_block plan facts d) ≡ true ↔ CanBeHad plan facts is_intact d) }
     ensures restored { RestoresGenuine }
     ensures unrestored { LosesGenuine }
 {
+    a_row_has_the_cells_that_close_it();
     products();
+    rows_of_the_same_bytes_have_the_same_levels();
 }
+
+/// A block of a synced stripe that the spare did not give can be had exactly where the stripe is restorable: where no more
+/// of its cells are missing than levels are intact.
+pub fn what_was_not_given_is_had_by_counting()
+    ensures { (plan : FixPlan) (facts : StripeFacts) (is_intact : ℕ → Bool) (d : ℕ) →
+        is_synced plan facts.stripe ≡ true → gift_of facts d ≡ None →
+        (CanBeHad plan facts is_intact d ↔ IsRestorableStripe plan facts is_intact) }
+{}
 
 /// What a fix leaves as it was, where a folder tells its files. Each byte of a cell that it did not write stays in the
 /// place of its record, and so do the files of records that are not selected or are blocked, and all other files.

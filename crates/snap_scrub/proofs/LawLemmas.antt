@@ -12,7 +12,8 @@ use Rattle.file_table.specs.declared.info.Info.{Info}
 use Rattle.file_table.specs.declared.info.Mark.{Mark}
 use Rattle.file_table.specs.declared.info.Mark.TheVariants.{Pending, Synced}
 use Rattle.parity_writer.specs.Parity.{HasLevel}
-use Rattle.parity_writer.specs.Sound.{IsSynced, Snapshot, Sound}
+use Rattle.parity_writer.proofs.CellsLemmas.{cells_of as closed_of, rows_by}
+use Rattle.parity_writer.specs.Sound.{IsSynced, Sound, Closed, last_row}
 use Rattle.array_setup.specs.declared.ways.ScrubWay.{ScrubWay}
 use Rattle.stripe_findings.specs.Reading.{stripes_of}
 use Rattle.snap_scrub.specs.declared.verdict.Verdict.{Verdict}
@@ -128,10 +129,11 @@ module _ (table : TableValue) (way : ScrubWay) (now : ℕ) (readings : List Scru
     mark = sym (scrubbed_marks stripe) ∙ is.mark;
   }
 
-  pub scrubbed_sound : (old new : Files) (snapshot : Snapshot) (is_changed : ℕ → ℕ → Bool) → new.parities ≡ old.parities → Sound table old snapshot is_changed → Sound (scrubbed now table readings) new snapshot is_changed
+  pub scrubbed_sound : (old new : Files) (snapshot : Closed) (is_changed : ℕ → ℕ → Bool) → new.parities ≡ old.parities → Sound table old snapshot is_changed → Sound (scrubbed now table readings) new snapshot is_changed
   scrubbed_sound old new snapshot is_changed same sound = record {
-    rows = λ stripe is. let row = sound.rows stripe (was_synced stripe is) in record { as_many = row.as_many; blocks = row.blocks };
+    was_closed = λ stripe is. sound.was_closed stripe (was_synced stripe is);
+    rows = rows_by (scrubbed now table readings) snapshot (λ stripe is. closed_of table old snapshot is_changed sound stripe (was_synced stripe is));
     sums = λ stripe level is below unchanged.
-        subst (λ (files : List (List ℕ)). HasLevel table.shape.block_size level stripe (snapshot stripe) (get_or files level [])) (sym same)
+        subst (λ (files : List (List ℕ)). HasLevel table.shape.block_size level stripe (last_row snapshot stripe) (get_or files level [])) (sym same)
         (sound.sums stripe level (was_synced stripe is) below unchanged);
   }

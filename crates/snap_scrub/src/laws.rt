@@ -5,7 +5,7 @@ ghost use Rattle.disk_model.specs.Files.{Files};
 ghost use Rattle.disk_model.specs.Folder.{FolderView};
 ghost use Rattle.file_table.specs.Table.{TableValue, info_at};
 ghost use Rattle.file_table.specs.Valid.{IsValid};
-ghost use Rattle.parity_writer.specs.Sound.{Snapshot, Sound};
+ghost use Rattle.parity_writer.specs.Sound.{Closed, Sound};
 ghost use Rattle.snap_report.specs.Answer.{is_io_of, is_parity_io};
 ghost use Rattle.array_setup.specs.declared.ways.ScrubWay.{ScrubWay};
 ghost use Rattle.stripe_findings.specs.Reading.{AreRead, stripes_of};
@@ -30,7 +30,7 @@ pub fn a_scrub_keeps_what_is_synced()
         stripes_of (cells_of readings) ≡ plan_of table way now → now < 2 ^ 64 → IsValid table →
         IsValid (scrubbed now table readings) }
     ensures sound { (table : TableValue) (way : ScrubWay) (now : ℕ) (readings : List ScrubReading) (old new : Files)
-        (snapshot : Snapshot) (is_changed : ℕ → ℕ → Bool) →
+        (snapshot : Closed) (is_changed : ℕ → ℕ → Bool) →
         stripes_of (cells_of readings) ≡ plan_of table way now → new.parities ≡ old.parities →
         Sound table old snapshot is_changed → Sound (scrubbed now table readings) new snapshot is_changed }
 {}

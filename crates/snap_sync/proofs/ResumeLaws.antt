@@ -9,7 +9,6 @@ use Rattle.std.proofs.lemmas.List.Kept.{AllPairs-filter}
 use Rattle.folder_listing.specs.Kept.{ListedFile, kept_files, kept_lists}
 use Rattle.array_scan.specs.Layout.{is_pending, layout, pending_stripes}
 use Rattle.array_scan.specs.Own.{HoldsJust}
-use Rattle.content_file.specs.Spelling.{spelling}
 use Rattle.disk_model.specs.Files.{Files, content_of}
 use Rattle.disk_model.specs.Folder.{FolderView}
 use Rattle.disk_model.specs.Tree.{Tree, listing_of}
@@ -18,7 +17,7 @@ use Rattle.file_table.specs.Valid.{IsValid}
 use Rattle.file_table.specs.declared.shape.Shape.{Shape}
 use Rattle.parity_writer.specs.Keeps.{HasByte}
 use Rattle.parity_writer.specs.Parity.{Row, Rows, HoldsRows, no_rows}
-use Rattle.parity_writer.specs.Sound.{Snapshot, Sound}
+use Rattle.parity_writer.specs.Sound.{Sound, Closed}
 use Rattle.array_setup.specs.Setup.{SetupValue}
 use Rattle.snap_sync.specs.Calls.{SyncPlan, level_bytes}
 use Rattle.snap_sync.specs.Closing.{closed, rows_of}
@@ -35,8 +34,9 @@ use Rattle.snap_sync.proofs.StillPending.{pending_distinct}
 use Rattle.snap_sync.proofs.ResumeLemmas.{left_reading, left_shape, left_verified, same_table}
 use Rattle.snap_sync.proofs.ResumeParity.{contains_kept, row_among, same_parity}
 use Rattle.snap_sync.proofs.SeenLemmas.{GivesItsHashes, LeavesTheOthers, infos_closed}
-use Rattle.snap_sync.proofs.SoundLemmas.{saved_valid, start_sound}
+use Rattle.snap_sync.proofs.SoundLemmas.{OneTable, saved_valid, start_sound}
 use Rattle.snap_sync.proofs.ValidLemmas.{IsOnlyCell}
+use Rattle.content_file.specs.Spelling.{HoldsTable}
 
 -- what array_scan says of layouts
 abbrev pub IsOfKeptFiles : Type 0
@@ -60,7 +60,7 @@ module _ (finds : FindsCells) (leaves : LeavesTheOthers) (gives : GivesItsHashes
   abbrev left : TableValue
   left = closed before start readings
 
-  pub ends_as : (old mid one other : Files) (snapshot : Snapshot) (is_changed : ℕ → ℕ → Bool) (written : Rows) → HoldsRows start.shape.levels start.shape.block_size written mid
+  pub ends_as : (old mid one other : Files) (snapshot : Closed) (is_changed : ℕ → ℕ → Bool) (written : Rows) → HoldsRows start.shape.levels start.shape.block_size written mid
       → ((stripe : ℕ) → Contains (pending_stripes start.infos) stripe → is_left leaves gives start before readings count stripes stripe ≡ false → written stripe ≡ Some (row_of (reading_by start trees stripe)))
       → KeepsSynced start old mid → Sound start old snapshot is_changed
       → (now then_now : ℕ) (table other_table : TableValue) → IsPartSync start trees (pending_stripes start.infos) now old table one
@@ -171,7 +171,7 @@ module _ (finds : FindsCells) (leaves : LeavesTheOthers) (gives : GivesItsHashes
 
   -- ---- what stands, and the two full syncs
 
-  module _ (all : All (IsVerifiedBy start trees) (pending_stripes start.infos)) (files mid one other : Files) (snapshot : Snapshot) (is_changed : ℕ → ℕ → Bool) (sound : Sound start files snapshot is_changed)
+  module _ (all : All (IsVerifiedBy start trees) (pending_stripes start.infos)) (files mid one other : Files) (snapshot : Closed) (is_changed : ℕ → ℕ → Bool) (sound : Sound start files snapshot is_changed)
       (now again : ℕ) (table other_table : TableValue) (full : IsFullSync setup old trees now files table one) where
     whole : IsPartSync start trees (pending_stripes start.infos) now files table one
     whole = subst (λ (t : TableValue). IsPartSync t trees (pending_stripes t.infos) now files table one) (sym laid_start) full
@@ -207,7 +207,7 @@ module _ (finds : FindsCells) (leaves : LeavesTheOthers) (gives : GivesItsHashes
         keeps sound now again table other_table whole rest
 
   -- from each moment
-  pub resumed : IsOnlyCell → ((a b : TableValue) → IsValid a → IsValid b → spelling a ≡ spelling b → a ≡ b) → (files mid : Files) (snapshot : Snapshot) (is_changed : ℕ → ℕ → Bool) (now again : ℕ) (found table other_table : TableValue) (one other : Files)
+  pub resumed : IsOnlyCell → OneTable → (files mid : Files) (snapshot : Closed) (is_changed : ℕ → ℕ → Bool) (now again : ℕ) (found table other_table : TableValue) (one other : Files)
       → StandsOn plan old files → AreSound plan.copies files snapshot is_changed → IsFoundAt plan readings old files mid found → All (IsVerifiedBy start trees) (pending_stripes start.infos)
       → IsFullSync setup old trees now files table one → IsFullSync setup found trees again mid other_table other → EndsAs start is_changed table other_table one other
   resumed only one_table files mid snapshot is_changed now again found table other_table one other stands are at all full rest = by_moment at.moment
@@ -218,14 +218,11 @@ module _ (finds : FindsCells) (leaves : LeavesTheOthers) (gives : GivesItsHashes
       tables : (n : ℕ) → n ≤ length readings → IsValid (table_after plan readings n)
       tables n within = saved_valid finds leaves gives plan readings ahead mids news (mids_are setup old start (readings ++ ahead) olds mids news syncs) syncs.of_lists.reads only stands.laid stands.in_time n within
 
-      is_table : (n : ℕ) → n ≤ length readings → content_of mid at.copy ≡ Some (spelling (table_after plan readings n)) → found ≡ table_after plan readings n
-      is_table n within is =
-          let bytes : Some (spelling found) ≡ Some (spelling (table_after plan readings n)) = sym at.spells ∙ is in
-          let spelled : spelling found ≡ spelling (table_after plan readings n) = cc in
-          one_table found (table_after plan readings n) at.valid (tables n within) spelled
+      is_table : (n : ℕ) → n ≤ length readings → HoldsTable (table_after plan readings n) (content_of mid at.copy) → found ≡ table_after plan readings n
+      is_table n within is = one_table found (table_after plan readings n) (content_of mid at.copy) at.valid (tables n within) at.spells is
 
       saved : (n k : ℕ) → n ≤ k → k ≤ length readings → HoldsRows start.shape.levels start.shape.block_size (rows_after plan readings k) mid → KeepsSynced start files mid
-          → content_of mid at.copy ≡ Some (spelling (table_after plan readings n)) → EndsAs start is_changed table other_table one other
+          → HoldsTable (table_after plan readings n) (content_of mid at.copy) → EndsAs start is_changed table other_table one other
       saved n k order within holds keeps is =
           saved_ends all files mid one other snapshot is_changed sound now again table other_table full n k order within holds keeps (tables n (omega (arith, order, within)))
           (subst (λ (t : TableValue). IsFullSync setup t trees again mid other_table other) (is_table n (omega (arith, order, within)) is) rest)
@@ -244,7 +241,7 @@ module _ (finds : FindsCells) (leaves : LeavesTheOthers) (gives : GivesItsHashes
           (work.copies at.copy at.within)
 
   -- from each moment, by the table that was loaded: as if none had been found
-  pub again_from : (files mid : Files) (snapshot : Snapshot) (is_changed : ℕ → ℕ → Bool) (now again : ℕ) (table other_table : TableValue) (one other : Files)
+  pub again_from : (files mid : Files) (snapshot : Closed) (is_changed : ℕ → ℕ → Bool) (now again : ℕ) (table other_table : TableValue) (one other : Files)
       → StandsOn plan old files → AreSound plan.copies files snapshot is_changed → MayStand plan readings files mid → All (IsVerifiedBy start trees) (pending_stripes start.infos)
       → IsFullSync setup old trees now files table one → IsFullSync setup old trees again mid other_table other → EndsAs start is_changed table other_table one other
   again_from files mid snapshot is_changed now again table other_table one other stands are moment all full rest = by_moment moment
@@ -280,7 +277,7 @@ module _ (finds : FindsCells) (leaves : LeavesTheOthers) (gives : GivesItsHashes
   abbrev VerifiesLayout : TableValue → Type 0
   VerifiesLayout table = All (IsVerifiedBy (layout_by setup table trees) trees) (pending_stripes (layout_by setup table trees).infos)
 
-  pub verified_found : IsOnlyCell → ((a b : TableValue) → IsValid a → IsValid b → spelling a ≡ spelling b → a ≡ b) → (files mid : Files) (found : TableValue)
+  pub verified_found : IsOnlyCell → OneTable → (files mid : Files) (found : TableValue)
       → StandsOn plan old files → IsFoundAt plan readings old files mid found → All (IsVerifiedBy start trees) (pending_stripes start.infos)
       → All (IsVerifiedBy (layout_by setup found trees) trees) (pending_stripes (layout_by setup found trees).infos)
   verified_found only one_table files mid found stands at all = by_moment at.moment
@@ -288,11 +285,9 @@ module _ (finds : FindsCells) (leaves : LeavesTheOthers) (gives : GivesItsHashes
       tables : (n : ℕ) → n ≤ length readings → IsValid (table_after plan readings n)
       tables n within = saved_valid finds leaves gives plan readings ahead mids news (mids_are setup old start (readings ++ ahead) olds mids news syncs) syncs.of_lists.reads only stands.laid stands.in_time n within
 
-      saved : (n : ℕ) → n ≤ length readings → content_of mid at.copy ≡ Some (spelling (table_after plan readings n)) → VerifiesLayout found
+      saved : (n : ℕ) → n ≤ length readings → HoldsTable (table_after plan readings n) (content_of mid at.copy) → VerifiesLayout found
       saved n within is =
-          let bytes : Some (spelling found) ≡ Some (spelling (table_after plan readings n)) = sym at.spells ∙ is in
-          let spelled : spelling found ≡ spelling (table_after plan readings n) = cc in
-          subst VerifiesLayout (sym (one_table found (table_after plan readings n) at.valid (tables n within) spelled)) (verified_laid n within (tables n within) all)
+          subst VerifiesLayout (sym (one_table found (table_after plan readings n) (content_of mid at.copy) at.valid (tables n within) at.spells is)) (verified_laid n within (tables n within) all)
 
       by_moment : MayStand plan readings files mid → VerifiesLayout found
       by_moment (Opening saves) = ⊎_elim

@@ -17,7 +17,7 @@ use Rattle.file_table.specs.declared.info.Mark.{Mark}
 use Rattle.file_table.specs.declared.info.Mark.TheVariants.{Pending, Synced}
 use Rattle.parity_writer.specs.Keeps.{HasByte, IsOutside}
 use Rattle.parity_writer.specs.Parity.{Row, Rows, HoldsRows, no_rows}
-use Rattle.parity_writer.specs.Sound.{IsSynced, Snapshot, Sound}
+use Rattle.parity_writer.specs.Sound.{IsSynced, Sound, Closed, last_row}
 use Rattle.snap_sync.specs.Calls.{level_bytes}
 use Rattle.snap_sync.specs.Closing.{closed, rows_of}
 use Rattle.snap_sync.specs.Images.{HasParity, IsOutsideRows, KeepsSynced}
@@ -160,7 +160,7 @@ module _ (finds : FindsCells) (leaves : LeavesTheOthers) (gives : GivesItsHashes
   no_whole stripe is = no_row_apart start start trees pending stripe (apart_from (λ (s : ℕ). is_pending (info_at start.infos s).mark) (range_with_len 0 (length start.infos)) stripe is)
 
   -- what stands once the first sync was stopped, and what the two full syncs leave
-  module _ (old mid one other : Files) (snapshot : Snapshot) (is_changed : ℕ → ℕ → Bool) (written : Rows)
+  module _ (old mid one other : Files) (snapshot : Closed) (is_changed : ℕ → ℕ → Bool) (written : Rows)
       (holds : HoldsRows start.shape.levels start.shape.block_size written mid)
       (is_written : (stripe : ℕ) → Contains pending stripe → is_open stripe ≡ false → written stripe ≡ Some (row_of (reading_by start trees stripe)))
       (keeps : KeepsSynced start old mid) (sound : Sound start old snapshot is_changed)
@@ -198,7 +198,7 @@ module _ (finds : FindsCells) (leaves : LeavesTheOthers) (gives : GivesItsHashes
         → get_or (parity_of one level) (stripe * size + i) 0 ≡ get_or (parity_of other level) (stripe * size + i) 0
     of_synced level stripe i level_in below inside unchanged is =
         let synced : IsSynced start stripe = record { within = below; mark = marked_synced (info_at start.infos stripe).mark is } in
-        let x : ℕ = parity_byte level (snapshot stripe) i in
+        let x : ℕ = parity_byte level (last_row snapshot stripe) i in
         let was : HasByte (parity_of old level) (stripe * size + i) x = sound.sums stripe level synced level_in unchanged i inside in
         let first : HasByte (parity_of one level) (stripe * size + i) x =
         whole.others level (stripe * size + i) x level_in (outside_rows whole_rows size stripe i (no_whole stripe is) inside)

@@ -1,6 +1,6 @@
 -- That one full sync ends as another: where a sync was stopped and is begun anew.
-use Rattle.std.specs.Prelude.{◌≡◌, ℕ, ◌+◌, ◌*◌, ◌<◌, List, length, slice_index, Bool, false, Some}
-use Rattle.content_file.specs.Spelling.{spelling}
+use Rattle.std.specs.Prelude.{◌≡◌, ℕ, ◌+◌, ◌*◌, ◌<◌, List, length, slice_index, Bool, false}
+use Rattle.content_file.specs.Spelling.{HoldsTable}
 use Rattle.disk_model.specs.Files.{Files, parity_of, content_of}
 use Rattle.file_table.specs.Table.{TableValue}
 use Rattle.file_table.specs.Valid.{IsValid}
@@ -30,5 +30,5 @@ pub record IsFoundAt (plan : SyncPlan) (readings : List StripeReading) (loaded :
   pub valid : IsValid found
   pub copy : ℕ
   pub within : copy < plan.copies
-  pub spells : content_of new copy ≡ Some (spelling found)
-  pub as_loaded : content_of old copy ≡ Some (spelling found) → found ≡ loaded
+  pub spells : HoldsTable found (content_of new copy)
+  pub as_loaded : HoldsTable found (content_of old copy) → found ≡ loaded

@@ -10,7 +10,7 @@ ghost use Rattle.file_table.specs.Cells.{cell_in};
 ghost use Rattle.file_table.specs.Table.{TableValue, column_at};
 ghost use Rattle.file_table.specs.Valid.{IsValid};
 ghost use Rattle.file_table.specs.declared.block.Cell.{Cell};
-ghost use Rattle.parity_writer.specs.Sound.{Snapshot};
+ghost use Rattle.parity_writer.specs.Sound.{Closed};
 ghost use Rattle.array_setup.specs.Setup.{SetupValue};
 ghost use Rattle.snap_report.specs.declared.events.Event.TheVariants.{Io};
 ghost use Rattle.stripe_reader.specs.Columns.{folder_at};
@@ -115,10 +115,11 @@ pub fn what_a_sync_saves_is_valid()
 }
 
 /// Where the copies are sound at the start of a sync, they are at each moment of it, wherever it is stopped: with the
-/// snapshot of some number of the stripes that it read, and with nothing of these changed from outside any more.
+/// snapshot of some number of the stripes that it read, and with no level of its table changed from outside in these any
+/// more.
 pub fn every_moment_is_sound()
     ensures { (plan : SyncPlan) (loaded : TableValue) (readings ahead : List StripeReading) (olds news : List FolderView)
-        (old new : Files) (snapshot : Snapshot) (is_changed : ℕ → ℕ → Bool) →
+        (old new : Files) (snapshot : Closed) (is_changed : ℕ → ℕ → Bool) →
         length olds ≡ length plan.start.columns → ReadsFirst plan.start (readings ++ ahead) olds news →
         StandsOn plan loaded old → AreSound plan.copies old snapshot is_changed →
         MayStand plan readings old new → AreSoundAfter plan readings new snapshot is_changed }
@@ -132,12 +133,12 @@ pub fn every_moment_is_sound()
 /// Which number that is: of so many stripes parity has the rows at that moment.
 pub fn a_moment_is_sound_with_its_rows()
     ensures { (plan : SyncPlan) (loaded : TableValue) (readings ahead : List StripeReading) (olds news : List FolderView)
-        (old new : Files) (snapshot : Snapshot) (is_changed : ℕ → ℕ → Bool) (count : ℕ) →
+        (old new : Files) (snapshot : Closed) (is_changed : ℕ → ℕ → Bool) (count : ℕ) →
         length olds ≡ length plan.start.columns → ReadsFirst plan.start (readings ++ ahead) olds news →
         StandsOn plan loaded old → AreSound plan.copies old snapshot is_changed →
         StandsBy plan readings count old new → (count ≤ length readings)
         × AreSound plan.copies new (snapshot_with (rows_after plan readings count) snapshot)
-        (changed_without (rows_after plan readings count) is_changed) }
+        (changed_without plan.start.shape.levels (rows_after plan readings count) is_changed) }
 {
     a_cell_stands_at_its_position();
     closing_a_stripe_leaves_the_others();
@@ -159,14 +160,14 @@ pub fn a_stopped_sync_is_resumed()
     ensures pending { (run : SyncRun) (count : ℕ) → IsToldRun run → count ≤ length run.readings → (stripe : ℕ) →
         (Contains (pending_stripes (run_table run count).infos) stripe
         ↔ (Contains (pending_stripes run.plan.start.infos) stripe × (¬ (Contains (run_verified run count) stripe)))) }
-    ensures full { (run : SyncRun) (files left : Files) (snapshot : Snapshot) (is_changed : ℕ → ℕ → Bool)
+    ensures full { (run : SyncRun) (files left : Files) (snapshot : Closed) (is_changed : ℕ → ℕ → Bool)
         (now again : ℕ) (found table other_table : TableValue) (one other : Files) → IsToldRun run →
         StandsOn run.plan run.loaded files → AreSound run.plan.copies files snapshot is_changed →
         IsFoundAt run.plan run.readings run.loaded files left found → TreesVerifyAll run →
         IsFullSync run.setup run.loaded (run_trees run) now files table one →
         IsFullSync run.setup found (run_trees run) again left other_table other →
         EndsAs run.plan.start is_changed table other_table one other }
-    ensures again { (run : SyncRun) (files left : Files) (snapshot : Snapshot) (is_changed : ℕ → ℕ → Bool)
+    ensures again { (run : SyncRun) (files left : Files) (snapshot : Closed) (is_changed : ℕ → ℕ → Bool)
         (now again : ℕ) (table other_table : TableValue) (one other : Files) → IsToldRun run →
         StandsOn run.plan run.loaded files → AreSound run.plan.copies files snapshot is_changed →
         MayStand run.plan run.readings files left → TreesVerifyAll run →

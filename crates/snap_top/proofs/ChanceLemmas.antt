@@ -1,13 +1,11 @@
 -- Where files were only taken away since the first run over an array, a fix meets no block that has a recorded hash by chance.
-use Rattle.std.proofs.Common.{◌≡◌, ◌⊎◌, inl, inr, ⊎_elim, ℕ, zero, suc, ◌<◌, ◌≤◌, List, [], ◌∷◌, length, get_or, take, Bool, true, false, if◌then◌else◌, Option, None, Some, IsTrue, refl, sym, ap, ap₂, ◌∙◌, subst, arith}
-use Rattle.std.specs.Prelude.{is_some}
+use Rattle.std.proofs.Common.{◌≡◌, inl, inr, ⊎_elim, ℕ, ◌<◌, ◌≤◌, List, [], ◌∷◌, length, get_or, take, Bool, true, false, Option, None, Some, IsTrue, refl, sym, ap, ap₂, ◌∙◌, subst, arith}
 use Rattle.std.specs.List.{Contains}
 use Rattle.std.specs.Option.{option_map}
-use Rattle.std.proofs.lemmas.List.{length-map}
+use Rattle.std.proofs.lemmas.Bool.{and_parts}
 use Rattle.std.proofs.lemmas.List.Elements.{All-contains_itself}
 use Rattle.cauchy.specs.Field.{product}
-use Rattle.content_file.specs.Save.{MaySave}
-use Rattle.content_file.specs.Spelling.{spelling}
+use Rattle.content_file.specs.Spelling.{spelling, HoldsTable}
 use Rattle.disk_model.specs.Files.{Files, content_of}
 use Rattle.disk_model.specs.Folder.{FolderView}
 use Rattle.disk_model.specs.Opener.{OpenerView}
@@ -15,15 +13,14 @@ use Rattle.disk_model.specs.Sink.{SinkView}
 use Rattle.disk_model.specs.Tree.{Tree, listing_of}
 use Rattle.disk_model.specs.Vault.{VaultView, copies_of}
 use Rattle.file_restorer.specs.State.{place_in}
-use Rattle.file_table.specs.Cells.{cell_in, cell_seen, cell_view, stripe_view}
+use Rattle.file_table.specs.Cells.{cell_in, cell_seen, cell_view}
 use Rattle.file_table.specs.Closing.{DiffersInHashesAndInfos}
-use Rattle.file_table.specs.Table.{Column, TableValue, column_at}
+use Rattle.file_table.specs.Table.{TableValue, column_at}
 use Rattle.file_table.specs.Valid.{IsValid}
 use Rattle.file_table.specs.declared.block.Cell.{Cell}
 use Rattle.file_table.specs.declared.shape.Shape.{Shape}
-use Rattle.parity_writer.specs.LevelsValue.{LevelValue}
 use Rattle.parity_writer.specs.Parity.{Row}
-use Rattle.parity_writer.specs.Sound.{IsRowOf, IsSynced, Snapshot, Sound}
+use Rattle.parity_writer.specs.Sound.{IsSynced, Sound, Closed, last_row, newest, HasCells, closed_cells}
 use Rattle.parity_writer.specs.WindowRow.{bytes_found, bytes_of}
 use Rattle.parity_writer.specs.declared.levels.LevelRead.{LevelRead}
 use Rattle.parity_writer.specs.declared.levels.LevelRead.TheVariants as here
@@ -31,14 +28,14 @@ use Rattle.snap_fix.specs.Fixing.{facts_of}
 use Rattle.snap_fix.specs.Genuine.{AreGenuine, IsGenuine, IsIntactLevel}
 use Rattle.snap_fix.specs.Stopped.{StandInPlace}
 use Rattle.snap_fix.proofs.SoundFixLemmas.{searched_is_synced}
-use Rattle.snap_sync.specs.Images.{IsAtWork, StandsBy, rows_after, table_after}
+use Rattle.snap_sync.specs.Images.{StandsBy, rows_after, table_after}
 use Rattle.snap_sync.specs.Part.{AllTell, IsToldRun, SyncRun, run_trees, tree_at, trees_of}
-use Rattle.snap_sync.specs.Soundness.{IsLoadedFrom, row_or}
+use Rattle.snap_sync.specs.Soundness.{IsLoadedFrom, in_front}
 use Rattle.snap_sync.proofs.CellLemmas.{FindsCells}
 use Rattle.snap_sync.proofs.StaysLemmas.{differs-closed}
 use Rattle.stripe_examiner.specs.Facts.{StripeFacts, gift_of, slot_of}
 use Rattle.stripe_examiner.specs.Known.{AreFacts, is_whole, whole_level}
-use Rattle.repair_scope.specs.Plan.{FixPlan, is_searched, seen_at}
+use Rattle.repair_scope.specs.Plan.{is_searched}
 use Rattle.stripe_examiner.specs.Place.{starts_of}
 use Rattle.stripe_examiner.specs.Present.{IsPresent}
 use Rattle.stripe_reader.specs.Column.{IsReadingOf}
@@ -51,10 +48,10 @@ use Rattle.stripe_reader.specs.declared.slot.Found.{Found}
 use Rattle.snap_top.specs.Fix.{FixRun}
 use Rattle.snap_top.specs.Headline.{Headline, IsSoundStanding}
 use Rattle.snap_top.specs.History.{AreSoundBy, LastSynced, synced_by}
-use Rattle.snap_top.specs.Moment.{IsDidOf, IsFixOf, IsSyncOf, rows_closed}
+use Rattle.snap_top.specs.Moment.{IsDidOf, IsFixOf, IsSyncOf, rows_closed, levels_closed}
 use Rattle.snap_top.specs.Resumed.{RunOf, end_of, entry_of}
 use Rattle.snap_top.specs.Run.{Entry, Exit}
-use Rattle.snap_top.specs.Standing.{BeginsOver, Edits, GoesOver, HasClosed, IsHistory, IsOrigin, LeavesTrees, MeetsNoChance, Runs, Stage, Standing, after_of, before_of, nothing_synced}
+use Rattle.snap_top.specs.Standing.{BeginsOver, Edits, GoesOver, HasClosed, IsHistory, IsOrigin, LeavesTrees, MeetsNoChance, Runs, Stage, Standing, after_of, before_of}
 use Rattle.snap_top.specs.Task.{Did, fixes, reads_only, scrubs, syncs}
 use Rattle.snap_top.specs.Undamaged.{IsUndamaged, is_read}
 use Rattle.snap_top.proofs.OfFixLemmas.{loaded_sound}
@@ -63,14 +60,18 @@ use Rattle.snap_top.proofs.RestoredLastLemmas.{tree_of_folder}
 use Rattle.snap_top.proofs.StoppingLemmas.{ListedStandInPlace}
 use Rattle.snap_top.proofs.SyncedLemmas.{OneTable}
 use Rattle.snap_top.specs.Taken.{OnlyTakenAway, StandsOrIsGone}
-use Rattle.snap_top.proofs.MetLemmas.{BlocksFollow, IsMet, MeetsSnapshot, meets_no_chance}
+use Rattle.snap_top.proofs.MetLemmas.{BlocksFollow, IsMet, meets_no_chance}
 use Rattle.snap_top.proofs.SyncedRows.{IsGivenRow, rows_given}
 use Rattle.snap_top.proofs.TakenLemmas.{StandThere, is_in_row}
+use Rattle.snap_top.proofs.HistoryLemmas.{last_bytes}
+use Rattle.snap_top.proofs.UnchangedLemmas.{unchanged_without}
+use Rattle.snap_fix.proofs.ExactLemmas.{RowOfCells, SameParity}
+use Rattle.parity_writer.proofs.CellsLemmas.{cells_of}
 
 -- what snap_top says of the levels of a fix, where the table was sound
 abbrev pub LevelsAreIntact : Entry → FixRun → Type 0
-LevelsAreIntact before run = (snapshot : Snapshot) (is_changed : ℕ → ℕ → Bool) (facts : StripeFacts) (r : ℕ) → Sound run.loaded before.opener.vault.files snapshot is_changed → IsUndamaged run is_changed facts r
-    → (whole_level facts.levels r ≡ true) × IsIntactLevel run.plan facts (snapshot facts.stripe) r
+LevelsAreIntact before run = (snapshot : Closed) (is_changed : ℕ → ℕ → Bool) (facts : StripeFacts) (r : ℕ) → Sound run.loaded before.opener.vault.files snapshot is_changed → IsUndamaged run is_changed facts r
+    → (whole_level facts.levels r ≡ true) × IsIntactLevel run.plan facts (last_row snapshot facts.stripe) r
 
 -- ---- the run before
 
@@ -111,11 +112,8 @@ module _ (finds : FindsCells) (one_table : OneTable) (saves_valid : SavesValidTa
 
   -- each table that a copy has by then differs from the laid out one in hashes and infos alone
   module _ (loaded : TableValue) (valid : IsValid loaded) (copy : ℕ) (below : copy < first.copies) (spells : content_of next.files copy ≡ Some (spelling loaded)) where
-    spelled_by : (table : TableValue) → IsValid table → content_of next.files copy ≡ Some (spelling table) → loaded ≡ table
-    spelled_by table is_valid is =
-        let both : Some (spelling loaded) ≡ Some (spelling table) = sym spells ∙ is in
-        let same : spelling loaded ≡ spelling table = cc in
-        one_table loaded table valid is_valid same
+    spelled_by : (table : TableValue) → IsValid table → HoldsTable table (content_of next.files copy) → loaded ≡ table
+    spelled_by table is_valid is = one_table loaded table (content_of next.files copy) valid is_valid spells is
 
     differs_after : (k : ℕ) → k ≤ length run.readings → content_of next.files copy ≡ Some (spelling (table_after run.plan run.readings k)) → DiffersInHashesAndInfos start loaded
     differs_after k k_in is =
@@ -144,10 +142,6 @@ module _ (finds : FindsCells) (one_table : OneTable) (saves_valid : SavesValidTa
 
 -- ---- what a fix met
 
-if_false : (b x : Bool) → x ≡ false → (if b then false else x) ≡ false
-if_false true x is = refl
-if_false false x is = is
-
 whole_is_read : (state : LevelRead) → is_whole state ≡ true → is_read state ≡ true
 whole_is_read here.Bytes is = refl
 whole_is_read here.Short is = absurd cc
@@ -168,7 +162,7 @@ no_block table starts first d stripe reading is_of none = by (cell_in (column_at
     by None is nothing = is
     by (Some cell) is nothing = absurd cc
 
-module _ (finds : FindsCells) (one_table : OneTable) (saves_valid : SavesValidTables) (places : ListedStandInPlace) (follow : BlocksFollow) (nothing : (a : ℕ) → product a 0 ≡ 0)
+module _ (finds : FindsCells) (one_table : OneTable) (saves_valid : SavesValidTables) (places : ListedStandInPlace) (follow : BlocksFollow) (nothing : (a : ℕ) → product a 0 ≡ 0) (row_of : RowOfCells) (same_parity : SameParity)
     (before : Entry) (exit : Exit) (did : Did) (count : ℕ) (first next : Standing) (over : BeginsOver first before) (origin : IsOrigin first) (is_did : IsDidOf before exit did)
     (closed : HasClosed did count first.files next.files) (leaves : LeavesTrees did before exit first.trees next.trees) (last_is : next.last ≡ synced_by did count first.last) (as_many : next.copies ≡ first.copies)
     (trees : List Tree) (taken : OnlyTakenAway next.trees trees) (fix_before : Entry) (fix_exit : Exit) (begins : BeginsOver (record next { trees = trees }) fix_before)
@@ -191,13 +185,13 @@ module _ (finds : FindsCells) (one_table : OneTable) (saves_valid : SavesValidTa
   unchanged : (stripe r : ℕ) → next.last.is_changed stripe r ≡ false
   unchanged stripe r =
       ap (λ (last : LastSynced). last.is_changed stripe r) last_is
-      ∙ if_false (is_some (rows_closed did count stripe)) (first.last.is_changed stripe r) (ap (λ (last : LastSynced). last.is_changed stripe r) origin.nothing)
+      ∙ unchanged_without (levels_closed did) (rows_closed did count) first.last.is_changed stripe r (ap (λ (last : LastSynced). last.is_changed stripe r) origin.nothing)
 
   -- the snapshot has the row that was closed, or none
-  snapshot_by : (stripe : ℕ) (found : Option Row) → rows_closed did count stripe ≡ found → next.last.snapshot stripe ≡ row_or found []
+  snapshot_by : (stripe : ℕ) (found : Option Row) → rows_closed did count stripe ≡ found → next.last.snapshot stripe ≡ in_front found []
   snapshot_by stripe found has =
       ap (λ (last : LastSynced). last.snapshot stripe) last_is
-      ∙ ap₂ (λ (it : Option Row) (row : Row). row_or it row) has (ap (λ (last : LastSynced). last.snapshot stripe) origin.nothing)
+      ∙ ap₂ (λ (it : Option Row) (rows : List Row). in_front it rows) has (ap (λ (last : LastSynced). last.snapshot stripe) origin.nothing)
 
   folder_tells : (d : ℕ) → d < length table.columns → IsTrue (folder_at run.folders d).tells
   folder_tells d below =
@@ -233,8 +227,11 @@ module _ (finds : FindsCells) (one_table : OneTable) (saves_valid : SavesValidTa
     synced : IsSynced table facts.stripe
     synced = searched_is_synced run.plan facts are searched
 
-    was : IsRowOf table.shape (stripe_view table facts.stripe) (next.last.snapshot facts.stripe)
-    was = (subst (λ (t : TableValue). Sound t files next.last.snapshot next.last.is_changed) (sym table_is) loaded_is_sound).rows facts.stripe synced
+    table_sound : Sound table files next.last.snapshot next.last.is_changed
+    table_sound = subst (λ (t : TableValue). Sound t files next.last.snapshot next.last.is_changed) (sym table_is) loaded_is_sound
+
+    was : HasCells table.shape (closed_cells table facts.stripe) (last_row next.last.snapshot facts.stripe)
+    was = cells_of table files next.last.snapshot next.last.is_changed table_sound facts.stripe synced
 
     valid : IsValid table
     valid = subst IsValid (sym table_is) is.over.valid
@@ -242,21 +239,21 @@ module _ (finds : FindsCells) (one_table : OneTable) (saves_valid : SavesValidTa
     -- a stripe without a row is not called synced
     no_row : next.last.snapshot facts.stripe ≡ [] → ⊥
     no_row none =
-        let long : length (next.last.snapshot facts.stripe) ≡ 0 = ap (λ (row : Row). length row) none in
-        let cells : length (stripe_view table facts.stripe).cells ≡ length table.columns = length-map table.columns (λ (column : Column). cell_view column facts.stripe) in
-        omega (arith, was.as_many, cells, long, valid.some_column)
+        let some : 0 < length (next.last.snapshot facts.stripe) = table_sound.was_closed facts.stripe synced in
+        let long : length (next.last.snapshot facts.stripe) ≡ 0 = ap (λ (rows : List Row). length rows) none in
+        omega (arith, some, long)
 
-    level_is : (r : ℕ) → r < length facts.levels → whole_level facts.levels r ≡ true → IsIntactLevel run.plan facts (next.last.snapshot facts.stripe) r
+    level_is : (r : ℕ) → r < length facts.levels → whole_level facts.levels r ≡ true → IsIntactLevel run.plan facts (last_row next.last.snapshot facts.stripe) r
     level_is r below whole =
         (intact next.last.snapshot next.last.is_changed facts r loaded_is_sound (record {
           one = one;
-          searched = searched;
+          synced = (and_parts _ _ searched).0;
           within = below;
           read = whole_is_read _ whole;
           unchanged = unchanged facts.stripe r;
         })).1
 
-    module _ (row : Row) (has : ClosedBy before exit count first next facts.stripe row) (row_is : next.last.snapshot facts.stripe ≡ row) where
+    module _ (row : Row) (has : ClosedBy before exit count first next facts.stripe row) (row_is : last_row next.last.snapshot facts.stripe ≡ row) where
       differs_here : DiffersInHashesAndInfos has.run.plan.start table
       differs_here =
           subst (DiffersInHashesAndInfos has.run.plan.start) (sym table_is)
@@ -270,7 +267,7 @@ module _ (finds : FindsCells) (one_table : OneTable) (saves_valid : SavesValidTa
       stand_there d below i within =
           stand_in_place d below i (omega (arith, within, (differs_here.files d).count)) ∙ ap (place_in (folder_at run.listed d).tree) ((differs_here.files d).path i)
 
-      met : (d : ℕ) → d < length table.columns → IsMet run.plan facts (next.last.snapshot facts.stripe) d
+      met : (d : ℕ) → d < length table.columns → IsMet run.plan facts (last_row next.last.snapshot facts.stripe) d
       met d below =
           let there = cells d below in
           record {
@@ -288,17 +285,17 @@ module _ (finds : FindsCells) (one_table : OneTable) (saves_valid : SavesValidTa
                 (ap (λ (r : Row). get_or r d []) row_is ∙ its.0, subst (λ (shape : Shape). length bytes ≤ shape.block_size) (sym differs_here.shape) its.1);
           }
 
-      genuine : IsGenuine run.plan (next.last.snapshot facts.stripe) facts
-      genuine = meets_no_chance run.plan facts (next.last.snapshot facts.stripe)
-          (record { valid = valid; are = are; searched = searched; was = was; bytes = sound.bytes facts.stripe; no_gifts = no_gifts; cells = met; intact = level_is })
+      genuine : IsGenuine run.plan (last_row next.last.snapshot facts.stripe) facts
+      genuine = meets_no_chance row_of same_parity run.plan facts (last_row next.last.snapshot facts.stripe)
+          (record { valid = valid; are = are; searched = searched; was = was; bytes = last_bytes next.last.snapshot facts.stripe sound.bytes; no_gifts = no_gifts; cells = met; intact = level_is })
           nothing follow
 
     -- by the row that was closed, if one was
-    genuine_by : (found : Option Row) → rows_closed did count facts.stripe ≡ found → IsGenuine run.plan (next.last.snapshot facts.stripe) facts
+    genuine_by : (found : Option Row) → rows_closed did count facts.stripe ≡ found → IsGenuine run.plan (last_row next.last.snapshot facts.stripe) facts
     genuine_by None has = absurd (no_row (snapshot_by facts.stripe None has))
-    genuine_by (Some row) has = genuine row (closed_by before exit count first next did is_did closed leaves facts.stripe row has) (snapshot_by facts.stripe (Some row) has)
+    genuine_by (Some row) has = genuine row (closed_by before exit count first next did is_did closed leaves facts.stripe row has) (ap newest (snapshot_by facts.stripe (Some row) has))
 
-  pub all_genuine : AreGenuine run.plan next.last.snapshot (facts_of run.stripes)
+  pub all_genuine : AreGenuine run.plan (last_row next.last.snapshot) (facts_of run.stripes)
   all_genuine k other within searched =
       let facts : StripeFacts = get_or (facts_of run.stripes) k other in
       genuine_by facts (is.over.finds.are k other within) (All-contains_itself (facts_of run.stripes) k other within) searched (is.over.finds.cells k other within) (is.over.no_gifts k other within)
@@ -313,24 +310,24 @@ module _ {O F V W : Type 0} (opener_view : O → OpenerView) (folder_view : F �
       → Headline opener_view folder_view vault_view sink_view standing
 
   abbrev LevelsAreRead : Type 0
-  LevelsAreRead = (run : RunOf O F V W) (fix : FixRun) (snapshot : Snapshot) (is_changed : ℕ → ℕ → Bool) (facts : StripeFacts) (r : ℕ)
+  LevelsAreRead = (run : RunOf O F V W) (fix : FixRun) (snapshot : Closed) (is_changed : ℕ → ℕ → Bool) (facts : StripeFacts) (r : ℕ)
       → IsFixOf (entry_of opener_view sink_view run) (end_of opener_view folder_view vault_view sink_view run) fix → IsTrue (entry_of opener_view sink_view run).opener.vault.tells
       → Sound fix.loaded (entry_of opener_view sink_view run).opener.vault.files snapshot is_changed → IsUndamaged fix is_changed facts r
-      → (whole_level facts.levels r ≡ true) × IsIntactLevel fix.plan facts (snapshot facts.stripe) r
+      → (whole_level facts.levels r ≡ true) × IsIntactLevel fix.plan facts (last_row snapshot facts.stripe) r
 
-  pub no_chance_met : HoldsAlways → LevelsAreRead → FindsCells → OneTable → SavesValidTables → ListedStandInPlace → BlocksFollow → ((a : ℕ) → product a 0 ≡ 0)
+  pub no_chance_met : HoldsAlways → LevelsAreRead → FindsCells → OneTable → SavesValidTables → ListedStandInPlace → BlocksFollow → ((a : ℕ) → product a 0 ≡ 0) → RowOfCells → SameParity
       → (sync fix : RunOf O F V W) (first next : Standing) (trees : List Tree) (did : Did) → IsOrigin first → GoesOver opener_view folder_view vault_view sink_view sync first next → OnlyTakenAway next.trees trees
       → BeginsOver (record next { trees = trees }) (before_of opener_view folder_view vault_view sink_view fix)
       → IsDidOf (before_of opener_view folder_view vault_view sink_view fix) (after_of opener_view folder_view vault_view sink_view fix) did → MeetsNoChance did next.last.snapshot
-  no_chance_met holds levels finds one_table saves_valid places follow nothing sync fix first next trees reads_only origin goes taken begins is = tt
-  no_chance_met holds levels finds one_table saves_valid places follow nothing sync fix first next trees (syncs failed _) origin goes taken begins is = tt
-  no_chance_met holds levels finds one_table saves_valid places follow nothing sync fix first next trees (scrubs failed _) origin goes taken begins is = tt
-  no_chance_met holds levels finds one_table saves_valid places follow nothing sync fix first next trees (fixes failed its) origin goes taken begins is =
+  no_chance_met holds levels finds one_table saves_valid places follow nothing row_of same_parity sync fix first next trees reads_only origin goes taken begins is = tt
+  no_chance_met holds levels finds one_table saves_valid places follow nothing row_of same_parity sync fix first next trees (syncs failed _) origin goes taken begins is = tt
+  no_chance_met holds levels finds one_table saves_valid places follow nothing row_of same_parity sync fix first next trees (scrubs failed _) origin goes taken begins is = tt
+  no_chance_met holds levels finds one_table saves_valid places follow nothing row_of same_parity sync fix first next trees (fixes failed its) origin goes taken begins is =
       let standing : Standing = record next { trees = trees } in
       let stages : List (Stage O F V W) = record { change = Runs sync; next = next } ∷ record { change = Edits; next = standing } ∷ [] in
       let history : IsHistory opener_view folder_view vault_view sink_view first stages standing = (goes, (refl, refl)) in
       let headline = holds first standing stages origin history in
-      all_genuine finds one_table saves_valid places follow nothing (before_of opener_view folder_view vault_view sink_view sync) (after_of opener_view folder_view vault_view sink_view sync)
+      all_genuine finds one_table saves_valid places follow nothing row_of same_parity (before_of opener_view folder_view vault_view sink_view sync) (after_of opener_view folder_view vault_view sink_view sync)
       goes.step.always.did goes.count first next goes.over origin goes.step.always.is_did goes.closed goes.trees goes.last (ap (λ (s : Standing). s.copies) goes.array)
       trees taken (before_of opener_view folder_view vault_view sink_view fix) (after_of opener_view folder_view vault_view sink_view fix) begins headline.sound its is
       (λ snapshot is_changed facts r sound undamaged. levels fix its snapshot is_changed facts r is begins.tells.tells_vault sound undamaged)

@@ -27,7 +27,7 @@ use Rattle.snap_fix.specs.Beginning.{BeginsNot}
 use Rattle.file_restorer.specs.Breaking.{broke_parity}
 use Rattle.snap_fix.specs.Course.{IsPlan, outside}
 use Rattle.stripe_examiner.specs.Facts.{StripeFacts, gift_of}
-use Rattle.stripe_examiner.specs.Findings.{is_wrong}
+use Rattle.stripe_examiner.specs.Findings.{is_wrong, may_write_level}
 use Rattle.snap_fix.specs.FixBreaking.{FixBreaks, FixesNot}
 use Rattle.snap_fix.specs.FixCourse.{Fixes, FixesVault, IsFixCall, MakeFixCalls, fix_events}
 use Rattle.snap_fix.specs.FixRun.{FolderFailedBy, HasBroken}
@@ -36,7 +36,7 @@ use Rattle.stripe_examiner.specs.Known.{AreFacts, IsTried}
 use Rattle.stripe_examiner.specs.Looking.{unread_cells}
 use Rattle.snap_fix.proofs.FixCountLemmas.{count_append}
 use Rattle.snap_fix.specs.Mended.{Mended, is_wrong_level}
-use Rattle.repair_scope.specs.Plan.{FixPlan, is_searched, names_of, selects_level}
+use Rattle.repair_scope.specs.Plan.{FixPlan, is_searched, names_of}
 use Rattle.stripe_examiner.specs.Place.{starts_of}
 use Rattle.stripe_examiner.specs.Spare.{nothing}
 use Rattle.file_restorer.specs.State.{AnyCall, FolderMakes}
@@ -71,7 +71,7 @@ use Rattle.snap_top.proofs.ViewsLemmas.{some_calls_of}
 
 -- a level past those of a stripe is not wrong
 none_past : (plan : FixPlan) (facts : StripeFacts) (r : ℕ) → length facts.levels ≤ r → is_wrong_level plan facts r ≡ false
-none_past plan facts r past = ap (λ (level : LevelValue). is_wrong plan facts.stripe level facts.row r) (get_or_past facts.levels r no_level past) ∙ by (selects_level plan facts.stripe r)
+none_past plan facts r past = ap (λ (level : LevelValue). is_wrong plan facts.stripe level facts.row r) (get_or_past facts.levels r no_level past) ∙ by (may_write_level plan facts.stripe r)
   where
     by : (selected : Bool) → (selected && false) ≡ false
     by false = refl

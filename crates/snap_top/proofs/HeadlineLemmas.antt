@@ -53,16 +53,18 @@ use Rattle.std.specs.Prelude.{Bool, Contains, Option, false, get_or, if◌then�
 use Rattle.content_file.specs.Spelling.{spelling}
 use Rattle.array_setup.specs.declared.ways.SyncWay.{SyncWay}
 use Rattle.stripe_findings.specs.Reading.{StripeReading}
-use Rattle.snap_sync.specs.Soundness.{changed_without, row_or, snapshot_with}
+use Rattle.snap_sync.specs.Soundness.{changed_without, in_front, snapshot_with}
 use Rattle.content_file.specs.Save.{HasSaved}
 use Rattle.parity_writer.specs.Parity.{Row, Rows}
-use Rattle.parity_writer.specs.Sound.{Snapshot}
 use Rattle.snap_fix.specs.Genuine.{TellsIntactLevels}
 use Rattle.snap_fix.specs.Mended.{Mended}
+use Rattle.parity_writer.specs.Sound.{Closed, last_row, newest}
+use Rattle.parity_writer.specs.Closing.{changed_behind}
+use Rattle.snap_top.proofs.UnchangedLemmas.{first_unchanged}
 
 -- what was last synced, with these rows
-abbrev last_with : LastSynced → Rows → LastSynced
-last_with last rows = record { snapshot = snapshot_with rows last.snapshot; is_changed = changed_without rows last.is_changed }
+abbrev last_with : LastSynced → ℕ → Rows → LastSynced
+last_with last levels rows = record { snapshot = snapshot_with rows last.snapshot; is_changed = changed_without levels rows last.is_changed }
 
 module _ {O F V W : Type 0} (opener_view : O → OpenerView) (folder_view : F → FolderView) (vault_view : V → VaultView) (sink_view : W → SinkView) where
   abbrev begun : RunOf O F V W → Entry
@@ -129,8 +131,8 @@ module _ {O F V W : Type 0} (opener_view : O → OpenerView) (folder_view : F �
       let rows : rows_after its.plan its.readings goes.count ≡ rows_after its.plan its.readings n
       = all_closed left laid_again laid saves_valid one_table its copies before.seed before.opener.vault.files next.files is_sync.over told is_sync.begins ends.all some saved goes.count closed in
       let last_is : synced_by did goes.count standing.last ≡ synced_by did n standing.last
-      = subst (λ (d : Did). synced_by d goes.count standing.last ≡ synced_by d n standing.last) (sym both.1) (ap (last_with standing.last) rows) in
-      let last_rows : next.last ≡ last_with standing.last (rows_after its.plan its.readings n)
+      = subst (λ (d : Did). synced_by d goes.count standing.last ≡ synced_by d n standing.last) (sym both.1) (ap (last_with standing.last its.plan.start.shape.levels) rows) in
+      let last_rows : next.last ≡ last_with standing.last its.plan.start.shape.levels (rows_after its.plan its.readings n)
       = goes.last ∙ last_is ∙ ap (λ (d : Did). synced_by d n standing.last) both.1 in
       let given = row_given left laid_again laid saves_valid one_table its copies before.seed before.opener.vault.files next.files is_sync.over told is_sync.begins ends.all in
       record {
@@ -140,9 +142,10 @@ module _ {O F V W : Type 0} (opener_view : O → OpenerView) (folder_view : F �
         last = goes.last ∙ last_is;
         rows = λ i d within is.
             let reading : StripeReading = get_or its.readings i d in (
-              ap (λ (last : LastSynced). last.snapshot reading.stripe) last_rows ∙ ap (λ (found : Option Row). row_or found (standing.last.snapshot reading.stripe)) (given i d within is),
-              λ level. ap (λ (last : LastSynced). last.is_changed reading.stripe level) last_rows
-                  ∙ ap (λ (found : Option Row). if is_some found then false else standing.last.is_changed reading.stripe level) (given i d within is),
+              ap (λ (last : LastSynced). last_row last.snapshot reading.stripe) last_rows ∙ ap (λ (found : Option Row). newest (in_front found (standing.last.snapshot reading.stripe))) (given i d within is),
+              λ level below. ap (λ (last : LastSynced). last.is_changed reading.stripe level) last_rows
+                  ∙ ap (λ (found : Option Row). if is_some found then changed_behind its.plan.start.shape.levels standing.last.is_changed reading.stripe level else standing.last.is_changed reading.stripe level) (given i d within is)
+                  ∙ first_unchanged its.plan.start.shape.levels standing.last.is_changed reading.stripe level below,
             );
       }
 
@@ -215,7 +218,7 @@ module _ {O F V W : Type 0} (opener_view : O → OpenerView) (folder_view : F �
             (loaded_sound (copies_of before.opener.vault) fix.loaded before.opener.vault.files standing.last.snapshot standing.last.is_changed is.over.valid is.over.is_loaded are)
             (subst (λ (did : Did). MeetsNoChance did standing.last.snapshot) did_is goes.genuine) mended one is_intact tells
             before_then exit_then fix_again is_then begins.tells.tells_vault loaded left mended_again one_then (no_less mended mended_again one one_then stripe) is_intact_then
-            (subst (λ (snapshot : Snapshot). TellsIntactLevels fix_again.plan mended_again.facts (snapshot mended_again.facts.stripe) is_intact_then) snapshot tells_then);
+            (subst (λ (snapshot : Closed). TellsIntactLevels fix_again.plan mended_again.facts (last_row snapshot mended_again.facts.stripe) is_intact_then) snapshot tells_then);
       }
 
   -- ---- what stands next

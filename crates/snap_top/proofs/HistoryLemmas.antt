@@ -1,6 +1,6 @@
 -- The copies stay sound over a history.
-use Rattle.std.proofs.Common.{⊎_elim, ℕ, suc, ◌+◌, ◌*◌, ◌==◌, List, [], ◌∷◌, length, take, Bool, true, false, All, IfSome, Option, None, Some, if◌then◌else◌, refl, sym, ◌∙◌, subst, arith}
-use Rattle.std.proofs.lemmas.List.Elements.{All-take}
+use Rattle.std.proofs.Common.{⊎_elim, ℕ, zero, suc, ◌+◌, ◌*◌, ◌==◌, List, [], ◌∷◌, length, take, Bool, true, false, All, IfSome, Option, None, Some, if◌then◌else◌, refl, sym, ◌∙◌, subst, arith}
+use Rattle.std.proofs.lemmas.List.Elements.{All-cons, All-take}
 use Rattle.cauchy.specs.Recovery.{AreBytes}
 use Rattle.content_file.specs.Save.{HasSaved}
 use Rattle.content_file.specs.Spelling.{spelling}
@@ -11,11 +11,11 @@ use Rattle.disk_model.specs.Sink.{SinkView}
 use Rattle.disk_model.specs.Vault.{VaultView, copies_of}
 use Rattle.file_table.specs.Table.{TableValue}
 use Rattle.parity_writer.specs.Parity.{Row, Rows, no_rows, with_row}
-use Rattle.parity_writer.specs.Sound.{Snapshot, Sound}
+use Rattle.parity_writer.specs.Sound.{Sound, Closed, last_row, newest}
 use Rattle.snap_sync.specs.Closing.{rows_with}
 use Rattle.snap_sync.specs.Images.{rows_after}
 use Rattle.stripe_findings.specs.Reading.{StripeReading, is_verified, row_of}
-use Rattle.snap_sync.specs.Soundness.{AreSound, row_or}
+use Rattle.snap_sync.specs.Soundness.{AreSound, in_front}
 use Rattle.snap_sync.specs.Part.{SyncRun}
 use Rattle.snap_top.specs.History.{AreSoundBy, Changes, EndsSoundBy, IsChange, IsSoundSynced, IsHistory, IsOfBytes, LastSynced, Runs, StaysSound, Step, synced_by}
 use Rattle.snap_top.specs.Moment.{EndsSound, IsDidOf, IsSoundAlways, IsSoundAtEnd, IsSupposed, StandsAfter}
@@ -25,7 +25,7 @@ use Rattle.snap_top.specs.Task.{Did, end_table, fixes, reads_only, scrubs, syncs
 use Rattle.snap_top.proofs.OfFixLemmas.{loaded_sound}
 
 -- a change from outside keeps what it doesn't count as changed
-pub change_sound : (copies copies_then : ℕ) (is_changed is_changed_then : ℕ → ℕ → Bool) (old new : Files) (snapshot : Snapshot) → IsChange copies copies_then is_changed is_changed_then old new → AreSound copies old snapshot is_changed
+pub change_sound : (copies copies_then : ℕ) (is_changed is_changed_then : ℕ → ℕ → Bool) (old new : Files) (snapshot : Closed) → IsChange copies copies_then is_changed is_changed_then old new → AreSound copies old snapshot is_changed
     → AreSound copies_then new snapshot is_changed_then
 change_sound copies copies_then is_changed is_changed_then old new snapshot change are copy table below valid spells =
     ⊎_elim
@@ -35,6 +35,7 @@ change_sound copies copies_then is_changed is_changed_then old new snapshot chan
   where
     kept : Sound table old snapshot is_changed → Sound table new snapshot is_changed_then
     kept sound = record {
+      was_closed = sound.was_closed;
       rows = sound.rows;
       sums = λ stripe level synced within unchanged i less.
           let stays = change.parity copy table stripe level below valid spells unchanged in
@@ -60,9 +61,17 @@ rows_bytes start (x ∷ xs) rows all were stripe =
     by true s = one (s == x.stripe) s
     by false s = were s
 
-snapshot_bytes : (found : Option Row) (row : Row) → HasBytes found → AreBytes row → AreBytes (row_or found row)
-snapshot_bytes None row has bytes = bytes
-snapshot_bytes (Some read) row has bytes = has
+front_bytes : (found : Option Row) (rows : List Row) → HasBytes found → All AreBytes rows → All AreBytes (in_front found rows)
+front_bytes None rows has bytes = bytes
+front_bytes (Some read) rows has bytes = All-cons AreBytes read rows has bytes
+
+newest_bytes : (rows : List Row) → All AreBytes rows → AreBytes (newest rows)
+newest_bytes [] bytes = λ c p. omega arith
+newest_bytes (row ∷ rows) bytes = bytes 0 row (omega arith)
+
+-- so the row that a stripe was last closed with is of bytes
+pub last_bytes : (snapshot : Closed) (stripe : ℕ) → IsOfBytes snapshot → AreBytes (last_row snapshot stripe)
+last_bytes snapshot stripe bytes = newest_bytes (snapshot stripe) (bytes stripe)
 
 -- a snapshot stays of bytes over a run
 pub stays_of_bytes : (before : Entry) (exit : Exit) (did : Did) (count : ℕ) (last : LastSynced) → IsDidOf before exit did → IsOfBytes last.snapshot → IsOfBytes (synced_by did count last).snapshot
@@ -70,7 +79,7 @@ stays_of_bytes before exit reads_only count last is bytes stripe = bytes stripe
 stays_of_bytes before exit (fixes failed run) count last is bytes stripe = bytes stripe
 stays_of_bytes before exit (scrubs failed run) count last is bytes stripe = bytes stripe
 stays_of_bytes before exit (syncs failed run) count last is bytes stripe =
-    snapshot_bytes (rows_after run.plan run.readings count stripe) (last.snapshot stripe)
+    front_bytes (rows_after run.plan run.readings count stripe) (last.snapshot stripe)
     (rows_bytes run.plan.start (take count run.readings) no_rows
     (All-take (λ (reading : StripeReading). AreBytes (row_of reading)) count run.readings is.bytes) (λ s. tt) stripe)
     (bytes stripe)

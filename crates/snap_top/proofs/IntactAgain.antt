@@ -2,6 +2,7 @@
 use Rattle.std.proofs.Common.{◌≡◌, ◌↔◌, ℕ, ◌+◌, ◌*◌, ◌<◌, ◌≤◌, ◌==◌, ◌&&◌, List, length, get_or, Bool, true, false, IsTrue, IfSome, None, Some, refl, sym, ap, ◌∙◌, subst, arith}
 use Rattle.std.specs.Prelude.{Contains, filter, not}
 use Rattle.std.specs.List.{range_with_len}
+use Rattle.std.proofs.lemmas.Bool.{and_parts}
 use Rattle.std.proofs.lemmas.Bool.Decides.{Decides-eqb}
 use Rattle.std.proofs.lemmas.List.{ext_get_or}
 use Rattle.std.proofs.lemmas.List.Elements.{All-contains}
@@ -16,7 +17,7 @@ use Rattle.file_table.specs.Table.{TableValue}
 use Rattle.parity_writer.specs.LevelReading.{LevelReading, kept_level}
 use Rattle.parity_writer.specs.LevelsValue.{LevelValue, no_level}
 use Rattle.parity_writer.specs.Parity.{HasLevel, Row}
-use Rattle.parity_writer.specs.Sound.{IsSynced, Snapshot, Sound}
+use Rattle.parity_writer.specs.Sound.{IsSynced, Sound, Closed, last_row}
 use Rattle.parity_writer.specs.declared.levels.LevelRead.{LevelRead}
 use Rattle.parity_writer.specs.declared.levels.LevelRead.TheVariants as here
 use Rattle.parity_writer.proofs.SumLemmas.{byte_of_level, length-level}
@@ -76,9 +77,9 @@ and_is false b is = absurd (let clash : false ≡ true = is in cc)
 
 -- ---- a fix, and a stripe of it
 
-module _ (holds : WholeLevelsHold) (keeps : FixKeepsSound) (copies : ℕ) (v : VaultView) (fix : FixRun) (snapshot : Snapshot) (is_changed : ℕ → ℕ → Bool) (tells : IsTrue v.tells) (over : FixesOver copies v fix)
-    (sound : Sound fix.loaded v.files snapshot is_changed) (genuine : AreGenuine fix.plan snapshot (facts_of fix.stripes)) (mended : Mended) (one : Contains fix.stripes mended) (is_intact : ℕ → Bool)
-    (says_intact : TellsIntactLevels fix.plan mended.facts (snapshot mended.facts.stripe) is_intact) where
+module _ (holds : WholeLevelsHold) (keeps : FixKeepsSound) (copies : ℕ) (v : VaultView) (fix : FixRun) (snapshot : Closed) (is_changed : ℕ → ℕ → Bool) (tells : IsTrue v.tells) (over : FixesOver copies v fix)
+    (sound : Sound fix.loaded v.files snapshot is_changed) (genuine : AreGenuine fix.plan (last_row snapshot) (facts_of fix.stripes)) (mended : Mended) (one : Contains fix.stripes mended) (is_intact : ℕ → Bool)
+    (says_intact : TellsIntactLevels fix.plan mended.facts (last_row snapshot mended.facts.stripe) is_intact) where
   abbrev facts : StripeFacts
   facts = mended.facts
 
@@ -96,32 +97,33 @@ module _ (holds : WholeLevelsHold) (keeps : FixKeepsSound) (copies : ℕ) (v : V
   is_one = made_in (λ (it : Mended). it.facts) fix.stripes mended one
 
   -- the file has each of these
-  file_intact : (r : ℕ) → both r ≡ true → HasLevel size r facts.stripe (snapshot facts.stripe) (parity_of v.files r)
+  file_intact : (r : ℕ) → both r ≡ true → HasLevel size r facts.stripe (last_row snapshot facts.stripe) (parity_of v.files r)
   file_intact r is =
       let its = and_is (whole_level facts.levels r) (is_intact r) is in
       let within : r < length facts.levels = read_within facts.levels r (whole_is_read (get_or facts.levels r no_level).state its.0) in
       let in_files : AreLevelsIn size v.files (facts_of fix.stripes) = levels_in size v (facts_of fix.stripes) fix.readings tells over.finds.levels in
       let level : IsLevelOf size facts.stripe r v.files (get_or facts.levels r no_level)
       = All-contains (λ (it : StripeFacts). (k : ℕ) → k < length it.levels → IsLevelOf size it.stripe k v.files (get_or it.levels k no_level)) (facts_of fix.stripes) facts in_files is_one r within in
-      let told = All-contains (λ (k : ℕ). IsTrue (is_intact k) ↔ IsIntactLevel fix.plan facts (snapshot facts.stripe) k) (whole_levels facts.levels) r says_intact (whole_among facts.levels r its.0) in
-      file_has holds size facts.stripe r (snapshot facts.stripe) (parity_of v.files r) level.reading (get_or facts.levels r no_level) level.is_of level.is_kept its.0 (told.0 its.1)
+      let told = All-contains (λ (k : ℕ). IsTrue (is_intact k) ↔ IsIntactLevel fix.plan facts (last_row snapshot facts.stripe) k) (whole_levels facts.levels) r says_intact (whole_among facts.levels r its.0) in
+      file_has holds size facts.stripe r (last_row snapshot facts.stripe) (parity_of v.files r) level.reading (get_or facts.levels r no_level) level.is_of level.is_kept its.0 (told.0 its.1)
 
   -- so it is sound with them unchanged
   sound_but : Sound fix.loaded v.files snapshot changed_but
   sound_but = record {
+    was_closed = sound.was_closed;
     rows = sound.rows;
     sums = λ s r synced below same. by s r synced below (is_changed s r) ((s == facts.stripe) && both r) refl refl same;
   }
     where
       by : (s r : ℕ) → IsSynced fix.loaded s → r < fix.loaded.shape.levels → (c b : Bool) → is_changed s r ≡ c → ((s == facts.stripe) && both r) ≡ b → (c && not b) ≡ false
-          → HasLevel fix.loaded.shape.block_size r s (snapshot s) (parity_of v.files r)
+          → HasLevel fix.loaded.shape.block_size r s (last_row snapshot s) (parity_of v.files r)
       by s r synced below false b unchanged here same = sound.sums s r synced below unchanged
       by s r synced below true false changed here same = absurd (let clash : true ≡ false = same in cc)
       by s r synced below true true changed here same =
           let its = and_is (s == facts.stripe) (both r) here in
           let at : s ≡ facts.stripe = (Decides-eqb s facts.stripe).0 its.0 in
-          subst (λ (n : ℕ). HasLevel fix.loaded.shape.block_size r n (snapshot n) (parity_of v.files r)) (sym at)
-          (subst (λ (t : TableValue). HasLevel t.shape.block_size r facts.stripe (snapshot facts.stripe) (parity_of v.files r)) over.plan_is.table_is (file_intact r its.1))
+          subst (λ (n : ℕ). HasLevel fix.loaded.shape.block_size r n (last_row snapshot n) (parity_of v.files r)) (sym at)
+          (subst (λ (t : TableValue). HasLevel t.shape.block_size r facts.stripe (last_row snapshot facts.stripe) (parity_of v.files r)) over.plan_is.table_is (file_intact r its.1))
 
   -- wherever the fix is stopped
   sound_left : (left : Files) → MayStandFixed fix v.files left → Sound fix.loaded left snapshot changed_but
@@ -149,7 +151,7 @@ module _ (holds : WholeLevelsHold) (keeps : FixKeepsSound) (copies : ℕ) (v : V
         by false tried = let none : length facts_then.levels ≡ 0 = ap (λ (levels : List LevelValue). length levels) tried.1 in absurd (omega (arith, within, none))
 
     -- each of these levels is intact again
-    intact_then : (r : ℕ) → both r ≡ true → (whole_level facts_then.levels r ≡ true) × IsIntactLevel again.plan facts_then (snapshot facts_then.stripe) r
+    intact_then : (r : ℕ) → both r ≡ true → (whole_level facts_then.levels r ≡ true) × IsIntactLevel again.plan facts_then (last_row snapshot facts_then.stripe) r
     intact_then r is =
         let whole : whole_level facts.levels r ≡ true = (and_is (whole_level facts.levels r) (is_intact r) is).0 in
         let read : was_read facts_then.levels r ≡ true = no_less.read r (whole_is_read (get_or facts.levels r no_level).state whole) in
@@ -158,7 +160,7 @@ module _ (holds : WholeLevelsHold) (keeps : FixKeepsSound) (copies : ℕ) (v : V
         let unchanged : changed_but facts_then.stripe r ≡ false = but_none (is_changed facts_then.stripe r) (facts_then.stripe == facts.stripe) (both r) same is in
         undamaged_intact holds before exit again snapshot changed_but facts_then r is_then tells_then
         (subst (λ (t : TableValue). Sound t before.opener.vault.files snapshot changed_but) (sym loaded) (sound_left before.opener.vault.files left))
-        (record { one = is_one_then; searched = searched r within; within = within; read = read; unchanged = unchanged })
+        (record { one = is_one_then; synced = (and_parts _ _ (searched r within)).0; within = within; read = read; unchanged = unchanged })
       where
         none : (c : Bool) → (c && false) ≡ false
         none true = refl
@@ -167,13 +169,13 @@ module _ (holds : WholeLevelsHold) (keeps : FixKeepsSound) (copies : ℕ) (v : V
         but_none : (c a b : Bool) → a ≡ true → b ≡ true → (c && not (a && b)) ≡ false
         but_none c a b a_is b_is = ap (λ (it : Bool). c && not (it && b)) a_is ∙ ap (λ (it : Bool). c && not it) b_is ∙ none c
 
-    pub restorable_again : (is_intact_then : ℕ → Bool) → TellsIntactLevels again.plan facts_then (snapshot facts_then.stripe) is_intact_then → IsRestorableStripe fix.plan facts is_intact → IsRestorableStripe again.plan facts_then is_intact_then
+    pub restorable_again : (is_intact_then : ℕ → Bool) → TellsIntactLevels again.plan facts_then (last_row snapshot facts_then.stripe) is_intact_then → IsRestorableStripe fix.plan facts is_intact → IsRestorableStripe again.plan facts_then is_intact_then
     restorable_again is_intact_then says_then enough =
         let levels : ℕ = length facts.levels in
         let more : (r : ℕ) → whole_level facts.levels r ≡ true → is_intact r ≡ true → (whole_level facts_then.levels r ≡ true) × (is_intact_then r ≡ true)
         = λ r whole intact.
         let its = intact_then r (ap (λ (it : Bool). it && is_intact r) whole ∙ intact) in
-        let told = All-contains (λ (k : ℕ). IsTrue (is_intact_then k) ↔ IsIntactLevel again.plan facts_then (snapshot facts_then.stripe) k) (whole_levels facts_then.levels) r says_then (whole_among facts_then.levels r its.0) in
+        let told = All-contains (λ (k : ℕ). IsTrue (is_intact_then k) ↔ IsIntactLevel again.plan facts_then (last_row snapshot facts_then.stripe) k) (whole_levels facts_then.levels) r says_then (whole_among facts_then.levels r its.0) in
         (its.0, told.1 its.1) in
         let counted : length (filter is_intact (whole_levels facts.levels)) ≤ length (filter is_intact_then (whole_levels facts_then.levels))
         = subst (λ (n : ℕ). length (filter is_intact (whole_levels facts.levels)) ≤ length (filter is_intact_then (filter (whole_level facts_then.levels) (range_with_len 0 n)))) (sym no_less.as_many)

@@ -13,9 +13,9 @@ use Rattle.parity_writer.specs.Parity.{HasLevel, Row}
 use Rattle.snap_fix.specs.Mended.{is_wrong_level}
 use Rattle.snap_fix.specs.Underway.{AddsZeros, HoldsWrong, IsMendedLevel, KeepsLevels}
 use Rattle.stripe_examiner.specs.Facts.{StripeFacts}
-use Rattle.stripe_examiner.specs.Findings.{is_wrong}
+use Rattle.stripe_examiner.specs.Findings.{is_wrong, may_write_level}
 use Rattle.stripe_examiner.specs.Looking.{facts_at, no_facts}
-use Rattle.repair_scope.specs.Plan.{FixPlan, selects_level}
+use Rattle.repair_scope.specs.Plan.{FixPlan}
 use Rattle.snap_top.specs.FixedAlike.{HaveSameFiles}
 use Rattle.snap_top.proofs.PlacesLemmas.{found_or_nowhere}
 use Rattle.snap_top.proofs.RestoredLastLemmas.{unknown_right}
@@ -146,7 +146,7 @@ module _ (plan : FixPlan) where
 
   -- a level is wrong only where the row is known
   row_known : (level : LevelValue) (stripe r : ℕ) (row : Option Row) → is_wrong plan stripe level row r ≡ true → (known : Row) × (row ≡ Some known)
-  row_known level stripe r None wrong = absurd (unknown_right size r level.state level.block (selects_level plan stripe r) wrong)
+  row_known level stripe r None wrong = absurd (unknown_right size r level.state level.block (may_write_level plan stripe r) wrong)
   row_known level stripe r (Some known) wrong = (known, refl)
 
   module _ (ones others : List StripeFacts) (as_many : length ones ≡ length others) (stripes : (k : ℕ) → k < length ones → (facts_at ones k).stripe ≡ (facts_at others k).stripe)

@@ -16,6 +16,7 @@ pub mod FolderLemmas
 pub mod HeadlineLemmas
 pub mod HeldLemmas
 pub mod HistoryLemmas
+pub mod UnchangedLemmas
 pub mod UndamagedLemmas
 pub mod IntactAgain
 pub mod KeptLemmas

@@ -1,7 +1,7 @@
 -- A check tells just those cells to be lost that are missing in a stripe whose row is not known. It tells just the pending stripes with a selected cell to
 -- be unsynced, and just the selected blocked records to be blocked.
 use Rattle.std.proofs.Common.{◌≡◌, ℕ, zero, suc, ◌<◌, ◌&&◌, ◌||◌, List, [], ◌∷◌, ◌++◌, length, get_or, Bool, true, false, Option, None, Some, refl, sym, ap, ap₂, ◌∙◌, subst, arith}
-use Rattle.std.specs.Prelude.{bytes_eq, is_some, not, if◌then◌else◌}
+use Rattle.std.specs.Prelude.{bytes_eq, not, if◌then◌else◌}
 use Rattle.std.specs.List.{All, Contains, flat_map, range_with_len}
 use Rattle.std.proofs.lemmas.Bool.{and_parts}
 use Rattle.std.proofs.lemmas.List.Elements.{All-append, All-cons, All-contains, All-contains_itself, All-nil, Contains-append_left, Contains-append_right}
@@ -18,7 +18,7 @@ use Rattle.snap_report.specs.declared.events.Event.TheVariants as event
 use Rattle.stripe_reader.specs.SlotValue.{SlotValue}
 use Rattle.stripe_reader.specs.WindowValue.{no_slot}
 use Rattle.snap_fix.specs.Course.{check_events}
-use Rattle.stripe_examiner.specs.Facts.{StripeFacts, is_missing}
+use Rattle.stripe_examiner.specs.Facts.{StripeFacts}
 use Rattle.stripe_examiner.specs.Findings.{all_cell_events, all_level_events, all_level_io_events, all_lost_events, blocked_event, cell_events, changed_event, column_events, events_of, is_lost, is_unread, is_unread_level, is_wrong, level_events, level_io_events, lost_event, lost_events, opening_events, read_event, read_events, record_events, silent_event, stripe_events, unsynced_events}
 use Rattle.stripe_examiner.specs.Known.{AreFacts}
 use Rattle.stripe_examiner.specs.Looking.{numbers_of}
@@ -33,7 +33,7 @@ pub record IsLostIn (plan : FixPlan) (stripes : List StripeFacts) (stripe d : �
   pub facts : StripeFacts
   pub one : Contains stripes facts
   pub number : facts.stripe ≡ stripe
-  pub lost : is_lost plan facts.stripe (is_missing plan facts d) (is_some facts.row) d ≡ true
+  pub lost : is_lost plan facts d ≡ true
 
 -- ---- no other cell is told to be lost
 
@@ -152,24 +152,23 @@ module _ (Q : ℕ → ℕ → Type 0) (U : ℕ → Type 0) (B : ℕ → ℕ → 
   all_lost_of stripe d None is = All-nil (Only Q U B)
   all_lost_of stripe d (Some cell) is = all_one (event.Lost stripe d cell.rec cell.index) is
 
-  all_lost : (plan : FixPlan) (stripe : ℕ) (missing : ℕ → Bool) (known : Bool) → ((d : ℕ) → is_lost plan stripe (missing d) known d ≡ true → Q stripe d)
-      → AllOnly (all_lost_events plan stripe missing known)
-  all_lost plan stripe missing known lost =
-      all_below (λ d. lost_events plan stripe (missing d) known d) (length plan.table.columns) (λ d.
-      all_where (not (is_audit plan.scope.mode) && is_lost plan stripe (missing d) known d) (lost_event stripe d (cell_at plan stripe d))
-      (λ is. all_lost_of stripe d (cell_at plan stripe d) (lost d (and_parts (not (is_audit plan.scope.mode)) (is_lost plan stripe (missing d) known d) is).1)))
+  all_lost : (plan : FixPlan) (facts : StripeFacts) → ((d : ℕ) → is_lost plan facts d ≡ true → Q facts.stripe d) → AllOnly (all_lost_events plan facts.stripe (is_lost plan facts))
+  all_lost plan facts lost =
+      all_below (λ d. lost_events plan facts.stripe (is_lost plan facts d) d) (length plan.table.columns) (λ d.
+      all_where (not (is_audit plan.scope.mode) && is_lost plan facts d) (lost_event facts.stripe d (cell_at plan facts.stripe d))
+      (λ is. all_lost_of facts.stripe d (cell_at plan facts.stripe d) (lost d (and_parts (not (is_audit plan.scope.mode)) (is_lost plan facts d) is).1)))
 
-  all_of_stripe : (plan : FixPlan) (facts : StripeFacts) → ((d : ℕ) → is_lost plan facts.stripe (is_missing plan facts d) (is_some facts.row) d ≡ true → Q facts.stripe d)
+  all_of_stripe : (plan : FixPlan) (facts : StripeFacts) → ((d : ℕ) → is_lost plan facts d ≡ true → Q facts.stripe d)
       → (is_synced plan facts.stripe ≡ false → has_selected_cell plan facts.stripe ≡ true → U facts.stripe) → AllOnly (stripe_events plan facts)
   all_of_stripe plan facts lost unsynced =
-      let lost_of : List Event = all_lost_events plan facts.stripe (is_missing plan facts) (is_some facts.row) in
+      let lost_of : List Event = all_lost_events plan facts.stripe (is_lost plan facts) in
       let wrong_of : List Event = all_level_events plan facts.stripe facts.levels facts.row in
       let io_of : List Event = all_level_io_events plan facts.stripe facts.levels in
       let cells_of : List Event = all_cell_events plan facts.stripe facts.slots in
       all_both (unsynced_events plan facts.stripe) (cells_of ++ (io_of ++ (wrong_of ++ lost_of))) (all_unsynced plan facts.stripe unsynced)
       (all_both cells_of (io_of ++ (wrong_of ++ lost_of)) (all_cells plan facts.stripe facts.slots)
       (all_both io_of (wrong_of ++ lost_of) (all_io plan facts.stripe facts.levels)
-      (all_both wrong_of lost_of (all_wrong plan facts.stripe facts.levels facts.row) (all_lost plan facts.stripe (is_missing plan facts) (is_some facts.row) lost))))
+      (all_both wrong_of lost_of (all_wrong plan facts.stripe facts.levels facts.row) (all_lost plan facts lost))))
 
 module _ (plan : FixPlan) (stripes : List StripeFacts) where
   -- so it is of all stripes
@@ -214,12 +213,12 @@ contains_flat f (x ∷ xs) zero d a within there = Contains-append_left (f x) (f
 contains_flat f (x ∷ xs) (suc k) d a within there = Contains-append_right (f x) (flat_map f xs) a (contains_flat f xs k d a (omega (arith, within)) there)
 
 module _ (plan : FixPlan) (stripes : List StripeFacts) (facts : StripeFacts) (d : ℕ) (cell : Cell) (it : IsDamagedCell plan stripes facts d cell)
-    (parity : is_audit plan.scope.mode ≡ false) (lost : is_lost plan facts.stripe (is_missing plan facts d) (is_some facts.row) d ≡ true) where
+    (parity : is_audit plan.scope.mode ≡ false) (lost : is_lost plan facts d ≡ true) where
   abbrev line : Event
   line = event.Lost facts.stripe d cell.rec cell.index
 
   abbrev lost_at : ℕ → List Event
-  lost_at k = lost_events plan facts.stripe (is_missing plan facts k) (is_some facts.row) k
+  lost_at k = lost_events plan facts.stripe (is_lost plan facts k) k
 
   lost_here : lost_at d ≡ line ∷ []
   lost_here =

@@ -7,17 +7,17 @@ use Rattle.std.proofs.lemmas.List.FromFn.{get_or-range_with_len, length-range_wi
 use Rattle.std.proofs.lemmas.List.Kept.{AllPairs-filter}
 use Rattle.disk_model.specs.Files.{Files}
 use Rattle.disk_model.specs.Folder.{FolderView}
-use Rattle.parity_writer.specs.Sound.{Snapshot}
 use Rattle.stripe_reader.specs.Starts.{StartsValue}
 use Rattle.stripe_examiner.specs.Facts.{StripeFacts}
 use Rattle.snap_fix.specs.Genuine.{AreGenuineOf, HasGenuineFacts}
 use Rattle.stripe_examiner.specs.Looking.{numbers_of}
 use Rattle.repair_scope.specs.Plan.{FixPlan, is_looked_at, is_searched, stripes_of}
+use Rattle.parity_writer.specs.Sound.{Closed, last_row}
 
 -- what snap_fix says of stripes that were looked at
 abbrev pub FactsAreGenuine : Type 0
-FactsAreGenuine = (plan : FixPlan) (starts : StartsValue) (firsts : List FolderView) (read : Files) (snapshot : Snapshot) (is_changed : ℕ → ℕ → Bool) (stripes : List StripeFacts) (facts : StripeFacts)
-    → AreGenuineOf plan starts firsts read snapshot is_changed stripes → Contains stripes facts → is_searched plan facts.stripe ≡ true → HasGenuineFacts plan starts firsts (snapshot facts.stripe) facts
+FactsAreGenuine = (plan : FixPlan) (starts : StartsValue) (firsts : List FolderView) (read : Files) (snapshot : Closed) (is_changed : ℕ → ℕ → Bool) (stripes : List StripeFacts) (facts : StripeFacts)
+    → AreGenuineOf plan starts firsts read snapshot is_changed stripes → Contains stripes facts → is_searched plan facts.stripe ≡ true → HasGenuineFacts plan starts firsts (last_row snapshot facts.stripe) facts
 
 -- ---- no stripe is looked at twice
 

@@ -8,7 +8,7 @@ use Rattle.file_table.specs.declared.block.Cell.{Cell}
 use Rattle.snap_fix.specs.Fixing.{mended_at, no_mended}
 use Rattle.snap_fix.specs.Mended.{Mended, all_cell_news, all_level_news, all_mended_events, answer_of, cell_news, fixed_event, has_lost, is_blocked_cell, is_gone, is_of, is_repaired, is_written, is_wrong_level, loses, mended_event, mended_events, write_of, writes_in, writes_of, written_in, wrong_in}
 use Rattle.snap_report.specs.declared.events.Event.{Event}
-use Rattle.stripe_examiner.specs.Facts.{StripeFacts, damaged_at, is_missing, slot_of}
+use Rattle.stripe_examiner.specs.Facts.{StripeFacts, damaged_at, slot_of}
 use Rattle.stripe_examiner.specs.Findings.{is_lost, stripe_events}
 use Rattle.stripe_examiner.specs.Known.{AreFacts}
 use Rattle.repair_scope.specs.Plan.{FixPlan, cell_at, seen_at, selects_cell}
@@ -16,7 +16,7 @@ use Rattle.stripe_examiner.specs.Showing.{known_block}
 use Rattle.stripe_examiner.proofs.CellFactsLemmas.{flat_map_below}
 use Rattle.snap_top.specs.Alike.{KeptAlike}
 use Rattle.snap_top.proofs.PlacesLemmas.{any_same, count_below, flat_map_same, sum_by_same}
-use Rattle.snap_top.proofs.SeenLemmas.{IsDetermined, NoGifts, damaged_same, is_mid, missing, told_same}
+use Rattle.snap_top.proofs.SeenLemmas.{IsDetermined, NoGifts, damaged_same, is_mid, lost as lost_seen, told_same}
 
 -- ---- one stripe: each cell that is to be written is
 
@@ -69,16 +69,13 @@ module _ (determined : IsDetermined) (plan : FixPlan) (valid : IsValid plan.tabl
   one_seen : one.facts ≡ seen
   one_seen = is_mid determined plan valid one.facts facts are are_then same.stripe same.slots same.gifts none same.levels
 
-  missing_then : (d : ℕ) → is_missing plan seen d ≡ is_missing plan facts d
-  missing_then d = missing determined plan valid one.facts facts are are_then same.stripe same.slots same.gifts none same.levels d
-
   damaged_then : (d : ℕ) → damaged_at plan seen d ≡ damaged_at plan facts d
-  damaged_then d = damaged_same (seen_at plan facts.stripe d) (slot_of one.facts d) (slot_of facts d) (same.slots d)
+  damaged_then d = damaged_same plan.table.shape.kind (seen_at plan facts.stripe d) (slot_of one.facts d) (slot_of facts d) (same.slots d)
 
   repaired_same : (d : ℕ) → is_repaired plan one.facts d ≡ is_repaired plan facts d
   repaired_same d =
       ap (λ (its : StripeFacts). is_repaired plan its d) one_seen
-      ∙ ap (λ (damaged : Bool). selects_cell plan facts.stripe d && damaged && is_some (known_block facts d) && not (is_blocked_cell plan d (cell_at plan facts.stripe d))) (damaged_then d)
+      ∙ ap (λ (damaged : Bool). selects_cell plan facts.stripe d && damaged && is_some (known_block plan facts d) && not (is_blocked_cell plan d (cell_at plan facts.stripe d))) (damaged_then d)
 
   written_same : (d : ℕ) → d < columns → is_written plan one d ≡ is_written plan other d
   written_same d below = written_is plan one written d below ∙ repaired_same d ∙ sym (written_is plan other written_then d below)
@@ -117,11 +114,11 @@ module _ (determined : IsDetermined) (plan : FixPlan) (valid : IsValid plan.tabl
 
   pub lost_same : (d i : ℕ) → d < columns → loses plan d i one ≡ loses plan d i other
   lost_same d i below =
-      let lost : is_lost plan one.facts.stripe (is_missing plan one.facts d) (is_some one.facts.row) d ≡ is_lost plan facts.stripe (is_missing plan facts d) (is_some facts.row) d
-      = ap (λ (its : StripeFacts). is_lost plan its.stripe (is_missing plan its d) (is_some its.row) d) one_seen
-      ∙ ap (λ (m : Bool). is_lost plan facts.stripe m (is_some facts.row) d) (missing_then d) in
+      let lost : is_lost plan one.facts d ≡ is_lost plan facts d
+      = ap (λ (its : StripeFacts). is_lost plan its d) one_seen
+      ∙ lost_seen determined plan valid one.facts facts are are_then same.stripe same.slots same.gifts none same.levels d in
       let gone : is_gone plan one d ≡ is_gone plan other d = gone_is plan one written d below ∙ sym (gone_is plan other written_then d below) in
-      ap (λ (s : ℕ). is_of i (cell_at plan s d) && (is_lost plan one.facts.stripe (is_missing plan one.facts d) (is_some one.facts.row) d || is_gone plan one d)) same.stripe
+      ap (λ (s : ℕ). is_of i (cell_at plan s d) && (is_lost plan one.facts d || is_gone plan one d)) same.stripe
       ∙ ap₂ (λ (l g : Bool). is_of i (cell_at plan facts.stripe d) && (l || g)) lost gone
 
   write_then : (d : ℕ) (cell : Option Cell) → write_of plan d seen cell ≡ write_of plan d facts cell

@@ -1,39 +1,39 @@
 -- Where each block that came whole is the snapshot's, and each level that came whole is the sum of its row, no block is met by chance.
-use Rattle.std.proofs.Common.{◌≡◌, ◌↔◌, ⊎_elim, inl, inr, ℕ, zero, suc, ◌<◌, ◌≤◌, ◌&&◌, cond, List, [], ◌∷◌, length, get_or, Bool, true, false, Option, None, Some, refl, sym, ap, ap₂, ◌∙◌, subst, arith}
+use Rattle.std.proofs.Common.{◌≡◌, ◌↔◌, inl, inr, ℕ, zero, suc, ◌<◌, ◌≤◌, ◌&&◌, cond, List, [], ◌∷◌, length, get_or, Bool, true, false, Option, None, Some, refl, sym, ap, ◌∙◌, subst, arith}
 use Rattle.std.specs.Prelude.{is_some, not, if◌then◌else◌}
 use Rattle.std.specs.List.{All, Contains, filter, range_with_len}
 use Rattle.std.proofs.lemmas.Bool.{cases_lt, false≢true}
 use Rattle.std.proofs.lemmas.Bool.Decides.{eqb_tells}
 use Rattle.std.proofs.lemmas.List.{get_or-map, get_or_default, get_or_past, length-map}
-use Rattle.std.proofs.lemmas.List.Elements.{All-filter, All-from_get_or, All-get_or, filter_passes}
+use Rattle.std.proofs.lemmas.List.Elements.{All-filter, All-from_get_or, filter_passes}
 use Rattle.std.proofs.lemmas.List.FromFn.{get_or-map-range_with_len, get_or-range_with_len, length-map-range_with_len, length-range_with_len}
 use Rattle.std.proofs.lemmas.Grind.{same_number_lists}
-use Rattle.block_hash.specs.Hash.{hash}
 use Rattle.block_hash.specs.declared.Digest16.{Digest16}
+use Rattle.block_hash.specs.declared.Kind.{Kind}
+use Rattle.stripe_reader.specs.Agreeing.{hashed, matches_digest}
 use Rattle.cauchy.specs.Matrix.{byte_of}
 use Rattle.cauchy.specs.Field.{product}
 use Rattle.cauchy.specs.Recovery.{AreBytes, is_among, others_sum}
 use Rattle.cauchy.specs.System.{AreDistinctBelow, byte_in}
 use Rattle.disk_model.specs.Bytes.{resized}
 use Rattle.disk_model.specs.declared.meta.Meta.{Meta}
-use Rattle.file_table.specs.Cells.{CellView, cell_view}
-use Rattle.file_table.specs.Table.{Column, column_at, no_column}
+use Rattle.file_table.specs.Cells.{CellView, cell_view, stripe_view}
+use Rattle.file_table.specs.Table.{Column, no_column}
 use Rattle.file_table.specs.Valid.{IsValid}
 use Rattle.file_table.specs.declared.shape.Shape.{Shape}
 use Rattle.gf256.specs.Field.{field_sum}
 use Rattle.parity_writer.specs.LevelsValue.{no_level}
 use Rattle.parity_writer.specs.Parity.{Row}
-use Rattle.parity_writer.specs.Sound.{IsBlockAt, IsBlockOf, IsRowOf, real_length}
+use Rattle.parity_writer.specs.Sound.{IsBlockAt, IsBlockOf, IsRowOf, real_length, HasCells, closed_cells, across}
 use Rattle.parity_writer.specs.WindowRow.{bytes_of}
 use Rattle.parity_writer.proofs.ElsewhereLemmas.{length-resized}
 use Rattle.parity_writer.proofs.PaddedLemmas.{resized_byte}
-use Rattle.file_table.specs.Cells.{stripe_view}
 use Rattle.stripe_reader.specs.Reading.{Beyond, CellReading, Gone, NoBlock, Nowhere, Part, Unread, Whole}
 use Rattle.stripe_reader.specs.Slot.{kept}
 use Rattle.stripe_reader.specs.SlotValue.{SlotValue}
 use Rattle.stripe_reader.specs.WindowValue.{no_slot}
 use Rattle.stripe_examiner.specs.declared.search.Wanted.{Wanted}
-use Rattle.stripe_examiner.specs.Facts.{IsGift, StripeFacts, agrees, bytes_before, damaged_at, gift_of, gift_or, hash_or_none, is_damaged, is_missing, missing_in, row_before, slot_of, wanted_by, wanted_in}
+use Rattle.stripe_examiner.specs.Facts.{IsGift, StripeFacts, bytes_before, damaged_at, gift_of, gift_or, hash_or_none, is_damaged, is_missing, missing_in, row_before, slot_of, wanted_by, wanted_in}
 use Rattle.stripe_examiner.specs.Known.{AreFacts, AreRemainders, IsTried, whole_level, whole_levels}
 use Rattle.repair_scope.specs.Plan.{FixPlan, is_searched, seen_at}
 use Rattle.stripe_examiner.specs.Restorable.{AgreesOutside, AreBlocksOf, CandidatesAreGenuine, Follows, HasRemainders, IsIntact, IsLost, IsOneOf, IsSnapshotOf, LostStripe, padded_block}
@@ -44,6 +44,8 @@ use Rattle.stripe_examiner.proofs.RestorableSums.{empty_level}
 use Rattle.stripe_examiner.proofs.SearchAccepted.{column_at as wanted_column_at, length-columns_of}
 use Rattle.snap_fix.specs.Genuine.{IsBlockIn, IsGenuine, IsIntactLevel, lost_of}
 use Rattle.snap_fix.proofs.RestorableLemmas.{among}
+use Rattle.snap_fix.proofs.ExactLemmas.{RowOfCells, SameParity, searched_is_synced, genuine_from_wide, wide_are_bytes, wide_parity, wide_row}
+use Rattle.parity_writer.proofs.CellsLemmas.{across_at, row_has_cells}
 
 -- what snap_fix says of the blocks that follow from levels
 abbrev pub BlocksFollow : Type 0
@@ -63,11 +65,16 @@ pub record MeetsSnapshot (plan : FixPlan) (facts : StripeFacts) (snapshot : Row)
   pub valid : IsValid plan.table
   pub are : AreFacts plan facts
   pub searched : is_searched plan facts.stripe ≡ true
-  pub was : IsRowOf plan.table.shape (stripe_view plan.table facts.stripe) snapshot
+  pub was : HasCells plan.table.shape (closed_cells plan.table facts.stripe) snapshot
   pub bytes : AreBytes snapshot
   pub no_gifts : (d : ℕ) → gift_of facts d ≡ None
   pub cells : (d : ℕ) → d < length plan.table.columns → IsMet plan facts snapshot d
   pub intact : (r : ℕ) → r < length facts.levels → whole_level facts.levels r ≡ true → IsIntactLevel plan facts snapshot r
+
+-- the same by a row that has as many blocks as there are columns
+record MeetsExactly (plan : FixPlan) (facts : StripeFacts) (snapshot : Row) : Type 0 where
+  meets : MeetsSnapshot plan facts snapshot
+  was : IsRowOf plan.table.shape (stripe_view plan.table facts.stripe) snapshot
 
 -- ---- numbers that pass a test
 
@@ -111,9 +118,6 @@ resized_twice block size real fits =
     let inside : i < real = omega (arith, within, length-resized (resized block size) real) in
     resized_byte (resized block size) real i inside ∙ resized_byte block size i (omega (arith, inside, fits)) ∙ sym (resized_byte block real i inside))
 
-abbrev hashed : Shape → List ℕ → Digest16
-hashed shape bytes = record { 0 = hash shape.kind shape.seed bytes }
-
 right_wanted : (shape : Shape) (d : ℕ) (cell : CellView) (block : List ℕ) → IsBlockOf shape cell block
     → IsRightBlock shape (wanted_by shape d (Some cell)) (resized block shape.block_size)
 right_wanted shape d cell block is = record {
@@ -126,9 +130,9 @@ right_wanted shape d cell block is = record {
   ];
 }
 
-missing_cell : (seen : Option CellView) (slot : SlotValue) (given : Bool) → (is_damaged seen slot && given) ≡ true → (cell : CellView) × (seen ≡ Some cell)
-missing_cell None slot given absent = absurd cc
-missing_cell (Some cell) slot given absent = (cell, refl)
+missing_cell : (kind : Kind) (seen : Option CellView) (slot : SlotValue) (given : Bool) → (is_damaged kind seen slot && given) ≡ true → (cell : CellView) × (seen ≡ Some cell)
+missing_cell kind None slot given absent = absurd cc
+missing_cell kind (Some cell) slot given absent = (cell, refl)
 
 -- ---- what came of a cell
 
@@ -154,7 +158,10 @@ undamaged : (b : Bool) → (b && true) ≡ false → b ≡ false
 undamaged true is = let clash : true ≡ false = is in absurd cc
 undamaged false is = refl
 
-module _ (plan : FixPlan) (facts : StripeFacts) (snapshot : Row) (meets : MeetsSnapshot plan facts snapshot) where
+module _ (plan : FixPlan) (facts : StripeFacts) (snapshot : Row) (exactly : MeetsExactly plan facts snapshot) where
+  abbrev meets : MeetsSnapshot plan facts snapshot
+  meets = exactly.meets
+
   abbrev shape : Shape
   shape = plan.table.shape
 
@@ -176,11 +183,11 @@ module _ (plan : FixPlan) (facts : StripeFacts) (snapshot : Row) (meets : MeetsS
   snapshot_block d below =
       subst (λ (it : Option CellView). IsBlockAt shape it (get_or snapshot d []))
       (get_or-map view_here plan.table.columns d no_column None below)
-      (meets.was.blocks d (omega (arith, below, length-map plan.table.columns view_here)))
+      (exactly.was.blocks d (omega (arith, below, length-map plan.table.columns view_here)))
 
   snapshot_long : length snapshot ≡ columns
   unfolding view_here
-  snapshot_long = meets.was.as_many ∙ length-map plan.table.columns view_here
+  snapshot_long = exactly.was.as_many ∙ length-map plan.table.columns view_here
 
   -- what came of a cell is the snapshot's block, where it has no other length
   same_block : (d : ℕ) (met : IsMet plan facts snapshot d) (real : ℕ) → Came shape met.reading → (length (bytes_of (slot_of facts d)) ≡ real)
@@ -201,10 +208,10 @@ module _ (plan : FixPlan) (facts : StripeFacts) (snapshot : Row) (meets : MeetsS
       same_block d met (real_length shape cell) (came_so shape met.reading) gift.long block.zeros
 
   -- a cell that is not damaged came whole
-  right_came : (d : ℕ) (cell : CellView) (met : IsMet plan facts snapshot d) → Came shape met.reading → is_damaged (Some cell) (slot_of facts d) ≡ false
+  right_came : (d : ℕ) (cell : CellView) (met : IsMet plan facts snapshot d) → Came shape met.reading → is_damaged shape.kind (Some cell) (slot_of facts d) ≡ false
       → IsBlockIn size snapshot d (bytes_of (slot_of facts d))
   right_came d cell met (Nothing none no_digest) fine =
-      let clash : true ≡ false = ap (λ (digest : Option Digest16). not (is_some digest && agrees cell.hash digest)) (sym (met.digest_is ∙ no_digest)) ∙ fine in
+      let clash : true ≡ false = ap (λ (digest : Option Digest16). not (is_some digest && matches_digest cell.hash digest)) (sym (met.digest_is ∙ no_digest)) ∙ fine in
       absurd cc
   right_came d cell met (All_of seen_meta bytes is) fine =
       let whole = met.whole seen_meta bytes is in
@@ -221,7 +228,7 @@ module _ (plan : FixPlan) (facts : StripeFacts) (snapshot : Row) (meets : MeetsS
       by_seen None none = λ p inside.
           let zeros : IsBlockAt shape None (get_or snapshot d []) = subst (λ (it : Option CellView). IsBlockAt shape it (get_or snapshot d [])) none (snapshot_block d below) in
           ap (λ (bytes : List ℕ). get_or bytes p 0) (met.bytes_are ∙ ap (λ (reading : CellReading). bytes_of (kept shape reading)) (met.none none)) ∙ sym (zeros p)
-      by_seen (Some cell) is = right_came d cell met (came_so shape met.reading) (ap (λ (it : Option CellView). is_damaged it (slot_of facts d)) (sym is) ∙ fine)
+      by_seen (Some cell) is = right_came d cell met (came_so shape met.reading) (ap (λ (it : Option CellView). is_damaged shape.kind it (slot_of facts d)) (sym is) ∙ fine)
 
   -- so is what stands in the row before the search, where nothing is missing
   before_is : (d : ℕ) → d < columns → is_missing plan facts d ≡ false → IsBlockIn size snapshot d (bytes_before plan facts d)
@@ -282,7 +289,7 @@ module _ (plan : FixPlan) (facts : StripeFacts) (snapshot : Row) (meets : MeetsS
       let place : j < length missing = omega (arith, within, wanted_count) in
       let d : ℕ = get_or missing j 0 in
       let one = passing (is_missing plan facts) columns j place in
-      let cell = missing_cell (seen d) (slot_of facts d) _ one.1 in
+      let cell = missing_cell shape.kind (seen d) (slot_of facts d) _ one.1 in
       let is : wanted_of wanteds j ≡ wanted_by shape d (Some cell.0) =
       get_or-map (λ k. wanted_by shape k (seen k)) missing j 0 no_wanted place ∙ ap (wanted_by shape d) cell.1 in
       let block : IsBlockOf shape cell.0 (get_or snapshot d []) =
@@ -347,9 +354,37 @@ module _ (plan : FixPlan) (facts : StripeFacts) (snapshot : Row) (meets : MeetsS
         (blocks_follow lost snapshot choice blocks is (is_snapshot remainders) one follows).1 intact j p (omega (arith, within, length-columns_of wanteds)) less
         ∙ ap (λ (c : ℕ). byte_of snapshot c p) (wanted_column_at wanteds j within)
 
-    pub meets_no_chance : BlocksFollow → IsGenuine plan snapshot facts
-    meets_no_chance blocks_follow = record {
+    exactly_met : BlocksFollow → IsGenuine plan snapshot facts
+    exactly_met blocks_follow = record {
       present = present;
       given = λ d cell bytes below is gift_is gift. let clash : None ≡ Some bytes = sym (meets.no_gifts d) ∙ gift_is in absurd cc;
       recovered = recovered blocks_follow;
+    }
+
+-- so it is of any row with the closed cells: across all columns it has the same bytes and levels
+pub meets_no_chance : RowOfCells → SameParity → (plan : FixPlan) (facts : StripeFacts) (snapshot : Row) → MeetsSnapshot plan facts snapshot → ((a : ℕ) → product a 0 ≡ 0) → BlocksFollow → IsGenuine plan snapshot facts
+meets_no_chance row_of same plan facts snapshot meets nothing follow =
+    genuine_from_wide plan facts snapshot meets.was (exactly_met plan facts (across (length plan.table.columns) snapshot) (record { meets = wide_meets; was = wide_was }) nothing follow)
+  where
+    wide_was : IsRowOf plan.table.shape (stripe_view plan.table facts.stripe) (across (length plan.table.columns) snapshot)
+    wide_was = wide_row plan facts snapshot meets.was row_of meets.valid (searched_is_synced plan facts meets.are meets.searched)
+
+    wide_meets : MeetsSnapshot plan facts (across (length plan.table.columns) snapshot)
+    wide_meets = record {
+      valid = meets.valid;
+      are = meets.are;
+      searched = meets.searched;
+      was = row_has_cells plan.table.shape (stripe_view plan.table facts.stripe) (across (length plan.table.columns) snapshot) wide_was;
+      bytes = wide_are_bytes plan facts snapshot meets.was meets.bytes;
+      no_gifts = meets.no_gifts;
+      cells = λ d below.
+          let met = meets.cells d below in
+          record {
+            reading = met.reading;
+            bytes_are = met.bytes_are;
+            digest_is = met.digest_is;
+            none = met.none;
+            whole = λ seen bytes is. let its = met.whole seen bytes is in (across_at (length plan.table.columns) snapshot d below ∙ its.0, its.1);
+          };
+      intact = λ r below whole p less. meets.intact r below whole p less ∙ sym (wide_parity plan facts snapshot meets.was same r p less);
     }

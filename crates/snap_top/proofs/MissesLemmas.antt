@@ -164,7 +164,7 @@ module _ (says : SaysOfStops) (before before_then : Entry) (exit exit_then : Exi
     none_past : (d : ℕ) → length fix.plan.table.columns ≤ d → damaged_at again.plan facts_then d ≡ false
     none_past d past =
         let column : column_at again.plan.table.columns d ≡ no_column = get_or_past again.plan.table.columns d no_column (omega (arith, past, columns)) in
-        ap (λ (c : Column). is_damaged (option_map (cell_seen c) (cell_in c facts_then.stripe)) (slot_of facts_then d)) column
+        ap (λ (c : Column). is_damaged again.plan.table.shape.kind (option_map (cell_seen c) (cell_in c facts_then.stripe)) (slot_of facts_then d)) column
 
     missed : (d : ℕ) → is_missing again.plan facts_then d ≡ true → is_missing fix.plan facts d ≡ true
     missed d lost = by (damaged_at fix.plan facts d) refl

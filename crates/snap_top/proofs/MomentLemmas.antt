@@ -9,7 +9,7 @@ use Rattle.disk_model.specs.Opener.{SameVault}
 use Rattle.disk_model.specs.Vault.{ChangesBy, copies_of}
 use Rattle.file_table.specs.Table.{TableValue}
 use Rattle.parity_writer.specs.Parity.{Rows}
-use Rattle.parity_writer.specs.Sound.{Snapshot, Sound}
+use Rattle.parity_writer.specs.Sound.{Sound, Closed}
 use Rattle.stripe_reader.specs.Starts.{StartsValue}
 use Rattle.stripe_examiner.specs.Facts.{StripeFacts}
 use Rattle.snap_fix.specs.Fixing.{facts_of}
@@ -53,7 +53,7 @@ CopiesAreOfPartSyncs = (run : SyncRun) (files new : Files) → IsToldRun run →
 -- ---- and snap_fix of those of a fix
 
 abbrev pub FixKeepsSound : Type 0
-FixKeepsSound = (plan : FixPlan) (starts : StartsValue) (firsts : List FolderView) (read : Files) (snapshot : Snapshot) (is_changed : ℕ → ℕ → Bool) (stripes : List StripeFacts) (table : TableValue) (files left : Files)
+FixKeepsSound = (plan : FixPlan) (starts : StartsValue) (firsts : List FolderView) (read : Files) (snapshot : Closed) (is_changed : ℕ → ℕ → Bool) (stripes : List StripeFacts) (table : TableValue) (files left : Files)
     → AreGenuineOf plan starts firsts read snapshot is_changed stripes → table.shape.block_size ≡ plan.table.shape.block_size → KeepsLevels plan.table.shape.block_size (IsMendedLevel plan stripes) files left
     → Sound table files snapshot is_changed → Sound table left snapshot is_changed
 
@@ -185,7 +185,7 @@ module _ (before : Entry) (exit : Exit) (status : ℕ) (fresh : HoldsFresh befor
               record {
                 count = after.count;
                 within = after.within;
-                sound = subst (λ (n : ℕ). AreSound n files (snapshot_with rows snapshot) (changed_without rows is_changed)) over.copies_are after.sound;
+                sound = subst (λ (n : ℕ). AreSound n files (snapshot_with rows snapshot) (changed_without run.plan.start.shape.levels rows is_changed)) over.copies_are after.sound;
               };
           at_end = ends;
           synced = synced;

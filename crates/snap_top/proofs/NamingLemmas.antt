@@ -1,5 +1,5 @@
 -- A check that is done tells which damaged cells are lost, and an audit what is changed.
-use Rattle.std.proofs.Common.{◌≡◌, ◌↔◌, ⊎_elim, ℕ, ◌<◌, ◌&&◌, List, ◌++◌, length, get_or, count_by, Bool, true, false, IsTrue, Option, None, is_some, refl, sym, ap, ◌∙◌, subst, arith}
+use Rattle.std.proofs.Common.{◌≡◌, ◌↔◌, ◌⊎◌, inl, inr, ⊎_elim, ℕ, ◌<◌, List, ◌++◌, length, get_or, count_by, Bool, true, false, if◌then◌else◌, IsTrue, Option, None, Some, is_some, refl, sym, ap, ◌∙◌, subst, arith}
 use Rattle.std.specs.Prelude.{not}
 use Rattle.std.proofs.lemmas.Bool.{and_from, and_left, and_parts}
 use Rattle.std.proofs.lemmas.List.{get_or-map, length-map}
@@ -12,7 +12,7 @@ use Rattle.file_table.specs.Table.{TableValue}
 use Rattle.file_table.specs.Valid.{IsValid}
 use Rattle.file_table.specs.declared.block.Cell.{Cell}
 use Rattle.parity_writer.specs.Parity.{Row}
-use Rattle.parity_writer.specs.Sound.{Snapshot, Sound}
+use Rattle.parity_writer.specs.Sound.{Sound, Closed, last_row}
 use Rattle.stripe_reader.specs.Column.{IsReadingOf, no_task}
 use Rattle.stripe_reader.specs.Columns.{folder_at}
 use Rattle.stripe_reader.specs.Reading.{CellReading, NoBlock, Task, task_at, tasks_at}
@@ -26,7 +26,8 @@ use Rattle.snap_config.specs.declared.options.Command.TheVariants as commands
 use Rattle.snap_config.specs.declared.options.Options.{Options}
 use Rattle.array_setup.specs.declared.ways.Selection.{Selection}
 use Rattle.stripe_examiner.specs.Counts.{at_most}
-use Rattle.stripe_examiner.specs.Facts.{StripeFacts, gift_of, is_missing, slot_of}
+use Rattle.stripe_examiner.specs.Facts.{StripeFacts, damaged_at, gift_of, is_sought, slot_of}
+use Rattle.stripe_examiner.specs.Showing.{is_unknown, known_block, known_by}
 use Rattle.stripe_examiner.specs.Findings.{is_lost}
 use Rattle.stripe_examiner.specs.Present.{ArePresent}
 use Rattle.snap_fix.specs.Audited.{FindsNothing}
@@ -54,7 +55,7 @@ use Rattle.snap_top.specs.Does.{DoesCommand, StaysIdle}
 use Rattle.snap_top.specs.Dup.{dup_text}
 use Rattle.snap_top.specs.End.{status_of}
 use Rattle.snap_top.specs.Ended.{IsEndStatus}
-use Rattle.snap_fix.specs.Restored.{IsDamagedCell}
+use Rattle.snap_fix.specs.Restored.{CanBeHad, IsDamagedCell, IsGivenBlock}
 use Rattle.snap_top.specs.Lost.{IsToldLost, NamesLost, NamesPending}
 use Rattle.snap_top.specs.Moment.{TellsVault}
 use Rattle.snap_top.specs.Naming.{ChecksEnd, EndsAsAsked, EndsAudited, EndsChecked, HasChecked, IsCheckOf, command_in, events_found}
@@ -119,17 +120,34 @@ no_row plan facts are pending =
     let none : IsTried plan facts false = subst (IsTried plan facts) unsearched are.tried in
     ap (λ (row : Option Row). is_some row) none.2
 
+no_block : (sought synced : Bool) (gift : Option (List ℕ)) (row : Option Row) (d : ℕ) → gift ≡ None → is_some row ≡ false
+    → (let it : Option (List ℕ) = (if sought then known_by synced gift row d else None) in is_some it ≡ false)
+no_block false synced gift row d none unknown = refl
+no_block true true (Some given) row d none unknown = absurd (let clash : Some given ≡ None = none in cc)
+no_block true true None (Some row) d none unknown = absurd (let clash : true ≡ false = unknown in cc)
+no_block true true None None d none unknown = refl
+no_block true false gift (Some row) d none unknown = absurd (let clash : true ≡ false = unknown in cc)
+no_block true false gift None d none unknown = refl
+
 -- a selected damaged cell that was not given is lost where the row is not known
 lost_where : (plan : FixPlan) (stripes : List StripeFacts) (facts : StripeFacts) (d : ℕ) (cell : Cell) → IsDamagedCell plan stripes facts d cell → gift_of facts d ≡ None → is_some facts.row ≡ false
-    → is_lost plan facts.stripe (is_missing plan facts d) (is_some facts.row) d ≡ true
+    → is_lost plan facts d ≡ true
 lost_where plan stripes facts d cell it none unknown =
-    and_from _ _ (and_from _ _ it.selected (and_from _ _ it.damaged (ap (λ (gift : Option (List ℕ)). not (is_some gift)) none))) (ap not unknown)
+    and_from _ _ it.selected (and_from _ _ it.damaged (ap not (no_block (is_sought plan facts.stripe d) (is_synced plan facts.stripe) (gift_of facts d) facts.row d none unknown)))
 
--- and no cell is lost where the row is known
-unknown_where : (plan : FixPlan) (facts : StripeFacts) (d : ℕ) → is_lost plan facts.stripe (is_missing plan facts d) (is_some facts.row) d ≡ true → is_some facts.row ≡ true → ⊥
-unknown_where plan facts d lost known =
-    let none = (and_parts (selects_cell plan facts.stripe d && is_missing plan facts d) (not (is_some facts.row)) lost).1 in
-    let clash : false ≡ true = sym (ap not known) ∙ none in cc
+-- and no cell of a synced stripe is lost where the row is known
+some_block : (synced : Bool) (gift : Option (List ℕ)) (row : Option Row) (d : ℕ) → synced ≡ true → is_some row ≡ true
+    → (let it : Option (List ℕ) = (if synced then known_by synced gift row d else None) in is_some it ≡ true)
+some_block false gift row d synced known = absurd (let clash : false ≡ true = synced in cc)
+some_block true (Some given) row d synced known = refl
+some_block true None (Some row) d synced known = refl
+some_block true None None d synced known = absurd (let clash : false ≡ true = known in cc)
+
+unknown_where : (plan : FixPlan) (facts : StripeFacts) (d : ℕ) → is_lost plan facts d ≡ true → is_synced plan facts.stripe ≡ true → is_some facts.row ≡ true → ⊥
+unknown_where plan facts d lost synced known =
+    let unknown = (and_parts (selects_cell plan facts.stripe d) (is_unknown plan facts d) lost).1 in
+    let none = (and_parts (damaged_at plan facts d) (not (is_some (known_block plan facts d))) unknown).1 in
+    let clash : false ≡ true = sym (ap not (some_block (is_synced plan facts.stripe) (gift_of facts d) facts.row d synced known)) ∙ none in cc
 
 not_known : (b : Bool) → (b ≡ true → ⊥) → b ≡ false
 not_known true never = absurd (never refl)
@@ -238,7 +256,7 @@ module _ (rows : RowsAreKnown) (genuine_facts : FactsAreGenuine) (before : Entry
     ascending : AreAscending (numbers_of run.stripes)
     ascending = subst AreAscending (sym ends.numbers) (stripes_ascending run.plan)
 
-    names : mode ≡ modes.Check → (snapshot : Snapshot) (is_changed : ℕ → ℕ → Bool) → Sound run.loaded old snapshot is_changed → AreGenuine run.plan snapshot run.stripes → NamesLost run.plan run.stripes snapshot all
+    names : mode ≡ modes.Check → (snapshot : Closed) (is_changed : ℕ → ℕ → Bool) → Sound run.loaded old snapshot is_changed → AreGenuine run.plan (last_row snapshot) run.stripes → NamesLost run.plan run.stripes snapshot all
     names is snapshot is_changed sound supposed facts d cell is_intact it = (not_told, few_told)
       where
         table_is : run.loaded ≡ run.plan.table
@@ -258,17 +276,25 @@ module _ (rows : RowsAreKnown) (genuine_facts : FactsAreGenuine) (before : Entry
         }
 
         known : (is_some facts.row ≡ true) ↔ IsRestorableStripe run.plan facts is_intact
-        known = rows run.plan (starts_of run.loaded run.lists) run.listed (snapshot facts.stripe) facts is_intact
+        known = rows run.plan (starts_of run.loaded run.lists) run.listed (last_row snapshot facts.stripe) facts is_intact
             (genuine_facts run.plan (starts_of run.loaded run.lists) run.listed old snapshot is_changed run.stripes facts genuine it.is.one it.synced) it.bytes it.tells
 
-        not_told : IsToldLost all facts d cell → ¬ (IsRestorableStripe run.plan facts is_intact)
-        not_told is_told enough =
+        -- nothing was given, so what can be had is had by its stripe
+        by_stripe : IsGivenBlock run.plan facts d ⊎ IsRestorableStripe run.plan facts is_intact → IsRestorableStripe run.plan facts is_intact
+        by_stripe (inl given) = absurd (let clash : false ≡ true = sym (ap (λ (gift : Option (List ℕ)). is_some gift) (no_gift facts d cell it.is)) ∙ given.1 in cc)
+        by_stripe (inr enough) = enough
+
+        not_told : IsToldLost all facts d cell → ¬ (CanBeHad run.plan facts is_intact d)
+        not_told is_told can =
             let lost = told_is_lost run.plan run.stripes facts.stripe d cell.rec cell.index is_told in
             let same : lost.facts ≡ facts = same_facts run.stripes ascending lost.facts facts lost.one it.is.one lost.number in
-            unknown_where run.plan lost.facts d lost.lost (ap (λ (other : StripeFacts). is_some other.row) same ∙ known.1 enough)
+            let synced : is_synced run.plan facts.stripe ≡ true = (and_parts (is_synced run.plan facts.stripe) _ it.synced).0 in
+            unknown_where run.plan lost.facts d lost.lost (ap (λ (other : StripeFacts). is_synced run.plan other.stripe) same ∙ synced)
+            (ap (λ (other : StripeFacts). is_some other.row) same ∙ known.1 (by_stripe can.had))
 
-        few_told : ¬ (IsRestorableStripe run.plan facts is_intact) → IsToldLost all facts d cell
-        few_told few = told_where is facts d cell it.is (not_known (is_some facts.row) (λ found. few (known.0 found)))
+        few_told : ¬ (CanBeHad run.plan facts is_intact d) → IsToldLost all facts d cell
+        few_told never =
+            told_where is facts d cell it.is (not_known (is_some facts.row) (λ found. never (record { sought = (and_parts (is_synced run.plan facts.stripe) _ it.synced).0; had = inr (known.0 found) })))
 
     ended_checked : mode ≡ modes.Check → EndsChecked before exit status
     ended_checked is = record {

@@ -10,7 +10,7 @@ use Rattle.file_table.specs.Table.{TableValue}
 use Rattle.file_table.specs.Valid.{IsValid}
 use Rattle.parity_writer.specs.LevelReading.{LevelReading, IsReadingOf}
 use Rattle.parity_writer.specs.LevelsValue.{no_level}
-use Rattle.parity_writer.specs.Sound.{Snapshot, Sound}
+use Rattle.parity_writer.specs.Sound.{Sound, Closed, last_row}
 use Rattle.array_setup.specs.Setup.{SetupValue}
 use Rattle.snap_config.specs.declared.options.Command.{Command}
 use Rattle.snap_config.specs.declared.options.Command.TheVariants as commands
@@ -260,16 +260,17 @@ levels_in block_size v (facts ∷ stripes) (of ∷ readings) tells (first, rest)
     by stripe r (Some bytes) is = is.1 tells
 
 -- the table that was loaded is sound, where all copies are
-pub loaded_sound : (copies : ℕ) (table : TableValue) (files : Files) (snapshot : Snapshot) (is_changed : ℕ → ℕ → Bool) → IsValid table → IsLoadedFrom copies table files → AreSound copies files snapshot is_changed → Sound table files snapshot is_changed
+pub loaded_sound : (copies : ℕ) (table : TableValue) (files : Files) (snapshot : Closed) (is_changed : ℕ → ℕ → Bool) → IsValid table → IsLoadedFrom copies table files → AreSound copies files snapshot is_changed → Sound table files snapshot is_changed
 loaded_sound copies table files snapshot is_changed valid (inl copy) are = are copy.0 table copy.1 valid copy.2
 loaded_sound copies table files snapshot is_changed valid (inr none) are = record {
-  rows = λ stripe synced. absurd (none stripe synced);
+  was_closed = λ stripe synced. absurd (none stripe synced);
+  rows = λ stripe cells synced is. absurd (none stripe synced);
   sums = λ stripe level synced below unchanged. absurd (none stripe synced);
 }
 
 -- where that table is sound, what was met is genuine
-pub genuine_by : (copies : ℕ) (vault : VaultView) (run : FixRun) (snapshot : Snapshot) (is_changed : ℕ → ℕ → Bool) → IsTrue vault.tells → FixesOver copies vault run → Sound run.loaded vault.files snapshot is_changed
-    → AreGenuine run.plan snapshot (facts_of run.stripes) → AreGenuineOf run.plan (starts_of run.loaded run.lists) run.listed vault.files snapshot is_changed (facts_of run.stripes)
+pub genuine_by : (copies : ℕ) (vault : VaultView) (run : FixRun) (snapshot : Closed) (is_changed : ℕ → ℕ → Bool) → IsTrue vault.tells → FixesOver copies vault run → Sound run.loaded vault.files snapshot is_changed
+    → AreGenuine run.plan (last_row snapshot) (facts_of run.stripes) → AreGenuineOf run.plan (starts_of run.loaded run.lists) run.listed vault.files snapshot is_changed (facts_of run.stripes)
 genuine_by copies vault run snapshot is_changed tells over sound genuine = record {
   valid = subst IsValid (sym over.plan_is.table_is) over.valid;
   are = over.finds.are;
@@ -279,7 +280,7 @@ genuine_by copies vault run snapshot is_changed tells over sound genuine = recor
   genuine = genuine;
 }
 
-pub genuine_of : (copies : ℕ) (vault : VaultView) (run : FixRun) (snapshot : Snapshot) (is_changed : ℕ → ℕ → Bool) → IsTrue vault.tells → FixesOver copies vault run → IsGenuineFix run copies vault.files snapshot
+pub genuine_of : (copies : ℕ) (vault : VaultView) (run : FixRun) (snapshot : Closed) (is_changed : ℕ → ℕ → Bool) → IsTrue vault.tells → FixesOver copies vault run → IsGenuineFix run copies vault.files snapshot
     → AreSound copies vault.files snapshot is_changed → AreGenuineOf run.plan (starts_of run.loaded run.lists) run.listed vault.files snapshot is_changed (facts_of run.stripes)
 genuine_of copies vault run snapshot is_changed tells over supposed sound =
     genuine_by copies vault run snapshot is_changed tells over (loaded_sound copies run.loaded vault.files snapshot is_changed over.valid over.is_loaded sound) supposed.genuine

@@ -1,15 +1,14 @@
 -- Of which scrub a run is, and what stands at each moment of it.
 use Rattle.std.proofs.Common.{◌≡◌, ◌⊎◌, inl, inr, ⊎_elim, ℕ, ◌*◌, ◌^◌, ◌<◌, List, [], ◌∷◌, get_or, Bool, true, false, IsTrue, None, Some, refl, sym, ap, ◌∙◌, subst}
 use Rattle.std.proofs.lemmas.List.Elements.{All-weaker}
-use Rattle.content_file.specs.Spelling.{spelling}
 use Rattle.disk_model.specs.Bytes.{read_from}
-use Rattle.disk_model.specs.Files.{Files, parity_of}
+use Rattle.disk_model.specs.Files.{Files, content_of, parity_of}
 use Rattle.disk_model.specs.Vault.{VaultView}
 use Rattle.file_table.specs.Table.{TableValue}
 use Rattle.file_table.specs.Valid.{IsValid}
 use Rattle.parity_writer.specs.LevelReading.{LevelReading, IsReadingOf}
 use Rattle.parity_writer.specs.Parity.{HasLevel}
-use Rattle.parity_writer.specs.Sound.{Snapshot, Sound}
+use Rattle.parity_writer.specs.Sound.{Sound, Closed, last_row}
 use Rattle.array_setup.specs.Setup.{SetupValue}
 use Rattle.snap_config.specs.declared.options.Command.{Command}
 use Rattle.snap_config.specs.declared.options.Command.TheVariants as commands
@@ -40,7 +39,7 @@ abbrev pub ScrubKeepsValid : Type 0
 ScrubKeepsValid = (table : TableValue) (way : ScrubWay) (now : ℕ) (readings : List ScrubReading) → stripes_of (cells_of readings) ≡ plan_of table way now → now < 2 ^ 64 → IsValid table → IsValid (scrubbed now table readings)
 
 abbrev pub ScrubKeepsSound : Type 0
-ScrubKeepsSound = (table : TableValue) (way : ScrubWay) (now : ℕ) (readings : List ScrubReading) (old new : Files) (snapshot : Snapshot) (is_changed : ℕ → ℕ → Bool) → stripes_of (cells_of readings) ≡ plan_of table way now
+ScrubKeepsSound = (table : TableValue) (way : ScrubWay) (now : ℕ) (readings : List ScrubReading) (old new : Files) (snapshot : Closed) (is_changed : ℕ → ℕ → Bool) → stripes_of (cells_of readings) ≡ plan_of table way now
     → new.parities ≡ old.parities → Sound table old snapshot is_changed → Sound (scrubbed now table readings) new snapshot is_changed
 
 -- ---- what a scrub did: it only read, or it went on
@@ -107,13 +106,14 @@ module _ (before : Entry) (exit : Exit) (tells : IsTrue before.opener.tells) (te
 
 -- ---- soundness: parity stays, and the table that is saved calls the same stripes synced
 
-same_parity : (table : TableValue) (old new : Files) (snapshot : Snapshot) (is_changed : ℕ → ℕ → Bool) → new.parities ≡ old.parities → Sound table old snapshot is_changed → Sound table new snapshot is_changed
+same_parity : (table : TableValue) (old new : Files) (snapshot : Closed) (is_changed : ℕ → ℕ → Bool) → new.parities ≡ old.parities → Sound table old snapshot is_changed → Sound table new snapshot is_changed
 same_parity table old new snapshot is_changed same sound = record {
+  was_closed = sound.was_closed;
   rows = sound.rows;
-  sums = λ stripe level synced within unchanged. subst (λ (parities : List (List ℕ)). HasLevel table.shape.block_size level stripe (snapshot stripe) (get_or parities level [])) (sym same) (sound.sums stripe level synced within unchanged);
+  sums = λ stripe level synced within unchanged. subst (λ (parities : List (List ℕ)). HasLevel table.shape.block_size level stripe (last_row snapshot stripe) (get_or parities level [])) (sym same) (sound.sums stripe level synced within unchanged);
 }
 
-pub scrub_sound : OneTable → ScrubKeepsValid → ScrubKeepsSound → (run : ScrubRun) (copies : ℕ) (old new : Files) (snapshot : Snapshot) (is_changed : ℕ → ℕ → Bool) → run.now < 2 ^ 64 → IsValid run.loaded
+pub scrub_sound : OneTable → ScrubKeepsValid → ScrubKeepsSound → (run : ScrubRun) (copies : ℕ) (old new : Files) (snapshot : Closed) (is_changed : ℕ → ℕ → Bool) → run.now < 2 ^ 64 → IsValid run.loaded
     → stripes_of (cells_of run.readings) ≡ plan_of run.loaded run.way run.now → Sound run.loaded old snapshot is_changed → AreSound copies old snapshot is_changed → MayStandMarked run old new → AreSound copies new snapshot is_changed
 scrub_sound one_table keeps_valid keeps_sound run copies old new snapshot is_changed in_time valid planned sound are stands = by run.readings refl
   where
@@ -126,8 +126,6 @@ scrub_sound one_table keeps_valid keeps_sound run copies old new snapshot is_cha
         λ copy table below of_table spells. ⊎_elim
         (λ still. same_parity table old new snapshot is_changed saves.parities (are copy table below of_table (sym still ∙ spells)))
         (λ saved.
-        let both : Some (spelling table) ≡ Some (spelling (marked_table run)) = sym spells ∙ saved in
-        let spelled : spelling table ≡ spelling (marked_table run) = cc in
-        let marked : table ≡ marked_table run = one_table table (marked_table run) of_table (keeps_valid run.loaded run.way run.now run.readings planned in_time valid) spelled in
+        let marked : table ≡ marked_table run = one_table table (marked_table run) (content_of new copy) of_table (keeps_valid run.loaded run.way run.now run.readings planned in_time valid) spells saved in
         subst (λ (t : TableValue). Sound t new snapshot is_changed) (sym marked) (keeps_sound run.loaded run.way run.now run.readings old new snapshot is_changed planned saves.parities sound))
         (saves.contents copy)

@@ -1,6 +1,6 @@
 -- All content files of a history are of arrays with blocks of one size.
 use Rattle.std.proofs.Common.{◌≡◌, inl, inr, ⊎_elim, ℕ, ◌^◌, ◌<◌, ◌≤◌, List, [], ◌∷◌, ◌++◌, length, take, Bool, true, false, if◌then◌else◌, Option, None, Some, refl, sym, ap, ◌∙◌, subst, arith}
-use Rattle.content_file.specs.Spelling.{IsContent, spelling}
+use Rattle.content_file.specs.Spelling.{IsContent, spelling, HoldsTable}
 use Rattle.disk_model.specs.Files.{Files, content_of}
 use Rattle.disk_model.specs.Folder.{FolderView}
 use Rattle.disk_model.specs.Vault.{VaultView}
@@ -30,7 +30,7 @@ SavesValidTables = (plan : SyncPlan) (readings ahead : List StripeReading) (olds
 
 -- all have this size
 abbrev pub HaveSize : ℕ → ℕ → Files → Type 0
-HaveSize size copies files = (copy : ℕ) (table : TableValue) → copy < copies → IsValid table → content_of files copy ≡ Some (spelling table) → table.shape.block_size ≡ size
+HaveSize size copies files = (copy : ℕ) (table : TableValue) → copy < copies → IsValid table → HoldsTable table (content_of files copy) → table.shape.block_size ≡ size
 
 pub one_of_size : (size copies : ℕ) (files : Files) → HaveSize size copies files → HaveOneSize copies files
 one_of_size size copies files have one other table other_table within other_within valid other_valid is other_is =
@@ -55,12 +55,10 @@ closed_shape start now (reading ∷ readings) table =
     by false = refl
 
 module _ (one_table : OneTable) where
-  spelled_size : (size : ℕ) (table saved : TableValue) (content : Option (List ℕ)) → IsValid table → IsValid saved → saved.shape.block_size ≡ size → content ≡ Some (spelling table) → content ≡ Some (spelling saved)
+  spelled_size : (size : ℕ) (table saved : TableValue) (content : Option (List ℕ)) → IsValid table → IsValid saved → saved.shape.block_size ≡ size → HoldsTable table content → HoldsTable saved content
       → table.shape.block_size ≡ size
   spelled_size size table saved content valid saved_valid is spells also =
-      let both : Some (spelling table) ≡ Some (spelling saved) = sym spells ∙ also in
-      let same : spelling table ≡ spelling saved = cc in
-      ap (λ (t : TableValue). t.shape.block_size) (one_table table saved valid saved_valid same) ∙ is
+      ap (λ (t : TableValue). t.shape.block_size) (one_table table saved content valid saved_valid spells also) ∙ is
 
   module _ (saves_valid : SavesValidTables) (run : SyncRun) (copies : ℕ) (old new : Files) (over : SyncsOver copies old run) where
     abbrev size : ℕ

@@ -9,7 +9,7 @@ use Rattle.disk_model.specs.Sink.{SinkView}
 use Rattle.disk_model.specs.Tree.{Tree}
 use Rattle.disk_model.specs.Vault.{VaultView, copies_of}
 use Rattle.disk_model.specs.declared.meta.Stamp.{Stamp}
-use Rattle.parity_writer.specs.Sound.{Snapshot, Sound}
+use Rattle.parity_writer.specs.Sound.{Sound, Closed, last_row}
 use Rattle.snap_config.specs.declared.options.Command.TheVariants as commands
 use Rattle.snap_config.specs.declared.options.Options.{Options}
 use Rattle.array_setup.specs.declared.ways.Selection.{Selection}
@@ -45,12 +45,12 @@ use Rattle.std.specs.Prelude.{Bool, Contains, IsTrue, None, Option, false, filte
 use Rattle.file_restorer.specs.declared.finishing.Finish.{Finish}
 use Rattle.parity_writer.specs.declared.levels.LevelRead.{LevelRead}
 use Rattle.parity_writer.specs.declared.levels.LevelRead.TheVariants as here
-use Rattle.stripe_examiner.specs.Findings.{is_wrong, is_wrong_by}
+use Rattle.stripe_examiner.specs.Findings.{is_wrong, is_wrong_by, may_write_level}
 use Rattle.parity_writer.specs.Parity.{HasLevel, Row}
 use Rattle.parity_writer.specs.LevelsValue.{LevelValue, no_level}
 use Rattle.snap_fix.specs.Underway.{HoldsWrong}
 use Rattle.stripe_examiner.specs.Known.{AreFacts, IsTried}
-use Rattle.repair_scope.specs.Plan.{FixPlan, is_audit, is_searched, selects_level}
+use Rattle.repair_scope.specs.Plan.{FixPlan, is_audit, is_searched}
 use Rattle.stripe_examiner.specs.Place.{starts_of}
 use Rattle.snap_report.specs.declared.events.Event.{Event}
 use Rattle.snap_report.specs.declared.events.Event.TheVariants as event
@@ -59,6 +59,7 @@ use Rattle.file_table.specs.Table.{TableValue, records_in}
 use Rattle.snap_fix.specs.Course.{check_events}
 use Rattle.stripe_reader.specs.Starts.{StartsValue}
 use Rattle.snap_fix.specs.FixCourse.{fix_events}
+use Rattle.snap_top.proofs.HistoryLemmas.{last_bytes}
 
 -- what snap_fix says of the levels that a fix wrote, and of what it finds
 abbrev pub LevelsAreMended : Type 0
@@ -101,7 +102,7 @@ wrong_is_searched plan facts r are wrong = by (is_searched plan facts.stripe) ar
     by : (b : Bool) → IsTried plan facts b → b ≡ true
     by true tried = refl
     by false tried =
-        absurd (unknown_right plan.table.shape.block_size r level.state level.block (selects_level plan facts.stripe r) (subst (λ (row : Option Row). is_wrong plan facts.stripe level row r ≡ true) tried.2 wrong))
+        absurd (unknown_right plan.table.shape.block_size r level.state level.block (may_write_level plan facts.stripe r) (subst (λ (row : Option Row). is_wrong plan facts.stripe level row r ≡ true) tried.2 wrong))
 
 module _ (before : Entry) (exit : Exit) (run : FixRun) (is : IsFixOf before exit run) (tells : TellsAll before) where
   within_folders : (d : ℕ) → d < length run.plan.table.columns → d < length run.folders
@@ -141,9 +142,9 @@ module _ {O F V W : Type 0} (opener_view : O → OpenerView) (folder_view : F �
   ended run = after_of opener_view folder_view vault_view sink_view run
 
   -- what a run leaves that was asked for a fix and did not break off; it met no hash by chance
-  fixed_by : (before : Entry) (exit : Exit) (status : ℕ) (asked : Options) (selection : Selection) → asked_by before.texts ≡ Ok asked → asked.command ≡ commands.Fix selection → (snapshot : Snapshot) (did : Did)
+  fixed_by : (before : Entry) (exit : Exit) (status : ℕ) (asked : Options) (selection : Selection) → asked_by before.texts ≡ Ok asked → asked.command ≡ commands.Fix selection → (snapshot : Closed) (did : Did)
       → IsDidOf before exit did → MeetsNoChance did snapshot → has_ended did ≡ true → EndsBy did before exit status
-      → AllTell before.opener.folders → (ends : EndsFixed before exit status) × (did ≡ fixes false ends.run) × AreGenuine ends.run.plan snapshot (facts_of ends.run.stripes)
+      → AllTell before.opener.folders → (ends : EndsFixed before exit status) × (did ≡ fixes false ends.run) × AreGenuine ends.run.plan (last_row snapshot) (facts_of ends.run.stripes)
   fixed_by before exit status asked selection words command snapshot reads_only is genuine done ends told = absurd (only_read reads_only refl done)
   fixed_by before exit status asked selection words command snapshot (syncs failed sync) is genuine done ends told =
       let same : is.configured.asked ≡ asked = same_ok (asked_by before.texts) is.configured.asked asked is.configured.read words in
@@ -152,7 +153,7 @@ module _ {O F V W : Type 0} (opener_view : O → OpenerView) (folder_view : F �
   fixed_by before exit status asked selection words command snapshot (fixes true fix) is genuine done ends told = absurd cc
   fixed_by before exit status asked selection words command snapshot (fixes false fix) is genuine done ends told =
       let its = ends told in
-      (its.0, ap (λ (run : FixRun). fixes false run) (sym its.1), subst (λ (run : FixRun). AreGenuine run.plan snapshot (facts_of run.stripes)) (sym its.1) genuine)
+      (its.0, ap (λ (run : FixRun). fixes false run) (sym its.1), subst (λ (run : FixRun). AreGenuine run.plan (last_row snapshot) (facts_of run.stripes)) (sym its.1) genuine)
   fixed_by before exit status asked selection words command snapshot (scrubs failed scrub) is genuine done ends told =
       let same : is.configured.asked ≡ asked = same_ok (asked_by before.texts) is.configured.asked asked is.configured.read words in
       let clash : commands.Scrub scrub.way ≡ commands.Fix selection = is.configured.command_is ∙ ap (λ (a : Options). a.command) same ∙ command in
@@ -188,24 +189,24 @@ module _ {O F V W : Type 0} (opener_view : O → OpenerView) (folder_view : F �
         levels = λ files stand facts r one wrong.
             let are : AreFacts fixed.plan facts = All-contains (AreFacts fixed.plan) (facts_of fixed.stripes) facts ends.fixed.are one in
             let searched : is_searched fixed.plan facts.stripe ≡ true = wrong_is_searched fixed.plan facts r are wrong in
-            mended fixed.plan (starts_of fixed.loaded fixed.lists) fixed.listed (snapshot facts.stripe) facts files r
+            mended fixed.plan (starts_of fixed.loaded fixed.lists) fixed.listed (last_row snapshot facts.stripe) facts files r
             (are_genuine fixed.plan (starts_of fixed.loaded fixed.lists) fixed.listed before.opener.vault.files snapshot is_changed (facts_of fixed.stripes) facts genuine_of one searched)
             (All-contains (λ (of : StripeFacts). HoldsWrong fixed.plan of files) (facts_of fixed.stripes) facts (stands_then (LeavesFixed fixed) exit files ends.tells ends.leaves stand) one)
             wrong;
         restores =
             let restores = ends.restores snapshot is_changed loaded both.2 in
             record {
-              restored = λ facts d cell is_intact reach tells enough.
-                  subst (λ (tree : Tree). HoldsCell fixed.plan.table d cell (has_lost fixed.plan fixed.stripes d cell.rec) (byte_of (snapshot facts.stripe) d) tree)
+              restored = λ facts d cell is_intact reach searched tells can.
+                  subst (λ (tree : Tree). HoldsCell fixed.plan.table d cell (has_lost fixed.plan fixed.stripes d cell.rec) (byte_of (last_row snapshot facts.stripe) d) tree)
                   (tree_is d)
-                  (restores.restored facts d cell is_intact (record { is = reach.is; synced = reach.synced; bytes = sound.bytes facts.stripe; tells = tells }) reach.free enough);
-              counted = λ facts d cell reach enough.
-                  subst (λ (tree : Tree). HoldsCell fixed.plan.table d cell (has_lost fixed.plan fixed.stripes d cell.rec) (byte_of (snapshot facts.stripe) d) tree)
+                  (restores.restored facts d cell is_intact (record { is = reach.is; synced = searched; bytes = last_bytes snapshot facts.stripe sound.bytes; tells = tells }) reach.free can);
+              counted = λ facts d cell reach synced enough.
+                  subst (λ (tree : Tree). HoldsCell fixed.plan.table d cell (has_lost fixed.plan fixed.stripes d cell.rec) (byte_of (last_row snapshot facts.stripe) d) tree)
                   (tree_is d)
                   (restored_by_counting holds before exit fixed ends.finishes snapshot is_changed facts d cell ends.is_fix over.tells.tells_vault loaded restores
-                  (record { is = reach.is; searched = reach.synced; free = reach.free; bytes = sound.bytes facts.stripe; enough = enough }));
+                  (record { is = reach.is; synced = synced; free = reach.free; bytes = last_bytes snapshot facts.stripe sound.bytes; enough = enough }));
               named = λ facts d cell is_intact is synced tells.
-                  restores.named facts d cell is_intact (record { is = is; synced = synced; bytes = sound.bytes facts.stripe; tells = tells });
+                  restores.named facts d cell is_intact (record { is = is; synced = synced; bytes = last_bytes snapshot facts.stripe sound.bytes; tells = tells });
               unsynced = λ stripe. (
                 λ has. told_is_unsynced fixed.plan (facts_of fixed.stripes) ends.fixed.are stripe (found_so (events_in fixed ends.finishes) (check_events fixed.plan (facts_of fixed.stripes)) (event.Unsynced stripe) told refl has),
                 λ it. told_so (events_in fixed ends.finishes) (check_events fixed.plan (facts_of fixed.stripes)) (event.Unsynced stripe) told

@@ -1,9 +1,7 @@
 -- A fix that is done restores what can be had of the snapshot, and tells what can't.
-use Rattle.std.proofs.Common.{◌≡◌, ◌↔◌, inr, ⊎_elim, ℕ, ◌<◌, ◌≤◌, List, [], ◌++◌, length, count_by, Bool, true, false, IsTrue, Option, None, is_some, refl, sym, ap, ◌∙◌, subst, arith}
-use Rattle.std.specs.Prelude.{sum_by, not}
+use Rattle.std.proofs.Common.{◌≡◌, ◌↔◌, ⊎_elim, ℕ, ◌<◌, ◌≤◌, List, [], ◌++◌, length, count_by, Bool, true, false, if◌then◌else◌, IsTrue, Option, None, is_some, refl, sym, ap, ◌∙◌, subst, arith}
+use Rattle.std.specs.Prelude.{sum_by}
 use Rattle.std.specs.List.{Contains}
-use Rattle.std.proofs.lemmas.Bool.{and_left}
-use Rattle.std.proofs.lemmas.List.Elements.{All-contains}
 use Rattle.cauchy.specs.Matrix.{byte_of}
 use Rattle.cauchy.specs.Recovery.{AreBytes}
 use Rattle.disk_model.specs.Cause.{RoseBy}
@@ -14,7 +12,7 @@ use Rattle.file_table.specs.Table.{TableValue}
 use Rattle.file_table.specs.Valid.{IsValid}
 use Rattle.file_table.specs.declared.block.Cell.{Cell}
 use Rattle.parity_writer.specs.Parity.{Row}
-use Rattle.parity_writer.specs.Sound.{Snapshot, Sound}
+use Rattle.parity_writer.specs.Sound.{Sound, Closed, last_row}
 use Rattle.stripe_reader.specs.Columns.{folder_at}
 use Rattle.stripe_reader.specs.Starts.{StartsValue}
 use Rattle.array_setup.specs.Setup.{SetupValue}
@@ -24,16 +22,15 @@ use Rattle.snap_config.specs.declared.options.Options.{Options}
 use Rattle.array_setup.specs.declared.ways.Selection.{Selection}
 use Rattle.stripe_examiner.specs.Counts.{at_most}
 use Rattle.snap_fix.specs.Ending.{Finishes}
-use Rattle.stripe_examiner.specs.Facts.{StripeFacts, gift_of, is_missing}
+use Rattle.stripe_examiner.specs.Facts.{StripeFacts, gift_of}
 use Rattle.stripe_examiner.specs.Findings.{is_lost}
 use Rattle.snap_fix.specs.FixCourse.{fix_events}
 use Rattle.snap_fix.specs.Fixing.{facts_of}
-use Rattle.snap_fix.specs.Genuine.{AreGenuine, AreGenuineOf, HasGenuineFacts, IsRestorableStripe, TellsIntactLevels}
-use Rattle.stripe_examiner.specs.Known.{AreFacts, IsTried}
+use Rattle.snap_fix.specs.Genuine.{AreGenuine, AreGenuineOf, HasGenuineFacts, TellsIntactLevels}
 use Rattle.stripe_examiner.specs.Looking.{numbers_of, unread_in}
 use Rattle.snap_fix.specs.Mended.{Mended, has_lost, is_repaired, wrong_in, written_in}
 use Rattle.stripe_examiner.specs.Showing.{known_block, known_by}
-use Rattle.repair_scope.specs.Plan.{FixPlan, entry_at, is_audit, is_searched, is_synced, stripes_of}
+use Rattle.repair_scope.specs.Plan.{FixPlan, entry_at, is_audit, is_synced, stripes_of}
 use Rattle.stripe_examiner.specs.Place.{starts_of}
 use Rattle.snap_fix.specs.Restored.{CanBeHad, HasFixed, HoldsCell, IsDamagedCell, IsUnknownCell}
 use Rattle.snap_fix.specs.Underway.{AddsZeros, IsMendedLevel, KeepsLevels}
@@ -79,15 +76,15 @@ CellsAreRestored = (plan : FixPlan) (starts : StartsValue) (stripes : List Mende
 abbrev pub CellsAreLost : Type 0
 CellsAreLost = (plan : FixPlan) (starts : StartsValue) (stripes : List Mended) (finishes : Finishes) (firsts : List FolderView) (facts : StripeFacts) (d : ℕ) (cell : Cell) (snapshot : Row) (is_intact : ℕ → Bool)
     → IsDamagedCell plan (facts_of stripes) facts d cell → HasGenuineFacts plan starts firsts snapshot facts → AreBytes snapshot → TellsIntactLevels plan facts snapshot is_intact → (CanBeHad plan facts is_intact d → ⊥)
-    → (is_lost plan facts.stripe (is_missing plan facts d) (is_some facts.row) d ≡ true)
+    → (is_lost plan facts d ≡ true)
     × Contains (fix_events plan stripes finishes) (events.Lost facts.stripe d cell.rec cell.index)
     × (is_repaired plan facts d ≡ false)
 
 -- a cell without a known block is told to be lost, no other cell is, and a block is known exactly where it can be had
 abbrev pub UnknownAreLost : Type 0
 UnknownAreLost = (plan : FixPlan) (stripes : List Mended) (finishes : Finishes) (facts : StripeFacts) (d : ℕ) (cell : Cell)
-    → IsDamagedCell plan (facts_of stripes) facts d cell → is_audit plan.scope.mode ≡ false → is_some (known_block facts d) ≡ false
-    → (is_lost plan facts.stripe (is_missing plan facts d) (is_some facts.row) d ≡ true)
+    → IsDamagedCell plan (facts_of stripes) facts d cell → is_audit plan.scope.mode ≡ false → is_some (known_block plan facts d) ≡ false
+    → (is_lost plan facts d ≡ true)
     × Contains (fix_events plan stripes finishes) (events.Lost facts.stripe d cell.rec cell.index)
     × (is_repaired plan facts d ≡ false)
 
@@ -99,7 +96,7 @@ LostAreUnknown = (plan : FixPlan) (starts : StartsValue) (stripes : List Mended)
 abbrev pub BlocksAreKnown : Type 0
 BlocksAreKnown = (plan : FixPlan) (starts : StartsValue) (firsts : List FolderView) (snapshot : Row) (facts : StripeFacts) (is_intact : ℕ → Bool) (d : ℕ)
     → HasGenuineFacts plan starts firsts snapshot facts → AreBytes snapshot → TellsIntactLevels plan facts snapshot is_intact
-    → (is_some (known_block facts d) ≡ true) ↔ CanBeHad plan facts is_intact d
+    → (is_some (known_block plan facts d) ≡ true) ↔ CanBeHad plan facts is_intact d
 
 -- ---- counts
 
@@ -109,17 +106,9 @@ none_left n = (λ none. omega (arith, none), λ none. omega (arith, none))
 -- ---- what is known of a block
 
 -- nothing is known of a pending stripe
-none_known : (plan : FixPlan) (facts : StripeFacts) (d : ℕ) → AreFacts plan facts → is_synced plan facts.stripe ≡ false → is_some (known_block facts d) ≡ false
-none_known plan facts d are pending =
-    let unsearched : is_searched plan facts.stripe ≡ false = and_left (is_synced plan facts.stripe) (not (is_audit plan.scope.mode)) pending in
-    let none : IsTried plan facts false = subst (IsTried plan facts) unsearched are.tried in
-    ap (λ (gift : Option (List ℕ)). is_some (known_by gift facts.row d)) (none.0 d) ∙ ap (λ (row : Option Row). is_some (known_by None row d)) none.2
-
--- what can't be had by its stripe, and was not given
-not_had : (plan : FixPlan) (facts : StripeFacts) (is_intact : ℕ → Bool) (d : ℕ) → gift_of facts d ≡ None → ¬ (IsRestorableStripe plan facts is_intact) → CanBeHad plan facts is_intact d → ⊥
-not_had plan facts is_intact d none few = ⊎_elim
-    (λ given. let clash : false ≡ true = sym (ap (λ (gift : Option (List ℕ)). is_some gift) none) ∙ given in cc)
-    (λ enough. few enough)
+none_known : (plan : FixPlan) (facts : StripeFacts) (d : ℕ) → is_synced plan facts.stripe ≡ false → is_some (known_block plan facts d) ≡ false
+none_known plan facts d pending =
+    ap (λ (synced : Bool). let it : Option (List ℕ) = (if synced then known_by synced (gift_of facts d) facts.row d else None) in is_some it) pending
 
 -- a count that rose since the table was loaded rose since the opening
 pub rose_from : (n held given start last : ℕ) → given ≡ held → given ≤ start → RoseBy n start last → RoseBy n held last
@@ -244,41 +233,38 @@ module _ (restored : CellsAreRestored) (lost : CellsAreLost) (unknown_lost : Unk
     ascending : AreAscending (numbers_of all_facts)
     ascending = subst AreAscending (sym ends.numbers) (stripes_ascending run.plan)
 
-    restores : (snapshot : Snapshot) (is_changed : ℕ → ℕ → Bool) → Sound run.loaded old snapshot is_changed → AreGenuine run.plan snapshot (facts_of run.stripes) → Restores run ends.finishes snapshot
+    restores : (snapshot : Closed) (is_changed : ℕ → ℕ → Bool) → Sound run.loaded old snapshot is_changed → AreGenuine run.plan (last_row snapshot) (facts_of run.stripes) → Restores run ends.finishes snapshot
     restores snapshot is_changed sound supposed = record {
-      restored = λ facts d cell is_intact it free enough.
-          restored run.plan starts run.stripes ends.finishes run.listed run.ended facts d cell (snapshot facts.stripe) is_intact
-          fixed it.is (genuine_at facts d cell is_intact it) it.bytes it.tells free (listed_tells d it.is.column) (inr enough);
+      restored = λ facts d cell is_intact it free can.
+          restored run.plan starts run.stripes ends.finishes run.listed run.ended facts d cell (last_row snapshot facts.stripe) is_intact
+          fixed it.is (genuine_at facts d cell is_intact it) it.bytes it.tells free (listed_tells d it.is.column) can;
       named = λ facts d cell is_intact it. (not_told facts d cell is_intact it, few_told facts d cell is_intact it);
     }
       where
         genuine : AreGenuineOf run.plan starts run.listed old snapshot is_changed all_facts
         genuine = genuine_by (copies_of before.opener.vault) before.opener.vault run snapshot is_changed tells.tells_vault is_fix.over sound supposed
 
-        genuine_at : (facts : StripeFacts) (d : ℕ) (cell : Cell) (is_intact : ℕ → Bool) → IsDamagedOfSynced run.plan all_facts snapshot facts d cell is_intact → HasGenuineFacts run.plan starts run.listed (snapshot facts.stripe) facts
+        genuine_at : (facts : StripeFacts) (d : ℕ) (cell : Cell) (is_intact : ℕ → Bool) → IsDamagedOfSynced run.plan all_facts snapshot facts d cell is_intact → HasGenuineFacts run.plan starts run.listed (last_row snapshot facts.stripe) facts
         genuine_at facts d cell is_intact it = genuine_facts run.plan starts run.listed old snapshot is_changed all_facts facts genuine it.is.one it.synced
 
-        not_told : (facts : StripeFacts) (d : ℕ) (cell : Cell) (is_intact : ℕ → Bool) → IsDamagedOfSynced run.plan all_facts snapshot facts d cell is_intact → IsToldLost all facts d cell → ¬ (IsRestorableStripe run.plan facts is_intact)
-        not_told facts d cell is_intact it told_lost enough =
+        not_told : (facts : StripeFacts) (d : ℕ) (cell : Cell) (is_intact : ℕ → Bool) → IsDamagedOfSynced run.plan all_facts snapshot facts d cell is_intact → IsToldLost all facts d cell → ¬ (CanBeHad run.plan facts is_intact d)
+        not_told facts d cell is_intact it told_lost can =
             let other : IsUnknownCell run.plan all_facts facts.stripe d cell
             = lost_unknown run.plan starts run.stripes ends.finishes run.listed run.ended facts.stripe d cell fixed (listed_tells d it.is.column) told_lost in
             let same : other.facts ≡ facts = same_facts all_facts ascending other.facts facts other.is.one it.is.one other.number in
-            let had : is_some (known_block facts d) ≡ true
-            = (known run.plan starts run.listed (snapshot facts.stripe) facts is_intact d (genuine_at facts d cell is_intact it) it.bytes it.tells).1 (inr enough) in
-            let clash : false ≡ true = sym other.unknown ∙ ap (λ (it' : StripeFacts). is_some (known_block it' d)) same ∙ had in cc
+            let had : is_some (known_block run.plan facts d) ≡ true
+            = (known run.plan starts run.listed (last_row snapshot facts.stripe) facts is_intact d (genuine_at facts d cell is_intact it) it.bytes it.tells).1 can in
+            let clash : false ≡ true = sym other.unknown ∙ ap (λ (it' : StripeFacts). is_some (known_block run.plan it' d)) same ∙ had in cc
 
-        few_told : (facts : StripeFacts) (d : ℕ) (cell : Cell) (is_intact : ℕ → Bool) → IsDamagedOfSynced run.plan all_facts snapshot facts d cell is_intact → ¬ (IsRestorableStripe run.plan facts is_intact) → IsToldLost all facts d cell
-        few_told facts d cell is_intact it few =
-            let no_gift : gift_of facts d ≡ None
-            = All-contains (λ (other : StripeFacts). (k : ℕ) → gift_of other k ≡ None) all_facts facts ends.course.no_gifts it.is.one d in
-            (lost run.plan starts run.stripes ends.finishes run.listed facts d cell (snapshot facts.stripe) is_intact
-            it.is (genuine_at facts d cell is_intact it) it.bytes it.tells (not_had run.plan facts is_intact d no_gift few)).1
+        few_told : (facts : StripeFacts) (d : ℕ) (cell : Cell) (is_intact : ℕ → Bool) → IsDamagedOfSynced run.plan all_facts snapshot facts d cell is_intact → ¬ (CanBeHad run.plan facts is_intact d) → IsToldLost all facts d cell
+        few_told facts d cell is_intact it never =
+            (lost run.plan starts run.stripes ends.finishes run.listed facts d cell (last_row snapshot facts.stripe) is_intact
+            it.is (genuine_at facts d cell is_intact it) it.bytes it.tells never).1
 
     pending : NamesPending run.plan all_facts all
     pending facts d cell it unsynced =
-        let are : AreFacts run.plan facts = All-contains (AreFacts run.plan) all_facts facts fixed.are it.one in
         (unknown_lost run.plan run.stripes ends.finishes facts d cell it (ap is_audit ends.course.plan_is.scope.mode_is)
-        (none_known run.plan facts d are unsynced)).1
+        (none_known run.plan facts d unsynced)).1
 
     pub ended_fixed : EndsFixed before exit status
     ended_fixed = record {

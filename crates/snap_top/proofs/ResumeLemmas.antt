@@ -1,5 +1,5 @@
 -- Syncs that are stopped one after another: the full sync of what the last of them left ends as that of what there was before the first.
-use Rattle.std.proofs.Common.{◌≡◌, ◌⊎◌, inl, inr, ⊎_elim, ℕ, ◌*◌, ◌+◌, ◌^◌, ◌<◌, ◌≤◌, List, [], ◌∷◌, ◌++◌, length, Bool, false, if◌then◌else◌, Option, None, Some, is_some, refl, sym, ap, ◌∙◌, subst, arith}
+use Rattle.std.proofs.Common.{◌≡◌, ◌⊎◌, inl, inr, ⊎_elim, ℕ, ◌*◌, ◌+◌, ◌^◌, ◌<◌, ◌≤◌, List, [], ◌∷◌, ◌++◌, length, Bool, false, None, Some, refl, sym, ap, ◌∙◌, subst, arith}
 use Rattle.std.specs.List.{All, slice_index}
 use Rattle.std.proofs.lemmas.Bool.{cases_lt}
 use Rattle.std.proofs.lemmas.List.{length-map}
@@ -12,8 +12,7 @@ use Rattle.disk_model.specs.Tree.{Tree}
 use Rattle.file_table.specs.Table.{TableValue}
 use Rattle.file_table.specs.Valid.{IsValid}
 use Rattle.file_table.specs.declared.shape.Shape.{Shape}
-use Rattle.parity_writer.specs.Parity.{Row, Rows}
-use Rattle.parity_writer.specs.Sound.{Snapshot}
+use Rattle.parity_writer.specs.Parity.{Rows}
 use Rattle.array_setup.specs.Setup.{SetupValue}
 use Rattle.snap_sync.specs.Calls.{SyncPlan}
 use Rattle.snap_sync.specs.Images.{MayStand, Opening, AtWork, rows_after, table_after}
@@ -26,6 +25,8 @@ use Rattle.snap_top.specs.Array.{empty_table}
 use Rattle.snap_top.specs.Sync.{AreStopped, BeginsFrom, HasNoCopy, IsFirstContent, IsOfArray, Stop, SyncsFrom}
 use Rattle.snap_top.proofs.MomentLemmas.{LayoutIsOfTrees}
 use Rattle.snap_top.proofs.SyncedLemmas.{MomentsAreSound, OneTable}
+use Rattle.parity_writer.specs.Sound.{Closed}
+use Rattle.snap_top.proofs.UnchangedLemmas.{unchanged_without}
 
 -- ---- what the crates below say
 
@@ -43,13 +44,13 @@ FullKeepsShape = (setup : SetupValue) (old_table : TableValue) (trees : List Tre
     (let start = layout_by setup old_table trees in (table.shape ≡ start.shape) × (length table.infos ≡ length start.infos))
 
 abbrev pub FoundIsResumed : Type 0
-FoundIsResumed = (run : SyncRun) (files left : Files) (snapshot : Snapshot) (is_changed : ℕ → ℕ → Bool) (now again : ℕ) (found table other_table : TableValue) (one other : Files)
+FoundIsResumed = (run : SyncRun) (files left : Files) (snapshot : Closed) (is_changed : ℕ → ℕ → Bool) (now again : ℕ) (found table other_table : TableValue) (one other : Files)
     → IsToldRun run → StandsOn run.plan run.loaded files → AreSound run.plan.copies files snapshot is_changed → IsFoundAt run.plan run.readings run.loaded files left found → TreesVerifyAll run
     → IsFullSync run.setup run.loaded (run_trees run) now files table one → IsFullSync run.setup found (run_trees run) again left other_table other
     → EndsAs run.plan.start is_changed table other_table one other
 
 abbrev pub LoadedIsResumed : Type 0
-LoadedIsResumed = (run : SyncRun) (files left : Files) (snapshot : Snapshot) (is_changed : ℕ → ℕ → Bool) (now again : ℕ) (table other_table : TableValue) (one other : Files)
+LoadedIsResumed = (run : SyncRun) (files left : Files) (snapshot : Closed) (is_changed : ℕ → ℕ → Bool) (now again : ℕ) (table other_table : TableValue) (one other : Files)
     → IsToldRun run → StandsOn run.plan run.loaded files → AreSound run.plan.copies files snapshot is_changed → MayStand run.plan run.readings files left → TreesVerifyAll run
     → IsFullSync run.setup run.loaded (run_trees run) now files table one → IsFullSync run.setup run.loaded (run_trees run) again left other_table other
     → EndsAs run.plan.start is_changed table other_table one other
@@ -59,14 +60,6 @@ FoundIsVerified = (run : SyncRun) (files left : Files) (found : TableValue) → 
     → (let start = layout_by run.setup found (run_trees run) in All (IsVerifiedBy start (run_trees run)) (pending_stripes start.infos))
 
 -- ---- one end after another
-
--- what was not changed from outside, is not without some stripes
-unchanged_without : (rows : Rows) (is_changed : ℕ → ℕ → Bool) (stripe level : ℕ) → is_changed stripe level ≡ false → changed_without rows is_changed stripe level ≡ false
-unchanged_without rows is_changed stripe level is = by (rows stripe)
-  where
-    by : (row : Option Row) → (if is_some row then false else is_changed stripe level) ≡ false
-    by None = is
-    by (Some row) = refl
 
 module _ (start next : TableValue) (shape : next.shape ≡ start.shape) (long : length next.infos ≡ length start.infos) (is_changed less_changed : ℕ → ℕ → Bool)
     (less : (stripe level : ℕ) → is_changed stripe level ≡ false → less_changed stripe level ≡ false) (table mid_table end_table : TableValue) (one mid other : Files) where
@@ -100,12 +93,6 @@ module _ (start next : TableValue) (shape : start.shape ≡ next.shape) (long : 
 -- ---- which table a sync begins with
 
 module _ (one_table : OneTable) where
-  same_spelling : (bytes : Option (List ℕ)) (a b : TableValue) → IsValid a → IsValid b → bytes ≡ Some (spelling a) → bytes ≡ Some (spelling b) → a ≡ b
-  same_spelling bytes a b valid_a valid_b is_a is_b =
-      let both : Some (spelling a) ≡ Some (spelling b) = sym is_a ∙ is_b in
-      let spelled : spelling a ≡ spelling b = cc in
-      one_table a b valid_a valid_b spelled
-
   is_content : (table : TableValue) → IsValid table → IsContent (spelling table)
   is_content table valid = record { table = table; valid = valid; spelled = refl }
 
@@ -115,7 +102,7 @@ module _ (one_table : OneTable) where
       (λ least. ⊎_elim
       (λ before. absurd (one.first other.copy before (spelling b) other.spells (is_content b other.valid)))
       (λ most. let same : other.copy ≡ one.copy = omega (arith, least, most) in
-      same_spelling (content_of files one.copy) a b one.valid other.valid one.spells (subst (λ (k : ℕ). content_of files k ≡ Some (spelling b)) same other.spells))
+      one_table a b (content_of files one.copy) one.valid other.valid one.spells (subst (λ (k : ℕ). content_of files k ≡ Some (spelling b)) same other.spells))
       (cases_lt other.copy one.copy))
       (cases_lt one.copy other.copy)
 
@@ -171,7 +158,7 @@ module _ (one_table : OneTable) (saves : SavesValid) (seed : List ℕ) (copies :
             (λ least. ⊎_elim
             (λ before. absurd (found.first first.copy before (spelling next.loaded) was (is_content one_table next.loaded first.valid)))
             (λ most. let same : first.copy ≡ found.copy = omega (arith, least, most) in
-            same_spelling one_table (content_of files found.copy) next.loaded run.loaded first.valid found.valid (subst (λ (k : ℕ). content_of files k ≡ Some (spelling next.loaded)) same was) found.spells)
+            one_table next.loaded run.loaded (content_of files found.copy) first.valid found.valid (subst (λ (k : ℕ). content_of files k ≡ Some (spelling next.loaded)) same was) found.spells)
             (cases_lt first.copy found.copy))
             (cases_lt found.copy first.copy)
         by (inr none) = absurd (let clash : None ≡ Some (spelling next.loaded) = sym (none.0 first.copy first.within) ∙ was in cc)
@@ -209,7 +196,7 @@ module _ (one_table : OneTable) (laid : LayoutIsOfTrees) (saves : SavesValid) (m
       subst (λ (start : TableValue). All (IsVerifiedBy start (run_trees run)) (pending_stripes start.infos)) (sym (laid run told)) full.of_table.verified
 
   module _ (run next : SyncRun) (files mid : Files) (syncs : SyncsFrom seed copies files run) (moment : MayStand run.plan run.readings files mid) (later : SyncsFrom seed copies mid next)
-      (visible : AllTell run.folders) (next_visible : AllTell next.folders) (setup_is : next.setup ≡ run.setup) (trees_are : run_trees next ≡ run_trees run) (snapshot : Snapshot) (is_changed : ℕ → ℕ → Bool) (are : AreSound copies files snapshot is_changed)
+      (visible : AllTell run.folders) (next_visible : AllTell next.folders) (setup_is : next.setup ≡ run.setup) (trees_are : run_trees next ≡ run_trees run) (snapshot : Closed) (is_changed : ℕ → ℕ → Bool) (are : AreSound copies files snapshot is_changed)
       (now : ℕ) (table : TableValue) (one : Files) (full : IsFullSync run.setup run.loaded (run_trees run) now files table one) where
     abbrev told : IsToldRun run
     told = record { told = visible; of_lists = syncs.over.listed }
@@ -249,7 +236,7 @@ module _ (one_table : OneTable) (laid : LayoutIsOfTrees) (saves : SavesValid) (m
 
     -- and so does all that ends as its own
     pub step : (end_table : TableValue) (end : Files)
-        → ((now_sound : Snapshot) (now_changed : ℕ → ℕ → Bool) (mid_table : TableValue) (mid_full : Files) → AreSound copies mid now_sound now_changed
+        → ((now_sound : Closed) (now_changed : ℕ → ℕ → Bool) (mid_table : TableValue) (mid_full : Files) → AreSound copies mid now_sound now_changed
         → IsFullSync run.setup next.loaded (run_trees run) 0 mid mid_table mid_full → EndsAs (layout_by run.setup next.loaded (run_trees run)) now_changed mid_table end_table mid_full end)
         → EndsAs run.plan.start is_changed table end_table one end
     step end_table end rest =
@@ -258,8 +245,8 @@ module _ (one_table : OneTable) (laid : LayoutIsOfTrees) (saves : SavesValid) (m
         let after : AreSoundAfter run.plan run.readings mid snapshot is_changed
         = moments run.plan run.loaded run.readings run.ahead run.listed run.ended files mid snapshot is_changed long over.listed.reads over.stands are_here moment in
         let rows : Rows = rows_after run.plan run.readings after.count in
-        let still_sound : Snapshot = snapshot_with rows snapshot in
-        let still_changed : ℕ → ℕ → Bool = changed_without rows is_changed in
+        let still_sound : Closed = snapshot_with rows snapshot in
+        let still_changed : ℕ → ℕ → Bool = changed_without run.plan.start.shape.levels rows is_changed in
         let there = there_is run.setup next.loaded (run_trees run) 0 mid some_bytes next_verified in
         let first = next_ends 0 there.0 there.1 there.2 in
         let here = shape run.setup run.loaded (run_trees run) now table files one full in
@@ -270,7 +257,7 @@ module _ (one_table : OneTable) (laid : LayoutIsOfTrees) (saves : SavesValid) (m
         let longs : length next_layout.infos ≡ length start.infos
         = sym beyond.1 ∙ sym (length-map there.0.infos without_check) ∙ ap (λ (t : TableValue). length t.infos) first.table_is ∙ length-map table.infos without_check ∙ here.1 in
         subst (λ (t : TableValue). EndsAs t is_changed table end_table one end) (sym (laid run told))
-        (ends_then start next_layout shapes longs is_changed still_changed (λ stripe level. unchanged_without rows is_changed stripe level) table there.0 end_table one there.1 end
+        (ends_then start next_layout shapes longs is_changed still_changed (λ stripe level. unchanged_without run.plan.start.shape.levels rows is_changed stripe level) table there.0 end_table one there.1 end
         (subst (λ (t : TableValue). EndsAs t is_changed table there.0 one there.1) (laid run told) first)
         (rest still_sound still_changed there.0 there.1 (subst (λ (n : ℕ). AreSound n mid still_sound still_changed) over.copies_are after.sound) there.2))
 
@@ -290,7 +277,7 @@ module _ (one_table : OneTable) (laid : LayoutIsOfTrees) (saves : SavesValid) (m
         subst (λ (s : SetupValue). IsFullSync s table (run_trees run) now old full_table new) (sym of_array.setup_is)
         (subst (λ (ts : List Tree). IsFullSync setup table ts now old full_table new) (sym of_array.trees_are) full)
 
-    resumed_by : (stops : List Stop) (files left : Files) (whole last : SyncRun) (snapshot : Snapshot) (is_changed : ℕ → ℕ → Bool) (now again : ℕ) (table other_table : TableValue) (one other : Files)
+    resumed_by : (stops : List Stop) (files left : Files) (whole last : SyncRun) (snapshot : Closed) (is_changed : ℕ → ℕ → Bool) (now again : ℕ) (table other_table : TableValue) (one other : Files)
         → SyncsFrom seed copies files whole → IsOfArray setup trees whole → AreSound copies files snapshot is_changed → AreStopped setup trees seed copies stops files left
         → SyncsFrom seed copies left last → IsOfArray setup trees last → IsFullSync setup whole.loaded trees now files table one → IsFullSync setup last.loaded trees again left other_table other
         → EndsAs whole.plan.start is_changed table other_table one other
@@ -334,7 +321,7 @@ module _ (one_table : OneTable) (laid : LayoutIsOfTrees) (saves : SavesValid) (m
         (resumed_by stops stop.left left next.0 last now_sound now_changed 0 again mid_table other_table mid_full other next.1 next.2 sound stopped.1 later last_of_array mid_of rest)))
 
 pub resumed_after : OneTable → LayoutIsOfTrees → SavesValid → MomentsAreSound → ThereIsAFullSync → FullKeepsShape → FoundIsResumed → LoadedIsResumed → FoundIsVerified
-    → (setup : SetupValue) (trees : List Tree) (seed : List ℕ) (copies : ℕ) (stops : List Stop) (files left : Files) (whole last : SyncRun) (snapshot : Snapshot) (is_changed : ℕ → ℕ → Bool) (now again : ℕ)
+    → (setup : SetupValue) (trees : List Tree) (seed : List ℕ) (copies : ℕ) (stops : List Stop) (files left : Files) (whole last : SyncRun) (snapshot : Closed) (is_changed : ℕ → ℕ → Bool) (now again : ℕ)
     (table other_table : TableValue) (one other : Files) → SyncsFrom seed copies files whole → IsOfArray setup trees whole → AreSound copies files snapshot is_changed
     → AreStopped setup trees seed copies stops files left → SyncsFrom seed copies left last → IsOfArray setup trees last → IsFullSync setup whole.loaded trees now files table one
     → IsFullSync setup last.loaded trees again left other_table other → EndsAs whole.plan.start is_changed table other_table one other

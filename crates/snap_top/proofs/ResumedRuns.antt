@@ -9,7 +9,6 @@ use Rattle.disk_model.specs.Sink.{SinkView}
 use Rattle.disk_model.specs.Tree.{Tree}
 use Rattle.disk_model.specs.Vault.{VaultView, copies_of}
 use Rattle.file_table.specs.Table.{TableValue}
-use Rattle.parity_writer.specs.Sound.{Snapshot}
 use Rattle.snap_config.specs.Config.{read_setup}
 use Rattle.array_setup.specs.Setup.{SetupValue}
 use Rattle.snap_config.specs.declared.options.Command.TheVariants as commands
@@ -29,9 +28,10 @@ use Rattle.snap_top.specs.Task.{Did, fixes, reads_only, scrubs, syncs, may_stand
 use Rattle.snap_top.proofs.CompleteLemmas.{same_ok}
 use Rattle.snap_top.proofs.ResumeLemmas.{FullKeepsShape, by_shape}
 use Rattle.snap_top.proofs.SyncEndLemmas.{stands_then}
+use Rattle.parity_writer.specs.Sound.{Closed}
 
 abbrev pub SyncsAreResumed : Type 0
-SyncsAreResumed = (setup : SetupValue) (trees : List Tree) (seed : List ℕ) (copies : ℕ) (stops : List Stop) (files left : Files) (whole last : SyncRun) (snapshot : Snapshot) (is_changed : ℕ → ℕ → Bool) (now again : ℕ)
+SyncsAreResumed = (setup : SetupValue) (trees : List Tree) (seed : List ℕ) (copies : ℕ) (stops : List Stop) (files left : Files) (whole last : SyncRun) (snapshot : Closed) (is_changed : ℕ → ℕ → Bool) (now again : ℕ)
     (table other_table : TableValue) (one other : Files) → SyncsFrom seed copies files whole → IsOfArray setup trees whole → AreSound copies files snapshot is_changed
     → AreStopped setup trees seed copies stops files left → SyncsFrom seed copies left last → IsOfArray setup trees last → IsFullSync setup whole.loaded trees now files table one
     → IsFullSync setup last.loaded trees again left other_table other → EndsAs whole.plan.start is_changed table other_table one other
@@ -166,7 +166,7 @@ module _ {O F V W : Type 0} (opener_view : O → OpenerView) (folder_view : F �
       subst (λ (n : ℕ). HasSaved n (spelling (end_table part.run)) left) (same_copies setup trees seed files before exit clean.asks part.run part.is_sync)
       (stands_then (HasSaved (copies_of before.opener.vault) (spelling (end_table part.run))) exit left part.tells part.saved clean.stands)
 
-  ends_alike : SyncsAreResumed → FullKeepsShape → (stops : List (StoppedRun O F V W)) (files left one other : Files) (whole last : RunOf O F V W) (snapshot : Snapshot) (is_changed : ℕ → ℕ → Bool)
+  ends_alike : SyncsAreResumed → FullKeepsShape → (stops : List (StoppedRun O F V W)) (files left one other : Files) (whole last : RunOf O F V W) (snapshot : Closed) (is_changed : ℕ → ℕ → Bool)
       → EndsClean opener_view folder_view vault_view sink_view setup trees seed files whole one → AreSound copies_here files snapshot is_changed
       → AreStoppedRuns opener_view folder_view vault_view sink_view setup trees seed stops files left → EndsClean opener_view folder_view vault_view sink_view setup trees seed left last other
       → EndAlike copies_here is_changed one other
@@ -190,7 +190,7 @@ module _ {O F V W : Type 0} (opener_view : O → OpenerView) (folder_view : F �
       }
 
 pub runs_resumed : SyncsAreResumed → FullKeepsShape → {O F V W : Type 0} (opener_view : O → OpenerView) (folder_view : F → FolderView) (vault_view : V → VaultView) (sink_view : W → SinkView) (setup : SetupValue) (trees : List Tree) (seed : List ℕ)
-    (stops : List (StoppedRun O F V W)) (files left one other : Files) (whole last : RunOf O F V W) (snapshot : Snapshot) (is_changed : ℕ → ℕ → Bool)
+    (stops : List (StoppedRun O F V W)) (files left one other : Files) (whole last : RunOf O F V W) (snapshot : Closed) (is_changed : ℕ → ℕ → Bool)
     → EndsClean opener_view folder_view vault_view sink_view setup trees seed files whole one → AreSound (length setup.contents) files snapshot is_changed
     → AreStoppedRuns opener_view folder_view vault_view sink_view setup trees seed stops files left → EndsClean opener_view folder_view vault_view sink_view setup trees seed left last other
     → EndAlike (length setup.contents) is_changed one other

@@ -36,10 +36,10 @@ none_of_four true true true false why = ⊎_elim (λ found. ⊎_elim never never
 
 not_repaired : (plan : FixPlan) (facts : StripeFacts) (d : ℕ) (cell : Cell) → cell_at plan facts.stripe d ≡ Some cell → IsNotMended plan facts d cell → is_repaired plan facts d ≡ false
 not_repaired plan facts d cell cell_is why =
-    none_of_four (selects_cell plan facts.stripe d) (damaged_at plan facts d) (is_some (known_block facts d)) (is_blocked_cell plan d (cell_at plan facts.stripe d)) (by why)
+    none_of_four (selects_cell plan facts.stripe d) (damaged_at plan facts d) (is_some (known_block plan facts d)) (is_blocked_cell plan d (cell_at plan facts.stripe d)) (by why)
   where
     by : IsNotMended plan facts d cell
-        → ((damaged_at plan facts d ≡ false) ⊎ (selects_cell plan facts.stripe d ≡ false)) ⊎ ((is_some (known_block facts d) ≡ false) ⊎ (is_blocked_cell plan d (cell_at plan facts.stripe d) ≡ true))
+        → ((damaged_at plan facts d ≡ false) ⊎ (selects_cell plan facts.stripe d ≡ false)) ⊎ ((is_some (known_block plan facts d) ≡ false) ⊎ (is_blocked_cell plan d (cell_at plan facts.stripe d) ≡ true))
     by (inl found) = inl found
     by (inr (inl unknown)) = inr (inl unknown)
     by (inr (inr blocked)) = inr (inr (ap (is_blocked_cell plan d) cell_is ∙ blocked))

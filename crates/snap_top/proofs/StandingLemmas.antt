@@ -8,7 +8,6 @@ use Rattle.disk_model.specs.Sink.{SinkView}
 use Rattle.disk_model.specs.Vault.{VaultView, copies_of}
 use Rattle.file_table.specs.Table.{TableValue}
 use Rattle.file_table.specs.Valid.{IsValid}
-use Rattle.parity_writer.specs.Sound.{Snapshot}
 use Rattle.snap_sync.specs.Calls.{SyncPlan}
 use Rattle.snap_sync.specs.Images.{StandsBy, rows_after}
 use Rattle.stripe_findings.specs.Reading.{StripeReading}
@@ -25,13 +24,14 @@ use Rattle.snap_top.proofs.HistoryLemmas.{change_sound, stays_of_bytes}
 use Rattle.snap_top.proofs.OfScrubLemmas.{ScrubKeepsValid}
 use Rattle.snap_top.proofs.OneSizeLemmas.{SavesValidTables, changed_size, one_of_size, scrubbed_size, size_begun, synced_size}
 use Rattle.snap_top.proofs.SyncedLemmas.{OneTable}
+use Rattle.parity_writer.specs.Sound.{Closed}
 
 -- what snap_sync says of its moments
 abbrev pub MomentsAreSoundByRows : Type 0
-MomentsAreSoundByRows = (plan : SyncPlan) (loaded : TableValue) (readings ahead : List StripeReading) (olds news : List FolderView) (old new : Files) (snapshot : Snapshot) (is_changed : ℕ → ℕ → Bool) (count : ℕ)
+MomentsAreSoundByRows = (plan : SyncPlan) (loaded : TableValue) (readings ahead : List StripeReading) (olds news : List FolderView) (old new : Files) (snapshot : Closed) (is_changed : ℕ → ℕ → Bool) (count : ℕ)
     → length olds ≡ length plan.start.columns → ReadsFirst plan.start (readings ++ ahead) olds news → StandsOn plan loaded old → AreSound plan.copies old snapshot is_changed
     → StandsBy plan readings count old new
-    → (count ≤ length readings) × AreSound plan.copies new (snapshot_with (rows_after plan readings count) snapshot) (changed_without (rows_after plan readings count) is_changed)
+    → (count ≤ length readings) × AreSound plan.copies new (snapshot_with (rows_after plan readings count) snapshot) (changed_without plan.start.shape.levels (rows_after plan readings count) is_changed)
 
 module _ (by_rows : MomentsAreSoundByRows) (one_table : OneTable) (saves_valid : SavesValidTables) (marks_valid : ScrubKeepsValid) where
   -- ---- a run
@@ -49,7 +49,7 @@ module _ (by_rows : MomentsAreSoundByRows) (one_table : OneTable) (saves_valid :
     sound_by reads_only is at genuine count closed one are = (at are tt).sound
     sound_by (syncs failed run) is at genuine count closed one are =
         let over = is.over in
-        subst (λ (n : ℕ). AreSound n new (snapshot_with (rows_after run.plan run.readings count) last.snapshot) (changed_without (rows_after run.plan run.readings count) last.is_changed)) over.copies_are
+        subst (λ (n : ℕ). AreSound n new (snapshot_with (rows_after run.plan run.readings count) last.snapshot) (changed_without run.plan.start.shape.levels (rows_after run.plan run.readings count) last.is_changed)) over.copies_are
         (by_rows run.plan run.loaded run.readings run.ahead run.listed run.ended old new last.snapshot last.is_changed count (over.listed.as_many ∙ over.listed.folders ∙ sym over.stands.keeps.columns) over.listed.reads over.stands
         (subst (λ (n : ℕ). AreSound n old last.snapshot last.is_changed) (sym over.copies_are) are) closed).1
     sound_by (fixes failed run) is at genuine count closed one are =
@@ -100,7 +100,7 @@ module _ (by_rows : MomentsAreSoundByRows) (one_table : OneTable) (saves_valid :
 
     change_is_sound : (standing next : Standing) → IsChanged standing next → IsSoundStanding standing → IsSoundStanding next
     change_is_sound standing next changed sound = record {
-      sound = subst (λ (s : Snapshot). AreSound next.copies next.files s next.last.is_changed) (sym changed.snapshot)
+      sound = subst (λ (s : Closed). AreSound next.copies next.files s next.last.is_changed) (sym changed.snapshot)
           (change_sound standing.copies next.copies standing.last.is_changed next.last.is_changed standing.files next.files standing.last.snapshot changed.change sound.sound);
       bytes = λ stripe. subst IsOfBytes (sym changed.snapshot) sound.bytes stripe;
       one_size = changed_size standing.copies next.copies standing.last.is_changed next.last.is_changed standing.files next.files changed.change sound.one_size;
@@ -120,7 +120,7 @@ module _ (by_rows : MomentsAreSoundByRows) (one_table : OneTable) (saves_valid :
 pub origin_sound : (standing : Standing) → IsOrigin standing → IsSoundStanding standing
 origin_sound standing origin = record {
   sound = λ copy table within valid is. absurd (none copy table within valid is);
-  bytes = subst (λ (l : LastSynced). IsOfBytes l.snapshot) (sym origin.nothing) (λ stripe c p. omega arith);
+  bytes = subst (λ (l : LastSynced). IsOfBytes l.snapshot) (sym origin.nothing) (λ stripe k other within. absurd (omega (arith, within)));
   one_size = λ one other table other_table within other_within valid other_valid is other_is. absurd (none one table within valid is);
 }
   where

@@ -178,7 +178,7 @@ module _ (keeps : KeepsItsStripes) (before : Entry) (exit : Exit) (tells : IsTru
     clean = λ zero. ((status_well finds).clean.0 zero).1;
     sound = λ files snapshot is_changed stand are.
         let rows : Rows = rows_after run.plan run.readings (length run.readings) in
-        subst (λ (n : ℕ). AreSound n files (snapshot_with rows snapshot) (changed_without rows is_changed)) is_sync.over.copies_are
+        subst (λ (n : ℕ). AreSound n files (snapshot_with rows snapshot) (changed_without run.plan.start.shape.levels rows is_changed)) is_sync.over.copies_are
         (all_count one_table moments run (copies_of before.opener.vault) old files is_sync.over all_of (left_synced files stand) snapshot is_changed
         (subst (λ (n : ℕ). AreSound n old snapshot is_changed) (sym is_sync.over.copies_are) are));
   }

@@ -164,17 +164,11 @@ module _ (left : WhatIsLeft) (laid_again : IsLaidAsItIs) (laid : LayoutIsOfTrees
       (none_behind k k_in same (m + i) d (omega (arith, more)) (omega (arith, within, long)))))
 
   -- a copy that spells both spells one table
-  one_spelled : (a b : TableValue) (found : Option (List ℕ)) → IsValid a → IsValid b → found ≡ Some (spelling a) → found ≡ Some (spelling b) → a ≡ b
-  one_spelled a b found a_valid b_valid is_a is_b =
-      let both : Some (spelling a) ≡ Some (spelling b) = sym is_a ∙ is_b in
-      let same : spelling a ≡ spelling b = cc in
-      one_table a b a_valid b_valid same
-
   pub all_closed : 0 < copies → HasSaved copies (spelling (end_table run)) new → (count : ℕ) → StandsBy run.plan run.readings count old new
       → rows_after run.plan run.readings count ≡ rows_after run.plan run.readings n
   all_closed some saved count (inr (c, work)) = ⊎_elim
-      (λ first. same_rows c (omega (arith, work.order, work.within)) (one_spelled (run_table run c) (run_table run n) (content_of new 0) (valid_after c (omega (arith, work.order, work.within))) (valid_after n (omega arith)) first (spelled 0 some)) count work.order work.within)
-      (λ second. same_rows count work.within (one_spelled (run_table run count) (run_table run n) (content_of new 0) (valid_after count work.within) (valid_after n (omega arith)) second (spelled 0 some)) count (omega arith) work.within)
+      (λ first. same_rows c (omega (arith, work.order, work.within)) (one_table (run_table run c) (run_table run n) (content_of new 0) (valid_after c (omega (arith, work.order, work.within))) (valid_after n (omega arith)) first (spelled 0 some)) count work.order work.within)
+      (λ second. same_rows count work.within (one_table (run_table run count) (run_table run n) (content_of new 0) (valid_after count work.within) (valid_after n (omega arith)) second (spelled 0 some)) count (omega arith) work.within)
       (work.copies 0 (omega (arith, some, over.copies_are)))
     where
       spelled : (copy : ℕ) → copy < copies → content_of new copy ≡ Some (spelling (run_table run n))
@@ -186,7 +180,7 @@ module _ (left : WhatIsLeft) (laid_again : IsLaidAsItIs) (laid : LayoutIsOfTrees
       spelled copy below = saved copy below ∙ ap (λ (t : TableValue). Some (spelling t)) (sym end_is)
 
       by_start : (copy : ℕ) → copy < copies → content_of new copy ≡ Some (spelling start) → start ≡ run_table run n
-      by_start copy below is = one_spelled start (run_table run n) (content_of new copy) over.stands.laid (valid_after n (omega arith)) is (spelled copy below)
+      by_start copy below is = one_table start (run_table run n) (content_of new copy) over.stands.laid (valid_after n (omega arith)) is (spelled copy below)
 
       by_loaded : run.loaded ≡ run_table run n → start ≡ run_table run n
       by_loaded same = laid run told ∙ ap (λ (t : TableValue). layout_by run.setup t (run_trees run)) same ∙ laid_again run n told (valid_after n (omega arith))
@@ -196,7 +190,7 @@ module _ (left : WhatIsLeft) (laid_again : IsLaidAsItIs) (laid : LayoutIsOfTrees
 
       starts : BeginsAmong run.setup seed copies old run.loaded → run_table run 0 ≡ run_table run n
       starts (inl (copy, below, spells)) = ⊎_elim
-          (λ same. by_loaded (one_spelled run.loaded (run_table run n) (content_of new copy) over.stands.valid (valid_after n (omega arith)) (same ∙ spells) (spelled copy below)))
+          (λ same. by_loaded (one_table run.loaded (run_table run n) (content_of new copy) over.stands.valid (valid_after n (omega arith)) (same ∙ spells) (spelled copy below)))
           (λ is. by_start copy below is)
           (saves.contents copy)
       starts (inr (no_copy, empty)) = ⊎_elim

@@ -12,36 +12,39 @@ use Rattle.std.proofs.lemmas.Nat.{row_fits}
 use Rattle.array_scan.specs.Keeping.{KeepsStripes, SameBlock}
 use Rattle.array_scan.specs.Layout.{is_pending, pending_stripes}
 use Rattle.content_file.specs.Save.{MaySave}
-use Rattle.content_file.specs.Spelling.{spelling}
+use Rattle.content_file.specs.Spelling.{spelling, HoldsTable}
 use Rattle.disk_model.specs.Bytes.{resized}
 use Rattle.disk_model.specs.Files.{Files, content_of, parity_of}
 use Rattle.disk_model.specs.Folder.{FolderView}
-use Rattle.file_table.specs.Cells.{CellView, stripe_view}
+use Rattle.file_table.specs.Cells.{CellView}
 use Rattle.file_table.specs.Table.{TableValue, info_at}
 use Rattle.file_table.specs.Valid.{IsValid}
 use Rattle.file_table.specs.declared.info.Mark.{Mark}
 use Rattle.file_table.specs.declared.info.Mark.TheVariants.{Synced}
 use Rattle.parity_writer.specs.Keeps.{HasByte, IsOutside}
 use Rattle.parity_writer.specs.Parity.{HasLevel, Row, Rows, no_rows, with_row}
-use Rattle.parity_writer.specs.Sound.{IsRowOf, IsSynced, Snapshot, Sound}
+use Rattle.parity_writer.proofs.CellsLemmas.{one_more}
+use Rattle.parity_writer.specs.Sound.{IsSynced, Sound, Closed, last_row, newest, HasCells}
 use Rattle.snap_sync.specs.Calls.{SyncPlan, level_bytes, no_reading}
 use Rattle.snap_sync.specs.Closing.{closed, rows_of, rows_with}
 use Rattle.snap_sync.specs.Images.{AtWork, IsInSynced, IsOutsideRows, KeepsSynced, MayStand, Opening, rows_after}
 use Rattle.snap_sync.specs.Part.{SyncRun}
 use Rattle.stripe_findings.specs.Reading.{StripeReading, is_verified, row_of, stripes_of}
 use Rattle.snap_sync.specs.Reading.{ReadsFirst}
-use Rattle.snap_sync.specs.Soundness.{AreSound, AreSoundAfter, StandsOn, changed_without, row_or, snapshot_with}
+use Rattle.snap_sync.specs.Soundness.{AreSound, AreSoundAfter, StandsOn, changed_without, in_front, snapshot_with}
 use Rattle.snap_top.specs.Sync.{SyncsOver}
 use Rattle.snap_top.specs.Task.{LeavesSynced}
+use Rattle.parity_writer.specs.Closing.{changed_behind}
+use Rattle.snap_top.proofs.UnchangedLemmas.{behind_unchanged}
 
 -- what snap_sync says of its moments, and content_file of spellings
 abbrev pub MomentsAreSound : Type 0
-MomentsAreSound = (plan : SyncPlan) (loaded : TableValue) (readings ahead : List StripeReading) (olds news : List FolderView) (old new : Files) (snapshot : Snapshot) (is_changed : ℕ → ℕ → Bool)
+MomentsAreSound = (plan : SyncPlan) (loaded : TableValue) (readings ahead : List StripeReading) (olds news : List FolderView) (old new : Files) (snapshot : Closed) (is_changed : ℕ → ℕ → Bool)
     → length olds ≡ length plan.start.columns → ReadsFirst plan.start (readings ++ ahead) olds news → StandsOn plan loaded old → AreSound plan.copies old snapshot is_changed
     → MayStand plan readings old new → AreSoundAfter plan readings new snapshot is_changed
 
 abbrev pub OneTable : Type 0
-OneTable = (a b : TableValue) → IsValid a → IsValid b → spelling a ≡ spelling b → a ≡ b
+OneTable = (a b : TableValue) (held : Option (List ℕ)) → IsValid a → IsValid b → HoldsTable a held → HoldsTable b held → a ≡ b
 
 -- ---- the rows of readings of distinct stripes
 
@@ -169,7 +172,7 @@ keeps_itself table = record { shape = refl; columns = refl; synced = λ stripe s
 -- ---- the end of a sync
 
 module _ (one_table : OneTable) (moments : MomentsAreSound) (run : SyncRun) (copies : ℕ) (old new : Files) (over : SyncsOver copies old run) (all : stripes_of run.readings ≡ pending_stripes run.plan.start.infos)
-    (leaves : LeavesSynced run old new) (snapshot : Snapshot) (is_changed : ℕ → ℕ → Bool) (are : AreSound run.plan.copies old snapshot is_changed) where
+    (leaves : LeavesSynced run old new) (snapshot : Closed) (is_changed : ℕ → ℕ → Bool) (are : AreSound run.plan.copies old snapshot is_changed) where
   abbrev plan : SyncPlan
   plan = run.plan
 
@@ -195,11 +198,11 @@ module _ (one_table : OneTable) (moments : MomentsAreSound) (run : SyncRun) (cop
   no_row : (stripe : ℕ) → IsSynced start stripe → rows stripe ≡ None
   no_row stripe synced = rows_are stripe ∙ row_apart start run.readings no_rows stripe (apart_synced start run.readings all stripe synced)
 
-  snapshot_is : (stripe : ℕ) → IsSynced start stripe → snapshot_with rows snapshot stripe ≡ snapshot stripe
-  snapshot_is stripe synced = ap (λ (row : Option Row). row_or row (snapshot stripe)) (no_row stripe synced)
+  snapshot_is : (stripe : ℕ) → IsSynced start stripe → last_row (snapshot_with rows snapshot) stripe ≡ last_row snapshot stripe
+  snapshot_is stripe synced = ap (λ (row : Option Row). newest (in_front row (snapshot stripe))) (no_row stripe synced)
 
-  changed_is : (stripe level : ℕ) → IsSynced start stripe → changed_without rows is_changed stripe level ≡ is_changed stripe level
-  changed_is stripe level synced = ap (λ (row : Option Row). if is_some row then false else is_changed stripe level) (no_row stripe synced)
+  changed_is : (stripe level : ℕ) → IsSynced start stripe → changed_without start.shape.levels rows is_changed stripe level ≡ is_changed stripe level
+  changed_is stripe level synced = ap (λ (row : Option Row). if is_some row then changed_behind start.shape.levels is_changed stripe level else is_changed stripe level) (no_row stripe synced)
 
   -- copies of the laid out table, over the parity of the beginning
   abbrev laid_with : List (List ℕ) → Files
@@ -225,7 +228,7 @@ module _ (one_table : OneTable) (moments : MomentsAreSound) (run : SyncRun) (cop
       let after = moments plan run.loaded [] (run.readings ++ run.ahead) run.listed run.ended old (laid_with old.parities) snapshot is_changed long over.listed.reads over.stands are (Opening may_save) in
       none_read after.count after.within (after.sound copy start below over.stands.laid (laid_spells old.parities copy (omega (arith, below))))
     where
-      none_read : (n : ℕ) → n ≤ 0 → Sound start (laid_with old.parities) (snapshot_with (rows_after plan [] n) snapshot) (changed_without (rows_after plan [] n) is_changed)
+      none_read : (n : ℕ) → n ≤ 0 → Sound start (laid_with old.parities) (snapshot_with (rows_after plan [] n) snapshot) (changed_without start.shape.levels (rows_after plan [] n) is_changed)
           → Sound start (laid_with old.parities) snapshot is_changed
       none_read zero none sound = sound
       none_read (suc n) none sound = absurd (omega (arith, none))
@@ -237,18 +240,18 @@ module _ (one_table : OneTable) (moments : MomentsAreSound) (run : SyncRun) (cop
   level_is : (level : ℕ) → level < start.shape.levels → parity_of laid level ≡ parity_of old level
   level_is level below = get_or-take start.shape.levels old.parities level [] below
 
-  laid_with_rows : AreSound plan.copies laid (snapshot_with rows snapshot) (changed_without rows is_changed)
+  laid_with_rows : AreSound plan.copies laid (snapshot_with rows snapshot) (changed_without start.shape.levels rows is_changed)
   laid_with_rows copy table below valid spells =
-      let bytes : Some (spelling table) ≡ Some (spelling start) = sym spells ∙ laid_spells (take start.shape.levels old.parities) copy (omega (arith, below)) in
-      let spelled : spelling table ≡ spelling start = cc in
-      subst (λ (t : TableValue). Sound t laid (snapshot_with rows snapshot) (changed_without rows is_changed)) (sym (one_table table start valid over.stands.laid spelled)) with_rows
+      let laid_out = laid_spells (take start.shape.levels old.parities) copy (omega (arith, below)) in
+      subst (λ (t : TableValue). Sound t laid (snapshot_with rows snapshot) (changed_without start.shape.levels rows is_changed)) (sym (one_table table start (content_of laid copy) valid over.stands.laid spells laid_out)) with_rows
     where
-      with_rows : Sound start laid (snapshot_with rows snapshot) (changed_without rows is_changed)
+      with_rows : Sound start laid (snapshot_with rows snapshot) (changed_without start.shape.levels rows is_changed)
       with_rows = let sound = laid_sound copy below in record {
-        rows = λ stripe synced. subst (IsRowOf start.shape (stripe_view start stripe)) (sym (snapshot_is stripe synced)) (sound.rows stripe synced);
+        was_closed = λ stripe synced. subst (λ (row : Option Row). 0 < length (in_front row (snapshot stripe))) (sym (no_row stripe synced)) (sound.was_closed stripe synced);
+        rows = λ stripe cells synced is. subst (λ (row : Row). HasCells start.shape cells row) (sym (snapshot_is stripe synced)) (sound.rows stripe cells synced is);
         sums = λ stripe level synced within unchanged.
             subst (λ (row : Row). HasLevel start.shape.block_size level stripe row (parity_of laid level)) (sym (snapshot_is stripe synced))
-            (subst (HasLevel start.shape.block_size level stripe (snapshot stripe)) (sym (level_is level within))
+            (subst (HasLevel start.shape.block_size level stripe (last_row snapshot stripe)) (sym (level_is level within))
             (sound.sums stripe level synced within (sym (changed_is stripe level synced) ∙ unchanged)));
       }
 
@@ -300,31 +303,42 @@ module _ (one_table : OneTable) (moments : MomentsAreSound) (run : SyncRun) (cop
   })
 
   -- so whichever number of the stripes it is known for, the rows of all count
-  same_row : (some stripe : ℕ) → snapshot_with (rows_after plan run.readings some) (snapshot_with rows snapshot) stripe ≡ snapshot_with rows snapshot stripe
+  same_row : (some stripe : ℕ) → last_row (snapshot_with (rows_after plan run.readings some) (snapshot_with rows snapshot)) stripe ≡ last_row (snapshot_with rows snapshot) stripe
   same_row some stripe = by (rows_after plan run.readings some stripe) refl
     where
-      by : (found : Option Row) → rows_after plan run.readings some stripe ≡ found → row_or found (snapshot_with rows snapshot stripe) ≡ snapshot_with rows snapshot stripe
+      by : (found : Option Row) → rows_after plan run.readings some stripe ≡ found → newest (in_front found (snapshot_with rows snapshot stripe)) ≡ last_row (snapshot_with rows snapshot) stripe
       by None is = refl
-      by (Some row) is = sym (ap (λ (found : Option Row). row_or found (snapshot stripe)) (rows_are stripe ∙ row_stays start run.readings (distinct start run.readings all) some stripe row is))
+      by (Some row) is = sym (ap (λ (found : Option Row). newest (in_front found (snapshot stripe))) (rows_are stripe ∙ row_stays start run.readings (distinct start run.readings all) some stripe row is))
 
-  unchanged_so : (some stripe level : ℕ) → changed_without rows is_changed stripe level ≡ false → changed_without (rows_after plan run.readings some) (changed_without rows is_changed) stripe level ≡ false
+  -- a stripe that has a row with the rows of some once more, has one without
+  closed_before : (some stripe : ℕ) → 0 < length (snapshot_with (rows_after plan run.readings some) (snapshot_with rows snapshot) stripe) → 0 < length (snapshot_with rows snapshot stripe)
+  closed_before some stripe has = by (rows_after plan run.readings some stripe) refl has
+    where
+      by : (found : Option Row) → rows_after plan run.readings some stripe ≡ found → 0 < length (in_front found (snapshot_with rows snapshot stripe)) → 0 < length (snapshot_with rows snapshot stripe)
+      by None is there = there
+      by (Some row) is there =
+          subst (λ (found : Option Row). 0 < length (in_front found (snapshot stripe)))
+          (sym (rows_are stripe ∙ row_stays start run.readings (distinct start run.readings all) some stripe row is)) (one_more row (snapshot stripe))
+
+  unchanged_so : (some stripe level : ℕ) → changed_without start.shape.levels rows is_changed stripe level ≡ false → changed_without start.shape.levels (rows_after plan run.readings some) (changed_without start.shape.levels rows is_changed) stripe level ≡ false
   unchanged_so some stripe level is = by (rows_after plan run.readings some stripe)
     where
-      by : (found : Option Row) → (if is_some found then false else changed_without rows is_changed stripe level) ≡ false
+      by : (found : Option Row) → (if is_some found then changed_behind start.shape.levels (changed_without start.shape.levels rows is_changed) stripe level else changed_without start.shape.levels rows is_changed stripe level) ≡ false
       by None = is
-      by (Some row) = refl
+      by (Some row) = behind_unchanged start.shape.levels (changed_without start.shape.levels rows is_changed) stripe level is
 
   with_all : (table : TableValue) (some : ℕ)
-      → Sound table new (snapshot_with (rows_after plan run.readings some) (snapshot_with rows snapshot)) (changed_without (rows_after plan run.readings some) (changed_without rows is_changed))
-      → Sound table new (snapshot_with rows snapshot) (changed_without rows is_changed)
+      → Sound table new (snapshot_with (rows_after plan run.readings some) (snapshot_with rows snapshot)) (changed_without start.shape.levels (rows_after plan run.readings some) (changed_without start.shape.levels rows is_changed))
+      → Sound table new (snapshot_with rows snapshot) (changed_without start.shape.levels rows is_changed)
   with_all table some sound = record {
-    rows = λ stripe synced. subst (IsRowOf table.shape (stripe_view table stripe)) (same_row some stripe) (sound.rows stripe synced);
+    was_closed = λ stripe synced. closed_before some stripe (sound.was_closed stripe synced);
+    rows = λ stripe cells synced is. subst (λ (row : Row). HasCells table.shape cells row) (same_row some stripe) (sound.rows stripe cells synced is);
     sums = λ stripe level synced within unchanged.
         subst (λ (row : Row). HasLevel table.shape.block_size level stripe row (parity_of new level)) (same_row some stripe)
         (sound.sums stripe level synced within (unchanged_so some stripe level unchanged));
   }
 
-  pub all_count : AreSound plan.copies new (snapshot_with rows snapshot) (changed_without rows is_changed)
+  pub all_count : AreSound plan.copies new (snapshot_with rows snapshot) (changed_without start.shape.levels rows is_changed)
   all_count copy table below valid spells =
-      let after = moments plan start run.readings run.ahead run.listed run.ended laid new (snapshot_with rows snapshot) (changed_without rows is_changed) long over.listed.reads (stands copy below) laid_with_rows moment in
+      let after = moments plan start run.readings run.ahead run.listed run.ended laid new (snapshot_with rows snapshot) (changed_without start.shape.levels rows is_changed) long over.listed.reads (stands copy below) laid_with_rows moment in
       with_all table after.count (after.sound copy table below valid spells)

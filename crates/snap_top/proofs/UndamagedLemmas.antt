@@ -1,5 +1,5 @@
 -- An undamaged level is whole and intact, so undamaged levels can be counted.
-use Rattle.std.proofs.Common.{◌≡◌, ◌↔◌, ◌⊎◌, inl, inr, ⊎_elim, ℕ, zero, suc, ◌*◌, ◌<◌, ◌==◌, ◌&&◌, List, length, get_or, Bool, true, false, IsTrue, IfSome, None, Some, refl, sym, ap, ◌∙◌, subst, arith}
+use Rattle.std.proofs.Common.{◌≡◌, ◌↔◌, ◌⊎◌, inl, inr, ⊎_elim, ℕ, zero, suc, ◌*◌, ◌<◌, ◌==◌, ◌&&◌, List, length, get_or, Bool, true, false, IsTrue, IfSome, None, Some, refl, sym, ap, ap₂, ◌∙◌, subst, arith}
 use Rattle.std.specs.Prelude.{not, slice_index}
 use Rattle.std.specs.List.{range_with_len}
 use Rattle.std.proofs.lemmas.Bool.{cases_eq, cases_lt}
@@ -17,7 +17,7 @@ use Rattle.file_table.specs.declared.block.Cell.{Cell}
 use Rattle.parity_writer.specs.LevelReading.{LevelReading, kept_level}
 use Rattle.parity_writer.specs.LevelsValue.{LevelValue, no_level}
 use Rattle.parity_writer.specs.Parity.{HasLevel, Row}
-use Rattle.parity_writer.specs.Sound.{IsSynced, Snapshot, Sound}
+use Rattle.parity_writer.specs.Sound.{IsSynced, Sound, Closed, last_row}
 use Rattle.parity_writer.specs.declared.levels.LevelRead.TheVariants as here
 use Rattle.parity_writer.proofs.SumLemmas.{byte_of_level}
 use Rattle.snap_fix.specs.Ending.{Finishes}
@@ -26,7 +26,7 @@ use Rattle.snap_fix.specs.Fixing.{facts_of}
 use Rattle.snap_fix.specs.Genuine.{AreLevelsIn, IsIntactLevel, IsLevelOf, IsRestorableStripe, TellsIntactLevels}
 use Rattle.stripe_examiner.specs.Known.{AreFacts, IsTried, is_whole, whole_level, whole_levels}
 use Rattle.snap_fix.specs.Mended.{has_lost}
-use Rattle.repair_scope.specs.Plan.{FixPlan, is_searched, is_synced}
+use Rattle.repair_scope.specs.Plan.{FixPlan, is_audit, is_searched, is_synced}
 use Rattle.snap_fix.specs.Restored.{HoldsCell}
 use Rattle.snap_top.specs.Fix.{FixRun}
 use Rattle.snap_top.specs.Moment.{IsFixOf}
@@ -42,19 +42,21 @@ abbrev pub WholeLevelsHold : Type 0
 WholeLevelsHold = (block_size level stripe : ℕ) (row : Row) (file bytes : List ℕ) → bytes ≡ read_from file (stripe * block_size) block_size
     → HasLevel block_size level stripe row file ↔ (((kept_level block_size (Some bytes)).state ≡ here.Bytes) × ((kept_level block_size (Some bytes)).block ≡ level_of level block_size row))
 
-and_first : (a b : Bool) → (a && b) ≡ true → a ≡ true
-and_first true b is = refl
-and_first false b is = is
-
 synced_mark : (mark : Mark) → is_synced_mark mark ≡ true → mark ≡ Synced
 synced_mark Pending is = absurd (let clash : false ≡ true = is in cc)
 synced_mark Synced is = refl
 
-searched_is_synced : (plan : FixPlan) (facts : StripeFacts) → AreFacts plan facts → is_searched plan facts.stripe ≡ true → IsSynced plan.table facts.stripe
-searched_is_synced plan facts are searched = record {
+synced_stripe : (plan : FixPlan) (facts : StripeFacts) → AreFacts plan facts → is_synced plan facts.stripe ≡ true → IsSynced plan.table facts.stripe
+synced_stripe plan facts are synced = record {
   within = are.within;
-  mark = synced_mark (info_at plan.table.infos facts.stripe).mark (and_first (is_synced plan facts.stripe) _ searched);
+  mark = synced_mark (info_at plan.table.infos facts.stripe).mark synced;
 }
+
+-- a fix searches each synced stripe
+pub searched_by_fix : (before : Entry) (exit : Exit) (run : FixRun) → IsFixOf before exit run → (stripe : ℕ) → is_synced run.plan stripe ≡ true → is_searched run.plan stripe ≡ true
+searched_by_fix before exit run is stripe synced =
+    let parity : is_audit run.plan.scope.mode ≡ false = ap is_audit is.over.plan_is.scope.mode_is in
+    ap₂ (λ (known audits : Bool). known && not audits) synced parity
 
 -- where the file has the level, what is kept of it is whole, and its block is that level
 kept_whole : WholeLevelsHold → (block_size stripe r : ℕ) (row : Row) (file : List ℕ) (reading : LevelReading) (level : LevelValue) → IfSome reading (λ (bytes : List ℕ). bytes ≡ read_from file (stripe * block_size) block_size)
@@ -66,9 +68,9 @@ kept_whole holds block_size stripe r row file (Some bytes) level of kept read ha
       λ p below. ap (λ (it : LevelValue). slice_index it.block p) kept ∙ ap (λ (block : List ℕ). slice_index block p) whole.1 ∙ byte_of_level r block_size row p below,
     )
 
-pub undamaged_intact : WholeLevelsHold → (before : Entry) (exit : Exit) (run : FixRun) (snapshot : Snapshot) (is_changed : ℕ → ℕ → Bool) (facts : StripeFacts) (r : ℕ) → IsFixOf before exit run → IsTrue before.opener.vault.tells
+pub undamaged_intact : WholeLevelsHold → (before : Entry) (exit : Exit) (run : FixRun) (snapshot : Closed) (is_changed : ℕ → ℕ → Bool) (facts : StripeFacts) (r : ℕ) → IsFixOf before exit run → IsTrue before.opener.vault.tells
     → Sound run.loaded before.opener.vault.files snapshot is_changed → IsUndamaged run is_changed facts r
-    → (whole_level facts.levels r ≡ true) × IsIntactLevel run.plan facts (snapshot facts.stripe) r
+    → (whole_level facts.levels r ≡ true) × IsIntactLevel run.plan facts (last_row snapshot facts.stripe) r
 undamaged_intact holds before exit run snapshot is_changed facts r is tells sound unchanged =
     let over = is.over in
     let files : Files = before.opener.vault.files in
@@ -78,13 +80,13 @@ undamaged_intact holds before exit run snapshot is_changed facts r is tells soun
     let in_files : AreLevelsIn size files (facts_of run.stripes) = levels_in size before.opener.vault (facts_of run.stripes) run.readings tells over.finds.levels in
     let level : IsLevelOf size facts.stripe r files (get_or facts.levels r no_level)
     = All-contains (λ (its : StripeFacts). (k : ℕ) → k < length its.levels → IsLevelOf size its.stripe k files (get_or its.levels k no_level)) (facts_of run.stripes) facts in_files at r unchanged.within in
-    let tried : IsTried run.plan facts true = subst (IsTried run.plan facts) unchanged.searched are.tried in
+    let tried : IsTried run.plan facts true = subst (IsTried run.plan facts) (searched_by_fix before exit run is facts.stripe unchanged.synced) are.tried in
     let below = unchanged.within in
     let levels : r < run.plan.table.shape.levels = omega (arith, below, tried.0) in
     let of_plan : Sound run.plan.table files snapshot is_changed = subst (λ (t : TableValue). Sound t files snapshot is_changed) (sym over.plan_is.table_is) sound in
-    let has : HasLevel size r facts.stripe (snapshot facts.stripe) (parity_of files r)
-    = of_plan.sums facts.stripe r (searched_is_synced run.plan facts are unchanged.searched) levels unchanged.unchanged in
-    kept_whole holds size facts.stripe r (snapshot facts.stripe) (parity_of files r) level.reading (get_or facts.levels r no_level) level.is_of level.is_kept unchanged.read has
+    let has : HasLevel size r facts.stripe (last_row snapshot facts.stripe) (parity_of files r)
+    = of_plan.sums facts.stripe r (synced_stripe run.plan facts are unchanged.synced) levels unchanged.unchanged in
+    kept_whole holds size facts.stripe r (last_row snapshot facts.stripe) (parity_of files r) level.reading (get_or facts.levels r no_level) level.is_of level.is_kept unchanged.read has
 
 -- ---- whether a level is intact, as a test
 
@@ -144,16 +146,16 @@ read_within levels r read = elim (cases_lt r (length levels)) [
   | inr past ↦ absurd (let clash : false ≡ true = ap (λ (it : LevelValue). is_read it.state) (sym (get_or_past levels r no_level past)) ∙ read in cc)
 ]
 
-pub restored_by_counting : WholeLevelsHold → (before : Entry) (exit : Exit) (run : FixRun) (finishes : Finishes) (snapshot : Snapshot) (is_changed : ℕ → ℕ → Bool) (facts : StripeFacts) (d : ℕ) (cell : Cell) → IsFixOf before exit run
+pub restored_by_counting : WholeLevelsHold → (before : Entry) (exit : Exit) (run : FixRun) (finishes : Finishes) (snapshot : Closed) (is_changed : ℕ → ℕ → Bool) (facts : StripeFacts) (d : ℕ) (cell : Cell) → IsFixOf before exit run
     → IsTrue before.opener.vault.tells → Sound run.loaded before.opener.vault.files snapshot is_changed → Restores run finishes snapshot → IsRecoverable run snapshot is_changed facts d cell
-    → HoldsCell run.plan.table d cell (has_lost run.plan run.stripes d cell.rec) (byte_of (snapshot facts.stripe) d) (folder_at run.ended d).tree
+    → HoldsCell run.plan.table d cell (has_lost run.plan run.stripes d cell.rec) (byte_of (last_row snapshot facts.stripe) d) (folder_at run.ended d).tree
 restored_by_counting holds before exit run finishes snapshot is_changed facts d cell is tells sound restores can =
-    let row : Row = snapshot facts.stripe in
+    let row : Row = last_row snapshot facts.stripe in
     let more : (r : ℕ) → was_read facts.levels r ≡ true → not (is_changed facts.stripe r) ≡ true → (whole_level facts.levels r ≡ true) × (is_intact run.plan facts row r ≡ true)
     = λ r read unchanged.
     let undamaged : IsUndamaged run is_changed facts r = record {
       one = can.is.one;
-      searched = can.searched;
+      synced = can.synced;
       within = read_within facts.levels r read;
       read = read;
       unchanged = not_true (is_changed facts.stripe r) unchanged;
@@ -165,5 +167,5 @@ restored_by_counting holds before exit run finishes snapshot is_changed facts d 
     let enough = can.enough in
     let restorable : IsRestorableStripe run.plan facts (is_intact run.plan facts row) = omega (arith, counted, as_many, enough) in
     restores.restored facts d cell (is_intact run.plan facts row)
-    (record { is = can.is; synced = can.searched; bytes = can.bytes; tells = tells_intact run.plan facts row })
-    can.free restorable
+    (record { is = can.is; synced = searched_by_fix before exit run is facts.stripe can.synced; bytes = can.bytes; tells = tells_intact run.plan facts row })
+    can.free (record { sought = can.synced; had = inr restorable })

@@ -1,22 +1,21 @@
 -- The fix of a run as a whole, said without what else the run touches.
-use Rattle.std.specs.Prelude.{◌≡◌, ◌⊎◌, ℕ, ◌<◌, List, ◌++◌, length, All, None, Some}
+use Rattle.std.specs.Prelude.{◌≡◌, ◌⊎◌, ℕ, ◌<◌, List, ◌++◌, length, All, None}
 use Rattle.folder_listing.specs.Kept.{ListedFile}
 use Rattle.folder_listing.specs.Listings.{ListsAll}
-use Rattle.content_file.specs.Spelling.{spelling}
+use Rattle.content_file.specs.Spelling.{HoldsTable}
 use Rattle.disk_model.specs.Files.{Files, content_of}
 use Rattle.disk_model.specs.Folder.{FolderView, FolderCall, ListFiles}
 use Rattle.disk_model.specs.Vault.{VaultView}
 use Rattle.file_table.specs.Table.{TableValue}
 use Rattle.file_table.specs.Valid.{IsValid}
 use Rattle.parity_writer.specs.LevelReading.{LevelReading}
-use Rattle.parity_writer.specs.Sound.{Snapshot}
 use Rattle.array_setup.specs.Setup.{SetupValue}
 use Rattle.array_setup.specs.declared.ways.Selection.{Selection}
 use Rattle.snap_fix.specs.Course.{IsPlan}
 use Rattle.stripe_examiner.specs.Facts.{StripeFacts, gift_of}
 use Rattle.snap_fix.specs.FixCourse.{FixFinds, IsFixCall}
 use Rattle.snap_fix.specs.Fixing.{facts_of}
-use Rattle.snap_fix.specs.Genuine.{AreGenuine}
+use Rattle.snap_fix.specs.Genuine.{AreGenuine, held_row}
 use Rattle.stripe_examiner.specs.Looking.{numbers_of}
 use Rattle.snap_fix.specs.Mended.{Mended}
 use Rattle.repair_scope.specs.Plan.{FixPlan, names_of, stripes_of}
@@ -26,6 +25,7 @@ use Rattle.snap_fix.specs.Underway.{HoldsWrong, IsMendedLevel, KeepsLevels}
 use Rattle.repair_scope.specs.declared.scope.Mode.TheVariants as modes
 use Rattle.snap_sync.specs.Soundness.{IsLoadedFrom}
 use Rattle.snap_top.specs.Views.{folder_at}
+use Rattle.parity_writer.specs.Sound.{Closed}
 
 -- What it was asked for, and by which configuration; the table that it began with; what the folders listed, and the plan by that; the
 -- stripes that were looked at, and what was read of their levels; and the folders at the beginning, once they were listed, and at the end.
@@ -80,7 +80,7 @@ pub record FixesOver (copies : ℕ) (vault : VaultView) (run : FixRun) : Type 0 
 
 -- No block that the fix met has a recorded hash by chance: each that has one is the snapshot's. And all copies that are content files
 -- are of arrays with blocks of one size.
-pub record IsGenuineFix (run : FixRun) (copies : ℕ) (files : Files) (snapshot : Snapshot) : Type 0 where
-  pub genuine : AreGenuine run.plan snapshot (facts_of run.stripes)
-  pub one_size : (copy : ℕ) (table : TableValue) → copy < copies → IsValid table → content_of files copy ≡ Some (spelling table)
+pub record IsGenuineFix (run : FixRun) (copies : ℕ) (files : Files) (snapshot : Closed) : Type 0 where
+  pub genuine : AreGenuine run.plan (held_row run.plan.table snapshot) (facts_of run.stripes)
+  pub one_size : (copy : ℕ) (table : TableValue) → copy < copies → IsValid table → HoldsTable table (content_of files copy)
       → table.shape.block_size ≡ run.loaded.shape.block_size

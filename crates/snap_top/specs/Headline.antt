@@ -1,7 +1,7 @@
 -- What is promised of whatever stands after a history: it is sound, a stopped sync is resumed, and a fix restores what was last synced.
-use Rattle.std.specs.Prelude.{◌≡◌, ◌⊎◌, ℕ, ◌<◌, ◌≤◌, List, [], ◌∷◌, length, take, Bool, true, false, Some, Ok}
+use Rattle.std.specs.Prelude.{◌≡◌, ◌⊎◌, ℕ, ◌<◌, ◌≤◌, List, [], ◌∷◌, length, take, Bool, true, false, Ok}
 use Rattle.content_file.specs.Save.{HasSaved}
-use Rattle.content_file.specs.Spelling.{spelling}
+use Rattle.content_file.specs.Spelling.{HoldsTable, spelling}
 use Rattle.disk_model.specs.Files.{Files, content_of}
 use Rattle.disk_model.specs.Folder.{FolderView}
 use Rattle.disk_model.specs.Opener.{OpenerView}
@@ -17,7 +17,7 @@ use Rattle.snap_config.specs.declared.options.Options.{Options}
 use Rattle.array_setup.specs.declared.ways.Selection.{Selection}
 use Rattle.array_setup.specs.declared.ways.SyncWay.{SyncWay}
 use Rattle.snap_sync.specs.Part.{IsFullSync, tree_at, trees_of}
-use Rattle.snap_fix.specs.Genuine.{AreGenuine}
+use Rattle.snap_fix.specs.Genuine.{AreGenuine, held_row}
 use Rattle.snap_sync.specs.Resumed.{EndsAs}
 use Rattle.snap_top.specs.Alike.{NothingRose}
 use Rattle.snap_top.specs.Complete.{NothingBroke}
@@ -43,7 +43,7 @@ use Rattle.snap_top.specs.Task.{fixes, has_fixed}
 -- all content files are of arrays with blocks of one size
 abbrev pub HaveOneSize : ℕ → Files → Type 0
 HaveOneSize copies files = (one other : ℕ) (table other_table : TableValue) → one < copies → other < copies → IsValid table → IsValid other_table
-    → content_of files one ≡ Some (spelling table) → content_of files other ≡ Some (spelling other_table)
+    → HoldsTable table (content_of files one) → HoldsTable other_table (content_of files other)
     → table.shape.block_size ≡ other_table.shape.block_size
 
 -- Each copy that is a content file is sound by what was last synced: it calls only those stripes synced whose levels are the sums of
@@ -189,7 +189,7 @@ module _ {O F V W : Type 0} (opener_view : O → OpenerView) (folder_view : F �
   abbrev pub ChecksName : Standing → Type 0
   ChecksName standing = (run : RunOf O F V W) → BeginsOver standing (before_of opener_view folder_view vault_view sink_view run)
       → (ends : EndsChecked (before_of opener_view folder_view vault_view sink_view run) (after_of opener_view folder_view vault_view sink_view run) run.status)
-      → AreGenuine ends.run.plan standing.last.snapshot ends.run.stripes
+      → AreGenuine ends.run.plan (held_row ends.run.plan.table standing.last.snapshot) ends.run.stripes
       → NamesLost ends.run.plan ends.run.stripes standing.last.snapshot (events_found ends.run)
 
   -- ---- all of it

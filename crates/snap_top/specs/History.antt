@@ -1,9 +1,9 @@
 -- Runs of any commands, one after another, each of which ended or was stopped at some moment, and what others do to the vault in between.
-use Rattle.std.specs.Prelude.{◌≡◌, ◌⊎◌, ℕ, ◌+◌, ◌*◌, ◌<◌, ◌≤◌, List, [], ◌∷◌, length, Bool, true, false, Some}
+use Rattle.std.specs.Prelude.{◌≡◌, ◌⊎◌, ℕ, ◌+◌, ◌*◌, ◌<◌, ◌≤◌, List, [], ◌∷◌, length, All, Bool, true, false}
 use Rattle.array_scan.specs.Layout.{pending_stripes}
 use Rattle.cauchy.specs.Recovery.{AreBytes}
 use Rattle.content_file.specs.Save.{HasSaved}
-use Rattle.content_file.specs.Spelling.{spelling}
+use Rattle.content_file.specs.Spelling.{HoldsTable, spelling}
 use Rattle.disk_model.specs.Files.{Files, content_of, parity_of}
 use Rattle.disk_model.specs.Folder.{FolderView}
 use Rattle.disk_model.specs.Opener.{OpenerView}
@@ -12,23 +12,22 @@ use Rattle.disk_model.specs.Vault.{VaultView, copies_of}
 use Rattle.file_table.specs.Table.{TableValue}
 use Rattle.file_table.specs.Valid.{IsValid}
 use Rattle.parity_writer.specs.Keeps.{HasByte}
-use Rattle.parity_writer.specs.Sound.{Snapshot}
 use Rattle.snap_fix.specs.Fixing.{facts_of}
-use Rattle.snap_fix.specs.Genuine.{AreGenuine}
+use Rattle.snap_fix.specs.Genuine.{AreGenuine, held_row}
 use Rattle.snap_sync.specs.Part.{AllVerified, SyncRun}
 use Rattle.stripe_findings.specs.Reading.{stripes_of}
 use Rattle.snap_sync.specs.Soundness.{AreSound, changed_without, snapshot_with}
-use Rattle.snap_top.specs.Moment.{EveryMomentIsSound, HoldsFresh, IsDidOf, IsSupposed, IsSyncOf, StandsAfter, StandsIn, SyncsToItsEnd}
-use Rattle.snap_top.specs.Moment.{rows_closed, stripes_read}
+use Rattle.snap_top.specs.Moment.{EveryMomentIsSound, HoldsFresh, IsDidOf, IsSupposed, IsSyncOf, StandsAfter, StandsIn, SyncsToItsEnd, levels_closed, rows_closed, stripes_read}
 use Rattle.snap_top.specs.Restoring.{EndsFixed, Restores}
 use Rattle.snap_top.specs.Resumed.{StoppedRun, end_of, entry_of}
 use Rattle.snap_top.specs.Run.{Entry, Exit}
 use Rattle.snap_top.specs.Sync.{HoldsNoContent}
 use Rattle.snap_top.specs.Task.{Did, end_table, fixes, reads_only, scrubs, syncs}
+use Rattle.parity_writer.specs.Sound.{Closed}
 
--- The snapshot: of each stripe the row that was last synced. And which levels of which stripes were changed from outside since then.
+-- The snapshot: of each stripe the rows that it was closed with, the newest first. And which levels of which stripes were changed from outside since then.
 pub record LastSynced : Type 0 where
-  pub snapshot : Snapshot
+  pub snapshot : Closed
   pub is_changed : ℕ → ℕ → Bool
 
 -- A step of a history: a run with the files that a stop at some moment of it leaves; or a change of the vault from outside, also by another
@@ -49,16 +48,17 @@ pub record IsChange (copies copies_then : ℕ) (is_changed is_changed_then : ℕ
   pub contents : (copy : ℕ) → copy < copies_then
       → ((other : ℕ) × (other < copies) × (content_of new copy ≡ content_of old other)) ⊎ HoldsNoContent new copy
   pub counted : (stripe level : ℕ) → is_changed_then stripe level ≡ false → is_changed stripe level ≡ false
-  pub parity : (copy : ℕ) (table : TableValue) (stripe level : ℕ) → copy < copies_then → IsValid table → content_of new copy ≡ Some (spelling table)
+  pub parity : (copy : ℕ) (table : TableValue) (stripe level : ℕ) → copy < copies_then → IsValid table → HoldsTable table (content_of new copy)
       → is_changed_then stripe level ≡ false → BlockStays table.shape.block_size level stripe old new
 
 -- ---- a history
 
--- what was last synced once a run read so many stripes: the rows of those that it has closed by then, and nothing of these is changed any more
+-- what was last synced once a run read so many stripes: the rows of those that it has closed by then, and no level of its table is changed in
+-- these any more
 abbrev pub synced_by : Did → ℕ → LastSynced → LastSynced
 synced_by did count last = record {
   snapshot = snapshot_with (rows_closed did count) last.snapshot;
-  is_changed = changed_without (rows_closed did count) last.is_changed;
+  is_changed = changed_without (levels_closed did) (rows_closed did count) last.is_changed;
 }
 
 -- sound by that
@@ -66,8 +66,8 @@ abbrev pub AreSoundBy : ℕ → Files → LastSynced → Type 0
 AreSoundBy copies files last = AreSound copies files last.snapshot last.is_changed
 
 -- each row of a snapshot is of bytes
-abbrev pub IsOfBytes : Snapshot → Type 0
-IsOfBytes snapshot = (stripe : ℕ) → AreBytes (snapshot stripe)
+abbrev pub IsOfBytes : Closed → Type 0
+IsOfBytes snapshot = (stripe : ℕ) → All AreBytes (snapshot stripe)
 
 -- Sound once a run read so many stripes, and then goes on so. A snapshot of bytes stays one.
 pub record IsSoundOnce (did : Did) (count copies : ℕ) (left : Files) (last : LastSynced) (GoesOn : LastSynced → Type 0) : Type 0 where
@@ -125,7 +125,7 @@ module _ {O F V W : Type 0} (opener_view : O → OpenerView) (folder_view : F �
         → (run : SyncRun) × IsSoundSynced (entry_of opener_view sink_view stop.run) (end_of opener_view folder_view vault_view sink_view stop.run)
         stop.run.status run copies stop.left last GoesOn
     pub restores : (ends : EndsFixed (entry_of opener_view sink_view stop.run) (end_of opener_view folder_view vault_view sink_view stop.run) stop.run.status)
-        → AreGenuine ends.run.plan last.snapshot (facts_of ends.run.stripes) → Restores ends.run ends.finishes last.snapshot
+        → AreGenuine ends.run.plan (held_row ends.run.plan.table last.snapshot) (facts_of ends.run.stripes) → Restores ends.run ends.finishes last.snapshot
 
   -- each step begins with what the one before it left
   abbrev pub IsHistory : ℕ → List (Step O F V W) → Files → Type 0

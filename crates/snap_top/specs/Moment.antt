@@ -9,7 +9,6 @@ use Rattle.disk_model.specs.Files.{Files}
 use Rattle.disk_model.specs.Moments.{MayLeave}
 use Rattle.disk_model.specs.Vault.{Holds, IsSettled, copies_of}
 use Rattle.parity_writer.specs.Parity.{Rows, no_rows}
-use Rattle.parity_writer.specs.Sound.{Snapshot}
 use Rattle.snap_config.specs.declared.options.Command.{Command}
 use Rattle.snap_config.specs.declared.options.Command.TheVariants as commands
 use Rattle.snap_config.specs.declared.options.Options.{Options}
@@ -32,6 +31,7 @@ use Rattle.snap_top.specs.Fix.{AllFixed, FixRun, FixesOver, IsGenuineFix}
 use Rattle.snap_top.specs.Scrub.{MayStandMarked, ScrubRun, ScrubsOver}
 use Rattle.snap_top.specs.Sync.{BeginsAmong, SyncsOver}
 use Rattle.snap_top.specs.Task.{Did, fixes, reads_only, scrubs, syncs, may_stand, end_table}
+use Rattle.parity_writer.specs.Sound.{Closed}
 
 -- ---- what a run did
 
@@ -143,14 +143,21 @@ rows_closed (syncs failed run) count = rows_after run.plan run.readings count
 rows_closed (fixes failed run) count = no_rows
 rows_closed (scrubs failed run) count = no_rows
 
--- Sound once a run read so many stripes: with the rows of those that it has closed by then in the snapshot, and nothing of these
--- stripes changed from outside.
-abbrev pub IsSoundWith : Did → ℕ → ℕ → Files → Snapshot → (ℕ → ℕ → Bool) → Type 0
+-- how many levels of these stripes it writes: those that its table has
+abbrev pub levels_closed : Did → ℕ
+levels_closed reads_only = 0
+levels_closed (syncs failed run) = run.plan.start.shape.levels
+levels_closed (fixes failed run) = 0
+levels_closed (scrubs failed run) = 0
+
+-- Sound once a run read so many stripes: with the rows of those that it has closed by then in front in the snapshot, and no level of
+-- its table changed from outside in these stripes.
+abbrev pub IsSoundWith : Did → ℕ → ℕ → Files → Closed → (ℕ → ℕ → Bool) → Type 0
 IsSoundWith did count copies files snapshot is_changed =
-    AreSound copies files (snapshot_with (rows_closed did count) snapshot) (changed_without (rows_closed did count) is_changed)
+    AreSound copies files (snapshot_with (rows_closed did count) snapshot) (changed_without (levels_closed did) (rows_closed did count) is_changed)
 
 -- Sound at a moment of a run: once it read some number of its stripes.
-pub record IsSoundIn (did : Did) (copies : ℕ) (files : Files) (snapshot : Snapshot) (is_changed : ℕ → ℕ → Bool) : Type 0 where
+pub record IsSoundIn (did : Did) (copies : ℕ) (files : Files) (snapshot : Closed) (is_changed : ℕ → ℕ → Bool) : Type 0 where
   pub count : ℕ
   pub within : count ≤ stripes_read did
   pub sound : IsSoundWith did count copies files snapshot is_changed
@@ -165,7 +172,7 @@ AreOfRun (fixes failed run) copies old new = new.contents ≡ old.contents
 AreOfRun (scrubs failed run) copies old new = MayStandMarked run old new
 
 -- What soundness rests on besides: of a fix, that no hash was met by chance, and that all content files have blocks of its size.
-abbrev pub IsSupposed : Did → ℕ → Files → Snapshot → Type 0
+abbrev pub IsSupposed : Did → ℕ → Files → Closed → Type 0
 IsSupposed reads_only copies files snapshot = Unit {0}
 IsSupposed (syncs failed run) copies files snapshot = Unit {0}
 IsSupposed (fixes failed run) copies files snapshot = IsGenuineFix run copies files snapshot
@@ -188,7 +195,7 @@ pub record IsSoundAtEnd (before : Entry) (exit : Exit) (status : ℕ) : Type 0 w
   pub saved : (files : Files) → StandsAfter exit files
       → HasSaved (copies_of before.opener.vault) (spelling (end_table run)) files
   pub clean : status ≡ 0 → AllVerified run.plan.start run.readings
-  pub sound : (files : Files) (snapshot : Snapshot) (is_changed : ℕ → ℕ → Bool) → StandsAfter exit files
+  pub sound : (files : Files) (snapshot : Closed) (is_changed : ℕ → ℕ → Bool) → StandsAfter exit files
       → AreSound (copies_of before.opener.vault) before.opener.vault.files snapshot is_changed
       → IsSoundWith (syncs false run) (length run.readings) (copies_of before.opener.vault) files snapshot is_changed
 
@@ -212,7 +219,7 @@ pub record IsSoundAlways (before : Entry) (exit : Exit) (status : ℕ) : Type 0 
   pub moments : (files : Files) → StandsIn before exit files → may_stand did before.opener.vault.files files
   pub copies : (files : Files) → StandsIn before exit files
       → AreOfRun did (copies_of before.opener.vault) before.opener.vault.files files
-  pub sound : (files : Files) (snapshot : Snapshot) (is_changed : ℕ → ℕ → Bool) → StandsIn before exit files
+  pub sound : (files : Files) (snapshot : Closed) (is_changed : ℕ → ℕ → Bool) → StandsIn before exit files
       → AreSound (copies_of before.opener.vault) before.opener.vault.files snapshot is_changed
       → IsSupposed did (copies_of before.opener.vault) before.opener.vault.files snapshot
       → IsSoundIn did (copies_of before.opener.vault) files snapshot is_changed

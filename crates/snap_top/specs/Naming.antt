@@ -3,7 +3,7 @@ use Rattle.std.specs.Prelude.{◌≡◌, ◌↔◌, ℕ, List, ◌++◌, Bool, f
 use Rattle.disk_model.specs.Cause.{Rose, RoseBy}
 use Rattle.disk_model.specs.Vault.{copies_of}
 use Rattle.file_table.specs.Table.{TableValue}
-use Rattle.parity_writer.specs.Sound.{Snapshot, Sound}
+use Rattle.parity_writer.specs.Sound.{Sound, Closed}
 use Rattle.snap_config.specs.declared.options.Command.{Command}
 use Rattle.snap_config.specs.declared.options.Command.TheVariants as commands
 use Rattle.snap_config.specs.declared.options.Options.{Options}
@@ -11,7 +11,7 @@ use Rattle.array_setup.specs.declared.ways.Selection.{Selection}
 use Rattle.stripe_examiner.specs.Counts.{at_most}
 use Rattle.snap_fix.specs.Audited.{FindsNothing}
 use Rattle.snap_fix.specs.Course.{check_events}
-use Rattle.snap_fix.specs.Genuine.{AreGenuine}
+use Rattle.snap_fix.specs.Genuine.{AreGenuine, held_row}
 use Rattle.stripe_examiner.specs.Looking.{unread_in}
 use Rattle.repair_scope.specs.declared.scope.Mode.{Mode}
 use Rattle.repair_scope.specs.declared.scope.Mode.TheVariants as modes
@@ -75,9 +75,9 @@ pub record EndsChecked (before : Entry) (exit : Exit) (status : ℕ) : Type 0 wh
   pub run : CheckRun
   pub has : HasChecked modes.Check before exit status run
   pub pending : NamesPending run.plan run.stripes (events_found run)
-  pub named : (snapshot : Snapshot) (is_changed : ℕ → ℕ → Bool)
+  pub named : (snapshot : Closed) (is_changed : ℕ → ℕ → Bool)
       → Sound run.loaded before.opener.vault.files snapshot is_changed
-      → AreGenuine run.plan snapshot run.stripes → NamesLost run.plan run.stripes snapshot (events_found run)
+      → AreGenuine run.plan (held_row run.plan.table snapshot) run.stripes → NamesLost run.plan run.stripes snapshot (events_found run)
 
 -- An audit that went to its end. It found nothing exactly where each selected record is listed as it was recorded, no
 -- reading of a selected cell of its stripes failed, and each block that came has the recorded hash, if there is one. That

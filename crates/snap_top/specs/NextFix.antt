@@ -1,7 +1,6 @@
 -- The next fix after one that was stopped.
 use Rattle.std.specs.Prelude.{◌≡◌, ℕ, ◌<◌, length, Bool, Contains}
-use Rattle.parity_writer.specs.Sound.{Snapshot}
-use Rattle.snap_fix.specs.Genuine.{IsRestorableStripe, TellsIntactLevels}
+use Rattle.snap_fix.specs.Genuine.{IsRestorableStripe, TellsIntactLevels, held_row}
 use Rattle.snap_fix.specs.Mended.{Mended}
 use Rattle.snap_sync.specs.Part.{tree_at, trees_of}
 use Rattle.snap_top.specs.Alike.{NothingRose}
@@ -11,6 +10,7 @@ use Rattle.snap_top.specs.Run.{Entry, Exit}
 use Rattle.snap_top.specs.Standing.{Standing}
 use Rattle.snap_top.specs.Stopping.{FolderStandsIn}
 use Rattle.snap_top.specs.Undamaged.{HasEnough}
+use Rattle.parity_writer.specs.Sound.{Closed}
 
 -- It is of a run that begins with the files that the first one left in its folders, and from the same table. All is told, and no count of
 -- faults rose in it.
@@ -27,11 +27,11 @@ HasEnoughAgain fix again is_changed is_changed_then = (mended mended_again : Men
     → mended_again.facts.stripe ≡ mended.facts.stripe → HasEnough fix is_changed mended.facts → HasEnough again is_changed_then mended_again.facts
 
 -- Each stripe that both looked at is restorable for it, by intact levels, if it was for the first one.
-abbrev pub IsRestorableAgain : FixRun → FixRun → Snapshot → Snapshot → Type 0
+abbrev pub IsRestorableAgain : FixRun → FixRun → Closed → Closed → Type 0
 IsRestorableAgain fix again snapshot snapshot_then = (mended mended_again : Mended) (is_intact is_intact_then : ℕ → Bool)
     → Contains fix.stripes mended → Contains again.stripes mended_again → mended_again.facts.stripe ≡ mended.facts.stripe
-    → TellsIntactLevels fix.plan mended.facts (snapshot mended.facts.stripe) is_intact
-    → TellsIntactLevels again.plan mended_again.facts (snapshot_then mended_again.facts.stripe) is_intact_then
+    → TellsIntactLevels fix.plan mended.facts (held_row fix.plan.table snapshot mended.facts.stripe) is_intact
+    → TellsIntactLevels again.plan mended_again.facts (held_row again.plan.table snapshot_then mended_again.facts.stripe) is_intact_then
     → IsRestorableStripe fix.plan mended.facts is_intact → IsRestorableStripe again.plan mended_again.facts is_intact_then
 
 -- so the next fix can restore as much as the first one, by both ways of counting

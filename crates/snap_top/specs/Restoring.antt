@@ -4,7 +4,7 @@ use Rattle.cauchy.specs.Matrix.{byte_of}
 use Rattle.disk_model.specs.Cause.{Rose, RoseBy}
 use Rattle.disk_model.specs.Vault.{Holds}
 use Rattle.file_table.specs.declared.block.Cell.{Cell}
-use Rattle.parity_writer.specs.Sound.{Snapshot, Sound}
+use Rattle.parity_writer.specs.Sound.{Sound, Closed}
 use Rattle.snap_config.specs.declared.options.Command.TheVariants as commands
 use Rattle.snap_config.specs.declared.options.Options.{Options}
 use Rattle.array_setup.specs.declared.ways.Selection.{Selection}
@@ -13,12 +13,12 @@ use Rattle.snap_fix.specs.Ending.{Finishes}
 use Rattle.snap_fix.specs.FixCourse.{fix_events}
 use Rattle.snap_fix.specs.Fixing.{facts_of}
 use Rattle.stripe_examiner.specs.Facts.{StripeFacts}
-use Rattle.snap_fix.specs.Genuine.{AreGenuine, IsRestorableStripe}
+use Rattle.snap_fix.specs.Genuine.{AreGenuine, held_row}
 use Rattle.stripe_examiner.specs.Looking.{unread_cells, unread_in}
 use Rattle.snap_fix.specs.Mended.{has_lost, wrong_in, written_in}
 use Rattle.repair_scope.specs.Plan.{entry_at}
 use Rattle.stripe_examiner.specs.Place.{starts_of}
-use Rattle.snap_fix.specs.Restored.{HasFixed, HoldsCell}
+use Rattle.snap_fix.specs.Restored.{CanBeHad, HasFixed, HoldsCell}
 use Rattle.snap_fix.specs.Underway.{AddsZeros, IsMendedLevel}
 use Rattle.snap_report.specs.EndLines.{fix_text}
 use Rattle.snap_report.specs.EventLines.{lines_of}
@@ -38,14 +38,14 @@ abbrev pub events_in : FixRun → Finishes → List Event
 events_in run finishes = fix_events run.plan run.stripes finishes
 
 -- Where no hash is met by chance: a selected damaged cell of a synced stripe, of a record that isn't blocked, has the
--- snapshot's block, at its real length, where no more cells of its stripe are damaged than levels are intact. It stands
--- under PATH, or under PATH`.unrecoverable` where its record has a lost block. Such a cell, also of a blocked record, is
--- told to be lost exactly where more cells of its stripe are damaged.
-pub record Restores (run : FixRun) (finishes : Finishes) (snapshot : Snapshot) : Type 0 where
+-- snapshot's block, at its real length, where that can be had: where no more cells of its stripe are missing than levels are
+-- intact, or it was given. It stands under PATH, or under PATH`.unrecoverable` where its record has a lost block. Such a
+-- cell, also of a blocked record, is told to be lost exactly where its block can't be had.
+pub record Restores (run : FixRun) (finishes : Finishes) (snapshot : Closed) : Type 0 where
   pub restored : (facts : StripeFacts) (d : ℕ) (cell : Cell) (is_intact : ℕ → Bool)
       → IsDamagedOfSynced run.plan (facts_of run.stripes) snapshot facts d cell is_intact
-      → (entry_at run.plan d cell.rec).blocked ≡ false → IsRestorableStripe run.plan facts is_intact
-      → HoldsCell run.plan.table d cell (has_lost run.plan run.stripes d cell.rec) (byte_of (snapshot facts.stripe) d)
+      → (entry_at run.plan d cell.rec).blocked ≡ false → CanBeHad run.plan facts is_intact d
+      → HoldsCell run.plan.table d cell (has_lost run.plan run.stripes d cell.rec) (byte_of (held_row run.plan.table snapshot facts.stripe) d)
       (folder_at run.ended d).tree
   pub named : NamesLost run.plan (facts_of run.stripes) snapshot (events_in run finishes)
 
@@ -73,9 +73,9 @@ pub record EndsFixed (before : Entry) (exit : Exit) (status : ℕ) : Type 0 wher
   pub status_is : IsEndStatus status output_failed (count_by is_left (events_in run finishes) ≡ 0)
   pub output : IsTrue output_failed → Rose before.out.faults exit.after.out.faults
   pub pending : NamesPending run.plan (facts_of run.stripes) (events_in run finishes)
-  pub restores : (snapshot : Snapshot) (is_changed : ℕ → ℕ → Bool)
+  pub restores : (snapshot : Closed) (is_changed : ℕ → ℕ → Bool)
       → Sound run.loaded before.opener.vault.files snapshot is_changed
-      → AreGenuine run.plan snapshot (facts_of run.stripes) → Restores run finishes snapshot
+      → AreGenuine run.plan (held_row run.plan.table snapshot) (facts_of run.stripes) → Restores run finishes snapshot
 
 -- so a fix ends that was asked for and went to its end, whatever the output did
 abbrev pub FixesEnd : Entry → Exit → ℕ → Type 0

@@ -24,7 +24,7 @@ use Rattle.snap_top.specs.Task.{Did, fixes, reads_only, scrubs, syncs}
 abbrev pub IsNotMended : FixPlan → StripeFacts → ℕ → Cell → Type 0
 IsNotMended plan facts d cell =
     ((damaged_at plan facts d ≡ false) ⊎ (selects_cell plan facts.stripe d ≡ false))
-    ⊎ ((is_some (known_block facts d) ≡ false) ⊎ ((entry_at plan d cell.rec).blocked ≡ true))
+    ⊎ ((is_some (known_block plan facts d) ≡ false) ⊎ ((entry_at plan d cell.rec).blocked ≡ true))
 
 -- a cell of a record of which that is so, if the fix looked at its stripe
 pub record IsLeftAlone (run : FixRun) (d : ℕ) (cell : Cell) : Type 0 where

@@ -6,9 +6,8 @@ use Rattle.disk_model.specs.Opener.{OpenerView, folder_held}
 use Rattle.disk_model.specs.Sink.{SinkView}
 use Rattle.disk_model.specs.Tree.{IsTree, Tree}
 use Rattle.disk_model.specs.Vault.{IsSettled, VaultView, copies_of}
-use Rattle.parity_writer.specs.Sound.{Snapshot}
 use Rattle.snap_fix.specs.Fixing.{facts_of}
-use Rattle.snap_fix.specs.Genuine.{AreGenuine}
+use Rattle.snap_fix.specs.Genuine.{AreGenuine, held_row}
 use Rattle.snap_sync.specs.Images.{StandsBy}
 use Rattle.snap_sync.specs.Part.{tree_at, trees_of}
 use Rattle.snap_top.specs.History.{IsChange, LastSynced, synced_by}
@@ -19,6 +18,7 @@ use Rattle.snap_top.specs.Step.{RunStep}
 use Rattle.snap_top.specs.Stopping.{FolderStandsIn}
 use Rattle.snap_top.specs.Sync.{HoldsNoContent}
 use Rattle.snap_top.specs.Task.{Did, fixes, syncs}
+use Rattle.parity_writer.specs.Sound.{Closed}
 
 -- ---- what stands
 
@@ -77,8 +77,8 @@ HasClosed (syncs failed run) count old new = StandsBy run.plan run.readings coun
 HasClosed _ count old new = count ≡ 0
 
 -- no block that a fix met has a recorded hash by chance
-abbrev pub MeetsNoChance : Did → Snapshot → Type 0
-MeetsNoChance (fixes failed run) snapshot = AreGenuine run.plan snapshot (facts_of run.stripes)
+abbrev pub MeetsNoChance : Did → Closed → Type 0
+MeetsNoChance (fixes failed run) snapshot = AreGenuine run.plan (held_row run.plan.table snapshot) (facts_of run.stripes)
 MeetsNoChance _ snapshot = Unit {0}
 
 -- ---- a history

@@ -1,6 +1,6 @@
 -- The sync of a run as a whole, said without what else the run touches: so it is said of one run after another.
 use Rattle.std.specs.Prelude.{◌≡◌, ◌⊎◌, ℕ, ◌<◌, List, [], ◌∷◌, None, Some}
-use Rattle.content_file.specs.Spelling.{IsContent, spelling}
+use Rattle.content_file.specs.Spelling.{HoldsTable, IsContent}
 use Rattle.disk_model.specs.Files.{Files, content_of}
 use Rattle.disk_model.specs.Tree.{Tree}
 use Rattle.file_table.specs.Table.{TableValue}
@@ -22,7 +22,7 @@ pub record IsFirstContent (copies : ℕ) (files : Files) (table : TableValue) : 
   pub copy : ℕ
   pub within : copy < copies
   pub valid : IsValid table
-  pub spells : content_of files copy ≡ Some (spelling table)
+  pub spells : HoldsTable table (content_of files copy)
   pub first : (k : ℕ) → k < copy → HoldsNoContent files k
 
 abbrev pub HasNoCopy : ℕ → Files → Type 0
@@ -36,7 +36,7 @@ BeginsFrom setup seed copies files table =
 -- The same, whichever readings failed: the table of some copy, or where there is no copy that of an array without content.
 abbrev pub BeginsAmong : SetupValue → List ℕ → ℕ → Files → TableValue → Type 0
 BeginsAmong setup seed copies files table =
-    ((copy : ℕ) × (copy < copies) × (content_of files copy ≡ Some (spelling table))) ⊎ (HasNoCopy copies files × (table ≡ empty_table setup seed))
+    ((copy : ℕ) × (copy < copies) × HoldsTable table (content_of files copy)) ⊎ (HasNoCopy copies files × (table ≡ empty_table setup seed))
 
 -- ---- a sync over the files of a vault
 

@@ -1,5 +1,5 @@
 -- What was last synced, once a sync went to its end.
-use Rattle.std.specs.Prelude.{◌≡◌, ℕ, length, All, true, false}
+use Rattle.std.specs.Prelude.{◌≡◌, ℕ, ◌<◌, length, All, true, false}
 use Rattle.content_file.specs.Save.{HasSaved}
 use Rattle.content_file.specs.Spelling.{spelling}
 use Rattle.stripe_findings.specs.Reading.{StripeReading, is_verified, row_of}
@@ -9,11 +9,13 @@ use Rattle.snap_top.specs.Moment.{EndsInPart}
 use Rattle.snap_top.specs.Run.{Entry, Exit}
 use Rattle.snap_top.specs.Standing.{Standing}
 use Rattle.snap_top.specs.Task.{Did, end_table, syncs}
+use Rattle.parity_writer.specs.Sound.{last_row}
 
--- the row last synced of a verified stripe is the one that the sync read, and nothing of the stripe is changed from outside
+-- the row last synced of a verified stripe is the one that the sync read, and no level of its table is changed there from outside
 abbrev pub HasReadRow : SyncRun → LastSynced → StripeReading → Type 0
 HasReadRow run last reading = is_verified run.plan.start reading ≡ true
-    → (last.snapshot reading.stripe ≡ row_of reading) × ((level : ℕ) → last.is_changed reading.stripe level ≡ false)
+    → (last_row last.snapshot reading.stripe ≡ row_of reading) ×
+    ((level : ℕ) → level < run.plan.start.shape.levels → last.is_changed reading.stripe level ≡ false)
 
 -- It ended as `synced` says, by the one account of what its run did: all pending stripes were read, and with status 0 all of them are
 -- verified. Each copy spells its table. The rows of all that it verified are those that were last synced, and what was last synced of

@@ -8,11 +8,11 @@ ghost use Rattle.disk_model.specs.Opener.{folder_held};
 ghost use Rattle.disk_model.specs.Tree.{Tree};
 ghost use Rattle.file_table.specs.Table.{TableValue};
 ghost use Rattle.file_table.specs.declared.block.Cell.{Cell};
-ghost use Rattle.parity_writer.specs.Sound.{Snapshot, Sound};
+ghost use Rattle.parity_writer.specs.Sound.{Sound, Closed};
 ghost use Rattle.array_setup.specs.Setup.{SetupValue};
 ghost use Rattle.snap_fix.specs.Ending.{Finishes};
 ghost use Rattle.stripe_examiner.specs.Facts.{StripeFacts};
-ghost use Rattle.snap_fix.specs.Genuine.{IsIntactLevel};
+ghost use Rattle.snap_fix.specs.Genuine.{IsIntactLevel, held_row};
 ghost use Rattle.stripe_examiner.specs.Known.{whole_level};
 ghost use Rattle.repair_scope.specs.declared.scope.Mode.{Mode};
 ghost use Rattle.repair_scope.specs.declared.scope.Mode.TheVariants as modes;
@@ -49,7 +49,10 @@ use content_file::laws::one_table_has_a_spelling;
 use disk_model::{Folder, Opener, Sink, Vault};
 use file_table::laws::a_cell_stands_at_its_position;
 use gf256::laws::products;
-use parity_writer::laws::a_whole_level_is_what_the_file_holds;
+use parity_writer::laws::{
+    a_row_has_the_cells_that_close_it, a_whole_level_is_what_the_file_holds,
+    rows_of_the_same_bytes_have_the_same_levels,
+};
 use snap_fix::laws::{
     a_check_finds_what_a_fix_finds, a_fix_finishes_files, a_fix_keeps_what_is_sound,
     a_fix_leaves_the_rest, a_stop_within_a_fix_changes_written_blocks_alone,
@@ -70,7 +73,7 @@ use stripe_examiner::laws::what_is_read_determines_what_is_found;
 /// it is the full sync where its status is 0 in its clause `synced`.
 pub fn stopped_syncs_are_resumed()
     ensures { (setup : SetupValue) (trees : List Tree) (seed : List ℕ) (copies : ℕ) (stops : List Stop)
-        (files left : Files) (whole last : SyncRun) (snapshot : Snapshot) (is_changed : ℕ → ℕ → Bool) (now again : ℕ)
+        (files left : Files) (whole last : SyncRun) (snapshot : Closed) (is_changed : ℕ → ℕ → Bool) (now again : ℕ)
         (table other_table : TableValue) (one other : Files) →
         SyncsFrom seed copies files whole → IsOfArray setup trees whole → AreSound copies files snapshot is_changed →
         AreStopped setup trees seed copies stops files left →
@@ -95,7 +98,7 @@ pub fn stopped_syncs_are_resumed()
 /// changed from outside.
 pub fn stopped_runs_are_resumed<O: Opener, F: Folder, V: Vault, W: Sink>()
     ensures { (setup : SetupValue) (trees : List Tree) (seed : List ℕ) (stops : List (StoppedRun O F V W))
-        (files left one other : Files) (whole last : RunOf O F V W) (snapshot : Snapshot) (is_changed : ℕ → ℕ → Bool) →
+        (files left one other : Files) (whole last : RunOf O F V W) (snapshot : Closed) (is_changed : ℕ → ℕ → Bool) →
         EndsClean O.view F.view V.view W.view setup trees seed files whole one →
         AreSound (length setup.contents) files snapshot is_changed →
         AreStoppedRuns O.view F.view V.view W.view setup trees seed stops files left →
@@ -160,22 +163,22 @@ pub fn a_stopped_fix_spares_and_is_resumed<O: Opener, F: Folder, V: Vault, W: Si
 /// hash by chance, restores the block of each selected damaged cell of a stripe that was synced, where no more of its cells
 /// are missing than levels are undamaged, unless its record is blocked.
 pub fn undamaged_levels_restore<O: Opener, F: Folder, V: Vault, W: Sink>()
-    ensures intact { (run : RunOf O F V W) (fix : FixRun) (snapshot : Snapshot) (is_changed : ℕ → ℕ → Bool)
+    ensures intact { (run : RunOf O F V W) (fix : FixRun) (snapshot : Closed) (is_changed : ℕ → ℕ → Bool)
         (facts : StripeFacts) (r : ℕ) →
         IsFixOf (entry_of O.view W.view run) (end_of O.view F.view V.view W.view run) fix →
         IsTrue (entry_of O.view W.view run).opener.vault.tells →
         Sound fix.loaded (entry_of O.view W.view run).opener.vault.files snapshot is_changed →
         IsUndamaged fix is_changed facts r →
         (whole_level facts.levels r ≡ true)
-        × IsIntactLevel fix.plan facts (snapshot facts.stripe) r }
-    ensures restored { (run : RunOf O F V W) (fix : FixRun) (finishes : Finishes) (snapshot : Snapshot)
+        × IsIntactLevel fix.plan facts (held_row fix.plan.table snapshot facts.stripe) r }
+    ensures restored { (run : RunOf O F V W) (fix : FixRun) (finishes : Finishes) (snapshot : Closed)
         (is_changed : ℕ → ℕ → Bool) (facts : StripeFacts) (d : ℕ) (cell : Cell) →
         IsFixOf (entry_of O.view W.view run) (end_of O.view F.view V.view W.view run) fix →
         IsTrue (entry_of O.view W.view run).opener.vault.tells →
         Sound fix.loaded (entry_of O.view W.view run).opener.vault.files snapshot is_changed →
         Restores fix finishes snapshot → IsRecoverable fix snapshot is_changed facts d cell →
         HoldsCell fix.plan.table d cell (has_lost fix.plan fix.stripes d cell.rec)
-        (byte_of (snapshot facts.stripe) d) (folder_at fix.ended d).tree }
+        (byte_of (held_row fix.plan.table snapshot facts.stripe) d) (folder_at fix.ended d).tree }
 {
     a_whole_level_is_what_the_file_holds();
 }
@@ -385,5 +388,7 @@ pub fn a_fix_of_what_is_left_meets_no_chance<O: Opener, F: Folder, V: Vault, W: 
     one_table_has_a_spelling();
     what_a_sync_saves_is_valid();
     a_cell_stands_at_its_position();
+    a_row_has_the_cells_that_close_it();
+    rows_of_the_same_bytes_have_the_same_levels();
     products();
 }

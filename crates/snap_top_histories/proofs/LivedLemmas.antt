@@ -7,7 +7,6 @@ use Rattle.disk_model.specs.Sink.{SinkView}
 use Rattle.disk_model.specs.Tree.{Tree}
 use Rattle.disk_model.specs.Vault.{VaultView, copies_of}
 use Rattle.disk_memory.specs.Vault.{VaultValue, fresh_vault, view_of}
-use Rattle.parity_writer.specs.Sound.{Snapshot}
 use Rattle.snap_config.specs.declared.options.Options.{Options}
 use Rattle.snap_sync.specs.Part.{trees_of}
 use Rattle.snap_top.specs.Headline.{Headline}
@@ -22,6 +21,7 @@ use Rattle.snap_top.specs.Task.{Did, fixes, reads_only, scrubs, syncs}
 use Rattle.snap_top_histories.specs.Lived.{AskForNoFix, HasHistory, IsLeftOf, IsNoFix, RunsOver, ended_by, files_seen, standing_of, statuses_of}
 use Rattle.snap_top_histories.proofs.BeginLemmas.{origin}
 use Rattle.snap_top_histories.proofs.SeenLemmas.{LeavesAt, left_seen}
+use Rattle.parity_writer.specs.Sound.{Closed}
 
 -- ---- a run that is no fix
 
@@ -40,7 +40,7 @@ not_fixing before exit (fixes failed run) is asks =
     let same : is.configured.asked ≡ asks.asked = same_ok (asked_by before.texts) is.configured.asked asks.asked is.configured.read asks.words in
     subst IsNoFix (sym (is.configured.command_is ∙ ap (λ (a : Options). a.command) same)) asks.is_none
 
-pub no_chance : (did : Did) → IsNotFixing did → (snapshot : Snapshot) → MeetsNoChance did snapshot
+pub no_chance : (did : Did) → IsNotFixing did → (snapshot : Closed) → MeetsNoChance did snapshot
 no_chance reads_only not snapshot = tt
 no_chance (syncs failed run) not snapshot = tt
 no_chance (scrubs failed run) not snapshot = tt

@@ -3,6 +3,7 @@ use Rattle.std.proofs.Common.{◌≡◌, ℕ, ◌<◌, ◌&&◌, List, [], lengt
 use Rattle.std.proofs.Math.Path.{fun_ext}
 use Rattle.std.specs.Prelude.{filter, slice_index, slice_index_or}
 use Rattle.std.specs.List.{All, Contains, range_with_len}
+use Rattle.std.proofs.lemmas.Bool.{and_parts}
 use Rattle.std.proofs.lemmas.List.{get_or_default, length-map}
 use Rattle.std.proofs.lemmas.List.Elements.{All-contains_itself}
 use Rattle.folder_listing.specs.Kept.{each_column}
@@ -11,7 +12,6 @@ use Rattle.file_table.specs.Table.{TableValue}
 use Rattle.file_table.specs.Valid.{IsValid}
 use Rattle.parity_writer.specs.LevelsValue.{no_level}
 use Rattle.parity_writer.specs.Parity.{Row}
-use Rattle.parity_writer.specs.Sound.{Snapshot}
 use Rattle.parity_writer.specs.WindowRow.{bytes_found, bytes_of}
 use Rattle.snap_fix.specs.Fixing.{facts_of}
 use Rattle.snap_fix.specs.Found.{DifferInMode}
@@ -42,6 +42,7 @@ use Rattle.snap_top.proofs.SyncedLemmas.{OneTable}
 use Rattle.snap_top_restores.specs.Named.{AllSynced}
 use Rattle.snap_top_restores.proofs.LostCellLemmas.{searched_of}
 use Rattle.snap_top_restores.proofs.CountLemmas.{passing, whole_is_read}
+use Rattle.parity_writer.specs.Sound.{Closed, last_row}
 
 -- ---- a stripe of which the same came, but for what was seen of files
 
@@ -63,7 +64,7 @@ module _ (plan : FixPlan) (other : StripeFacts) (slots : List SlotValue) (alike 
   bytes d = bytes_same (slot_of mid d) (slot_of other d) (alike d)
 
   missing : (d : ℕ) → is_missing plan mid d ≡ is_missing plan other d
-  missing d = ap (λ (damaged : Bool). damaged && not (is_some (gift_of other d))) (damaged_same (seen_at plan other.stripe d) (slot_of mid d) (slot_of other d) (alike d))
+  missing d = ap (λ (damaged : Bool). damaged && not (is_some (gift_of other d))) (damaged_same plan.table.shape.kind (seen_at plan other.stripe d) (slot_of mid d) (slot_of other d) (alike d))
 
   missing_same : ◌≡◌ {A = ℕ → Bool} (λ d. is_missing plan mid d) (λ d. is_missing plan other d)
   missing_same = fun_ext missing
@@ -183,42 +184,42 @@ module _ (determined : IsDetermined) (in_mode : FactsInMode) (says : FixFindsWha
         let its : AreFacts fix.plan (facts_at stripes k) = ends.is_fix.over.finds.are k no_facts within_then in
         searched_of fix.plan (facts_at stripes k).stripe (subst AllSynced differ.table synced) its.within (ap is_audit differ.fixes)
 
-    genuine_at : (snapshot : Snapshot) → AllSynced one.plan.table → AreGenuine fix.plan snapshot stripes
-        → IsGenuine one.plan (snapshot (facts_at one.stripes k).stripe) (facts_at one.stripes k)
+    genuine_at : (snapshot : Closed) → AllSynced one.plan.table → AreGenuine fix.plan (last_row snapshot) stripes
+        → IsGenuine one.plan (last_row snapshot (facts_at one.stripes k).stripe) (facts_at one.stripes k)
     genuine_at snapshot synced genuine =
         let other : StripeFacts = facts_at stripes k in
-        let row : Row = snapshot other.stripe in
+        let row : Row = last_row snapshot other.stripe in
         let its : IsGenuine one.plan row other = genuine_by one.plan fix.plan row other differ.table (genuine k no_facts within_then (searched_then synced)) in
-        subst (λ (it : StripeFacts). IsGenuine one.plan (snapshot it.stripe) it) (sym as_fixed)
+        subst (λ (it : StripeFacts). IsGenuine one.plan (last_row snapshot it.stripe) it) (sym as_fixed)
         (genuine_mid one.plan other (facts_at one.stripes k).slots came_alike row its)
 
   -- so it met no hash by chance
-  pub genuine_then : (snapshot : Snapshot) → AllSynced one.plan.table → AreGenuine fix.plan snapshot stripes → AreGenuine one.plan snapshot one.stripes
+  pub genuine_then : (snapshot : Closed) → AllSynced one.plan.table → AreGenuine fix.plan (last_row snapshot) stripes → AreGenuine one.plan (last_row snapshot) one.stripes
   genuine_then snapshot synced genuine = λ k other within searched.
-      subst (λ (it : StripeFacts). IsGenuine one.plan (snapshot it.stripe) it) (sym (get_or_default one.stripes k other no_facts within)) (genuine_at k within snapshot synced genuine)
+      subst (λ (it : StripeFacts). IsGenuine one.plan (last_row snapshot it.stripe) it) (sym (get_or_default one.stripes k other no_facts within)) (genuine_at k within snapshot synced genuine)
 
   -- and each level of a stripe that was read whole is intact, where nothing counts as changed
-  pub intact_then : (snapshot : Snapshot) (is_changed : ℕ → ℕ → Bool) → AllSynced one.plan.table → ((stripe level : ℕ) → is_changed stripe level ≡ false)
-      → ((facts : StripeFacts) (r : ℕ) → IsUndamaged fix is_changed facts r → IsIntactLevel fix.plan facts (snapshot facts.stripe) r)
-      → (facts : StripeFacts) → Contains one.stripes facts → TellsIntactLevels one.plan facts (snapshot facts.stripe) (λ (r : ℕ). true)
+  pub intact_then : (snapshot : Closed) (is_changed : ℕ → ℕ → Bool) → AllSynced one.plan.table → ((stripe level : ℕ) → is_changed stripe level ≡ false)
+      → ((facts : StripeFacts) (r : ℕ) → IsUndamaged fix is_changed facts r → IsIntactLevel fix.plan facts (last_row snapshot facts.stripe) r)
+      → (facts : StripeFacts) → Contains one.stripes facts → TellsIntactLevels one.plan facts (last_row snapshot facts.stripe) (λ (r : ℕ). true)
   intact_then snapshot is_changed synced unchanged intact facts one_of =
       let k : ℕ = one_of.0 in
       let other : StripeFacts = facts_at stripes k in
       let slots : List SlotValue = (facts_at one.stripes k).slots in
       let here_is : facts ≡ record other { slots = slots } = sym one_of.2 ∙ get_or_default one.stripes k facts no_facts one_of.1 ∙ as_fixed k one_of.1 in
-      subst (λ (it : StripeFacts). TellsIntactLevels one.plan it (snapshot it.stripe) (λ (r : ℕ). true)) (sym here_is)
+      subst (λ (it : StripeFacts). TellsIntactLevels one.plan it (last_row snapshot it.stripe) (λ (r : ℕ). true)) (sym here_is)
       (λ j default inside. (
         λ it. (
             let r : ℕ = get_or (whole_levels other.levels) j default in
             let its = passing (whole_level other.levels) (length other.levels) j default inside in
             let level : IsUndamaged fix is_changed other r = record {
               one = All-contains_itself stripes k no_facts (within_then k one_of.1);
-              searched = searched_then k one_of.1 synced;
+              synced = (and_parts _ _ (searched_then k one_of.1 synced)).0;
               within = its.0;
               read = whole_is_read (get_or other.levels r no_level).state its.1;
               unchanged = unchanged other.stripe r;
             } in
-            subst (λ (t : TableValue). (p : ℕ) → p < t.shape.block_size → slice_index (get_or other.levels r no_level).block p ≡ parity_byte r (snapshot other.stripe) p) (sym differ.table)
+            subst (λ (t : TableValue). (p : ℕ) → p < t.shape.block_size → slice_index (get_or other.levels r no_level).block p ≡ parity_byte r (last_row snapshot other.stripe) p) (sym differ.table)
             (intact other r level)),
         λ it. refl,
       ))

@@ -1,5 +1,5 @@
 -- What was counted, tested and read: what the lemmas of this crate share.
-use Rattle.std.proofs.Common.{◌≡◌, ℕ, zero, suc, ◌<◌, ◌&&◌, List, [], ◌∷◌, length, get_or, not, Bool, true, false, cond, if◌then◌else◌, Option, None, Some, refl, arith}
+use Rattle.std.proofs.Common.{◌≡◌, ℕ, zero, suc, ◌<◌, ◌&&◌, List, [], ◌∷◌, length, get_or, Bool, true, false, cond, Option, None, Some, refl, arith}
 use Rattle.std.specs.Prelude.{count_by, sum_by}
 use Rattle.std.specs.List.{All, Contains, filter, range_with_len}
 use Rattle.std.proofs.lemmas.List.Elements.{All-filter, filter_passes}
@@ -63,8 +63,3 @@ passing p n k other within =
     let below : j < n = omega (arith, inside, length-range_with_len 0 n) in
     omega (arith, below, get_or-range_with_len 0 n j d below) in
     (All-filter p (λ (e : ℕ). e < n) (range_with_len 0 n) numbers k other within, filter_passes p (range_with_len 0 n) k other within)
-
--- what was not changed from outside stays so
-pub still_unchanged : (is_closed : Bool) → (if is_closed then false else false) ≡ false
-still_unchanged true = refl
-still_unchanged false = refl

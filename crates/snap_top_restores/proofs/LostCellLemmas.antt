@@ -15,7 +15,8 @@ use Rattle.snap_fix.specs.Restored.{IsDamagedCell}
 use Rattle.snap_report.specs.Kind.{is_finding, is_left}
 use Rattle.snap_report.specs.declared.events.Event.{Event}
 use Rattle.snap_report.specs.declared.events.Event.TheVariants as event
-use Rattle.stripe_examiner.specs.Facts.{StripeFacts, damaged_at, gift_of, is_missing}
+use Rattle.stripe_examiner.specs.Facts.{StripeFacts, damaged_at}
+use Rattle.stripe_examiner.specs.Showing.{is_unknown, known_block}
 use Rattle.stripe_examiner.specs.Known.{AreFacts}
 use Rattle.repair_scope.specs.Blocked.{is_blocked}
 use Rattle.repair_scope.specs.Plan.{FixPlan, cell_at, column_entries, entries_of, entry_at, entry_in, entry_of, has_selected, is_audit, is_in_scope, is_searched, no_entry, selects_cell}
@@ -25,14 +26,6 @@ use Rattle.snap_top.specs.Lost.{IsToldLost}
 use Rattle.snap_top.proofs.LostEvents.{IsLostIn, lost_is_told, told_is_blocked, told_is_lost, told_is_unsynced}
 use Rattle.snap_top_restores.specs.Named.{AllSynced}
 use Rattle.snap_top_restores.proofs.CountLemmas.{cell_selected, first_of, second_of}
-
--- ---- tests that hold
-
-all_three : (a b c : Bool) → (a && b && c) ≡ true → (a ≡ true) × (b ≡ true) × (c ≡ true)
-all_three true true true is = (refl, refl, refl)
-all_three true true false is = absurd (let clash : false ≡ true = is in cc)
-all_three true false c is = absurd (let clash : false ≡ true = is in cc)
-all_three false b c is = absurd (let clash : false ≡ true = is in cc)
 
 -- a cell stands in a column of its table
 column_of : (plan : FixPlan) (stripe d : ℕ) (cell : Cell) → cell_at plan stripe d ≡ Some cell → d < length plan.table.columns
@@ -93,14 +86,15 @@ module _ (plan : FixPlan) (stripes : List StripeFacts) (parity : is_audit plan.s
   lost_cell : (stripe d : ℕ) → IsLostIn plan stripes stripe d → LostCell plan stripes
   lost_cell stripe d it =
       let facts : StripeFacts = it.facts in
-      let tests = all_three (selects_cell plan facts.stripe d) (is_missing plan facts d) (not (is_some facts.row)) it.lost in
-      let found = cell_selected plan d (cell_at plan facts.stripe d) (second_of (is_in_scope plan facts.stripe) (has_selected plan d (cell_at plan facts.stripe d)) tests.0) in
+      let selected : selects_cell plan facts.stripe d ≡ true = first_of (selects_cell plan facts.stripe d) (is_unknown plan facts d) it.lost in
+      let unknown : is_unknown plan facts d ≡ true = second_of (selects_cell plan facts.stripe d) (is_unknown plan facts d) it.lost in
+      let found = cell_selected plan d (cell_at plan facts.stripe d) (second_of (is_in_scope plan facts.stripe) (has_selected plan d (cell_at plan facts.stripe d)) selected) in
       let is : IsDamagedCell plan stripes facts d found.0 = record {
         one = it.one;
         column = column_of plan facts.stripe d found.0 found.1;
         cell_is = found.1;
-        selected = tests.0;
-        damaged = first_of (damaged_at plan facts d) (not (is_some (gift_of facts d))) tests.1;
+        selected = selected;
+        damaged = first_of (damaged_at plan facts d) (not (is_some (known_block plan facts d))) unknown;
       } in
       record { facts = facts; d = d; cell = found.0; is = is; told = lost_is_told plan stripes facts d found.0 is parity it.lost }
 

@@ -1,5 +1,5 @@
 -- A check of an array whose disks were lost, and a fix of it that leaves something: the check names a cell that can't be restored.
-use Rattle.std.proofs.Common.{◌≡◌, inl, inr, ⊎_elim, ℕ, zero, suc, ◌<◌, ◌≤◌, List, [], ◌∷◌, length, map, get_or, Bool, true, false, is_some, IsTrue, Option, None, Some, refl, sym, ap, ◌∙◌, subst, arith}
+use Rattle.std.proofs.Common.{◌≡◌, inl, inr, ⊎_elim, ℕ, zero, suc, ◌<◌, ◌≤◌, List, [], ◌∷◌, length, map, get_or, Bool, true, false, IsTrue, Option, None, Some, refl, sym, ap, ◌∙◌, subst, arith}
 use Rattle.std.specs.Prelude.{count_by}
 use Rattle.std.specs.Cmp.Lexicographic.{slice_cmp}
 use Rattle.std.specs.FinMap as finite_map
@@ -18,7 +18,7 @@ use Rattle.disk_model.specs.Tree.{File, Tree, file_of, listing_of, meta_of, path
 use Rattle.disk_model.specs.Vault.{VaultView, copies_of}
 use Rattle.file_table.specs.Table.{TableValue, info_at, is_synced_mark}
 use Rattle.file_table.specs.declared.info.Mark.{Mark}
-use Rattle.parity_writer.specs.Sound.{Snapshot, Sound}
+use Rattle.parity_writer.specs.Sound.{Sound, Closed, last_row}
 use Rattle.snap_config.specs.declared.options.Command.TheVariants as commands
 use Rattle.snap_fix.specs.Fixing.{facts_of}
 use Rattle.snap_fix.specs.Genuine.{AreGenuine, IsIntactLevel, TellsIntactLevels}
@@ -37,12 +37,12 @@ use Rattle.snap_top.specs.Headline.{Headline}
 use Rattle.snap_top.specs.History.{AreSoundBy, LastSynced, synced_by}
 use Rattle.snap_top.specs.Levels.{said_by}
 use Rattle.snap_top.specs.Lost.{IsDamagedOfSynced, NamesLost}
-use Rattle.snap_top.specs.Moment.{IsFixOf, rows_closed}
+use Rattle.snap_top.specs.Moment.{IsFixOf, rows_closed, levels_closed}
 use Rattle.snap_top.specs.Naming.{EndsChecked, events_found}
 use Rattle.snap_top.specs.Restoring.{EndsFixed, events_in}
 use Rattle.snap_top.specs.Resumed.{RunOf}
 use Rattle.snap_top.specs.Run.{Entry, Exit}
-use Rattle.snap_top.specs.Standing.{BeginsOver, Edits, GoesOver, IsHistory, IsOrigin, Runs, Stage, Standing, after_of, before_of}
+use Rattle.snap_top.specs.Standing.{BeginsOver, Edits, GoesOver, IsHistory, IsOrigin, Runs, Stage, Standing, after_of, before_of, nothing_synced}
 use Rattle.snap_top.specs.Taken.{IsTakenFrom}
 use Rattle.snap_top.specs.Task.{fixes}
 use Rattle.snap_top.specs.Undamaged.{IsUndamaged}
@@ -67,8 +67,10 @@ use Rattle.snap_top_instances.proofs.SmoothLemmas.{content_by, first_content}
 use Rattle.snap_top_restores.specs.Named.{AllSynced, AreRunOverLost, HoldsSynced, IsNamedLost}
 use Rattle.snap_top_restores.proofs.AsFixedLemmas.{alike, genuine_then, intact_then}
 use Rattle.snap_top_restores.proofs.LostCellLemmas.{LostCell, left_found, left_lost, none_blocked, searched_of}
-use Rattle.snap_top_restores.proofs.CountLemmas.{some_counted, still_unchanged}
+use Rattle.snap_top_restores.proofs.CountLemmas.{some_counted}
 use Rattle.snap_top_instances.proofs.EndsLemmas.{asks_alike, counted_some, ended_as}
+use Rattle.snap_top.proofs.HistoryLemmas.{last_bytes}
+use Rattle.snap_top.proofs.UnchangedLemmas.{unchanged_without}
 
 -- ---- the stripes of a table
 
@@ -135,9 +137,9 @@ module _ {O F V W : Type 0} (opener_view : O → OpenerView) (folder_view : F �
   Always = HoldsAlways opener_view folder_view vault_view sink_view
 
   abbrev pub LevelsAreIntact : Type 0
-  LevelsAreIntact = (run : RunOf O F V W) (fix : FixRun) (snapshot : Snapshot) (is_changed : ℕ → ℕ → Bool) (facts : StripeFacts) (r : ℕ) → IsFixOf (begun run) (ended run) fix
+  LevelsAreIntact = (run : RunOf O F V W) (fix : FixRun) (snapshot : Closed) (is_changed : ℕ → ℕ → Bool) (facts : StripeFacts) (r : ℕ) → IsFixOf (begun run) (ended run) fix
       → IsTrue (begun run).opener.vault.tells → Sound fix.loaded (begun run).opener.vault.files snapshot is_changed → IsUndamaged fix is_changed facts r
-      → (whole_level facts.levels r ≡ true) × IsIntactLevel fix.plan facts (snapshot facts.stripe) r
+      → (whole_level facts.levels r ≡ true) × IsIntactLevel fix.plan facts (last_row snapshot facts.stripe) r
 
   -- ---- both runs over what is left
 
@@ -202,7 +204,7 @@ module _ {O F V W : Type 0} (opener_view : O → OpenerView) (folder_view : F �
       → (stripe level : ℕ) → next.last.is_changed stripe level ≡ false
   unchanged_then once first next origin goes stripe level =
       ap (λ (last : LastSynced). last.is_changed stripe level) (goes.last ∙ ap (λ (last : LastSynced). synced_by goes.step.always.did goes.count last) origin.nothing)
-      ∙ still_unchanged (is_some (rows_closed goes.step.always.did goes.count stripe))
+      ∙ unchanged_without (levels_closed goes.step.always.did) (rows_closed goes.step.always.did goes.count) nothing_synced.is_changed stripe level refl
 
   module _ (holds : Always) (meets : MeetsNone opener_view folder_view vault_view sink_view) (intact : LevelsAreIntact) (determined : IsDetermined) (in_mode : FactsInMode) (says : FixFindsWhatACheckFinds)
       (one_table : OneTable) (texts others : List (List ℕ)) (status status_then : ℕ) (two : AreRunOverLost opener_view folder_view vault_view sink_view texts others status status_then)
@@ -251,10 +253,10 @@ module _ {O F V W : Type 0} (opener_view : O → OpenerView) (folder_view : F �
     parity : is_audit one.plan.scope.mode ≡ false
     parity = ap is_audit checks.has.is_check.over.plan_is.scope.mode_is
 
-    fixed_genuine : AreGenuine fix.plan two.next.last.snapshot (facts_of fix.stripes)
+    fixed_genuine : AreGenuine fix.plan (last_row two.next.last.snapshot) (facts_of fix.stripes)
     fixed_genuine = meets two.once two.again two.first two.next two.trees (fixes false fix) two.origin two.goes two.taken two.begins_then ends.is_fix
 
-    genuine : AreGenuine one.plan two.next.last.snapshot one.stripes
+    genuine : AreGenuine one.plan (last_row two.next.last.snapshot) one.stripes
     genuine = genuine_then determined in_mode says one_table (begun two.run) (begun two.again) (ended two.run) (ended two.again) two.run.status two.again.status one ends two.hold ask two.well two.well_then checks.has
         two.next.last.snapshot synced fixed_genuine
 
@@ -287,7 +289,7 @@ module _ {O F V W : Type 0} (opener_view : O → OpenerView) (folder_view : F �
     facts = lost.facts
 
     -- the levels that the fix read whole are intact
-    fixed_intact : (its : StripeFacts) (r : ℕ) → IsUndamaged fix two.next.last.is_changed its r → IsIntactLevel fix.plan its (two.next.last.snapshot its.stripe) r
+    fixed_intact : (its : StripeFacts) (r : ℕ) → IsUndamaged fix two.next.last.is_changed its r → IsIntactLevel fix.plan its (last_row two.next.last.snapshot its.stripe) r
     fixed_intact its r undamaged =
         let over = ends.is_fix.over in
         let last : LastSynced = two.next.last in
@@ -297,7 +299,7 @@ module _ {O F V W : Type 0} (opener_view : O → OpenerView) (folder_view : F �
         (subst (λ (n : ℕ). AreSoundBy n files last) (sym two.begins_then.copies) (subst (λ (fs : Files). AreSoundBy standing.copies fs last) (sym two.begins_then.files) headline.sound.sound)) in
         (intact two.again fix last.snapshot last.is_changed its r ends.is_fix two.hold.tells_then.tells_vault sound undamaged).1
 
-    tells : TellsIntactLevels one.plan facts (two.next.last.snapshot facts.stripe) (λ (r : ℕ). true)
+    tells : TellsIntactLevels one.plan facts (last_row two.next.last.snapshot facts.stripe) (λ (r : ℕ). true)
     tells = intact_then determined in_mode says one_table (begun two.run) (begun two.again) (ended two.run) (ended two.again) two.run.status two.again.status one ends two.hold ask two.well two.well_then checks.has
         two.next.last.snapshot two.next.last.is_changed synced (unchanged_then two.once two.first two.next two.origin two.goes) fixed_intact facts lost.is.one
 
@@ -306,7 +308,7 @@ module _ {O F V W : Type 0} (opener_view : O → OpenerView) (folder_view : F �
         let at = lost.is.one in
         let within : facts.stripe < length one.plan.table.infos
         = subst (λ (it : StripeFacts). it.stripe < length one.plan.table.infos) at.2 (let its = checks.has.is_check.over.are at.0 facts at.1 in its.within) in
-        record { is = lost.is; synced = searched_of one.plan facts.stripe synced within parity; bytes = headline.sound.bytes facts.stripe; tells = tells }
+        record { is = lost.is; synced = searched_of one.plan facts.stripe synced within parity; bytes = last_bytes two.next.last.snapshot facts.stripe headline.sound.bytes; tells = tells }
 
     names : NamesLost one.plan one.stripes two.next.last.snapshot (events_found one)
     names = headline.names two.run two.begins checks genuine

@@ -1,7 +1,8 @@
 -- A fix that printed that it fixed one block: that block was in reach, and enough of its stripe's levels were undamaged.
-use Rattle.std.proofs.Common.{◌≡◌, inl, ℕ, ◌+◌, ◌*◌, ◌<◌, ◌≤◌, ◌==◌, ◌&&◌, List, [], ◌∷◌, ◌++◌, length, get_or, not, Bool, true, false, if◌then◌else◌, Option, None, Some, is_some, Ok, IsTrue, refl, sym, ap, ◌∙◌, subst, arith, append-nil}
+use Rattle.std.proofs.Common.{◌≡◌, inl, inr, ℕ, ◌+◌, ◌*◌, ◌<◌, ◌≤◌, ◌==◌, ◌&&◌, List, [], ◌∷◌, ◌++◌, length, get_or, not, Bool, true, false, if◌then◌else◌, Option, None, Some, is_some, Ok, IsTrue, refl, sym, ap, ◌∙◌, subst, arith, append-nil}
 use Rattle.std.specs.Prelude.{count_by, sum_by}
 use Rattle.std.specs.List.{Contains, filter, range_with_len}
+use Rattle.std.proofs.lemmas.Bool.{and_parts}
 use Rattle.std.proofs.lemmas.List.{get_or_default}
 use Rattle.std.proofs.lemmas.List.FromFn.{get_or-range_with_len, length-range_with_len}
 use Rattle.std.proofs.lemmas.List.Sums.{count_by-le-length, length-filter}
@@ -16,13 +17,13 @@ use Rattle.file_table.specs.Table.{TableValue}
 use Rattle.file_table.specs.declared.block.Cell.{Cell}
 use Rattle.parity_writer.specs.LevelReading.{kept_level}
 use Rattle.parity_writer.specs.LevelsValue.{LevelValue, no_level}
-use Rattle.parity_writer.specs.Sound.{Snapshot, Sound}
+use Rattle.parity_writer.specs.Sound.{Sound, Closed, last_row}
 use Rattle.parity_writer.specs.declared.levels.LevelRead.TheVariants as here
 use Rattle.snap_fix.specs.Ending.{Finishes}
 use Rattle.snap_fix.specs.Fixing.{facts_of}
 use Rattle.snap_fix.specs.Genuine.{IsIntactLevel, IsRestorableStripe, TellsIntactLevels}
 use Rattle.snap_fix.specs.Mended.{Mended, answer_of, has_lost, is_blocked_cell, is_repaired, is_written, written_in, wrong_in}
-use Rattle.snap_fix.specs.Restored.{HoldsCell}
+use Rattle.snap_fix.specs.Restored.{CanBeHad, HoldsCell}
 use Rattle.snap_report.specs.EndLines.{fix_text}
 use Rattle.snap_report.specs.EventLines.{lines_of}
 use Rattle.snap_report.specs.Kind.{is_left}
@@ -31,18 +32,19 @@ use Rattle.stripe_examiner.specs.Counts.{at_most}
 use Rattle.stripe_examiner.specs.Facts.{StripeFacts, damaged_at, gift_of, is_missing, missing_in}
 use Rattle.stripe_examiner.specs.Known.{AreFacts, IsTried, whole_level, whole_levels}
 use Rattle.stripe_examiner.specs.Looking.{facts_at, no_facts, unread_in}
-use Rattle.repair_scope.specs.Plan.{FixPlan, cell_at, entry_at, has_selected, is_in_scope, is_searched, selects_cell}
+use Rattle.repair_scope.specs.Plan.{FixPlan, cell_at, entry_at, has_selected, is_in_scope, is_searched, is_synced, selects_cell}
 use Rattle.stripe_examiner.specs.Showing.{known_block, known_by}
+use Rattle.stripe_examiner.proofs.ShownLemmas.{known_block_is}
 use Rattle.snap_top.specs.Fix.{FixRun}
 use Rattle.snap_top.specs.Headline.{FixesToItsEnd, IsSoundStanding}
 use Rattle.snap_top.specs.History.{AreSoundBy, LastSynced, synced_by}
-use Rattle.snap_top.specs.Moment.{IsFixOf, TellsAll, rows_closed}
+use Rattle.snap_top.specs.Moment.{IsFixOf, TellsAll, rows_closed, levels_closed}
 use Rattle.snap_top.specs.Opening.{asked_by}
 use Rattle.snap_top.specs.RestoredLast.{IsInReach, IsRestored}
 use Rattle.snap_top.specs.Restoring.{EndsFixed, Restores, events_in}
 use Rattle.snap_top.specs.Resumed.{RunOf}
 use Rattle.snap_top.specs.Run.{Entry, Exit}
-use Rattle.snap_top.specs.Standing.{BeginsOver, Edits, GoesOver, IsHistory, IsOrigin, MeetsNoChance, Runs, Stage, Standing, after_of, before_of}
+use Rattle.snap_top.specs.Standing.{BeginsOver, Edits, GoesOver, IsHistory, IsOrigin, MeetsNoChance, Runs, Stage, Standing, after_of, before_of, nothing_synced}
 use Rattle.snap_top.specs.Undamaged.{HasEnough, IsRecoverable, IsUndamaged, is_read, undamaged_levels, was_read}
 use Rattle.snap_top.specs.Views.{folder_at}
 use Rattle.snap_top.proofs.HeldLemmas.{levels_given, none_risen}
@@ -57,7 +59,9 @@ use Rattle.snap_top_restores.specs.Reached.{IsReachedCell, TellsOneFixed}
 use Rattle.snap_top_instances.specs.Told.{RunsTold}
 use Rattle.snap_top_restores.proofs.FixedLineLemmas.{some_written}
 use Rattle.snap_top_instances.proofs.SaidLemmas.{not_set}
-use Rattle.snap_top_restores.proofs.CountLemmas.{cell_selected, first_of, passing, second_of, some_counted, some_summed, still_unchanged, whole_is_read}
+use Rattle.snap_top_restores.proofs.CountLemmas.{cell_selected, first_of, passing, second_of, some_counted, some_summed, whole_is_read}
+use Rattle.snap_top.proofs.HistoryLemmas.{last_bytes}
+use Rattle.snap_top.proofs.UnchangedLemmas.{unchanged_without}
 
 -- ---- what a count has counted
 
@@ -128,8 +132,8 @@ module _ (before : Entry) (exit : Exit) (status : ℕ) (tells : TellsAll before)
     are : AreFacts plan facts
     are = subst (AreFacts plan) is_one.2 (ends.is_fix.over.finds.are is_one.0 facts is_one.1)
 
-    tests : (selects_cell plan facts.stripe d ≡ true) × (damaged_at plan facts d ≡ true) × (is_some (known_block facts d) ≡ true) × (not (is_blocked_cell plan d (cell_at plan facts.stripe d)) ≡ true)
-    tests = all_four (selects_cell plan facts.stripe d) (damaged_at plan facts d) (is_some (known_block facts d)) (not (is_blocked_cell plan d (cell_at plan facts.stripe d)))
+    tests : (selects_cell plan facts.stripe d ≡ true) × (damaged_at plan facts d ≡ true) × (is_some (known_block plan facts d) ≡ true) × (not (is_blocked_cell plan d (cell_at plan facts.stripe d)) ≡ true)
+    tests = all_four (selects_cell plan facts.stripe d) (damaged_at plan facts d) (is_some (known_block plan facts d)) (not (is_blocked_cell plan d (cell_at plan facts.stripe d)))
         (first_of (is_repaired plan facts d) (answer_of mended d) is)
 
     found : (cell : Cell) × (cell_at plan facts.stripe d ≡ Some cell)
@@ -138,22 +142,25 @@ module _ (before : Entry) (exit : Exit) (status : ℕ) (tells : TellsAll before)
     no_gift : gift_of facts d ≡ None
     no_gift = subst (λ (it : StripeFacts). (k : ℕ) → gift_of it k ≡ None) is_one.2 (ends.is_fix.over.no_gifts is_one.0 facts is_one.1) d
 
-    searched : is_searched plan facts.stripe ≡ true
+    pub searched : is_searched plan facts.stripe ≡ true
     searched = by (is_searched plan facts.stripe) refl
       where
         by : (b : Bool) → is_searched plan facts.stripe ≡ b → is_searched plan facts.stripe ≡ true
         by true it = it
         by false it =
             let untried : IsTried plan facts false = subst (IsTried plan facts) it are.tried in
-            let unknown : known_block facts d ≡ None = ap (λ (gift : Option (List ℕ)). known_by gift facts.row d) no_gift ∙ ap (λ (row : Option (List (List ℕ))). known_by None row d) untried.2 in
+            let unknown : known_block plan facts d ≡ None
+            = known_block_is plan facts are d ∙ ap (λ (gift : Option (List ℕ)). known_by true gift facts.row d) no_gift ∙ ap (λ (row : Option (List (List ℕ))). known_by true None row d) untried.2 in
             absurd (let clash : false ≡ true = ap (λ (block : Option (List ℕ)). is_some block) (sym unknown) ∙ tests.2 in cc)
+
+    synced : is_synced plan facts.stripe ≡ true
+    synced = (and_parts _ _ searched).0
 
     pub reached : (cell : Cell) × IsInReach run facts d cell
     reached = (
       found.0,
       record {
         is = record { one = is_one; column = column; cell_is = found.1; selected = tests.0; damaged = tests.1 };
-        synced = searched;
         free = not_set (entry_at plan d found.0.rec).blocked (subst (λ (at : Option Cell). not (is_blocked_cell plan d at) ≡ true) found.1 tests.3);
       },
     )
@@ -178,7 +185,7 @@ module _ (before : Entry) (exit : Exit) (status : ℕ) (tells : TellsAll before)
         ∙ read_some (get_or (facts_at all k).levels 0 no_level) size (read_from (parity_of v.files 0) ((facts_at all k).stripe * size) size) given
 
     pub undamaged : IsUndamaged run is_changed facts 0
-    undamaged = record { one = is_one; searched = searched; within = some_level; read = first_read; unchanged = unchanged facts.stripe 0 }
+    undamaged = record { one = is_one; synced = synced; within = some_level; read = first_read; unchanged = unchanged facts.stripe 0 }
 
     few : length (missing_in plan facts) ≤ 1
     few =
@@ -203,7 +210,7 @@ module _ (before : Entry) (exit : Exit) (status : ℕ) (tells : TellsAll before)
     whole_undamaged k other within =
         let r : ℕ = get_or (whole_levels facts.levels) k other in
         let its = passing (whole_level facts.levels) (length facts.levels) k other within in
-        record { one = is_one; searched = searched; within = its.0; read = whole_is_read (get_or facts.levels r no_level).state its.1; unchanged = unchanged facts.stripe r }
+        record { one = is_one; synced = synced; within = its.0; read = whole_is_read (get_or facts.levels r no_level).state its.1; unchanged = unchanged facts.stripe r }
 
     -- one that is whole is enough, if all of them are intact
     pub restorable : whole_level facts.levels 0 ≡ true → IsRestorableStripe plan facts (λ (r : ℕ). true)
@@ -239,21 +246,21 @@ module _ {O F V W : Type 0} (opener_view : O → OpenerView) (folder_view : F �
 
   -- what the law says
   abbrev pub LevelsAreIntact : Type 0
-  LevelsAreIntact = (run : RunOf O F V W) (fix : FixRun) (snapshot : Snapshot) (is_changed : ℕ → ℕ → Bool) (facts : StripeFacts) (r : ℕ) → IsFixOf (begun run) (ended run) fix
+  LevelsAreIntact = (run : RunOf O F V W) (fix : FixRun) (snapshot : Closed) (is_changed : ℕ → ℕ → Bool) (facts : StripeFacts) (r : ℕ) → IsFixOf (begun run) (ended run) fix
       → IsTrue (begun run).opener.vault.tells → Sound fix.loaded (begun run).opener.vault.files snapshot is_changed → IsUndamaged fix is_changed facts r
-      → (whole_level facts.levels r ≡ true) × IsIntactLevel fix.plan facts (snapshot facts.stripe) r
+      → (whole_level facts.levels r ≡ true) × IsIntactLevel fix.plan facts (last_row snapshot facts.stripe) r
 
   abbrev pub CellsAreRestored : Type 0
-  CellsAreRestored = (run : RunOf O F V W) (fix : FixRun) (finishes : Finishes) (snapshot : Snapshot) (is_changed : ℕ → ℕ → Bool) (facts : StripeFacts) (d : ℕ) (cell : Cell)
+  CellsAreRestored = (run : RunOf O F V W) (fix : FixRun) (finishes : Finishes) (snapshot : Closed) (is_changed : ℕ → ℕ → Bool) (facts : StripeFacts) (d : ℕ) (cell : Cell)
       → IsFixOf (begun run) (ended run) fix → IsTrue (begun run).opener.vault.tells → Sound fix.loaded (begun run).opener.vault.files snapshot is_changed → Restores fix finishes snapshot
       → IsRecoverable fix snapshot is_changed facts d cell
-      → HoldsCell fix.plan.table d cell (has_lost fix.plan fix.stripes d cell.rec) (byte_of (snapshot facts.stripe) d) (folder_at fix.ended d).tree
+      → HoldsCell fix.plan.table d cell (has_lost fix.plan fix.stripes d cell.rec) (byte_of (last_row snapshot facts.stripe) d) (folder_at fix.ended d).tree
 
   unchanged_then : (once : RunOf O F V W) (first next : Standing) → IsOrigin first → GoesOver opener_view folder_view vault_view sink_view once first next
       → (stripe level : ℕ) → next.last.is_changed stripe level ≡ false
   unchanged_then once first next origin goes stripe level =
       ap (λ (last : LastSynced). last.is_changed stripe level) (goes.last ∙ ap (λ (last : LastSynced). synced_by goes.step.always.did goes.count last) origin.nothing)
-      ∙ still_unchanged (is_some (rows_closed goes.step.always.did goes.count stripe))
+      ∙ unchanged_without (levels_closed goes.step.always.did) (rows_closed goes.step.always.did goes.count) nothing_synced.is_changed stripe level refl
 
   -- by all that stands
   reached_by : (first standing next : Standing) (stages : List (Stage O F V W)) (run : RunOf O F V W) (status : ℕ) → LevelsAreIntact → CellsAreRestored → IsOrigin first
@@ -270,6 +277,7 @@ module _ {O F V W : Type 0} (opener_view : O → OpenerView) (folder_view : F �
       let its : WrittenCell ends.run = written (begun run) (ended run) run.status over.tells ends one_folder calm last.is_changed unchanged some in
       let facts : StripeFacts = its.mended.facts in
       let at = reached (begun run) (ended run) run.status over.tells ends one_folder calm last.is_changed unchanged some its.mended its.one its.d its.column its.is in
+      let its_searched : is_searched ends.run.plan facts.stripe ≡ true = searched (begun run) (ended run) run.status over.tells ends one_folder calm last.is_changed unchanged some its.mended its.one its.d its.column its.is in
       let level : IsUndamaged ends.run last.is_changed facts 0 = undamaged (begun run) (ended run) run.status over.tells ends one_folder calm last.is_changed unchanged some its.mended its.one its.d its.column its.is in
       let enough_here : HasEnough ends.run last.is_changed facts = enough (begun run) (ended run) run.status over.tells ends one_folder calm last.is_changed unchanged some its.mended its.one its.d its.column its.is in
       let is_fix : IsFixOf (begun run) (ended run) ends.run = ends.is_fix in
@@ -278,16 +286,17 @@ module _ {O F V W : Type 0} (opener_view : O → OpenerView) (folder_view : F �
       (subst (λ (k : ℕ). AreSoundBy k files last) (sym over.copies) (subst (λ (fs : Files). AreSoundBy standing.copies fs last) (sym over.files) sound.sound)) in
       let restores : Restores ends.run ends.finishes last.snapshot = ends.restores last.snapshot last.is_changed table_sound restored.genuine in
       let can : IsRecoverable ends.run last.snapshot last.is_changed facts its.d at.0
-      = record { is = at.1.is; searched = at.1.synced; free = at.1.free; bytes = sound.bytes facts.stripe; enough = enough_here } in
+      = record { is = at.1.is; synced = level.synced; free = at.1.free; bytes = last_bytes last.snapshot facts.stripe sound.bytes; enough = enough_here } in
       let first_intact = intact run ends.run last.snapshot last.is_changed facts 0 is_fix over.tells.tells_vault table_sound level in
-      let tells_intact : TellsIntactLevels ends.run.plan facts (last.snapshot facts.stripe) (λ (r : ℕ). true) = λ k other within. (
+      let tells_intact : TellsIntactLevels ends.run.plan facts (last_row last.snapshot facts.stripe) (λ (r : ℕ). true) = λ k other within. (
         λ it.
             (intact run ends.run last.snapshot last.is_changed facts (get_or (whole_levels facts.levels) k other) is_fix over.tells.tells_vault table_sound
             (whole_undamaged (begun run) (ended run) run.status over.tells ends one_folder calm last.is_changed unchanged some its.mended its.one its.d its.column its.is k other within)).1,
         λ it. refl,
       ) in
-      let restorable_here : IsRestorableStripe ends.run.plan facts (λ (r : ℕ). true)
+      let enough_intact : IsRestorableStripe ends.run.plan facts (λ (r : ℕ). true)
       = restorable (begun run) (ended run) run.status over.tells ends one_folder calm last.is_changed unchanged some its.mended its.one its.d its.column its.is first_intact.0 in
+      let restorable_here : CanBeHad ends.run.plan facts (λ (r : ℕ). true) its.d = record { sought = level.synced; had = inr enough_intact } in
       record {
         first = first;
         standing = standing;
@@ -303,12 +312,13 @@ module _ {O F V W : Type 0} (opener_view : O → OpenerView) (folder_view : F �
         cell = at.0;
         r = 0;
         reach = at.1;
+        searched = its_searched;
         enough = enough_here;
-        has = restored.restores.counted facts its.d at.0 at.1 enough_here;
+        has = restored.restores.counted facts its.d at.0 at.1 level.synced enough_here;
         is_intact = λ (r : ℕ). true;
         tells_intact = tells_intact;
         restorable = restorable_here;
-        not_lost = λ told. (restored.restores.named facts its.d at.0 (λ (r : ℕ). true) at.1.is at.1.synced tells_intact).0 told restorable_here;
+        not_lost = λ told. (restored.restores.named facts its.d at.0 (λ (r : ℕ). true) at.1.is its_searched tells_intact).0 told restorable_here;
         tells = over.tells.tells_vault;
         sound = table_sound;
         restores = restores;

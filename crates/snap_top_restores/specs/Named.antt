@@ -8,7 +8,8 @@ use Rattle.disk_model.specs.Tree.{Tree}
 use Rattle.disk_model.specs.Vault.{VaultView, copies_of}
 use Rattle.file_table.specs.Table.{TableValue, info_at, is_synced_mark}
 use Rattle.file_table.specs.declared.block.Cell.{Cell}
-use Rattle.snap_fix.specs.Genuine.{AreGenuine, IsRestorableStripe}
+use Rattle.snap_fix.specs.Genuine.{AreGenuine, held_row}
+use Rattle.snap_fix.specs.Restored.{CanBeHad}
 use Rattle.snap_sync.specs.Part.{tree_at}
 use Rattle.stripe_examiner.specs.Facts.{StripeFacts}
 use Rattle.snap_top.specs.Alike.{HoldAlike, NothingRose}
@@ -72,13 +73,13 @@ module _ {O F V W : Type 0} (opener_view : O → OpenerView) (folder_view : F �
     pub bare : (d : ℕ) → tree_at standing.trees d ≡ finite_map.empty
     pub begins : BeginsOver standing (before_of opener_view folder_view vault_view sink_view run)
     pub ends : EndsChecked (before_of opener_view folder_view vault_view sink_view run) (after_of opener_view folder_view vault_view sink_view run) run.status
-    pub genuine : AreGenuine ends.run.plan standing.last.snapshot ends.run.stripes
+    pub genuine : AreGenuine ends.run.plan (held_row ends.run.plan.table standing.last.snapshot) ends.run.stripes
     pub names : NamesLost ends.run.plan ends.run.stripes standing.last.snapshot (events_found ends.run)
     pub facts : StripeFacts
     pub d : ℕ
     pub cell : Cell
     pub is_intact : ℕ → Bool
     pub damaged : IsDamagedOfSynced ends.run.plan ends.run.stripes standing.last.snapshot facts d cell is_intact
-    pub too_many : ¬ (IsRestorableStripe ends.run.plan facts is_intact)
+    pub too_many : ¬ (CanBeHad ends.run.plan facts is_intact d)
     pub told : IsToldLost (events_found ends.run) facts d cell
     pub status_is : run.status ≡ status

@@ -7,9 +7,10 @@ use Rattle.disk_model.specs.Sink.{SinkView}
 use Rattle.disk_model.specs.Vault.{VaultView}
 use Rattle.file_table.specs.declared.block.Cell.{Cell}
 use Rattle.parity_writer.specs.Sound.{Sound}
-use Rattle.snap_fix.specs.Genuine.{IsIntactLevel, IsRestorableStripe, TellsIntactLevels}
+use Rattle.snap_fix.specs.Genuine.{IsIntactLevel, TellsIntactLevels, held_row}
 use Rattle.snap_fix.specs.Mended.{has_lost}
-use Rattle.snap_fix.specs.Restored.{HoldsCell}
+use Rattle.snap_fix.specs.Restored.{CanBeHad, HoldsCell}
+use Rattle.repair_scope.specs.Plan.{is_searched}
 use Rattle.stripe_examiner.specs.Facts.{StripeFacts}
 use Rattle.stripe_examiner.specs.Known.{whole_level}
 use Rattle.snap_top.specs.Lost.{IsToldLost}
@@ -44,11 +45,12 @@ module _ {O F V W : Type 0} (opener_view : O → OpenerView) (folder_view : F �
     pub cell : Cell
     pub r : ℕ
     pub reach : IsInReach restored.ends.run facts d cell
+    pub searched : is_searched restored.ends.run.plan facts.stripe ≡ true
     pub enough : HasEnough restored.ends.run standing.last.is_changed facts
     pub has : HasLast restored.ends.run standing.last next.trees facts d cell
     pub is_intact : ℕ → Bool
-    pub tells_intact : TellsIntactLevels restored.ends.run.plan facts (standing.last.snapshot facts.stripe) is_intact
-    pub restorable : IsRestorableStripe restored.ends.run.plan facts is_intact
+    pub tells_intact : TellsIntactLevels restored.ends.run.plan facts (held_row restored.ends.run.plan.table standing.last.snapshot facts.stripe) is_intact
+    pub restorable : CanBeHad restored.ends.run.plan facts is_intact d
     pub not_lost : ¬ (IsToldLost (events_in restored.ends.run restored.ends.finishes) facts d cell)
     pub tells : IsTrue (before_of opener_view folder_view vault_view sink_view run).opener.vault.tells
     pub sound : Sound restored.ends.run.loaded (before_of opener_view folder_view vault_view sink_view run).opener.vault.files
@@ -56,7 +58,7 @@ module _ {O F V W : Type 0} (opener_view : O → OpenerView) (folder_view : F �
     pub restores : Restores restored.ends.run restored.ends.finishes standing.last.snapshot
     pub undamaged : IsUndamaged restored.ends.run standing.last.is_changed facts r
     pub recoverable : IsRecoverable restored.ends.run standing.last.snapshot standing.last.is_changed facts d cell
-    pub intact : (whole_level facts.levels r ≡ true) × IsIntactLevel restored.ends.run.plan facts (standing.last.snapshot facts.stripe) r
+    pub intact : (whole_level facts.levels r ≡ true) × IsIntactLevel restored.ends.run.plan facts (held_row restored.ends.run.plan.table standing.last.snapshot facts.stripe) r
     pub holds : HoldsCell restored.ends.run.plan.table d cell (has_lost restored.ends.run.plan restored.ends.run.stripes d cell.rec)
-        (byte_of (standing.last.snapshot facts.stripe) d) (folder_at restored.ends.run.ended d).tree
+        (byte_of (held_row restored.ends.run.plan.table standing.last.snapshot facts.stripe) d) (folder_at restored.ends.run.ended d).tree
     pub status_is : run.status ≡ status

@@ -1,5 +1,5 @@
 -- A sync that was stopped, a level that was lost, and one more sync are a history of runs over which the copies stay sound.
-use Rattle.std.proofs.Common.{◌≡◌, ◌≢◌, inl, ℕ, ◌<◌, ◌≤◌, ◌==◌, List, [], ◌∷◌, length, map, get_or, set, slice_index, Bool, true, false, Option, None, Ok, is_some, if◌then◌else◌, refl, sym, ap, ◌∙◌, subst, arith}
+use Rattle.std.proofs.Common.{◌≡◌, ◌≢◌, inl, ℕ, ◌<◌, ◌≤◌, ◌==◌, List, [], ◌∷◌, length, map, get_or, set, slice_index, Bool, true, false, Option, None, Ok, refl, sym, ap, ◌∙◌, subst, arith}
 use Rattle.std.proofs.lemmas.Bool.Decides.{Decides-eqb}
 use Rattle.disk_model.specs.Files.{Files, content_of, parity_of}
 use Rattle.disk_model.specs.Folder.{FolderView}
@@ -10,7 +10,7 @@ use Rattle.disk_memory.specs.Vault.{VaultValue, fresh_vault, view_of}
 use Rattle.snap_top.specs.Ended.{ByStatus}
 use Rattle.snap_top.specs.History.{AreSoundBy, IsChange, IsHistory, LastSynced, RunsOver as RunsFrom, StaysSound, Step, synced_by}
 use Rattle.snap_top.specs.Levels.{said_by}
-use Rattle.snap_top.specs.Moment.{StandsIn, SyncsToItsEnd, rows_closed}
+use Rattle.snap_top.specs.Moment.{StandsIn, SyncsToItsEnd, rows_closed, levels_closed}
 use Rattle.snap_top.specs.Opening.{asked_by}
 use Rattle.snap_top.specs.Resumed.{RunOf, StoppedRun}
 use Rattle.snap_top.specs.Run.{Entry, Exit}
@@ -25,6 +25,7 @@ use Rattle.snap_top_instances.specs.Asked.{HasWholeLevels}
 use Rattle.snap_top_stops.specs.StaysSound.{IsSoundHistory, first_level, steps_of}
 use Rattle.snap_top_instances.proofs.FullLemmas.{files_left}
 use Rattle.snap_top_stops.proofs.StoppedRunsLemmas.{no_copy, no_parity, nothing_sound}
+use Rattle.snap_top.proofs.UnchangedLemmas.{unchanged_without}
 
 -- ---- a level that was lost
 
@@ -39,10 +40,6 @@ emptied (level ∷ levels) = refl
 other_level : (level : ℕ) → (level == 0) ≡ false → level ≢ 0
 other_level level apart same = let clash : true ≡ false = sym ((Decides-eqb level 0).1 same) ∙ apart in absurd cc
 
-unchanged : (is_closed : Bool) → (if is_closed then false else false) ≡ false
-unchanged true = refl
-unchanged false = refl
-
 -- whatever a run had closed before, where nothing had been changed
 level_lost : (config : List ℕ) (old new : VaultView) (copies : ℕ) → IsChangedLevel 0 old new → HasWholeLevels config → (did : Did) (count : ℕ)
     → IsChange copies copies (synced_by did count nothing_synced).is_changed first_level (files_seen config old) (files_seen config new)
@@ -50,7 +47,7 @@ level_lost config old new copies changed whole did count =
     let one_each : splits (said_by config) ≡ false = ap splits whole.says ∙ whole.whole in
     record {
       contents = λ copy below. inl (copy, below, ap (λ (cs : List (Option (List ℕ))). get_or cs copy None) (contents_seen (said_by config) new ∙ changed.contents ∙ sym (contents_seen (said_by config) old)));
-      counted = λ stripe level is. unchanged (is_some (rows_closed did count stripe));
+      counted = λ stripe level is. unchanged_without (levels_closed did) (rows_closed did count) nothing_synced.is_changed stripe level refl;
       parity = λ copy table stripe level below valid spells is.
           let same : parity_of (files_seen config new) level ≡ parity_of (files_seen config old) level
           = ap (λ (fs : Files). parity_of fs level) (files_whole (said_by config) new one_each) ∙ changed.others level (other_level level is)

@@ -113,7 +113,7 @@ module _ {O F V W : Type 0} (opener_view : O → OpenerView) (folder_view : F �
 
   abbrev pub RunsAreResumed : Type 0
   RunsAreResumed = (setup : SetupValue) (trees : List Tree) (seed : List ℕ) (stops : List (StoppedRun O F V W)) (files left one other : Files) (whole last : RunOf O F V W)
-      (snapshot : ℕ → List (List ℕ)) (is_changed : ℕ → ℕ → Bool) → EndsClean opener_view folder_view vault_view sink_view setup trees seed files whole one
+      (snapshot : ℕ → List (List (List ℕ))) (is_changed : ℕ → ℕ → Bool) → EndsClean opener_view folder_view vault_view sink_view setup trees seed files whole one
       → AreSoundBy (length setup.contents) files (record { snapshot = snapshot; is_changed = is_changed })
       → AreStoppedRuns opener_view folder_view vault_view sink_view setup trees seed stops files left → EndsClean opener_view folder_view vault_view sink_view setup trees seed left last other
       → EndAlike (length setup.contents) is_changed one other

@@ -17,12 +17,13 @@ use Rattle.file_table.specs.declared.shape.Shape.{Shape}
 use Rattle.parity_writer.specs.LevelsValue.{LevelValue}
 use Rattle.stripe_reader.specs.SlotValue.{SlotValue}
 use Rattle.stripe_reader.specs.WindowValue.{WindowValue, slot_at}
-use Rattle.stripe_examiner.specs.declared.marking.CellMark.{CellMark}
-use Rattle.stripe_examiner.specs.declared.marking.CellMark.TheVariants.{Right, Given, Missing}
+use Rattle.stripe_examiner.specs.declared.marking.ColumnMark.{ColumnMark}
+use Rattle.stripe_examiner.specs.declared.marking.SlotMark.{SlotMark}
+use Rattle.stripe_examiner.specs.declared.marking.ColumnMark.TheVariants.{Right, Given, Missing}
 use Rattle.stripe_examiner.specs.AskedCell.{AsksBlock, AsksCells, AsksMarked, asks_for, holds_wanted, is_marked_given}
 use Rattle.stripe_examiner.specs.Asking.{AsksSpare, is_held, is_withheld, withheld_in}
 use Rattle.stripe_examiner.specs.Facts.{StripeFacts, gift_of, wanted_by}
-use Rattle.stripe_examiner.specs.Marks.{facts_after, gift_by, is_marked_missing, mark_in}
+use Rattle.stripe_examiner.specs.Marks.{facts_after, gift_by, is_marked_missing, column_mark}
 use Rattle.stripe_examiner.specs.MarkedWindow.{HasMarks}
 use Rattle.repair_scope.specs.Plan.{FixPlan, is_searched, seen_at}
 use Rattle.stripe_examiner.specs.Spare.{SpareView, Hashing, IsSpareCall, IsSpareFor, HasHash, holds_block}
@@ -145,14 +146,14 @@ module _ (asked held given after : ℕ → Bool) (n : ℕ) (old mid new : SpareV
 
 -- ---- a stripe, by its marks
 
-given_by : (mark : CellMark) (slot : SlotValue) → is_some (gift_by mark slot) ≡ is_marked_given mark
+given_by : (mark : ColumnMark) (slot : SlotValue) → is_some (gift_by mark slot) ≡ is_marked_given mark
 given_by Right slot = refl
 given_by Given slot = refl
 given_by Missing slot = refl
 
-module _ (plan : FixPlan) (stripe i : ℕ) (before marked after : WindowValue) (marks : List CellMark) (levels : List LevelValue) (known : Bool)
+module _ (plan : FixPlan) (stripe i : ℕ) (before marked after : WindowValue) (marks : List SlotMark) (levels : List LevelValue) (known : Bool)
     (cells : HasMarks plan stripe i before marks marked)
-    (stays : (d : ℕ) → is_marked_missing (mark_in marks d) ≡ false → slot_at after i d ≡ slot_at marked i d)
+    (stays : (d : ℕ) → is_marked_missing (column_mark marks d) ≡ false → slot_at after i d ≡ slot_at marked i d)
     (old new : SpareView) (asks : AsksMarked plan stripe i before marks old new) where
   abbrev facts : StripeFacts
   facts = facts_after stripe i before marks levels known after
@@ -160,22 +161,22 @@ module _ (plan : FixPlan) (stripe i : ℕ) (before marked after : WindowValue) (
   abbrev columns : ℕ
   columns = length plan.table.columns
 
-  given_is : (d : ℕ) → d < columns → is_some (gift_of facts d) ≡ is_marked_given (mark_in marks d)
+  given_is : (d : ℕ) → d < columns → is_some (gift_of facts d) ≡ is_marked_given (column_mark marks d)
   given_is d below =
       ap (λ (gift : Option (List ℕ)). is_some gift) (gift_is plan stripe i before marked after marks levels known cells stays d below)
-      ∙ given_by (mark_in marks d) (slot_at after i d)
+      ∙ given_by (column_mark marks d) (slot_at after i d)
 
   withheld_is : (d : ℕ) → d < columns → is_withheld old plan facts d
-      ≡ (asks_for (is_searched plan stripe) (seen_at plan stripe d) (slot_at before i d) && not (is_marked_given (mark_in marks d)) && holds_wanted old (wanted_by plan.table.shape d (seen_at plan stripe d)))
+      ≡ (asks_for (is_searched plan stripe) plan.table.shape.kind (seen_at plan stripe d) (slot_at before i d) && not (is_marked_given (column_mark marks d)) && holds_wanted old (wanted_by plan.table.shape d (seen_at plan stripe d)))
   withheld_is d below =
-      ap₂ (λ (slot : SlotValue) (b : Bool). asks_for (is_searched plan stripe) (seen_at plan stripe d) slot && not b && is_held old plan facts d)
+      ap₂ (λ (slot : SlotValue) (b : Bool). asks_for (is_searched plan stripe) plan.table.shape.kind (seen_at plan stripe d) slot && not b && is_held old plan facts d)
       (slot_is plan stripe i before marked after marks levels known cells stays d) (given_is d below)
 
   gave_of : IsTrue old.tells → (d : ℕ) → is_some (gift_of facts d) ≡ true → is_held old plan facts d ≡ true
   gave_of tells d is = elim (cases_lt d columns) [
     | inl near ↦ asks.gave tells d near (sym (given_is d near) ∙ is)
     | inr far ↦
-        let long : length facts.gifts ≡ length marks = length-map-range_with_len (λ (k : ℕ). gift_by (mark_in marks k) (slot_at after i k)) 0 (length marks) in
+        let long : length facts.gifts ≡ length marks = length-map-range_with_len (λ (k : ℕ). gift_by (column_mark marks k) (slot_at after i k)) 0 (length marks) in
         let none : gift_of facts d ≡ None = get_or_past facts.gifts d None (omega (arith, far, long, cells.as_many)) in
         absurd (both_ways (is_some (gift_of facts d)) (ap (λ (gift : Option (List ℕ)). is_some gift) none) is)
   ]
@@ -188,8 +189,8 @@ module _ (plan : FixPlan) (stripe i : ℕ) (before marked after : WindowValue) (
         (All-nil (λ (it : StripeFacts). (d : ℕ) → is_some (gift_of it d) ≡ true → is_held old plan it d ≡ true));
     withheld = λ tells.
         let all : withheld_in old plan facts
-        ≡ count_by (λ d. asks_for (is_searched plan stripe) (seen_at plan stripe d) (slot_at before i d) && not (is_marked_given (mark_in marks d)) && holds_wanted old (wanted_by plan.table.shape d (seen_at plan stripe d))) (range_with_len 0 columns) =
-        count_below (is_withheld old plan facts) (λ d. asks_for (is_searched plan stripe) (seen_at plan stripe d) (slot_at before i d) && not (is_marked_given (mark_in marks d)) && holds_wanted old (wanted_by plan.table.shape d (seen_at plan stripe d))) columns withheld_is in
+        ≡ count_by (λ d. asks_for (is_searched plan stripe) plan.table.shape.kind (seen_at plan stripe d) (slot_at before i d) && not (is_marked_given (column_mark marks d)) && holds_wanted old (wanted_by plan.table.shape d (seen_at plan stripe d))) (range_with_len 0 columns) =
+        count_below (is_withheld old plan facts) (λ d. asks_for (is_searched plan stripe) plan.table.shape.kind (seen_at plan stripe d) (slot_at before i d) && not (is_marked_given (column_mark marks d)) && holds_wanted old (wanted_by plan.table.shape d (seen_at plan stripe d))) columns withheld_is in
         omega (arith, all, asks.withheld tells);
   }
 

@@ -11,10 +11,11 @@ use Rattle.parity_writer.specs.WindowRow.{bytes_of, bytes_in, row_at}
 use Rattle.stripe_reader.specs.Slot.{slot_given}
 use Rattle.stripe_reader.specs.SlotValue.{SlotValue}
 use Rattle.stripe_reader.specs.WindowValue.{WindowValue, slot_at}
-use Rattle.stripe_examiner.specs.declared.marking.CellMark.{CellMark}
-use Rattle.stripe_examiner.specs.declared.marking.CellMark.TheVariants.{Right, Given, Missing}
+use Rattle.stripe_examiner.specs.declared.marking.ColumnMark.{ColumnMark}
+use Rattle.stripe_examiner.specs.declared.marking.SlotMark.{SlotMark}
+use Rattle.stripe_examiner.specs.declared.marking.ColumnMark.TheVariants.{Right, Given, Missing}
 use Rattle.stripe_examiner.specs.Facts.{StripeFacts, slot_of, gift_of, is_damaged, has_hash, is_missing, gift_or, bytes_before, row_before, IsGift, IsGiftFor, IsGiven, wanted_in, wanted_at}
-use Rattle.stripe_examiner.specs.Marks.{mark_in, is_marked_missing, IsMarked, MarksCells, wanted_marked, gift_by, facts_after}
+use Rattle.stripe_examiner.specs.Marks.{column_mark, is_marked_missing, IsMarked, MarksCells, wanted_marked, gift_by, facts_after}
 use Rattle.stripe_examiner.specs.MarkedWindow.{HasMarks}
 use Rattle.repair_scope.specs.Plan.{FixPlan, seen_at, is_searched}
 use Rattle.stripe_examiner.proofs.StripeLemmas.{slot_of_stripe}
@@ -30,16 +31,16 @@ given_found block_size given slot fits =
 
 module _ (searched : Bool) (shape : Shape) (seen : Option CellView) (before marked after : SlotValue) where
   -- whether it is missing
-  abbrev missing_by : CellMark → Bool
-  missing_by mark = is_damaged seen before && not (is_some (gift_by mark after))
+  abbrev missing_by : ColumnMark → Bool
+  missing_by mark = is_damaged shape.kind seen before && not (is_some (gift_by mark after))
 
-  missing_is : (mark : CellMark) → IsMarked searched shape seen before mark marked → missing_by mark ≡ is_marked_missing mark
+  missing_is : (mark : ColumnMark) → IsMarked searched shape seen before mark marked → missing_by mark ≡ is_marked_missing mark
   missing_is Right is = ap (λ (b : Bool). b && true) is.0
   missing_is Missing is = ap (λ (b : Bool). b && true) is.0
   missing_is Given is = ap (λ (b : Bool). b && false) is.0
 
   -- the bytes of its block
-  bytes_are : (mark : CellMark) → IsMarked searched shape seen before mark marked → (is_marked_missing mark ≡ false → after ≡ marked)
+  bytes_are : (mark : ColumnMark) → IsMarked searched shape seen before mark marked → (is_marked_missing mark ≡ false → after ≡ marked)
       → (if missing_by mark then [] else gift_or (gift_by mark after) (bytes_of before)) ≡ bytes_of marked
   bytes_are Right is stays =
       ap (λ (b : Bool). if b then [] else bytes_of before) (missing_is Right is) ∙ sym (ap bytes_of is.1)
@@ -49,7 +50,7 @@ module _ (searched : Bool) (shape : Shape) (seen : Option CellView) (before mark
       ap (λ (b : Bool). if b then [] else bytes_of after) (missing_is Given is) ∙ ap bytes_of (stays refl)
 
   -- what the spare gave
-  gift_is_for : (mark : CellMark) → IsMarked searched shape seen before mark marked → (is_marked_missing mark ≡ false → after ≡ marked)
+  gift_is_for : (mark : ColumnMark) → IsMarked searched shape seen before mark marked → (is_marked_missing mark ≡ false → after ≡ marked)
       → IsGiftFor shape seen (gift_by mark after)
   gift_is_for Right is stays = tt
   gift_is_for Missing is stays = tt
@@ -59,8 +60,8 @@ module _ (searched : Bool) (shape : Shape) (seen : Option CellView) (before mark
       subst (λ (it : Option CellView). IsGiftFor shape it (Some (bytes_of after))) (sym seen_is)
       (subst (λ (bytes : List ℕ). IsGift shape cell bytes) (sym here) gift)
 
-  gift_asked : (mark : CellMark) → IsMarked searched shape seen before mark marked → is_some (gift_by mark after) ≡ true
-      → (searched && is_damaged seen before && has_hash seen) ≡ true
+  gift_asked : (mark : ColumnMark) → IsMarked searched shape seen before mark marked → is_some (gift_by mark after) ≡ true
+      → (searched && is_damaged shape.kind seen before && has_hash seen) ≡ true
   gift_asked Right is some = absurd cc
   gift_asked Missing is some = absurd cc
   gift_asked Given (damaged, tried, cell, seen_is, given, gift, marked_is) some =
@@ -69,7 +70,7 @@ module _ (searched : Bool) (shape : Shape) (seen : Option CellView) (before mark
       ∙ ap (λ hash. is_some hash) gift.hash_is
 
   -- where nothing is searched for, nothing is given
-  none_given : (mark : CellMark) → searched ≡ false → IsMarked searched shape seen before mark marked → gift_by mark after ≡ None
+  none_given : (mark : ColumnMark) → searched ≡ false → IsMarked searched shape seen before mark marked → gift_by mark after ≡ None
   none_given Right not_searched is = refl
   none_given Missing not_searched is = refl
   none_given Given not_searched is = let both : true ≡ false = sym is.1 ∙ not_searched in absurd cc
@@ -112,12 +113,12 @@ all_none (x ∷ xs) none (suc k) = all_none xs (λ j below. none (suc j) (omega 
 
 -- ---- all cells of a stripe
 
-pub has_marks : (plan : FixPlan) (stripe i : ℕ) (before marked : WindowValue) (marks : List CellMark) → MarksCells plan stripe i before marks marked → HasMarks plan stripe i before marks marked
-has_marks plan stripe i before marked marks cells = record { as_many = cells.as_many; each = cells.each }
+pub has_marks : (plan : FixPlan) (stripe i : ℕ) (before marked : WindowValue) (marks : List SlotMark) → MarksCells plan stripe i before marks marked → HasMarks plan stripe i before marks marked
+has_marks plan stripe i before marked marks marks_are = record { as_many = marks_are.as_many; each = marks_are.each; cells = marks_are.cells }
 
-module _ (plan : FixPlan) (stripe i : ℕ) (before marked after : WindowValue) (marks : List CellMark) (levels : List LevelValue) (known : Bool)
+module _ (plan : FixPlan) (stripe i : ℕ) (before marked after : WindowValue) (marks : List SlotMark) (levels : List LevelValue) (known : Bool)
     (cells : HasMarks plan stripe i before marks marked)
-    (stays : (d : ℕ) → is_marked_missing (mark_in marks d) ≡ false → slot_at after i d ≡ slot_at marked i d) where
+    (stays : (d : ℕ) → is_marked_missing (column_mark marks d) ≡ false → slot_at after i d ≡ slot_at marked i d) where
   abbrev facts : StripeFacts
   facts = facts_after stripe i before marks levels known after
 
@@ -130,34 +131,34 @@ module _ (plan : FixPlan) (stripe i : ℕ) (before marked after : WindowValue) (
   pub slot_is : (d : ℕ) → slot_of facts d ≡ slot_at before i d
   slot_is d = slot_of_stripe before i d
 
-  pub gift_is : (d : ℕ) → d < columns → gift_of facts d ≡ gift_by (mark_in marks d) (slot_at after i d)
+  pub gift_is : (d : ℕ) → d < columns → gift_of facts d ≡ gift_by (column_mark marks d) (slot_at after i d)
   gift_is d below =
-      get_or-map-range_with_len (λ (k : ℕ). gift_by (mark_in marks k) (slot_at after i k)) 0 (length marks) d d None
+      get_or-map-range_with_len (λ (k : ℕ). gift_by (column_mark marks k) (slot_at after i k)) 0 (length marks) d d None
       (omega (arith, below, cells.as_many)) (omega arith)
 
-  pub missing_as_marked : (d : ℕ) → d < columns → is_missing plan facts d ≡ is_marked_missing (mark_in marks d)
+  pub missing_as_marked : (d : ℕ) → d < columns → is_missing plan facts d ≡ is_marked_missing (column_mark marks d)
   missing_as_marked d below =
-      ap₂ (λ (slot : SlotValue) (gift : Option (List ℕ)). is_damaged (seen_at plan stripe d) slot && not (is_some gift)) (slot_is d) (gift_is d below)
-      ∙ missing_is (is_searched plan stripe) shape (seen_at plan stripe d) (slot_at before i d) (slot_at marked i d) (slot_at after i d) (mark_in marks d) (cells.each d below)
+      ap₂ (λ (slot : SlotValue) (gift : Option (List ℕ)). is_damaged plan.table.shape.kind (seen_at plan stripe d) slot && not (is_some gift)) (slot_is d) (gift_is d below)
+      ∙ missing_is (is_searched plan stripe) shape (seen_at plan stripe d) (slot_at before i d) (slot_at marked i d) (slot_at after i d) (column_mark marks d) (cells.each d below)
 
   bytes_as_marked : (d : ℕ) → d < columns → bytes_before plan facts d ≡ bytes_of (slot_at marked i d)
   bytes_as_marked d below =
-      ap₂ (λ (slot : SlotValue) (gift : Option (List ℕ)). if is_damaged (seen_at plan stripe d) slot && not (is_some gift) then [] else gift_or gift (bytes_of slot)) (slot_is d) (gift_is d below)
-      ∙ bytes_are (is_searched plan stripe) shape (seen_at plan stripe d) (slot_at before i d) (slot_at marked i d) (slot_at after i d) (mark_in marks d) (cells.each d below) (stays d)
+      ap₂ (λ (slot : SlotValue) (gift : Option (List ℕ)). if is_damaged plan.table.shape.kind (seen_at plan stripe d) slot && not (is_some gift) then [] else gift_or gift (bytes_of slot)) (slot_is d) (gift_is d below)
+      ∙ bytes_are (is_searched plan stripe) shape (seen_at plan stripe d) (slot_at before i d) (slot_at marked i d) (slot_at after i d) (column_mark marks d) (cells.each d below) (stays d)
 
   pub given_as_marked : (d : ℕ) → d < columns → IsGiven plan facts d
   given_as_marked d below = record {
     is = subst (IsGiftFor shape (seen_at plan stripe d)) (sym (gift_is d below))
-        (gift_is_for (is_searched plan stripe) shape (seen_at plan stripe d) (slot_at before i d) (slot_at marked i d) (slot_at after i d) (mark_in marks d) (cells.each d below) (stays d));
+        (gift_is_for (is_searched plan stripe) shape (seen_at plan stripe d) (slot_at before i d) (slot_at marked i d) (slot_at after i d) (column_mark marks d) (cells.each d below) (stays d));
     asked = λ some.
-        ap (λ (slot : SlotValue). is_searched plan stripe && is_damaged (seen_at plan stripe d) slot && has_hash (seen_at plan stripe d)) (slot_is d)
-        ∙ gift_asked (is_searched plan stripe) shape (seen_at plan stripe d) (slot_at before i d) (slot_at marked i d) (slot_at after i d) (mark_in marks d) (cells.each d below)
+        ap (λ (slot : SlotValue). is_searched plan stripe && is_damaged plan.table.shape.kind (seen_at plan stripe d) slot && has_hash (seen_at plan stripe d)) (slot_is d)
+        ∙ gift_asked (is_searched plan stripe) shape (seen_at plan stripe d) (slot_at before i d) (slot_at marked i d) (slot_at after i d) (column_mark marks d) (cells.each d below)
         (sym (ap (λ (gift : Option (List ℕ)). is_some gift) (gift_is d below)) ∙ some);
   }
 
   -- what is searched for, and the row before the search
   pub wanted_as_marked : wanted_in plan facts ≡ wanted_marked plan stripe marks
-  wanted_as_marked = ap (map (wanted_at plan facts)) (filter_below (is_missing plan facts) (λ d. is_marked_missing (mark_in marks d)) columns missing_as_marked)
+  wanted_as_marked = ap (map (wanted_at plan facts)) (filter_below (is_missing plan facts) (λ d. is_marked_missing (column_mark marks d)) columns missing_as_marked)
 
   pub row_as_marked : length marked.lanes ≡ columns → row_before plan facts ≡ row_at marked i
   row_as_marked lanes =
@@ -177,7 +178,7 @@ module _ (plan : FixPlan) (stripe i : ℕ) (before marked after : WindowValue) (
     where
       none_at : (k : ℕ) → k < length facts.gifts → get_or facts.gifts k None ≡ None
       none_at k below =
-          let long : length facts.gifts ≡ length marks = length-map-range_with_len (λ (d : ℕ). gift_by (mark_in marks d) (slot_at after i d)) 0 (length marks) in
+          let long : length facts.gifts ≡ length marks = length-map-range_with_len (λ (d : ℕ). gift_by (column_mark marks d) (slot_at after i d)) 0 (length marks) in
           let column : k < columns = omega (arith, below, long, cells.as_many) in
           gift_is k column
-          ∙ none_given (is_searched plan stripe) shape (seen_at plan stripe k) (slot_at before i k) (slot_at marked i k) (slot_at after i k) (mark_in marks k) not_searched (cells.each k column)
+          ∙ none_given (is_searched plan stripe) shape (seen_at plan stripe k) (slot_at before i k) (slot_at marked i k) (slot_at after i k) (column_mark marks k) not_searched (cells.each k column)

@@ -17,19 +17,20 @@ use Rattle.parity_writer.specs.Parity.{Row}
 use Rattle.parity_writer.specs.WindowRow.{bytes_in, bytes_of, row_at}
 use Rattle.stripe_reader.specs.SlotValue.{SlotValue}
 use Rattle.stripe_reader.specs.WindowValue.{WindowValue, slot_at}
-use Rattle.stripe_examiner.specs.declared.marking.CellMark.{CellMark}
-use Rattle.stripe_examiner.specs.declared.marking.CellMark.TheVariants.{Right, Given, Missing}
+use Rattle.stripe_examiner.specs.declared.marking.ColumnMark.{ColumnMark}
+use Rattle.stripe_examiner.specs.declared.marking.SlotMark.{SlotMark}
+use Rattle.stripe_examiner.specs.declared.marking.ColumnMark.TheVariants.{Right, Given, Missing}
 use Rattle.stripe_examiner.specs.declared.room.StripeRoom.{StripeRoom}
 use Rattle.stripe_examiner.specs.declared.search.Wanted.{Wanted}
 use Rattle.stripe_examiner.specs.Facts.{wanted_by}
-use Rattle.stripe_examiner.specs.Findings.{is_wrong_by}
+use Rattle.stripe_examiner.specs.Findings.{is_wrong_by, may_write_level}
 use Rattle.stripe_examiner.specs.Judged.{AreEmpty, AreMissingIn, CanJudge, IsJudged, JudgesStripe, KeepsRead, row_judged}
 use Rattle.stripe_examiner.specs.Judging.{TellsWrong}
 use Rattle.stripe_examiner.specs.Knowing.{HaveCells}
 use Rattle.stripe_examiner.specs.Known.{AreRemainders, IsKnown}
 use Rattle.stripe_examiner.specs.MarkedWindow.{HasMarks}
-use Rattle.stripe_examiner.specs.Marks.{IsMarked, mark_in, is_marked_missing, wanted_marked}
-use Rattle.repair_scope.specs.Plan.{FixPlan, is_searched, seen_at, selects_level}
+use Rattle.stripe_examiner.specs.Marks.{IsMarked, column_mark, is_marked_missing, wanted_marked}
+use Rattle.repair_scope.specs.Plan.{FixPlan, is_searched, seen_at}
 use Rattle.stripe_examiner.specs.Restorable.{filled}
 use Rattle.stripe_examiner.specs.Room.{IsStripeRoomFor}
 use Rattle.stripe_examiner.specs.Search.{found_in}
@@ -39,32 +40,32 @@ use Rattle.stripe_examiner.proofs.KnowLemmas.{passed_distinct, wanted_column, wa
 
 -- ---- by the marks of a stripe
 
-empty_by : (searched : Bool) (shape : Shape) (seen : Option CellView) (before after : SlotValue) (mark : CellMark)
+empty_by : (searched : Bool) (shape : Shape) (seen : Option CellView) (before after : SlotValue) (mark : ColumnMark)
     → is_marked_missing mark ≡ true → IsMarked searched shape seen before mark after → bytes_of after ≡ []
 empty_by searched shape seen before after Right missing is = absurd (false≢true missing)
 empty_by searched shape seen before after Given missing is = absurd (false≢true missing)
 empty_by searched shape seen before after Missing missing is = ap bytes_of is.1 ∙ given_found shape.block_size [] before (omega arith)
 
-module _ (plan : FixPlan) (stripe i : ℕ) (before after : WindowValue) (marks : List CellMark) (has : HasMarks plan stripe i before marks after) where
+module _ (plan : FixPlan) (stripe i : ℕ) (before after : WindowValue) (marks : List SlotMark) (has : HasMarks plan stripe i before marks after) where
   pub cells_of_marks : HaveCells plan stripe marks
   cells_of_marks d below missing =
-      missing_is_some (is_searched plan stripe) plan.table.shape (seen_at plan stripe d) (slot_at before i d) (slot_at after i d) (mark_in marks d) missing (has.each d below)
+      missing_is_some (is_searched plan stripe) plan.table.shape (seen_at plan stripe d) (slot_at before i d) (slot_at after i d) (column_mark marks d) missing (has.each d below)
 
   pub empty_of_marks : AreEmpty plan i after marks
   empty_of_marks d below missing =
-      empty_by (is_searched plan stripe) plan.table.shape (seen_at plan stripe d) (slot_at before i d) (slot_at after i d) (mark_in marks d) missing (has.each d below)
+      empty_by (is_searched plan stripe) plan.table.shape (seen_at plan stripe d) (slot_at before i d) (slot_at after i d) (column_mark marks d) missing (has.each d below)
 
 -- ---- what is searched for
 
 module _ (plan : FixPlan) (stripe i : ℕ) (window : WindowValue) (own : StripeRoom) (can : CanJudge plan stripe i window own) where
-  abbrev marks : List CellMark
+  abbrev marks : List SlotMark
   marks = own.marks.items
 
   abbrev columns : ℕ
   columns = length plan.table.columns
 
   abbrev missing : ℕ → Bool
-  missing d = is_marked_missing (mark_in marks d)
+  missing d = is_marked_missing (column_mark marks d)
 
   abbrev numbers : List ℕ
   numbers = filter missing (range_with_len 0 columns)
@@ -125,7 +126,7 @@ pub none_wrong : (plan : FixPlan) (stripe : ℕ) (levels : LevelsValue) → leve
 none_wrong plan stripe levels most r below =
     let level : LevelValue = level_at levels r in
     get_or-replicate 6 r false false (omega (arith, below, most))
-    ∙ sym (ap (λ (b : Bool). selects_level plan stripe r && b) (never_wrong plan.table.shape.block_size r level.state level.block) ∙ and_false (selects_level plan stripe r))
+    ∙ sym (ap (λ (b : Bool). may_write_level plan stripe r && b) (never_wrong plan.table.shape.block_size r level.state level.block) ∙ and_false (may_write_level plan stripe r))
 
 -- ---- what is judged
 

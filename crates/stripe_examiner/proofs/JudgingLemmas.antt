@@ -3,6 +3,7 @@ use Rattle.std.proofs.Common.{◌≡◌, ◌↔◌, ℕ, zero, suc, ◌*◌, ◌
 use Rattle.std.specs.Prelude.{bytes_eq, if◌then◌else◌}
 use Rattle.std.specs.Int.Bits.{bit_xor, xor_self, xor_zero_l}
 use Rattle.std.specs.List.{EachIndex}
+use Rattle.std.proofs.Math.Bool.{and-false}
 use Rattle.std.proofs.lemmas.Bool.{false≢true}
 use Rattle.std.proofs.lemmas.Grind.{same_number_lists}
 use Rattle.std.proofs.lemmas.List.{get_or-replicate, length-take}
@@ -15,10 +16,10 @@ use Rattle.parity_writer.specs.declared.levels.LevelRead.TheVariants as here
 use Rattle.parity_writer.specs.Parity.{Row}
 use Rattle.snap_report.specs.declared.events.Event.{Event}
 use Rattle.snap_report.specs.declared.events.Event.TheVariants.{Parity}
-use Rattle.stripe_examiner.specs.Findings.{all_level_events, is_wrong_by, level_events}
+use Rattle.stripe_examiner.specs.Findings.{all_level_events, is_wrong_by, level_events, may_write_level}
 use Rattle.stripe_examiner.specs.Judging.{TellsWrong, flagged_event, flagged_events}
 use Rattle.stripe_examiner.specs.Known.{AreRemainders, is_whole}
-use Rattle.repair_scope.specs.Plan.{FixPlan, has_selected_level, selects_level}
+use Rattle.repair_scope.specs.Plan.{FixPlan, has_selected_level, is_synced, selects_level}
 use Rattle.stripe_examiner.specs.Sharing.{IsLeftOf}
 use Rattle.stripe_examiner.proofs.KnowRemainders.{byte_of_level}
 use Rattle.stripe_examiner.proofs.RestorableSums.{added_twice}
@@ -121,10 +122,13 @@ module _ (plan : FixPlan) (stripe : ℕ) (levels : LevelsValue) (row : Option Ro
         | false ↦ λ is. refl
       ]) refl
 
+  not_written : (r : ℕ) → r < levels.count → may_write_level plan stripe r ≡ false
+  not_written r below = ap (λ (b : Bool). is_synced plan stripe && b) (not_selected r below) ∙ and-false (is_synced plan stripe)
+
   pub none_selected : TellsWrong plan stripe levels row (replicate 6 false)
   none_selected r below =
       get_or-replicate 6 r false false (omega (arith, below, most))
-      ∙ sym (ap (λ (b : Bool). b && is_wrong_by plan.table.shape.block_size r (level_at levels r).state (level_at levels r).block row) (not_selected r below))
+      ∙ sym (ap (λ (b : Bool). b && is_wrong_by plan.table.shape.block_size r (level_at levels r).state (level_at levels r).block row) (not_written r below))
 
 -- ---- the events of the levels with a flag are those of the wrong levels
 

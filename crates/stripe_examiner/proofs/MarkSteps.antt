@@ -11,17 +11,17 @@ use Rattle.parity_writer.specs.Parity.{Row}
 use Rattle.parity_writer.specs.WindowRow.{bytes_in, bytes_of, row_at}
 use Rattle.stripe_reader.specs.SlotValue.{SlotValue}
 use Rattle.stripe_reader.specs.WindowValue.{WindowValue, slot_at}
-use Rattle.stripe_examiner.specs.declared.marking.CellMark.{CellMark}
+use Rattle.stripe_examiner.specs.declared.marking.SlotMark.{SlotMark}
 use Rattle.stripe_examiner.specs.declared.room.StripeRoom.{StripeRoom}
 use Rattle.stripe_examiner.specs.AskedCell.{AsksMarked}
 use Rattle.stripe_examiner.specs.declared.search.Wanted.{Wanted}
-use Rattle.stripe_examiner.specs.Facts.{StripeFacts}
+use Rattle.stripe_examiner.specs.Facts.{StripeFacts, is_damaged, is_sought}
 use Rattle.stripe_examiner.specs.Judged.{CanJudge, IsJudged, JudgesStripe, row_found, row_judged}
 use Rattle.stripe_examiner.specs.Judging.{TellsWrong}
 use Rattle.stripe_examiner.specs.Knowing.{KeepsOtherColumns}
 use Rattle.stripe_examiner.specs.Known.{IsKnown}
 use Rattle.stripe_examiner.specs.MarkedWindow.{AsksForMarked, HasMarks, IsAsLarge, MarksStripe, PutsStripe, number_at}
-use Rattle.stripe_examiner.specs.Marks.{ChangesStripe, IsMarked, facts_after, gift_by, gifts_after, is_marked_missing, mark_in, slots_at, wanted_marked, levels_read}
+use Rattle.stripe_examiner.specs.Marks.{ChangesStripe, IsMarked, cell_mark, facts_after, gift_by, gifts_after, is_marked_missing, column_mark, mark_of_cell, slots_at, wanted_marked, levels_read}
 use Rattle.repair_scope.specs.Plan.{FixPlan, is_searched, seen_at}
 use Rattle.stripe_examiner.specs.Restorable.{filled}
 use Rattle.stripe_examiner.specs.Search.{found_in}
@@ -56,18 +56,18 @@ rows_same k one other lanes same =
     (length-map one.lanes (bytes_in k) ∙ lanes ∙ sym (length-map other.lanes (bytes_in k)))
     (λ d below. get_or-map-any (bytes_in k) one.lanes d [] ∙ ap bytes_of (same d) ∙ sym (get_or-map-any (bytes_in k) other.lanes d []))
 
-pub gifts_same : (k : ℕ) (one other : WindowValue) (marks : List CellMark) → SameSlots k one other → gifts_after k one marks ≡ gifts_after k other marks
+pub gifts_same : (k : ℕ) (one other : WindowValue) (marks : List SlotMark) → SameSlots k one other → gifts_after k one marks ≡ gifts_after k other marks
 gifts_same k one other marks same =
     let n = length marks in
-    let in_one = λ (d : ℕ). gift_by (mark_in marks d) (slot_at one k d) in
-    let in_other = λ (d : ℕ). gift_by (mark_in marks d) (slot_at other k d) in
+    let in_one = λ (d : ℕ). gift_by (column_mark marks d) (slot_at one k d) in
+    let in_other = λ (d : ℕ). gift_by (column_mark marks d) (slot_at other k d) in
     let long : length (gifts_after k one marks) ≡ n = length-map-range_with_len in_one 0 n in
     ext_get_or None (gifts_after k one marks) (gifts_after k other marks)
     (long ∙ sym (length-map-range_with_len in_other 0 n))
     (λ d below.
     let near : d < n = omega (arith, below, long) in
     get_or-map-range_with_len in_one 0 n d d None near (omega arith)
-    ∙ ap (gift_by (mark_in marks d)) (same d)
+    ∙ ap (gift_by (column_mark marks d)) (same d)
     ∙ sym (get_or-map-range_with_len in_other 0 n d d None near (omega arith)))
 
 -- ---- one stripe more is marked
@@ -79,9 +79,11 @@ module _ (plan : FixPlan) (stripe k : ℕ) (own : StripeRoom) where
     cells = record {
       as_many = marks.cells.as_many;
       each = λ d below.
-          subst (λ (slot : SlotValue). IsMarked (is_searched plan stripe) plan.table.shape (seen_at plan stripe d) (slot_at before k d) (mark_in own.marks.items d) slot) (now d)
-          (subst (λ (slot : SlotValue). IsMarked (is_searched plan stripe) plan.table.shape (seen_at plan stripe d) slot (mark_in own.marks.items d) (slot_at after k d)) (same d)
+          subst (λ (slot : SlotValue). IsMarked (is_searched plan stripe) plan.table.shape (seen_at plan stripe d) (slot_at before k d) (column_mark own.marks.items d) slot) (now d)
+          (subst (λ (slot : SlotValue). IsMarked (is_searched plan stripe) plan.table.shape (seen_at plan stripe d) slot (column_mark own.marks.items d) (slot_at after k d)) (same d)
           (marks.cells.each d below));
+      cells = λ d below.
+          subst (λ (slot : SlotValue). cell_mark own.marks.items d ≡ mark_of_cell (is_damaged plan.table.shape.kind (seen_at plan stripe d) slot) (is_sought plan stripe d)) (same d) (marks.cells.cells d below);
     };
     found = λ d below. subst (λ (slot : SlotValue). IsFound plan stripe slot d (found_at own.found.items d)) (same d) (marks.found d below);
   }
@@ -275,5 +277,5 @@ puts_found plan stripe i before after own size n wanteds known size_is wanteds_a
   others = λ d right.
       keeps d
       (subst (All (λ (one : Wanted). one.column ≢ d)) (sym wanteds_are)
-      (wanted_apart plan.table.shape (seen_at plan stripe) (λ e. is_marked_missing (mark_in own.marks.items e)) (length plan.table.columns) d right));
+      (wanted_apart plan.table.shape (seen_at plan stripe) (λ e. is_marked_missing (column_mark own.marks.items e)) (length plan.table.columns) d right));
 }

@@ -1,30 +1,23 @@
 -- The events of a stripe, by what its room shows.
-use Rattle.std.proofs.Common.{◌≡◌, ℕ, ◌<◌, ◌≤◌, ◌&&◌, min, List, [], ◌++◌, length, take, Bool, true, false, Option, refl, sym, ap, ap₂, ◌∙◌, append_assoc, arith}
-use Rattle.std.specs.Prelude.{is_some, not, slice_index_or, if◌then◌else◌}
+use Rattle.std.proofs.Common.{◌≡◌, ℕ, ◌≤◌, min, List, [], ◌++◌, length, take, Bool, true, false, Option, refl, sym, ap, ap₂, ◌∙◌, append_assoc, arith}
+use Rattle.std.specs.Prelude.{slice_index_or, if◌then◌else◌}
 use Rattle.std.specs.Option.{option_to_list}
 use Rattle.std.proofs.lemmas.List.{length-take}
 use Rattle.parity_writer.specs.LevelsValue.{LevelValue}
 use Rattle.snap_report.specs.declared.events.Event.{Event}
 use Rattle.stripe_reader.specs.WindowValue.{WindowValue, no_slot}
-use Rattle.stripe_examiner.specs.declared.marking.CellMark.{CellMark}
-use Rattle.stripe_examiner.specs.declared.marking.CellMark.TheVariants.{Right, Given, Missing}
+use Rattle.stripe_examiner.specs.declared.marking.SlotMark.{SlotMark}
 use Rattle.stripe_examiner.specs.declared.room.StripeRoom.{StripeRoom}
-use Rattle.stripe_examiner.specs.Facts.{StripeFacts, is_missing}
-use Rattle.stripe_examiner.specs.Findings.{unsynced_events, cell_events, all_cell_events, all_level_io_events, all_level_events, all_lost_events, lost_events, stripe_events}
+use Rattle.stripe_examiner.specs.Facts.{StripeFacts}
+use Rattle.stripe_examiner.specs.Findings.{unsynced_events, cell_events, all_cell_events, all_level_io_events, all_level_events, all_lost_events, is_lost, is_lost_by, lost_events, stripe_events}
 use Rattle.stripe_examiner.specs.Judging.{flagged_events}
 use Rattle.stripe_examiner.specs.Known.{IsTried}
-use Rattle.stripe_examiner.specs.Marks.{is_marked_missing, levels_read, mark_in}
+use Rattle.stripe_examiner.specs.Marks.{levels_read, mark_in}
 use Rattle.repair_scope.specs.Plan.{FixPlan, is_searched}
-use Rattle.stripe_examiner.specs.Showing.{is_damaged_mark, is_given_mark}
 use Rattle.stripe_examiner.specs.Shown.{ShowsStripe, found_at, level_events_shown, noted_events}
 use Rattle.stripe_examiner.proofs.CellFactsLemmas.{flat_map_below}
-use Rattle.stripe_examiner.proofs.ExaminedLemmas.{row_is_some}
 use Rattle.stripe_examiner.proofs.JudgingLemmas.{flagged_are}
-
-missing_mark : (mark : CellMark) → (is_damaged_mark mark && not (is_given_mark mark)) ≡ is_marked_missing mark
-missing_mark Right = refl
-missing_mark Given = refl
-missing_mark Missing = refl
+use Rattle.stripe_examiner.proofs.ShownLemmas.{lost_shown}
 
 module _ (plan : FixPlan) (facts : StripeFacts) (i : ℕ) (window : WindowValue) (own : StripeRoom) (shown : ShowsStripe plan facts i window own) where
   abbrev stripe : ℕ
@@ -61,27 +54,19 @@ module _ (plan : FixPlan) (facts : StripeFacts) (i : ℕ) (window : WindowValue)
   levels_are : all_level_io_events plan stripe facts.levels ++ all_level_events plan stripe facts.levels facts.row ≡ level_events_shown plan stripe own
   levels_are = levels_of (is_searched plan stripe) refl shown.are.tried
 
-  missing_is : (d : ℕ) → d < columns → is_missing plan facts d ≡ is_marked_missing (mark_in own.marks.items d)
-  missing_is d below =
-      ap₂ (λ (a b : Bool). a && not b) (shown.shows.damaged d below) (shown.shows.given d below) ∙ missing_mark (mark_in own.marks.items d)
-
-  known_is : is_some facts.row ≡ own.known
-  known_is = ap (λ row. is_some row) shown.shows.row ∙ row_is_some own.known window i
-
-  lost_are : all_lost_events plan stripe (is_missing plan facts) (is_some facts.row) ≡ all_lost_events plan stripe (λ d. is_marked_missing (mark_in own.marks.items d)) own.known
+  lost_are : all_lost_events plan stripe (is_lost plan facts) ≡ all_lost_events plan stripe (λ d. is_lost_by plan stripe (mark_in own.marks.items d) own.known d)
   lost_are =
-      ap (all_lost_events plan stripe (is_missing plan facts)) known_is
-      ∙ flat_map_below (λ d. lost_events plan stripe (is_missing plan facts d) own.known d)
-      (λ d. lost_events plan stripe (is_marked_missing (mark_in own.marks.items d)) own.known d) columns
-      (λ d below. ap (λ (b : Bool). lost_events plan stripe b own.known d) (missing_is d below))
+      flat_map_below (λ d. lost_events plan stripe (is_lost plan facts d) d)
+      (λ d. lost_events plan stripe (is_lost_by plan stripe (mark_in own.marks.items d) own.known d) d) columns
+      (λ d below. ap (λ (b : Bool). lost_events plan stripe b d) (lost_shown plan facts i own.marks.items own.known window shown.shows d below))
 
   pub events_shown : stripe_events plan facts
       ≡ unsynced_events plan stripe ++ (noted_events own.found.items columns
-      ++ (level_events_shown plan stripe own ++ all_lost_events plan stripe (λ d. is_marked_missing (mark_in own.marks.items d)) own.known))
+      ++ (level_events_shown plan stripe own ++ all_lost_events plan stripe (λ d. is_lost_by plan stripe (mark_in own.marks.items d) own.known d)))
   events_shown =
       let io : List Event = all_level_io_events plan stripe facts.levels in
       let wrong : List Event = all_level_events plan stripe facts.levels facts.row in
-      let lost : List Event = all_lost_events plan stripe (is_missing plan facts) (is_some facts.row) in
+      let lost : List Event = all_lost_events plan stripe (is_lost plan facts) in
       ap (λ (rest : List Event). unsynced_events plan stripe ++ rest)
       (ap₂ (λ (cells rest : List Event). cells ++ rest) cells_are
       (sym (append_assoc io wrong lost) ∙ ap₂ (λ (levels rest : List Event). levels ++ rest) levels_are lost_are))
@@ -99,14 +84,14 @@ levels_shown_read plan stripe own searched =
 
 -- the same of the stripe of a number, by what is noted and marked of it
 pub events_told : (plan : FixPlan) (facts : StripeFacts) (i : ℕ) (window : WindowValue) (own : StripeRoom) → ShowsStripe plan facts i window own
-    → (stripe : ℕ) → facts.stripe ≡ stripe → (found : List (Option Event)) (marks : List CellMark) → found ≡ own.found.items → marks ≡ own.marks.items
+    → (stripe : ℕ) → facts.stripe ≡ stripe → (found : List (Option Event)) (marks : List SlotMark) → found ≡ own.found.items → marks ≡ own.marks.items
     → stripe_events plan facts
     ≡ unsynced_events plan stripe ++ (noted_events found (length plan.table.columns)
-    ++ (level_events_shown plan stripe own ++ all_lost_events plan stripe (λ d. is_marked_missing (mark_in marks d)) own.known))
+    ++ (level_events_shown plan stripe own ++ all_lost_events plan stripe (λ d. is_lost_by plan stripe (mark_in marks d) own.known d)))
 events_told plan facts i window own shown stripe is found marks found_is marks_are =
     let columns = length plan.table.columns in
     events_shown plan facts i window own shown
     ∙ ap (λ (n : ℕ). unsynced_events plan n ++ (noted_events own.found.items columns
-    ++ (level_events_shown plan n own ++ all_lost_events plan n (λ d. is_marked_missing (mark_in own.marks.items d)) own.known))) is
-    ∙ ap₂ (λ (ns : List (Option Event)) (ms : List CellMark). unsynced_events plan stripe ++ (noted_events ns columns
-    ++ (level_events_shown plan stripe own ++ all_lost_events plan stripe (λ d. is_marked_missing (mark_in ms d)) own.known))) (sym found_is) (sym marks_are)
+    ++ (level_events_shown plan n own ++ all_lost_events plan n (λ d. is_lost_by plan n (mark_in own.marks.items d) own.known d)))) is
+    ∙ ap₂ (λ (ns : List (Option Event)) (ms : List SlotMark). unsynced_events plan stripe ++ (noted_events ns columns
+    ++ (level_events_shown plan stripe own ++ all_lost_events plan stripe (λ d. is_lost_by plan stripe (mark_in ms d) own.known d)))) (sym found_is) (sym marks_are)

@@ -1,5 +1,5 @@
 -- The marks and the window of a stripe that was examined show its facts.
-use Rattle.std.proofs.Common.{◌≡◌, ℕ, zero, suc, ◌+◌, ◌*◌, ◌<◌, ◌≤◌, ◌&&◌, List, [], ◌∷◌, length, drop, get_or, Bool, true, false, Option, None, Some, refl, sym, ap, ap₂, ◌∙◌, subst, arith}
+use Rattle.std.proofs.Common.{◌≡◌, ℕ, zero, suc, ◌+◌, ◌*◌, ◌<◌, ◌≤◌, ◌&&◌, ◌||◌, List, [], ◌∷◌, length, drop, get_or, Bool, true, false, Option, None, Some, refl, sym, ap, ap₂, ◌∙◌, subst, arith}
 use Rattle.std.specs.Prelude.{is_some, not, if◌then◌else◌}
 use Rattle.std.specs.List.{All, Contains, range_with_len, filter}
 use Rattle.std.specs.Option.{option_map}
@@ -19,14 +19,17 @@ use Rattle.parity_writer.specs.WindowRow.{bytes_in, bytes_of, row_at}
 use Rattle.stripe_reader.specs.SlotValue.{SlotValue}
 use Rattle.stripe_reader.specs.WindowValue.{WindowValue, slot_at}
 use Rattle.stripe_examiner.specs.declared.marking.CellMark.{CellMark}
-use Rattle.stripe_examiner.specs.declared.marking.CellMark.TheVariants.{Right, Given, Missing}
+use Rattle.stripe_examiner.specs.declared.marking.ColumnMark.{ColumnMark}
+use Rattle.stripe_examiner.specs.declared.marking.SlotMark.{SlotMark}
+use Rattle.stripe_examiner.specs.declared.marking.ColumnMark.TheVariants.{Right, Given, Missing}
 use Rattle.stripe_examiner.specs.declared.search.Wanted.{Wanted}
-use Rattle.stripe_examiner.specs.Facts.{StripeFacts, IsGift, IsGiftFor, gift_of, damaged_at, is_damaged, is_missing, bytes_before, missing_in, row_before, wanted_by, wanted_in}
+use Rattle.stripe_examiner.specs.Facts.{StripeFacts, IsGift, IsGiftFor, gift_of, damaged_at, is_damaged, is_missing, is_sought, bytes_before, missing_in, row_before, wanted_by, wanted_in}
 use Rattle.stripe_examiner.specs.Known.{AreFacts, IsKnown, IsTried, whole_level, whole_levels}
-use Rattle.stripe_examiner.specs.Marks.{IsMarked, facts_after, gift_by, is_marked_missing, mark_in, row_if}
-use Rattle.stripe_examiner.specs.Showing.{block_or_none, known_block, known_by, ShowsFacts, is_damaged_mark, is_given_mark}
+use Rattle.stripe_examiner.specs.Findings.{is_lost, is_lost_by}
+use Rattle.stripe_examiner.specs.Marks.{cell_mark, column_mark, facts_after, gift_by, is_marked_missing, mark_in, mark_of_cell, row_if}
+use Rattle.stripe_examiner.specs.Showing.{block_of_row, block_or_none, known_block, known_by, ShowsFacts, is_damaged_mark, is_given_mark, is_known_mark, is_sought_mark, is_unknown, is_unknown_mark}
 use Rattle.stripe_examiner.specs.MarkedWindow.{HasMarks}
-use Rattle.repair_scope.specs.Plan.{FixPlan, is_searched, seen_at}
+use Rattle.repair_scope.specs.Plan.{FixPlan, is_audit, is_searched, is_synced, seen_at, selects_cell}
 use Rattle.stripe_examiner.specs.Search.{Finds, choices, columns_of, no_wanted, wanted_at as wanted_of}
 use Rattle.stripe_examiner.proofs.CellFactsLemmas.{slot_is, gift_is}
 use Rattle.stripe_examiner.proofs.KnowLemmas.{passed_distinct, wanted_columns, wanted_lengths}
@@ -94,27 +97,46 @@ place_passing p (x ∷ xs) (suc k) within passes =
 
 -- ---- what the mark of a cell shows
 
-damaged_by : (searched : Bool) (shape : Shape) (seen : Option CellView) (before marked : SlotValue) (mark : CellMark)
-    → IsMarked searched shape seen before mark marked → is_damaged seen before ≡ is_damaged_mark mark
-damaged_by searched shape seen before marked Right is = is.0
-damaged_by searched shape seen before marked Given is = is.0
-damaged_by searched shape seen before marked Missing is = is.0
+damaged_by : (damaged sought : Bool) (mark : CellMark) → mark ≡ mark_of_cell damaged sought → damaged ≡ is_damaged_mark mark
+damaged_by false sought mark is = sym (ap is_damaged_mark is)
+damaged_by true true mark is = sym (ap is_damaged_mark is)
+damaged_by true false mark is = sym (ap is_damaged_mark is)
 
-given_by : (mark : CellMark) (slot : SlotValue) → is_some (gift_by mark slot) ≡ is_given_mark mark
+sought_by : (damaged sought : Bool) (mark : CellMark) → mark ≡ mark_of_cell damaged sought → (damaged && sought) ≡ is_sought_mark mark
+sought_by false sought mark is = sym (ap is_sought_mark is)
+sought_by true true mark is = sym (ap is_sought_mark is)
+sought_by true false mark is = sym (ap is_sought_mark is)
+
+given_by : (mark : ColumnMark) (slot : SlotValue) → is_some (gift_by mark slot) ≡ is_given_mark mark
 given_by Right slot = refl
 given_by Given slot = refl
 given_by Missing slot = refl
 
 -- a known block stands in its slot
-block_by : (mark : CellMark) (known : Bool) (window : WindowValue) (i d : ℕ) (slot : SlotValue) → is_damaged_mark mark ≡ true
-    → get_or (row_at window i) d [] ≡ bytes_of slot → is_some (known_by (gift_by mark slot) (row_if known window i) d) ≡ true
-    → bytes_of slot ≡ block_or_none (known_by (gift_by mark slot) (row_if known window i) d)
-block_by Right known window i d slot damaged in_row some = absurd cc
-block_by Given known window i d slot damaged in_row some = refl
-block_by Missing true window i d slot damaged in_row some = sym in_row
-block_by Missing false window i d slot damaged in_row some = absurd cc
+row_block_by : (known : Bool) (window : WindowValue) (i d : ℕ) (slot : SlotValue) → get_or (row_at window i) d [] ≡ bytes_of slot
+    → is_some (block_of_row (row_if known window i) d) ≡ true → bytes_of slot ≡ block_or_none (block_of_row (row_if known window i) d)
+row_block_by true window i d slot in_row some = sym in_row
+row_block_by false window i d slot in_row some = absurd cc
+
+block_by : (sought synced : Bool) (mark : ColumnMark) (known : Bool) (window : WindowValue) (i d : ℕ) (slot : SlotValue)
+    → get_or (row_at window i) d [] ≡ bytes_of slot → (let it : Option (List ℕ) = (if sought then known_by synced (gift_by mark slot) (row_if known window i) d else None) in is_some it ≡ true)
+    → (let it : Option (List ℕ) = (if sought then known_by synced (gift_by mark slot) (row_if known window i) d else None) in bytes_of slot ≡ block_or_none it)
+block_by false synced mark known window i d slot in_row some = absurd cc
+block_by true true Right known window i d slot in_row some = row_block_by known window i d slot in_row some
+block_by true true Given known window i d slot in_row some = refl
+block_by true true Missing known window i d slot in_row some = row_block_by known window i d slot in_row some
+block_by true false mark known window i d slot in_row some = row_block_by known window i d slot in_row some
 
 -- ---- of the facts of a stripe
+
+-- a block is known by what the spare gave and by the row alone: where a cell isn't sought, there is neither
+pub known_block_is : (plan : FixPlan) (facts : StripeFacts) → AreFacts plan facts → (d : ℕ) → known_block plan facts d ≡ known_by true (gift_of facts d) facts.row d
+known_block_is plan facts are d = by (is_synced plan facts.stripe) are.tried
+  where
+    by : (b : Bool) → IsTried plan facts (b && not (is_audit plan.scope.mode))
+        → (let it : Option (List ℕ) = (if b then known_by b (gift_of facts d) facts.row d else None) in it ≡ known_by true (gift_of facts d) facts.row d)
+    by true tried = refl
+    by false tried = sym (ap₂ (λ (gift : Option (List ℕ)) (row : Option Row). known_by true gift row d) (tried.0 d) tried.2)
 
 module _ (plan : FixPlan) (facts : StripeFacts) (are : AreFacts plan facts) (few : plan.table.shape.levels ≤ 6) where
   abbrev shape : Shape
@@ -159,19 +181,21 @@ module _ (plan : FixPlan) (facts : StripeFacts) (are : AreFacts plan facts) (few
           (subst (IsKnown shape (wanted_in plan facts) (row_before plan facts) facts.levels) row_is known) j within
           ∙ ap (λ (wanted : Wanted). wanted.length) is
 
-  pub known_long : (d : ℕ) (cell : CellView) → d < columns → seen d ≡ Some cell → damaged_at plan facts d ≡ true → is_some (known_block facts d) ≡ true
-      → length (block_or_none (known_block facts d)) ≡ real_length shape cell
-  known_long d cell below seen_is damaged some = by_gift (gift_of facts d) refl some
+  pub known_long : (d : ℕ) (cell : CellView) → d < columns → seen d ≡ Some cell → damaged_at plan facts d ≡ true → is_some (known_block plan facts d) ≡ true
+      → length (block_or_none (known_block plan facts d)) ≡ real_length shape cell
+  known_long d cell below seen_is damaged some =
+      ap (λ (block : Option (List ℕ)). length (block_or_none block)) (known_block_is plan facts are d)
+      ∙ by_gift (gift_of facts d) refl (sym (ap (λ (block : Option (List ℕ)). is_some block) (known_block_is plan facts are d)) ∙ some)
     where
-      by_row : (row : Option Row) → facts.row ≡ row → gift_of facts d ≡ None → is_some (known_by None row d) ≡ true
-          → length (block_or_none (known_by None row d)) ≡ real_length shape cell
+      by_row : (row : Option Row) → facts.row ≡ row → gift_of facts d ≡ None → is_some (known_by true None row d) ≡ true
+          → length (block_or_none (known_by true None row d)) ≡ real_length shape cell
       by_row None row_is none there = absurd cc
       by_row (Some row) row_is none there =
           missing_long row d cell below row_is seen_is
           (ap₂ (λ (b : Bool) (gift : Option (List ℕ)). b && not (is_some gift)) damaged none)
 
-      by_gift : (gift : Option (List ℕ)) → gift_of facts d ≡ gift → is_some (known_by gift facts.row d) ≡ true
-          → length (block_or_none (known_by gift facts.row d)) ≡ real_length shape cell
+      by_gift : (gift : Option (List ℕ)) → gift_of facts d ≡ gift → is_some (known_by true gift facts.row d) ≡ true
+          → length (block_or_none (known_by true gift facts.row d)) ≡ real_length shape cell
       by_gift (Some bytes) gift_is there =
           let is : IsGift shape cell bytes = subst (λ (gift : Option (List ℕ)). IsGiftFor shape (Some cell) gift) gift_is
           (subst (λ (it : Option CellView). IsGiftFor shape it (gift_of facts d)) seen_is (are.given d below).is) in
@@ -180,31 +204,78 @@ module _ (plan : FixPlan) (facts : StripeFacts) (are : AreFacts plan facts) (few
 
 -- ---- what the marks of all cells show
 
-module _ (plan : FixPlan) (stripe i : ℕ) (before marked after : WindowValue) (marks : List CellMark) (levels : List LevelValue) (known : Bool)
+module _ (plan : FixPlan) (stripe i : ℕ) (before marked after : WindowValue) (marks : List SlotMark) (levels : List LevelValue) (known : Bool)
     (cells : HasMarks plan stripe i before marks marked)
-    (stays : (d : ℕ) → is_marked_missing (mark_in marks d) ≡ false → slot_at after i d ≡ slot_at marked i d) where
+    (stays : (d : ℕ) → is_marked_missing (column_mark marks d) ≡ false → slot_at after i d ≡ slot_at marked i d) where
   abbrev facts : StripeFacts
   facts = facts_after stripe i before marks levels known after
 
   pub shows_as_marked : AreFacts plan facts → plan.table.shape.levels ≤ 6 → ShowsFacts plan facts i marks known after
   shows_as_marked are few = record {
     row = refl;
-    damaged = damaged_is;
-    given = λ d below. ap (λ (gift : Option (List ℕ)). is_some gift) (in_gift d below) ∙ given_by (mark_in marks d) (slot_at after i d);
+    damaged = λ d below. damaged_by (damaged_at plan facts d) (is_sought plan stripe d) (cell_mark marks d) (cell_is d below);
+    sought = λ d below. sought_by (damaged_at plan facts d) (is_sought plan stripe d) (cell_mark marks d) (cell_is d below);
+    given = λ d below. ap (λ (gift : Option (List ℕ)). is_some gift) (in_gift d below) ∙ given_by (column_mark marks d) (slot_at after i d);
     block = λ d below damaged some.
         let gift = in_gift d below in
-        block_by (mark_in marks d) known after i d (slot_at after i d) (sym (damaged_is d below) ∙ damaged)
+        let block_is = λ (given : Option (List ℕ)). let it : Option (List ℕ) = (if is_sought plan stripe d then known_by (is_synced plan stripe) given (row_if known after i) d else None) in it in
+        block_by (is_sought plan stripe d) (is_synced plan stripe) (column_mark marks d) known after i d (slot_at after i d)
         (get_or-map-any (bytes_in i) after.lanes d [])
-        (sym (ap (λ (gift : Option (List ℕ)). is_some (known_by gift (row_if known after i) d)) gift) ∙ some)
-        ∙ sym (ap (λ (gift : Option (List ℕ)). block_or_none (known_by gift (row_if known after i) d)) gift);
+        (sym (ap (λ (given : Option (List ℕ)). is_some (block_is given)) gift) ∙ some)
+        ∙ sym (ap (λ (given : Option (List ℕ)). block_or_none (block_is given)) gift);
     long = λ d cell below cell_is damaged some.
         known_long plan facts are few d (cell_seen (column_at plan.table.columns d) cell) below (ap (option_map (cell_seen (column_at plan.table.columns d))) cell_is) damaged some;
   }
     where
-      in_gift : (d : ℕ) → d < length plan.table.columns → gift_of facts d ≡ gift_by (mark_in marks d) (slot_at after i d)
+      in_gift : (d : ℕ) → d < length plan.table.columns → gift_of facts d ≡ gift_by (column_mark marks d) (slot_at after i d)
       in_gift d below = gift_is plan stripe i before marked after marks levels known cells stays d below
 
-      damaged_is : (d : ℕ) → d < length plan.table.columns → damaged_at plan facts d ≡ is_damaged_mark (mark_in marks d)
-      damaged_is d below =
-          ap (is_damaged (seen_at plan stripe d)) (slot_is plan stripe i before marked after marks levels known cells stays d)
-          ∙ damaged_by (is_searched plan stripe) plan.table.shape (seen_at plan stripe d) (slot_at before i d) (slot_at marked i d) (mark_in marks d) (cells.each d below)
+      cell_is : (d : ℕ) → d < length plan.table.columns → cell_mark marks d ≡ mark_of_cell (damaged_at plan facts d) (is_sought plan stripe d)
+      cell_is d below =
+          cells.cells d below
+          ∙ sym (ap (λ (slot : SlotValue). mark_of_cell (is_damaged plan.table.shape.kind (seen_at plan stripe d) slot) (is_sought plan stripe d))
+          (slot_is plan stripe i before marked after marks levels known cells stays d))
+
+-- ---- what marks tell
+
+row_some : (known : Bool) (window : WindowValue) (i d : ℕ) → is_some (block_of_row (row_if known window i) d) ≡ known
+row_some true window i d = refl
+row_some false window i d = refl
+
+or_false : (b : Bool) → (b || false) ≡ b
+or_false true = refl
+or_false false = refl
+
+or_true : (b : Bool) → (b || true) ≡ true
+or_true true = refl
+or_true false = refl
+
+-- the block of a damaged cell is known just where its marks say so
+known_as : (sought synced known : Bool) (gift : Option (List ℕ)) (window : WindowValue) (i d : ℕ)
+    → (let it : Option (List ℕ) = (if sought then known_by synced gift (row_if known window i) d else None) in is_some it ≡ (sought && (known || (synced && is_some gift))))
+known_as false synced known gift window i d = refl
+known_as true true known (Some given) window i d = sym (or_true known)
+known_as true true known None window i d = row_some known window i d ∙ sym (or_false known)
+known_as true false known gift window i d = row_some known window i d ∙ sym (or_false known)
+
+module _ (plan : FixPlan) (facts : StripeFacts) (i : ℕ) (marks : List SlotMark) (known : Bool) (window : WindowValue) (shows : ShowsFacts plan facts i marks known window) where
+  pub known_shown : (d : ℕ) → d < length plan.table.columns → damaged_at plan facts d ≡ true
+      → is_some (known_block plan facts d) ≡ is_known_mark (is_synced plan facts.stripe) (mark_in marks d) known
+  known_shown d below damaged =
+      let synced : Bool = is_synced plan facts.stripe in
+      let sought_is : is_sought plan facts.stripe d ≡ is_sought_mark (cell_mark marks d) = ap (λ (b : Bool). b && is_sought plan facts.stripe d) (sym damaged) ∙ shows.sought d below in
+      ap (λ (row : Option Row). let it : Option (List ℕ) = (if is_sought plan facts.stripe d then known_by synced (gift_of facts d) row d else None) in is_some it) shows.row
+      ∙ known_as (is_sought plan facts.stripe d) synced known (gift_of facts d) window i d
+      ∙ ap₂ (λ (sought given : Bool). sought && (known || (synced && given))) sought_is (shows.given d below)
+
+  pub unknown_shown : (d : ℕ) → d < length plan.table.columns → is_unknown plan facts d ≡ is_unknown_mark (is_synced plan facts.stripe) (mark_in marks d) known
+  unknown_shown d below = by (damaged_at plan facts d) refl
+    where
+      by : (b : Bool) → damaged_at plan facts d ≡ b → is_unknown plan facts d ≡ is_unknown_mark (is_synced plan facts.stripe) (mark_in marks d) known
+      by false whole =
+          ap (λ (b : Bool). b && not (is_some (known_block plan facts d))) whole
+          ∙ ap (λ (b : Bool). b && not (is_known_mark (is_synced plan facts.stripe) (mark_in marks d) known)) (sym whole ∙ shows.damaged d below)
+      by true damaged = ap₂ (λ (a b : Bool). a && not b) (shows.damaged d below) (known_shown d below damaged)
+
+  pub lost_shown : (d : ℕ) → d < length plan.table.columns → is_lost plan facts d ≡ is_lost_by plan facts.stripe (mark_in marks d) known d
+  lost_shown d below = ap (λ (b : Bool). selects_cell plan facts.stripe d && b) (unknown_shown d below)

@@ -12,8 +12,9 @@ use Rattle.parity_writer.specs.Parity.{Row}
 use Rattle.parity_writer.specs.WindowRow.{bytes_of, row_at}
 use Rattle.stripe_reader.specs.SlotValue.{SlotValue}
 use Rattle.stripe_reader.specs.WindowValue.{WindowValue, Fits, slot_at, no_slot}
-use Rattle.stripe_examiner.specs.declared.marking.CellMark.{CellMark}
-use Rattle.stripe_examiner.specs.declared.marking.CellMark.TheVariants.{Right, Given, Missing}
+use Rattle.stripe_examiner.specs.declared.marking.ColumnMark.{ColumnMark}
+use Rattle.stripe_examiner.specs.declared.marking.SlotMark.{SlotMark}
+use Rattle.stripe_examiner.specs.declared.marking.ColumnMark.TheVariants.{Right, Given, Missing}
 use Rattle.stripe_examiner.specs.declared.room.Room.{Room}
 use Rattle.stripe_examiner.specs.declared.room.StripeRoom.{StripeRoom}
 use Rattle.stripe_examiner.specs.Asking.{AsksSpare}
@@ -23,7 +24,7 @@ use Rattle.stripe_examiner.specs.Judging.{TellsWrong}
 use Rattle.stripe_examiner.specs.Known.{AreFacts, IsKnown, IsTried}
 use Rattle.stripe_examiner.specs.Looking.{LevelsAreRead, facts_at, no_facts, numbers_of}
 use Rattle.stripe_examiner.specs.MarkedWindow.{AsksForMarked, HasMarks, IsAsLarge, MarksStripe, PutsStripe, ReadsLevelsOf, number_at}
-use Rattle.stripe_examiner.specs.Marks.{facts_after, gift_by, gifts_after, is_marked_missing, levels_read, mark_in, row_if, slots_at}
+use Rattle.stripe_examiner.specs.Marks.{facts_after, gift_by, gifts_after, is_marked_missing, levels_read, column_mark, row_if, slots_at}
 use Rattle.repair_scope.specs.Plan.{EntriesFit, FixPlan, is_searched}
 use Rattle.stripe_examiner.specs.Room.{IsRoomFor, IsStripeRoomFor}
 use Rattle.stripe_examiner.specs.Shown.{IsFound, ShowsStripe, found_at}
@@ -42,24 +43,24 @@ facts_of plan read final stripe i own =
 -- ---- one stripe
 
 -- what the spare gave stays
-gift_stays : (mark : CellMark) (marked final : SlotValue) → (is_marked_missing mark ≡ false → final ≡ marked) → gift_by mark marked ≡ gift_by mark final
+gift_stays : (mark : ColumnMark) (marked final : SlotValue) → (is_marked_missing mark ≡ false → final ≡ marked) → gift_by mark marked ≡ gift_by mark final
 gift_stays Right marked final stays = refl
 gift_stays Missing marked final stays = refl
 gift_stays Given marked final stays = sym (ap (λ (slot : SlotValue). let bytes : Option (List ℕ) = Some (bytes_of slot) in bytes) (stays refl))
 
-pub gifts_stay : (i : ℕ) (marked final : WindowValue) (marks : List CellMark)
-    → ((d : ℕ) → is_marked_missing (mark_in marks d) ≡ false → slot_at final i d ≡ slot_at marked i d) → gifts_after i marked marks ≡ gifts_after i final marks
+pub gifts_stay : (i : ℕ) (marked final : WindowValue) (marks : List SlotMark)
+    → ((d : ℕ) → is_marked_missing (column_mark marks d) ≡ false → slot_at final i d ≡ slot_at marked i d) → gifts_after i marked marks ≡ gifts_after i final marks
 gifts_stay i marked final marks stays =
     let n = length marks in
-    let in_one = λ (d : ℕ). gift_by (mark_in marks d) (slot_at marked i d) in
-    let in_other = λ (d : ℕ). gift_by (mark_in marks d) (slot_at final i d) in
+    let in_one = λ (d : ℕ). gift_by (column_mark marks d) (slot_at marked i d) in
+    let in_other = λ (d : ℕ). gift_by (column_mark marks d) (slot_at final i d) in
     let long : length (gifts_after i marked marks) ≡ n = length-map-range_with_len in_one 0 n in
     ext_get_or None (gifts_after i marked marks) (gifts_after i final marks)
     (long ∙ sym (length-map-range_with_len in_other 0 n))
     (λ d below.
     let near : d < n = omega (arith, below, long) in
     get_or-map-range_with_len in_one 0 n d d None near (omega arith)
-    ∙ gift_stays (mark_in marks d) (slot_at marked i d) (slot_at final i d) (stays d)
+    ∙ gift_stays (column_mark marks d) (slot_at marked i d) (slot_at final i d) (stays d)
     ∙ sym (get_or-map-range_with_len in_other 0 n d d None near (omega arith)))
 
 module _ (plan : FixPlan) (stripe i : ℕ) (read marked final : WindowValue) (noted own : StripeRoom) (can : CanJudge plan stripe i marked own)
@@ -95,7 +96,7 @@ module _ (plan : FixPlan) (stripe i : ℕ) (read marked final : WindowValue) (no
   facts_are = record {
     within = can.can.within;
     slots = length-map read.lanes (λ (lane : List SlotValue). slice_index_or lane i no_slot) ∙ lanes;
-    gifts = length-map-range_with_len (λ (d : ℕ). gift_by (mark_in own.marks.items d) (slot_at final i d)) 0 (length own.marks.items) ∙ has.as_many;
+    gifts = length-map-range_with_len (λ (d : ℕ). gift_by (column_mark own.marks.items d) (slot_at final i d)) 0 (length own.marks.items) ∙ has.as_many;
     given = given_as_marked plan stripe i read marked final own.marks.items levels own.known has puts.others;
     tried = tried (is_searched plan stripe) refl judged.known;
   }

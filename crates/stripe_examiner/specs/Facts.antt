@@ -1,9 +1,9 @@
 -- What is known of a stripe that was looked at: what was read of its cells, which of them are damaged, what the spare gave, what the
 -- levels hold, and its row, where it is known.
-use Rattle.std.specs.Prelude.{◌≡◌, ℕ, ◌&&◌, not, List, [], length, filter, get_or, map, slice_index_or, bytes_eq, is_some, Bool, true, false, if◌then◌else◌, Option, None, Some}
+use Rattle.std.specs.Prelude.{◌≡◌, ℕ, ◌&&◌, not, List, [], length, filter, get_or, map, slice_index_or, is_some, Bool, true, false, if◌then◌else◌, Option, None, Some}
 use Rattle.std.specs.List.{range_with_len}
-use Rattle.block_hash.specs.Hash.{hash}
 use Rattle.block_hash.specs.declared.Digest16.{Digest16}
+use Rattle.block_hash.specs.declared.Kind.{Kind}
 use Rattle.folder_listing.specs.Kept.{each_column}
 use Rattle.file_table.specs.Cells.{CellView}
 use Rattle.file_table.specs.declared.shape.Shape.{Shape}
@@ -11,10 +11,11 @@ use Rattle.parity_writer.specs.LevelsValue.{LevelValue}
 use Rattle.parity_writer.specs.Parity.{Row}
 use Rattle.parity_writer.specs.Sound.{real_length}
 use Rattle.parity_writer.specs.WindowRow.{bytes_of}
+use Rattle.stripe_reader.specs.Agreeing.{agrees, hashed}
 use Rattle.stripe_reader.specs.SlotValue.{SlotValue}
 use Rattle.stripe_reader.specs.WindowValue.{no_slot}
 use Rattle.stripe_examiner.specs.declared.search.Wanted.{Wanted}
-use Rattle.repair_scope.specs.Plan.{FixPlan, seen_at, is_searched}
+use Rattle.repair_scope.specs.Plan.{FixPlan, seen_at, is_searched, is_synced}
 
 -- The stripe, what was read of its cells, what the spare gave, both column by column, what was read of its levels, and its
 -- row: of each cell the bytes of its block, where all of them are known.
@@ -31,19 +32,18 @@ slot_of facts d = slice_index_or facts.slots d no_slot
 abbrev pub gift_of : StripeFacts → ℕ → Option (List ℕ)
 gift_of facts d = get_or facts.gifts d None
 
--- the recorded hash, where there is one, is that of the block that came
-abbrev pub agrees : Option Digest16 → Option Digest16 → Bool
-agrees None came = true
-agrees (Some recorded) None = false
-agrees (Some recorded) (Some came) = bytes_eq recorded.0 came.0
-
 -- a cell is damaged: its block did not come whole, or it has another hash than the recorded one
-abbrev pub is_damaged : Option CellView → SlotValue → Bool
-is_damaged None slot = false
-is_damaged (Some cell) slot = not (is_some slot.digest && agrees cell.hash slot.digest)
+abbrev pub is_damaged : Kind → Option CellView → SlotValue → Bool
+is_damaged kind None slot = false
+is_damaged kind (Some cell) slot = not (is_some slot.digest && agrees kind cell.hash slot)
 
 abbrev pub damaged_at : FixPlan → StripeFacts → ℕ → Bool
-damaged_at plan facts d = is_damaged (seen_at plan facts.stripe d) (slot_of facts d)
+damaged_at plan facts d = is_damaged plan.table.shape.kind (seen_at plan facts.stripe d) (slot_of facts d)
+
+-- a cell is sought: the row that is searched for at its stripe has its block. Each cell of a synced stripe is; of a pending one no row is
+-- searched for
+abbrev pub is_sought : FixPlan → ℕ → ℕ → Bool
+is_sought plan stripe d = is_synced plan stripe
 
 -- a cell is asked of the spare: it is damaged and has a recorded hash, in a stripe whose damaged blocks are searched for
 abbrev pub has_hash : Option CellView → Bool
@@ -91,7 +91,7 @@ row_before plan facts = each_column (bytes_before plan facts) (length plan.table
 -- What the spare gives is the block that was asked of it: its bytes have the real length and the recorded hash.
 pub record IsGift (shape : Shape) (cell : CellView) (given : List ℕ) : Type 0 where
   pub long : length given ≡ real_length shape cell
-  pub hash_is : cell.hash ≡ Some (record { 0 = hash shape.kind shape.seed given })
+  pub hash_is : cell.hash ≡ Some (hashed shape given)
 
 abbrev pub IsGiftFor : Shape → Option CellView → Option (List ℕ) → Type 0
 IsGiftFor shape cell None = Unit {0}

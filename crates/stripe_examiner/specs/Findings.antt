@@ -17,7 +17,9 @@ pub use Rattle.stripe_reader.specs.Slot.{is_unread}
 use Rattle.stripe_reader.specs.SlotValue.{SlotValue}
 use Rattle.repair_scope.specs.declared.entry.Entry.{Entry}
 use Rattle.stripe_reader.specs.WindowValue.{no_slot}
-use Rattle.stripe_examiner.specs.Facts.{StripeFacts, is_missing}
+use Rattle.stripe_examiner.specs.declared.marking.SlotMark.{SlotMark}
+use Rattle.stripe_examiner.specs.Facts.{StripeFacts}
+use Rattle.stripe_examiner.specs.Showing.{is_unknown, is_unknown_mark}
 use Rattle.repair_scope.specs.Plan.{FixPlan, entry_at, cell_at, is_audit, is_synced, selects_cell, selects_level, has_selected_cell}
 use Rattle.repair_scope.specs.Selected.{is_as_recorded}
 
@@ -85,7 +87,12 @@ abbrev pub level_io_events : FixPlan → ℕ → LevelValue → ℕ → List Eve
 level_io_events plan stripe level r =
     if selects_level plan stripe r && is_unread_level level.state then ParityIo stripe r ∷ [] else []
 
--- of a selected level that was read, where the row is known: it is short, or is not the sum of the row
+-- a level may be found wrong at a stripe, and be written: it is selected there, and the stripe is synced, so that its row is the one that
+-- the level was last made of. What is searched is said by `is_searched`
+abbrev pub may_write_level : FixPlan → ℕ → ℕ → Bool
+may_write_level plan stripe r = is_synced plan stripe && selects_level plan stripe r
+
+-- of a level that was read, where the row is known: it is short, or is not the sum of the row; and it may be written
 abbrev pub differs : ℕ → ℕ → List ℕ → Option Row → Bool
 differs block_size r block None = false
 differs block_size r block (Some row) = not (bytes_eq block (level_of r block_size row))
@@ -97,23 +104,26 @@ is_wrong_by block_size r here.Bytes block row = differs block_size r block row
 
 abbrev pub is_wrong : FixPlan → ℕ → LevelValue → Option Row → ℕ → Bool
 is_wrong plan stripe level row r =
-    selects_level plan stripe r && is_wrong_by plan.table.shape.block_size r level.state level.block row
+    may_write_level plan stripe r && is_wrong_by plan.table.shape.block_size r level.state level.block row
 
 abbrev pub level_events : FixPlan → ℕ → LevelValue → Option Row → ℕ → List Event
 level_events plan stripe level row r = if is_wrong plan stripe level row r then Parity stripe r ∷ [] else []
 
--- a selected cell is lost: it is missing, and the row is not known
+-- a selected cell is lost: it is damaged, and its block is not known
 abbrev pub lost_event : ℕ → ℕ → Option Cell → List Event
 lost_event stripe d None = []
 lost_event stripe d (Some cell) = Lost stripe d cell.rec cell.index ∷ []
 
-abbrev pub is_lost : FixPlan → ℕ → Bool → Bool → ℕ → Bool
-is_lost plan stripe missing known d = selects_cell plan stripe d && missing && not known
+abbrev pub is_lost : FixPlan → StripeFacts → ℕ → Bool
+is_lost plan facts d = selects_cell plan facts.stripe d && is_unknown plan facts d
 
-abbrev pub lost_events : FixPlan → ℕ → Bool → Bool → ℕ → List Event
-lost_events plan stripe missing known d =
-    if not (is_audit plan.scope.mode) && is_lost plan stripe missing known d then lost_event stripe d (cell_at plan stripe d)
-    else []
+-- the same by its marks, and by whether the row is known
+abbrev pub is_lost_by : FixPlan → ℕ → SlotMark → Bool → ℕ → Bool
+is_lost_by plan stripe mark known d = selects_cell plan stripe d && is_unknown_mark (is_synced plan stripe) mark known
+
+abbrev pub lost_events : FixPlan → ℕ → Bool → ℕ → List Event
+lost_events plan stripe lost d =
+    if not (is_audit plan.scope.mode) && lost then lost_event stripe d (cell_at plan stripe d) else []
 
 -- of all cells and levels of a stripe, each kind by itself
 abbrev pub all_cell_events : FixPlan → ℕ → List SlotValue → List Event
@@ -128,9 +138,8 @@ abbrev pub all_level_events : FixPlan → ℕ → List LevelValue → Option Row
 all_level_events plan stripe levels row =
     flat_map (λ r. level_events plan stripe (get_or levels r no_level) row r) (range_with_len 0 (length levels))
 
-abbrev pub all_lost_events : FixPlan → ℕ → (ℕ → Bool) → Bool → List Event
-all_lost_events plan stripe missing known =
-    flat_map (λ d. lost_events plan stripe (missing d) known d) (range_with_len 0 (length plan.table.columns))
+abbrev pub all_lost_events : FixPlan → ℕ → (ℕ → Bool) → List Event
+all_lost_events plan stripe lost = flat_map (λ d. lost_events plan stripe (lost d) d) (range_with_len 0 (length plan.table.columns))
 
 -- of a stripe in their order, and of stripes in theirs
 abbrev pub stripe_events : FixPlan → StripeFacts → List Event
@@ -138,7 +147,7 @@ stripe_events plan facts =
     unsynced_events plan facts.stripe ++ (all_cell_events plan facts.stripe facts.slots
     ++ (all_level_io_events plan facts.stripe facts.levels
     ++ (all_level_events plan facts.stripe facts.levels facts.row
-    ++ all_lost_events plan facts.stripe (is_missing plan facts) (is_some facts.row))))
+    ++ all_lost_events plan facts.stripe (is_lost plan facts))))
 
 abbrev pub events_of : FixPlan → List StripeFacts → List Event
 events_of plan stripes = flat_map (stripe_events plan) stripes

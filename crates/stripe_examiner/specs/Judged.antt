@@ -4,13 +4,13 @@ use Rattle.cauchy.specs.System.{AreDistinctBelow}
 use Rattle.parity_writer.specs.Parity.{Row}
 use Rattle.parity_writer.specs.WindowRow.{bytes_of, row_at}
 use Rattle.stripe_reader.specs.WindowValue.{WindowValue, slot_at}
-use Rattle.stripe_examiner.specs.declared.marking.CellMark.{CellMark}
+use Rattle.stripe_examiner.specs.declared.marking.SlotMark.{SlotMark}
 use Rattle.stripe_examiner.specs.declared.room.StripeRoom.{StripeRoom}
 use Rattle.stripe_examiner.specs.declared.search.Wanted.{Wanted}
 use Rattle.stripe_examiner.specs.Judging.{TellsWrong}
 use Rattle.stripe_examiner.specs.Knowing.{HaveCells}
 use Rattle.stripe_examiner.specs.Known.{IsKnown}
-use Rattle.stripe_examiner.specs.Marks.{CanExamine, mark_in, is_marked_missing, wanted_marked, levels_read}
+use Rattle.stripe_examiner.specs.Marks.{CanExamine, column_mark, is_marked_missing, wanted_marked, levels_read}
 use Rattle.repair_scope.specs.Plan.{FixPlan, is_searched}
 use Rattle.stripe_examiner.specs.Restorable.{filled}
 use Rattle.stripe_examiner.specs.Room.{IsStripeRoomFor}
@@ -23,12 +23,12 @@ pub record AreMissingIn (row : Row) (block_size : ℕ) (wanteds : List Wanted) :
   pub lengths : All (λ (wanted : Wanted). wanted.length ≤ block_size) wanteds
 
 -- each column that is marked as missing has no bytes
-abbrev pub AreEmpty : FixPlan → ℕ → WindowValue → List CellMark → Type 0
+abbrev pub AreEmpty : FixPlan → ℕ → WindowValue → List SlotMark → Type 0
 AreEmpty plan i window marks =
-    (d : ℕ) → d < length plan.table.columns → is_marked_missing (mark_in marks d) ≡ true → bytes_of (slot_at window i d) ≡ []
+    (d : ℕ) → d < length plan.table.columns → is_marked_missing (column_mark marks d) ≡ true → bytes_of (slot_at window i d) ≡ []
 
 -- the row with the blocks that were found, where it is known
-abbrev pub row_found : FixPlan → ℕ → ℕ → WindowValue → List CellMark → List ℕ → Row
+abbrev pub row_found : FixPlan → ℕ → ℕ → WindowValue → List SlotMark → List ℕ → Row
 row_found plan stripe i window marks blocks =
     let wanteds = wanted_marked plan stripe marks in
     filled plan.table.shape.block_size (found_in plan.table.shape wanteds blocks) wanteds (row_at window i)

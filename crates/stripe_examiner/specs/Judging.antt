@@ -8,7 +8,7 @@ use Rattle.snap_report.specs.declared.events.Event.TheVariants.{Parity}
 use Rattle.stripe_examiner.specs.Findings.{is_wrong}
 use Rattle.repair_scope.specs.Plan.{FixPlan}
 
--- the flag of each level that was read tells whether it is selected and wrong
+-- the flag of each level that was read tells whether it may be written and is wrong
 abbrev pub TellsWrong : FixPlan → ℕ → LevelsValue → Option Row → List Bool → Type 0
 TellsWrong plan stripe levels row wrong =
     (r : ℕ) → r < levels.count → get_or wrong r false ≡ is_wrong plan stripe (level_at levels r) row r

@@ -1,15 +1,15 @@
 -- What leads from the marks of a stripe to its row.
 use Rattle.std.specs.Prelude.{◌≡◌, ◌≢◌, ℕ, ◌*◌, ◌<◌, ◌≤◌, List, length, is_some, true, All}
 use Rattle.stripe_reader.specs.WindowValue.{WindowValue, slot_at}
-use Rattle.stripe_examiner.specs.declared.marking.CellMark.{CellMark}
+use Rattle.stripe_examiner.specs.declared.marking.SlotMark.{SlotMark}
 use Rattle.stripe_examiner.specs.declared.search.Wanted.{Wanted}
-use Rattle.stripe_examiner.specs.Marks.{is_marked_missing, mark_in}
+use Rattle.stripe_examiner.specs.Marks.{is_marked_missing, column_mark}
 use Rattle.repair_scope.specs.Plan.{FixPlan, seen_at}
 
 -- each column that is marked as missing has a cell
-abbrev pub HaveCells : FixPlan → ℕ → List CellMark → Type 0
+abbrev pub HaveCells : FixPlan → ℕ → List SlotMark → Type 0
 HaveCells plan stripe marks =
-    (d : ℕ) → d < length plan.table.columns → is_marked_missing (mark_in marks d) ≡ true
+    (d : ℕ) → d < length plan.table.columns → is_marked_missing (column_mark marks d) ≡ true
     → is_some (seen_at plan stripe d) ≡ true
 
 -- blocks that were found stand end to end, and each has a column of a window and at most so many bytes there

@@ -1,16 +1,16 @@
 -- What the mark of one cell says, and what it changes of the window.
 use Rattle.std.specs.Prelude.{◌≡◌, ◌≢◌, ◌<◌, ◌≤◌, ◌⊎◌, ℕ, List, [], length, Option, Some}
-use Rattle.block_hash.specs.Hash.{hash}
 use Rattle.block_hash.specs.declared.Digest16.{Digest16}
 use Rattle.file_table.specs.Cells.{cell_in}
 use Rattle.file_table.specs.Table.{TableValue, column_at, record_at}
 use Rattle.file_table.specs.declared.block.Cell.{Cell}
 use Rattle.file_table.specs.declared.shape.Shape.{Shape}
+use Rattle.stripe_reader.specs.Agreeing.{hashed}
 use Rattle.stripe_reader.specs.Slot.{slot_given}
 use Rattle.stripe_reader.specs.SlotValue.{SlotValue}
 use Rattle.stripe_reader.specs.WindowValue.{Fits, WindowValue, slot_at}
-use Rattle.stripe_examiner.specs.declared.marking.CellMark.{CellMark}
-use Rattle.stripe_examiner.specs.declared.marking.CellMark.TheVariants.{Right, Given, Missing}
+use Rattle.stripe_examiner.specs.declared.marking.ColumnMark.{ColumnMark}
+use Rattle.stripe_examiner.specs.declared.marking.ColumnMark.TheVariants.{Right, Given, Missing}
 
 -- there is a slot for the cell of a column at a stripe of a window, and a block that is no longer than those of the window, nor than the
 -- longest that is hashed
@@ -45,11 +45,11 @@ pub record ChangesSlot (i d : ℕ) (before after : WindowValue) : Type 0 where
 pub record IsAnswer (asked : Option Digest16) (shape : Shape) (long : ℕ) (given : List ℕ)
     : Type 0 where
   pub length_is : length given ≡ long
-  pub hash_is : asked ≡ Some (record { 0 = hash shape.kind shape.seed given })
+  pub hash_is : asked ≡ Some (hashed shape given)
 
 -- what the mark of a damaged cell says, by what was asked of the spare: its slot has the block that was given, or
 -- no bytes
-abbrev pub ShowsAnswer : Option Digest16 → Shape → ℕ → ℕ → SlotValue → CellMark → SlotValue → Type 0
+abbrev pub ShowsAnswer : Option Digest16 → Shape → ℕ → ℕ → SlotValue → ColumnMark → SlotValue → Type 0
 ShowsAnswer asked shape block_size long before Right after = ⊥
 ShowsAnswer asked shape block_size long before Missing after = after ≡ slot_given block_size [] before
 ShowsAnswer asked shape block_size long before Given after =

@@ -2,13 +2,13 @@
 use Rattle.std.specs.Prelude.{◌≡◌, ℕ, ◌<◌, List, length, get_or, slice_index_or, true, false}
 use Rattle.disk_model.specs.Vault.{VaultView}
 use Rattle.stripe_reader.specs.WindowValue.{WindowValue, slot_at}
-use Rattle.stripe_examiner.specs.declared.marking.CellMark.{CellMark}
+use Rattle.stripe_examiner.specs.declared.marking.SlotMark.{SlotMark}
 use Rattle.stripe_examiner.specs.declared.room.StripeRoom.{StripeRoom}
 use Rattle.stripe_examiner.specs.Asking.{AsksSpare}
 use Rattle.stripe_examiner.specs.Facts.{StripeFacts}
 use Rattle.stripe_examiner.specs.Judged.{row_judged}
 use Rattle.stripe_examiner.specs.Looking.{LevelsAreRead, numbers_of, facts_at}
-use Rattle.stripe_examiner.specs.Marks.{ChangesStripe, IsMarked, mark_in, is_marked_missing, levels_read, row_if, gifts_after, slots_at}
+use Rattle.stripe_examiner.specs.Marks.{ChangesStripe, IsMarked, MarkCells, column_mark, is_marked_missing, levels_read, row_if, gifts_after, slots_at}
 use Rattle.repair_scope.specs.Plan.{FixPlan, seen_at, is_searched}
 use Rattle.stripe_examiner.specs.Room.{AreRoomsFor, IsStripeRoomFor}
 use Rattle.stripe_examiner.specs.Shown.{IsFound, found_at}
@@ -40,12 +40,13 @@ pub record ReadsRooms (plan : FixPlan) (numbers : List ℕ) (rooms : List Stripe
   pub rooms_are : AreRoomsFor plan.table (length numbers) rooms
   pub read : ReadsLevelsOf plan numbers rooms old new
 
--- the marks of the cells of a stripe, by what their slots kept before and after
-pub record HasMarks (plan : FixPlan) (stripe i : ℕ) (before : WindowValue) (marks : List CellMark) (after : WindowValue) : Type 0 where
+-- the marks of the columns and of the cells of a stripe, by what their slots kept before and after
+pub record HasMarks (plan : FixPlan) (stripe i : ℕ) (before : WindowValue) (marks : List SlotMark) (after : WindowValue) : Type 0 where
   pub as_many : length marks ≡ length plan.table.columns
   pub each : (d : ℕ) → d < length plan.table.columns
       → IsMarked (is_searched plan stripe) plan.table.shape (seen_at plan stripe d) (slot_at before i d)
-      (mark_in marks d) (slot_at after i d)
+      (column_mark marks d) (slot_at after i d)
+  pub cells : MarkCells plan stripe i before marks
 
 -- what was found in its cells was noted, and then they were marked
 pub record MarksStripe (plan : FixPlan) (stripe i : ℕ) (before after : WindowValue) (own : StripeRoom) : Type 0 where
@@ -81,4 +82,4 @@ pub record AsksForMarked (plan : FixPlan) (numbers : List ℕ) (before after : W
 -- the blocks that were found of a stripe stand in its row, where that is known
 pub record PutsStripe (plan : FixPlan) (stripe i : ℕ) (before after : WindowValue) (own : StripeRoom) : Type 0 where
   pub row : row_if own.known after i ≡ row_judged plan stripe i before own
-  pub others : (d : ℕ) → is_marked_missing (mark_in own.marks.items d) ≡ false → slot_at after i d ≡ slot_at before i d
+  pub others : (d : ℕ) → is_marked_missing (column_mark own.marks.items d) ≡ false → slot_at after i d ≡ slot_at before i d

@@ -1,4 +1,4 @@
--- What became of the cells of a stripe in a window: a missing one has no bytes, and one that the spare gave has its block.
+-- What became of the columns and of the cells of a stripe in a window: a missing block has no bytes, and one that the spare gave stands there.
 use Rattle.std.specs.Prelude.{◌≡◌, ◌≢◌, ℕ, ◌<◌, List, [], length, map, filter, slice_index_or, take, Bool, true, false, if◌then◌else◌, Option, None, Some}
 use Rattle.std.specs.List.{range_with_len}
 use Rattle.folder_listing.specs.Kept.{each_column}
@@ -9,28 +9,46 @@ use Rattle.parity_writer.specs.WindowRow.{bytes_of, row_at}
 use Rattle.stripe_reader.specs.Slot.{slot_given}
 use Rattle.stripe_reader.specs.SlotValue.{SlotValue}
 use Rattle.stripe_reader.specs.WindowValue.{WindowValue, Fits, slot_at, no_slot}
+use Rattle.stripe_examiner.specs.declared.marking.ColumnMark.{ColumnMark}
+use Rattle.stripe_examiner.specs.declared.marking.SlotMark.{SlotMark}
+use Rattle.stripe_examiner.specs.declared.marking.ColumnMark.TheVariants.{Right, Given, Missing}
 use Rattle.stripe_examiner.specs.declared.marking.CellMark.{CellMark}
-use Rattle.stripe_examiner.specs.declared.marking.CellMark.TheVariants.{Right, Given, Missing}
+use Rattle.stripe_examiner.specs.declared.marking.CellMark.TheVariants.{Whole, Sought, Damaged}
 use Rattle.stripe_examiner.specs.declared.search.Wanted.{Wanted}
-use Rattle.stripe_examiner.specs.Facts.{StripeFacts, is_damaged, IsGift, wanted_by}
+use Rattle.stripe_examiner.specs.Facts.{StripeFacts, is_damaged, is_sought, IsGift, wanted_by}
 use Rattle.repair_scope.specs.Plan.{FixPlan, EntriesFit, seen_at, is_searched}
 
--- the mark of a column
-abbrev pub mark_in : List CellMark → ℕ → CellMark
-mark_in marks d = slice_index_or marks d Right
+-- the marks of a column and of its cell, and each of them
+abbrev pub no_mark : SlotMark
+no_mark = record { column = Right; cell = Whole }
 
-abbrev pub is_marked_missing : CellMark → Bool
+abbrev pub mark_in : List SlotMark → ℕ → SlotMark
+mark_in marks d = slice_index_or marks d no_mark
+
+abbrev pub column_mark : List SlotMark → ℕ → ColumnMark
+column_mark marks d = (mark_in marks d).column
+
+abbrev pub cell_mark : List SlotMark → ℕ → CellMark
+cell_mark marks d = (mark_in marks d).cell
+
+abbrev pub is_marked_missing : ColumnMark → Bool
 is_marked_missing Right = false
 is_marked_missing Given = false
 is_marked_missing Missing = true
 
--- what a mark says of a cell, by what its slot kept before and after
-abbrev pub IsMarked : Bool → Shape → Option CellView → SlotValue → CellMark → SlotValue → Type 0
-IsMarked searched shape seen before Right after = (is_damaged seen before ≡ false) × (after ≡ before)
+-- the mark of a cell, by whether it is damaged and whether it is sought
+abbrev pub mark_of_cell : Bool → Bool → CellMark
+mark_of_cell false sought = Whole
+mark_of_cell true true = Sought
+mark_of_cell true false = Damaged
+
+-- what the mark of a column says of it, by what its slot kept before and after
+abbrev pub IsMarked : Bool → Shape → Option CellView → SlotValue → ColumnMark → SlotValue → Type 0
+IsMarked searched shape seen before Right after = (is_damaged shape.kind seen before ≡ false) × (after ≡ before)
 IsMarked searched shape seen before Missing after =
-    (is_damaged seen before ≡ true) × (after ≡ slot_given shape.block_size [] before)
+    (is_damaged shape.kind seen before ≡ true) × (after ≡ slot_given shape.block_size [] before)
 IsMarked searched shape seen before Given after =
-    (is_damaged seen before ≡ true) × (searched ≡ true) × (cell : CellView) × (seen ≡ Some cell) × (given : List ℕ)
+    (is_damaged shape.kind seen before ≡ true) × (searched ≡ true) × (cell : CellView) × (seen ≡ Some cell) × (given : List ℕ)
     × IsGift shape cell given × (after ≡ slot_given shape.block_size given before)
 
 -- the window has the same room, and all but one of its stripes are as they were
@@ -41,29 +59,35 @@ pub record ChangesStripe (i : ℕ) (before after : WindowValue) : Type 0 where
   pub lanes : length after.lanes ≡ length before.lanes
   pub others : (k d : ℕ) → k ≢ i → slot_at after k d ≡ slot_at before k d
 
--- the cells of a stripe were marked
-pub record MarksCells (plan : FixPlan) (stripe i : ℕ) (before : WindowValue) (marks : List CellMark)
+-- each cell of a stripe has its mark, by what its slot kept
+abbrev pub MarkCells : FixPlan → ℕ → ℕ → WindowValue → List SlotMark → Type 0
+MarkCells plan stripe i before marks = (d : ℕ) → d < length plan.table.columns
+    → cell_mark marks d ≡ mark_of_cell (is_damaged plan.table.shape.kind (seen_at plan stripe d) (slot_at before i d)) (is_sought plan stripe d)
+
+-- the columns of a stripe and their cells were marked
+pub record MarksCells (plan : FixPlan) (stripe i : ℕ) (before : WindowValue) (marks : List SlotMark)
     (after : WindowValue) : Type 0 where
   pub changes : ChangesStripe i before after
   pub as_many : length marks ≡ length plan.table.columns
   pub each : (d : ℕ) → d < length plan.table.columns
       → IsMarked (is_searched plan stripe) plan.table.shape (seen_at plan stripe d) (slot_at before i d)
-      (mark_in marks d) (slot_at after i d)
+      (column_mark marks d) (slot_at after i d)
+  pub cells : MarkCells plan stripe i before marks
 
 -- what is searched for, by the marks
-abbrev pub wanted_marked : FixPlan → ℕ → List CellMark → List Wanted
+abbrev pub wanted_marked : FixPlan → ℕ → List SlotMark → List Wanted
 wanted_marked plan stripe marks =
     map (λ d. wanted_by plan.table.shape d (seen_at plan stripe d))
-    (filter (λ d. is_marked_missing (mark_in marks d)) (range_with_len 0 (length plan.table.columns)))
+    (filter (λ d. is_marked_missing (column_mark marks d)) (range_with_len 0 (length plan.table.columns)))
 
 -- what the spare gave, by the marks and by what the slots keep then
-abbrev pub gift_by : CellMark → SlotValue → Option (List ℕ)
+abbrev pub gift_by : ColumnMark → SlotValue → Option (List ℕ)
 gift_by Right slot = None
 gift_by Missing slot = None
 gift_by Given slot = Some (bytes_of slot)
 
-abbrev pub gifts_after : ℕ → WindowValue → List CellMark → List (Option (List ℕ))
-gifts_after i after marks = each_column (λ d. gift_by (mark_in marks d) (slot_at after i d)) (length marks)
+abbrev pub gifts_after : ℕ → WindowValue → List SlotMark → List (Option (List ℕ))
+gifts_after i after marks = each_column (λ d. gift_by (column_mark marks d) (slot_at after i d)) (length marks)
 
 -- what the slots of a stripe keep
 abbrev pub slots_at : WindowValue → ℕ → List SlotValue
@@ -74,7 +98,7 @@ abbrev pub row_if : Bool → WindowValue → ℕ → Option (List (List ℕ))
 row_if known window i = if known then Some (row_at window i) else None
 
 -- the facts of a stripe, by the window as it was read and as it is then
-abbrev pub facts_after : ℕ → ℕ → WindowValue → List CellMark → List LevelValue → Bool → WindowValue → StripeFacts
+abbrev pub facts_after : ℕ → ℕ → WindowValue → List SlotMark → List LevelValue → Bool → WindowValue → StripeFacts
 facts_after stripe i before marks levels known after = record {
   stripe = stripe;
   slots = slots_at before i;

@@ -3,10 +3,10 @@
 -- levels stand end to end; those of levels that were not read whole are not looked at.
 use Rattle.std.specs.Prelude.{◌≡◌, ℕ, zero, suc, ◌*◌, ◌<◌, ◌≤◌, List, [], ◌∷◌, ◌++◌, length, map, take, replicate, slice_index, slice_index_or}
 use Rattle.std.specs.List.{All, flat_map}
-use Rattle.block_hash.specs.Hash.{hash}
 use Rattle.cauchy.specs.System.{SolvesBlocks}
 use Rattle.disk_model.specs.Bytes.{read_from, resized}
 use Rattle.file_table.specs.declared.shape.Shape.{Shape}
+use Rattle.stripe_reader.specs.Agreeing.{hashed}
 use Rattle.stripe_examiner.specs.declared.search.Wanted.{Wanted}
 
 -- so many of the levels, in all ways, in lexicographic order
@@ -40,7 +40,7 @@ wanted_at wanteds j = slice_index_or wanteds j no_wanted
 
 -- the recorded hash at the real length, and zeros behind it
 pub record IsRightBlock (shape : Shape) (wanted : Wanted) (block : List ℕ) : Type 0 where
-  pub hash : wanted.hash ≡ record { 0 = hash shape.kind shape.seed (resized block wanted.length) }
+  pub hash : wanted.hash ≡ hashed shape (resized block wanted.length)
   pub zeros : (i : ℕ) → wanted.length ≤ i → slice_index block i ≡ 0
 
 -- each of the blocks, which stand end to end, is right

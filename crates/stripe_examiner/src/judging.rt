@@ -2,7 +2,8 @@
 ghost use Rattle.std.specs.Prelude.{◌≡◌, ◌*◌, ◌<◌, ◌≤◌, length, take, Some, None, if◌then◌else◌, true};
 ghost use Rattle.parity_writer.specs.LevelsValue.{level_at};
 ghost use Rattle.parity_writer.specs.Parity.{Row};
-ghost use Rattle.stripe_examiner.specs.Findings.{is_wrong as is_wrong_at, is_wrong_by};
+ghost use Rattle.repair_scope.specs.Plan.{seen};
+ghost use Rattle.stripe_examiner.specs.Findings.{is_wrong as is_wrong_at, is_wrong_by, may_write_level as may_write_at};
 ghost use Rattle.stripe_examiner.specs.Judging.{TellsWrong};
 ghost use Rattle.stripe_examiner.specs.Known.{AreRemainders};
 ghost use Rattle.stripe_examiner.specs.Sharing.{IsLeftOf};
@@ -11,7 +12,7 @@ ghost use Rattle.stripe_examiner.specs.Surveyed.{plan_in};
 use crate::search::are_zeros;
 use crate::survey::Survey;
 use parity_writer::{LevelRead, Levels};
-use repair_scope::selects_level;
+use repair_scope::{Plan, is_synced, selects_level};
 
 // Whether a level is short or not the sum of the row, by what is left of it less that sum, where the row is known.
 fn is_wrong(known: bool, levels: &Levels, r: u32, left: &[u8]) -> bool
@@ -28,7 +29,16 @@ fn is_wrong(known: bool, levels: &Levels, r: u32, left: &[u8]) -> bool
     }
 }
 
-// Whether a selected level is.
+// Whether a level may be found wrong at a stripe, and be written: it is selected there, and the stripe is synced.
+fn may_write_level(plan: &Plan<'_>, stripe: u32, r: u32) -> bool
+    requires within { stripe < length plan.now.table.now.infos }
+    requires most { r < 6 }
+    ensures { result ≡ may_write_at (seen plan.now) stripe r }
+{
+    is_synced(plan, stripe) && selects_level(plan, stripe, r)
+}
+
+// Whether a level is wrong, and may be written.
 fn is_wrong_level(
     survey: &Survey<'_>,
     stripe: u32,
@@ -46,11 +56,11 @@ fn is_wrong_level(
         result ≡ is_wrong_at (plan_in survey.now) stripe (level_at levels.now r)
         (if known then Some row else None) r }
 {
-    selects_level(&survey.plan, stripe, r) && is_wrong(known, levels, r, left)
+    may_write_level(&survey.plan, stripe, r) && is_wrong(known, levels, r, left)
 }
 
-/// Which of the selected levels that were read are short or not the sum of a row, where that is known: by what is left of them less
-/// its sums.
+/// Which of the levels that were read and may be written are short or not the sum of a row, where that is known: by what is left of
+/// them less its sums.
 pub fn wrong_levels(
     survey: &Survey<'_>,
     stripe: u32,

@@ -14,7 +14,7 @@ ghost use Rattle.stripe_examiner.specs.Marks.{ChangesStripe, wanted_marked, is_m
 ghost use Rattle.repair_scope.specs.Plan.{is_synced};
 ghost use Rattle.stripe_examiner.specs.Surveyed.{plan_in};
 
-use crate::marking::{CellMark, cell_hash, cell_length};
+use crate::marking::{ColumnMark, SlotMark, cell_hash, cell_length};
 use crate::remainders::is_whole;
 use crate::search::Wanted;
 use crate::survey::Survey;
@@ -36,11 +36,11 @@ impl Default for Wanted {
     }
 }
 
-// Whether a cell is missing.
-fn is_missing(mark: CellMark) -> bool
+// Whether the block of a column is missing.
+fn is_missing(mark: ColumnMark) -> bool
     ensures { result ≡ is_marked_missing mark }
 {
-    mark == CellMark::Missing
+    mark == ColumnMark::Missing
 }
 
 // The block of the cell of a column, as it is searched for. In a synced stripe each block has its
@@ -72,7 +72,7 @@ fn wanted_cell(table: &Table, stripe: u32, d: u32) -> Wanted
 pub fn wanted_blocks(
     survey: &Survey<'_>,
     stripe: u32,
-    marks: &[CellMark],
+    marks: &[SlotMark],
 ) -> Option<ArrayVec<Wanted, 6>>
     requires within { stripe < length survey.now.plan.table.now.infos }
     requires marks { length marks.now ≡ length survey.now.plan.table.now.columns }
@@ -86,7 +86,7 @@ pub fn wanted_blocks(
     let table = survey.plan.table;
     let mut wanted = ArrayVec::new();
     for d in 0..table.disks() {
-        if is_missing(marks[d as usize]) {
+        if is_missing(marks[d as usize].column) {
             if wanted.is_full() {
                 return None;
             }

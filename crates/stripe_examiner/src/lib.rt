@@ -4,8 +4,9 @@
 //! then what is found in it.
 //! 1. Its cells are read beside the levels of its stripes, which are read ahead of the calls that take them (`beside.rt`); or
 //!    the cells were fetched, and the levels read ahead meanwhile by what `take_levels_ahead` gives.
-//! 2. Stripe after stripe it is noted what is found in the cells, and they are marked (`marking_window.rt`, `marking.rt`, which asks
-//!    the spare for the blocks of damaged ones).
+//! 2. Stripe after stripe it is noted what is found in the cells, and they and their columns are marked (`marking_window.rt`,
+//!    `marking.rt`, which asks the spare for the blocks of damaged ones). The row is searched for by the marks of the columns; what is
+//!    lost, and what a fix writes, is told by those of the cells.
 //! 3. The stripes are judged side by side (`judging_window.rt`): the missing blocks are searched for by what is left of the levels
 //!    less the sums of the row (`finding.rt`, `remainders.rt`, `search.rt`), and what is left then tells which levels are wrong
 //!    (`judging.rt`). The blocks of the first choice of levels are made before (`first_choice.rt`), and those of several stripes
@@ -40,7 +41,7 @@ mod telling;
 
 pub use beside::take_levels_ahead;
 pub use counts::Counts;
-pub use marking::CellMark;
+pub use marking::{CellMark, ColumnMark, SlotMark};
 pub use places::place_all;
 pub use room::{FirstChoice, Room, StripeRoom};
 pub use spare::{NoSpare, Spare};

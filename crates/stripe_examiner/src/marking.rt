@@ -1,15 +1,16 @@
 // What is found in the cells of a stripe, which of them are damaged, and what the spare gives of these.
-ghost use Rattle.std.specs.Prelude.{◌≡◌, ◌<◌, ◌≤◌, ℕ, Some, IsTrue, is_some, length, true};
+ghost use Rattle.std.specs.Prelude.{◌≡◌, ◌<◌, ◌≤◌, ◌&&◌, ℕ, Some, IsTrue, is_some, length, true};
 ghost use Rattle.block_hash.specs.Hash.{hash as hash_of};
 ghost use Rattle.file_table.specs.Cells.{cell_seen};
 ghost use Rattle.file_table.specs.Table.{column_at, record_at};
 ghost use Rattle.parity_writer.specs.Sound.{real_length};
 ghost use Rattle.stripe_reader.specs.WindowValue.{slot_at};
 ghost use Rattle.stripe_examiner.specs.AskedCell.{AsksBlock, AsksCell, AsksMarked, is_marked_given};
-ghost use Rattle.stripe_examiner.specs.Facts.{agrees as agrees_with, hash_or_none};
+ghost use Rattle.stripe_examiner.specs.Facts.{hash_or_none, is_damaged as is_damaged_by, is_sought as is_sought_at};
 ghost use Rattle.stripe_examiner.specs.MarkedCell.{CanMarkCell, CanPut, ChangesSlot, IsCellAt, ShowsAnswer};
-ghost use Rattle.stripe_examiner.specs.Marks.{CanExamine, IsMarked, MarksCells};
-ghost use Rattle.repair_scope.specs.Plan.{seen_in};
+ghost use Rattle.stripe_examiner.specs.Marks.{CanExamine, IsMarked, MarksCells, mark_of_cell};
+ghost use Rattle.repair_scope.specs.Plan.{seen, seen_in};
+ghost use Rattle.stripe_examiner.specs.Showing.{is_damaged_mark, is_known_mark, is_unknown_mark};
 ghost use Rattle.stripe_examiner.specs.Shown.{IsFound, found_at};
 ghost use Rattle.stripe_examiner.specs.Spare.{IsSpareFor, holds_block};
 ghost use Rattle.stripe_examiner.specs.Surveyed.{plan_in};
@@ -19,19 +20,67 @@ use crate::survey::Survey;
 use crate::telling::cell_finding;
 use block_hash::{Digest16, digest};
 use file_table::{Cell, Shape, Table};
-use repair_scope::is_searched;
+use repair_scope::{Plan, is_searched, is_synced};
 use snap_report::events::Event;
-use stripe_reader::Window;
+use stripe_reader::{Window, matches_digest};
+
+/// What became of a column in the row that is searched for.
+#[derive(Clone, Copy, Debug, PartialEq, Eq)]
+pub enum ColumnMark {
+    /// Its block came, or it has none.
+    Right,
+    /// Its block did not come, and the spare gave it.
+    Given,
+    /// Its block did not come.
+    Missing,
+}
 
 /// What became of the cell of a column.
 #[derive(Clone, Copy, Debug, PartialEq, Eq)]
 pub enum CellMark {
     /// It is not damaged, or the column has none.
-    Right,
-    /// It is damaged, and the spare gave its block.
-    Given,
-    /// It is damaged.
-    Missing,
+    Whole,
+    /// It is damaged, and the row that is searched for has its block.
+    Sought,
+    /// It is damaged, and no such row has its block.
+    Damaged,
+}
+
+/// What became of a column and of its cell.
+#[derive(Clone, Copy, Debug, PartialEq, Eq)]
+pub struct SlotMark {
+    pub column: ColumnMark,
+    pub cell: CellMark,
+}
+
+impl SlotMark {
+    /// Nothing is damaged.
+    pub const RIGHT: SlotMark = SlotMark {
+        column: ColumnMark::Right,
+        cell: CellMark::Whole,
+    };
+
+    /// Whether the block of a damaged cell is known, by whether its stripe is synced, and by whether the row is known. What the spare
+    /// gave counts in a synced stripe alone.
+    pub fn is_known(self, synced: bool, known: bool) -> bool
+        ensures { result ≡ is_known_mark synced self known }
+    {
+        self.cell == CellMark::Sought && (known || (synced && self.column == ColumnMark::Given))
+    }
+
+    /// Whether a cell is damaged, and its block not known.
+    pub fn is_unknown(self, synced: bool, known: bool) -> bool
+        ensures { result ≡ is_unknown_mark synced self known }
+    {
+        is_damaged_cell(self.cell) && !self.is_known(synced, known)
+    }
+}
+
+// Whether a cell is damaged, by its mark.
+fn is_damaged_cell(mark: CellMark) -> bool
+    ensures { result ≡ is_damaged_mark mark }
+{
+    !matches!(mark, CellMark::Whole)
 }
 
 /// The real length of the block of a cell.
@@ -58,17 +107,6 @@ pub fn cell_hash(table: &Table, d: u32, cell: Cell) -> Option<Digest16>
     table.blocks(d, cell.rec)[cell.index as usize].hash
 }
 
-// Whether the recorded hash, where there is one, is that of the block that came.
-fn agrees(recorded: Option<Digest16>, came: Option<Digest16>) -> bool
-    ensures { result ≡ agrees_with recorded came }
-{
-    match (recorded, came) {
-        (None, _) => true,
-        (Some(_), None) => false,
-        (Some(recorded), Some(came)) => recorded == came,
-    }
-}
-
 // Whether the spare gave the block of this hash, which is not taken on its word.
 fn ask<P: Spare>(spare: &mut P, shape: Shape, hash: Digest16, out: &mut [u8]) -> bool
     requires size { length out.old ≤ 4194304 }
@@ -93,7 +131,7 @@ fn mark_damaged<P: Spare>(
     window: &mut Window,
     spare: &mut P,
     block: &mut [u8],
-) -> CellMark
+) -> ColumnMark
     requires can { CanPut i d (length block.old) window.old }
     requires spare { IsSpareFor shape (P.holding spare.old) }
     ensures block { length block.new ≡ length block.old }
@@ -107,16 +145,47 @@ fn mark_damaged<P: Spare>(
     if let Some(hash) = asked {
         if ask(spare, shape, hash, block) {
             window.put(i, d, block);
-            return CellMark::Given;
+            return ColumnMark::Given;
         }
     }
     window.put(i, d, &[]);
-    CellMark::Missing
+    ColumnMark::Missing
 }
 
-// Marks this cell of a column.
-fn mark_cell<P: Spare>(
+// Whether the row that is searched for at a stripe has the blocks of its cells.
+fn is_sought(plan: &Plan<'_>, stripe: u32) -> bool
+    requires { stripe < length plan.now.table.now.infos }
+    ensures { (d : ℕ) → result ≡ is_sought_at (seen plan.now) stripe d }
+{
+    is_synced(plan, stripe)
+}
+
+// The mark of a cell.
+fn mark_cell(damaged: bool, sought: bool) -> CellMark
+    ensures { result ≡ mark_of_cell damaged sought }
+{
+    match (damaged, sought) {
+        (false, _) => CellMark::Whole,
+        (true, true) => CellMark::Sought,
+        (true, false) => CellMark::Damaged,
+    }
+}
+
+// Whether this cell of a column is damaged.
+fn is_damaged(table: &Table, stripe: u32, i: u32, d: u32, cell: Cell, window: &Window) -> bool
+    requires can { CanMarkCell table.now stripe i d window.now }
+    requires cell { IsCellAt table.now stripe d cell }
+    ensures { result ≡ is_damaged_by table.now.shape.kind (seen_in table.now stripe d) (slot_at window.now i d) }
+{
+    let recorded = cell_hash(table, d, cell);
+    let came = window.digest(i, d);
+    !(came.is_some() && matches_digest(recorded, came))
+}
+
+// Marks the column of this cell.
+fn mark_column<P: Spare>(
     searched: bool,
+    damaged: bool,
     table: &Table,
     stripe: u32,
     i: u32,
@@ -125,9 +194,10 @@ fn mark_cell<P: Spare>(
     window: &mut Window,
     spare: &mut P,
     block: &mut [u8],
-) -> CellMark
+) -> ColumnMark
     requires can { CanMarkCell table.now stripe i d window.old }
     requires cell { IsCellAt table.now stripe d cell }
+    requires damaged { damaged ≡ is_damaged_by table.now.shape.kind (seen_in table.now stripe d) (slot_at window.old i d) }
     requires block { length block.old ≡ table.now.shape.block_size }
     requires spare { IsSpareFor table.now.shape (P.holding spare.old) }
     ensures block { length block.new ≡ length block.old }
@@ -137,18 +207,17 @@ fn mark_cell<P: Spare>(
     ensures asks { AsksCell searched table.now stripe d (slot_at window.old i d)
         (is_marked_given result) (P.holding spare.old) (P.holding spare.new) }
 {
-    let recorded = cell_hash(table, d, cell);
-    let came = window.digest(i, d);
-    if came.is_some() && agrees(recorded, came) {
-        return CellMark::Right;
+    if !damaged {
+        return ColumnMark::Right;
     }
+    let recorded = cell_hash(table, d, cell);
     let asked = if searched { recorded } else { None };
     let block = &mut block[..cell_length(table, d, cell) as usize];
     mark_damaged(asked, table.shape(), i, d, window, spare, block)
 }
 
-// Notes what is found in the cell of a column, and marks it: it is looked up once for both.
-fn mark_column<P: Spare>(
+// Notes what is found in the cell of a column, and marks both: it is looked up once for all.
+fn mark_slot<P: Spare>(
     survey: &Survey<'_>,
     searched: bool,
     stripe: u32,
@@ -158,7 +227,7 @@ fn mark_column<P: Spare>(
     found: &mut Option<Event>,
     spare: &mut P,
     block: &mut [u8],
-) -> CellMark
+) -> SlotMark
     requires can { CanExamine (plan_in survey.now) stripe i window.old }
     requires column { d < length survey.now.plan.table.now.columns }
     requires block { length block.old ≡ survey.now.plan.table.now.shape.block_size }
@@ -166,29 +235,40 @@ fn mark_column<P: Spare>(
     ensures block { length block.new ≡ length block.old }
     ensures found { IsFound (plan_in survey.now) stripe (slot_at window.old i d) d found.new }
     ensures mark { IsMarked searched survey.now.plan.table.now.shape (seen_in survey.now.plan.table.now stripe d)
-        (slot_at window.old i d) result (slot_at window.new i d) }
+        (slot_at window.old i d) result.column (slot_at window.new i d) }
+    ensures cell { result.cell ≡ mark_of_cell
+        (is_damaged_by survey.now.plan.table.now.shape.kind (seen_in survey.now.plan.table.now stripe d) (slot_at window.old i d))
+        (is_sought_at (plan_in survey.now) stripe d) }
     ensures changes { ChangesSlot i d window.old window.new }
     ensures asks { AsksCell searched survey.now.plan.table.now stripe d (slot_at window.old i d)
-        (is_marked_given result) (P.holding spare.old) (P.holding spare.new) }
+        (is_marked_given result.column) (P.holding spare.old) (P.holding spare.new) }
 {
     let table = survey.plan.table;
     let Some(cell) = table.cell(stripe, d) else {
         *found = None;
-        return CellMark::Right;
+        return SlotMark {
+            column: ColumnMark::Right,
+            cell: CellMark::Whole,
+        };
     };
     *found = cell_finding(&survey.plan, stripe, i, window, d, cell);
-    mark_cell(searched, table, stripe, i, d, cell, window, spare, block)
+    let damaged = is_damaged(table, stripe, i, d, cell, window);
+    let mark = mark_cell(damaged, is_sought(&survey.plan, stripe));
+    let column = mark_column(
+        searched, damaged, table, stripe, i, d, cell, window, spare, block,
+    );
+    SlotMark { column, cell: mark }
 }
 
-/// Notes of the cells of a stripe of a window that was read what is found in them, and marks them: a missing one has no bytes
-/// then, and one whose block the spare gave has that. The spare is asked where the stripe's damaged blocks are searched for.
+/// Notes of the cells of a stripe of a window that was read what is found in them, and marks them and their columns: a missing one
+/// has no bytes then, and one whose block the spare gave has that. The spare is asked where the stripe's damaged blocks are searched for.
 pub fn mark_cells<P: Spare>(
     survey: &Survey<'_>,
     stripe: u32,
     i: u32,
     window: &mut Window,
     found: &mut [Option<Event>],
-    marks: &mut [CellMark],
+    marks: &mut [SlotMark],
     spare: &mut P,
     block: &mut [u8],
 )
@@ -209,7 +289,7 @@ pub fn mark_cells<P: Spare>(
     let searched = is_searched(&survey.plan, stripe);
     for d in 0..table.disks() {
         let k = d as usize;
-        marks[k] = mark_column(
+        marks[k] = mark_slot(
             survey,
             searched,
             stripe,

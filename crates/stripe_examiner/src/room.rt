@@ -2,7 +2,7 @@
 ghost use Rattle.std.specs.Prelude.{◌≡◌, All, IfOk, length};
 ghost use Rattle.stripe_examiner.specs.Room.{IsRoomFor, IsStripeRoomFor};
 
-use crate::marking::CellMark;
+use crate::marking::SlotMark;
 use block_hash::Digest16;
 use disk_model::NoMemory;
 use file_table::Table;
@@ -36,8 +36,8 @@ impl FirstChoice {
 pub struct StripeRoom {
     /// What is found in the reading of its cells, column by column.
     pub found: Vec<Option<Event>>,
-    /// What became of its cells, column by column.
-    pub marks: Vec<CellMark>,
+    /// What became of its columns and of their cells.
+    pub marks: Vec<SlotMark>,
     /// Its levels, where a recovery of its blocks is tried.
     pub levels: Levels,
     /// What is left of each level, less the sums of the blocks that are known: six blocks.
@@ -61,7 +61,7 @@ impl StripeRoom {
         let disks = table.disks() as usize;
         Ok(StripeRoom {
             found: vec![in alloc; None; disks]?,
-            marks: vec![in alloc; CellMark::Right; disks]?,
+            marks: vec![in alloc; SlotMark::RIGHT; disks]?,
             levels: Levels::make(alloc, block_size)?,
             remainders: vec![in alloc; 0u8; 6 * block_size as usize]?,
             blocks: vec![in alloc; 0u8; 6 * block_size as usize]?,

@@ -1,5 +1,5 @@
 -- What was read of stripes, and which of them are verified by it.
-use Rattle.std.specs.Prelude.{◌≡◌, ℕ, ◌<◌, ◌&&◌, List, length, take, map, get_or, slice_index_or, bytes_eq, Bool, true, false, All, Option, None, Some}
+use Rattle.std.specs.Prelude.{◌≡◌, ℕ, ◌<◌, ◌&&◌, List, length, take, map, get_or, slice_index_or, Bool, true, false, All, Option, None, Some}
 use Rattle.std.specs.List.{range_with_len, list_all}
 use Rattle.std.specs.Prelude.{is_some}
 use Rattle.block_hash.specs.declared.Digest16.{Digest16}
@@ -13,6 +13,7 @@ use Rattle.parity_writer.specs.WindowRow.{bytes_of}
 use Rattle.stripe_reader.specs.Column.{ReadsColumn}
 use Rattle.stripe_reader.specs.Columns.{folder_at}
 use Rattle.stripe_reader.specs.Reading.{tasks_at}
+pub use Rattle.stripe_reader.specs.Agreeing.{matches_digest as agrees}
 pub use Rattle.stripe_reader.specs.Slot.{is_unread}
 use Rattle.stripe_reader.specs.Slot.{count_unread}
 use Rattle.stripe_reader.specs.SlotValue.{SlotValue}
@@ -59,12 +60,6 @@ is_seen meta (Some seen) = same_meta seen meta
 -- the whole block came, so that it has a digest, of a file that is as it was recorded
 abbrev pub is_recorded : Meta → SlotValue → Bool
 is_recorded meta slot = is_some slot.digest && is_seen meta slot.cell.seen
-
--- the recorded hash, where there is one, is that of the block that came
-abbrev pub agrees : Option Digest16 → Option Digest16 → Bool
-agrees None came = true
-agrees (Some recorded) None = false
-agrees (Some recorded) (Some came) = bytes_eq recorded.0 came.0
 
 -- a cell is right: it has no block, or its whole block came of a file that is as it was recorded, with the recorded hash
 abbrev pub is_right : Option CellView → SlotValue → Bool

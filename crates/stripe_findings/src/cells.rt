@@ -5,30 +5,19 @@ ghost use Rattle.file_table.specs.Cells.{cell_seen};
 ghost use Rattle.file_table.specs.Table.{column_at, record_at};
 ghost use Rattle.snap_report.specs.EventFits.{Fits as EventFits};
 ghost use Rattle.stripe_findings.specs.Findings.{block_events};
-ghost use Rattle.stripe_findings.specs.Reading.{agrees as agrees_with, is_seen};
+ghost use Rattle.stripe_findings.specs.Reading.{is_seen};
 
 use block_hash::Digest16;
 use disk_model::Meta;
 use file_table::{Cell, Table};
 use snap_report::events::Event;
-use stripe_reader::{CellRead, Found};
+use stripe_reader::{CellRead, Found, matches_digest};
 
 // Whether the whole block came, so that it has a digest, of a file that is as it was recorded.
 fn is_recorded(meta: Meta, seen: Option<Meta>, digest: Option<Digest16>) -> bool
     ensures { result ≡ (is_some digest && is_seen meta seen) }
 {
     digest.is_some() && seen == Some(meta)
-}
-
-// Whether the recorded hash, where there is one, is that of the block that came.
-fn agrees(recorded: Option<Digest16>, came: Option<Digest16>) -> bool
-    ensures { result ≡ agrees_with recorded came }
-{
-    match (recorded, came) {
-        (None, _) => true,
-        (Some(_), None) => false,
-        (Some(recorded), Some(came)) => recorded == came,
-    }
 }
 
 /// What is wrong with the block of a cell, if anything is.
@@ -50,7 +39,7 @@ pub fn finding(
     let Cell { rec, index } = cell;
     let recorded = table.blocks(d, rec)[index as usize].hash;
     let is_recorded = is_recorded(table.meta(d, rec), read.seen, digest);
-    if is_recorded && agrees(recorded, digest) {
+    if is_recorded && matches_digest(recorded, digest) {
         return None;
     }
     if read.found == Found::Unread {

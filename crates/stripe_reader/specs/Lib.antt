@@ -2,6 +2,7 @@ pub mod Starts
 pub mod Reading
 pub mod FolderCalls
 pub mod SlotValue
+pub mod Agreeing
 pub mod Slot
 pub mod Column
 pub mod WindowValue

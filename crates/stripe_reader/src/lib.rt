@@ -18,6 +18,7 @@
 //! Not here: what a reading means for a stripe, and any writing.
 #![tactic(auto)]
 
+mod agreeing;
 mod batch;
 mod hashers;
 mod hashing;
@@ -29,6 +30,7 @@ mod slot;
 mod starts;
 mod window;
 
+pub use agreeing::matches_digest;
 pub use hashers::hash_window;
 pub use parts::{for_each_chunk_mut, for_each_mut};
 pub use readers::{fetch_window, read_window};

@@ -11,7 +11,7 @@ use std::alloc::Global;
 use std::marker::Model;
 
 /// The stripes of a run's window, where `COLUMN_BYTES` aren't more.
-pub const WINDOW_STRIPES: u32 = 16;
+pub const WINDOW_STRIPES: u32 = 4;
 
 /// The bytes of a column in a run's window, where `WINDOW_STRIPES` aren't more: the threads of a window are worth their
 /// start only for so much.
@@ -20,7 +20,7 @@ pub const COLUMN_BYTES: u32 = 1_048_576;
 /// The most bytes of a run's window with more than one stripe.
 pub const WINDOW_BYTES: u64 = 67_108_864;
 
-/// How many stripes a run's window has: sixteen or a mebibyte of each column, whichever is more, but no more than fit
+/// How many stripes a run's window has: four or a mebibyte of each column, whichever is more, but no more than fit
 /// into 64 MiB, and at least one.
 pub fn stripe_count(disks: u32, block_size: u32) -> u32
     requires disks { 0 < disks }

@@ -6,7 +6,8 @@ ghost use Rattle.stripe_examiner.specs.Marks.{mark_in};
 ghost use Rattle.file_restorer.specs.Mending.{CanWrite, with_state};
 ghost use Rattle.repair_scope.specs.Plan.{EntriesFit, cell_at, seen};
 ghost use Rattle.snap_fix.specs.Handed.{CanExamineOne, CanMendIn, MendsIn, MendsNotIn};
-ghost use Rattle.snap_fix.specs.RepairSteps.{column_outside, WritesBlockOf, WritesNotBlockOf, is_lost_by, is_repaired_by};
+ghost use Rattle.snap_fix.specs.RepairSteps.{column_outside, WritesBlockOf, WritesNotBlockOf, is_repaired_by};
+ghost use Rattle.stripe_examiner.specs.Findings.{is_lost_by};
 ghost use Rattle.file_restorer.specs.State.{state_in};
 ghost use Rattle.stripe_examiner.specs.Showing.{is_damaged_mark};
 
@@ -15,10 +16,10 @@ use crate::plan::Examined;
 use disk_model::{Failed, Folder, Sink};
 use file_restorer::{States, mend_cell};
 use file_table::{Cell, Table};
-use repair_scope::{Plan, selects_cell};
+use repair_scope::{Plan, is_synced, selects_cell};
 use snap_report::events::Event;
 use snap_report::{Lines, Report, tell};
-use stripe_examiner::CellMark;
+use stripe_examiner::{CellMark, SlotMark};
 use stripe_reader::{Found, Starts, Window};
 
 // The bytes of a cell, without the zeros behind them.
@@ -50,29 +51,30 @@ fn lose(states: &mut States, d: u32, i: u32)
 fn is_damaged(mark: CellMark) -> bool
     ensures { result ≡ is_damaged_mark mark }
 {
-    !matches!(mark, CellMark::Right)
+    !matches!(mark, CellMark::Whole)
 }
 
-// What became of the cell of a column of a stripe.
-fn mark_of(one: &Examined<'_>, d: u32) -> CellMark
+// What became of a column of a stripe and of its cell.
+fn mark_of(one: &Examined<'_>, d: u32) -> SlotMark
     requires { d < length one.now.own.now.marks.items }
     ensures { result ≡ mark_in one.now.own.now.marks.items d }
 {
     one.own.marks[d as usize]
 }
 
-// Whether a selected cell is lost, by its mark.
-fn is_lost(plan: &Plan<'_>, one: &Examined<'_>, d: u32, mark: CellMark) -> bool
+// Whether a selected cell is lost, by its marks.
+fn is_lost(plan: &Plan<'_>, one: &Examined<'_>, d: u32, mark: SlotMark) -> bool
     requires entries { EntriesFit plan.now.table.now plan.now.entries.now }
     requires stripe { one.now.stripe < length plan.now.table.now.infos }
     requires column { d < length plan.now.table.now.columns }
     ensures { result ≡ is_lost_by (seen plan.now) one.now.stripe mark one.now.own.now.known d }
 {
-    selects_cell(plan, one.stripe, d) && mark == CellMark::Missing && !one.own.known
+    let synced = is_synced(plan, one.stripe);
+    selects_cell(plan, one.stripe, d) && mark.is_unknown(synced, one.own.known)
 }
 
-// Whether a cell is to be written, by its mark.
-fn is_repaired(plan: &Plan<'_>, one: &Examined<'_>, d: u32, cell: Cell, mark: CellMark) -> bool
+// Whether a cell is to be written, by its marks.
+fn is_repaired(plan: &Plan<'_>, one: &Examined<'_>, d: u32, cell: Cell, mark: SlotMark) -> bool
     requires entries { EntriesFit plan.now.table.now plan.now.entries.now }
     requires stripe { one.now.stripe < length plan.now.table.now.infos }
     requires column { d < length plan.now.table.now.columns }
@@ -80,8 +82,8 @@ fn is_repaired(plan: &Plan<'_>, one: &Examined<'_>, d: u32, cell: Cell, mark: Ce
     ensures { result ≡ is_repaired_by (seen plan.now) one.now.stripe mark one.now.own.now.known d }
 {
     selects_cell(plan, one.stripe, d)
-        && is_damaged(mark)
-        && (mark == CellMark::Given || one.own.known)
+        && is_damaged(mark.cell)
+        && mark.is_known(is_synced(plan, one.stripe), one.own.known)
         && !plan.entries.at(d, cell.rec).blocked
 }
 
@@ -157,7 +159,7 @@ pub(super) fn mend_column<F: Folder, W: Sink>(
         (column_outside starts.new states.new (F.view folder.new) lines.new reports.new.items)) }
 {
     let mark = mark_of(one, d);
-    if !is_damaged(mark) {
+    if !is_damaged(mark.cell) {
         return Ok(Repaired::NONE);
     }
     let Some(cell) = plan.table.cell(one.stripe, d) else {

@@ -7,14 +7,14 @@ ghost use Rattle.snap_report.specs.EventFits.{Fits as EventFits, IsRecordOf};
 ghost use Rattle.snap_report.specs.Told.{Told};
 ghost use Rattle.stripe_reader.specs.WindowValue.{slot_at};
 ghost use Rattle.stripe_examiner.specs.Counts.{AreCounts};
-ghost use Rattle.stripe_examiner.specs.Findings.{read_event, silent_event, cell_events, lost_events, unsynced_events, all_lost_events};
+ghost use Rattle.stripe_examiner.specs.Findings.{read_event, silent_event, cell_events, is_lost_by, lost_events, unsynced_events, all_lost_events};
 ghost use Rattle.stripe_examiner.specs.MarkedCell.{IsCellAt};
-ghost use Rattle.stripe_examiner.specs.Marks.{CanExamine, mark_in, is_marked_missing};
+ghost use Rattle.stripe_examiner.specs.Marks.{CanExamine, mark_in};
 ghost use Rattle.repair_scope.specs.Plan.{EntriesFit, seen};
 
 use super::{entry_of, tell_found};
 use crate::counts::Counts;
-use crate::marking::CellMark;
+use crate::marking::SlotMark;
 use block_hash::Digest16;
 use disk_model::Sink;
 use file_table::{Cell, Table};
@@ -157,16 +157,16 @@ pub fn cell_finding(
     )
 }
 
-// That the cell of a column is lost: it is selected and missing, and the row is not known.
-fn lost(plan: &Plan<'_>, stripe: u32, mark: CellMark, known: bool, d: u32) -> Option<Event>
+// That the cell of a column is lost: it is selected and damaged, and its block is not known.
+fn lost(plan: &Plan<'_>, stripe: u32, mark: SlotMark, known: bool, d: u32) -> Option<Event>
     requires entries { EntriesFit plan.now.table.now plan.now.entries.now }
     requires within { stripe < length plan.now.table.now.infos }
     requires column { d < length plan.now.table.now.columns }
     ensures value { option_to_list result
-        ≡ lost_events (seen plan.now) stripe (is_marked_missing mark) known d }
+        ≡ lost_events (seen plan.now) stripe (is_lost_by (seen plan.now) stripe mark known d) d }
     ensures fits { IfSome result (λ event. EventFits plan.now.table.now.columns event) }
 {
-    if known || is_audit(plan.scope.mode) || mark != CellMark::Missing {
+    if is_audit(plan.scope.mode) || !mark.is_unknown(is_synced(plan, stripe), known) {
         return None;
     }
     let Cell { rec, index } = selected_cell(plan, stripe, d)?;
@@ -182,7 +182,7 @@ fn lost(plan: &Plan<'_>, stripe: u32, mark: CellMark, known: bool, d: u32) -> Op
 pub fn tell_lost<W: Sink>(
     plan: &Plan<'_>,
     stripe: u32,
-    marks: &[CellMark],
+    marks: &[SlotMark],
     known: bool,
     lines: &mut Lines<'_, W>,
     reports: &mut Vec<Box<dyn Report>>,
@@ -192,10 +192,10 @@ pub fn tell_lost<W: Sink>(
     requires marks { length marks.now ≡ length plan.now.table.now.columns }
     ensures told { Told W.view standing stands plan.now.table.now.columns
         (all_lost_events (seen plan.now) stripe
-        (λ d. is_marked_missing (mark_in marks.now d)) known)
+        (λ d. is_lost_by (seen plan.now) stripe (mark_in marks.now d) known d))
         lines.old lines.new reports.old.items reports.new.items }
     ensures counts { AreCounts (all_lost_events (seen plan.now) stripe
-        (λ d. is_marked_missing (mark_in marks.now d)) known) result }
+        (λ d. is_lost_by (seen plan.now) stripe (mark_in marks.now d) known d)) result }
 {
     let mut counts = Counts::NONE;
     for d in 0..plan.table.disks() {

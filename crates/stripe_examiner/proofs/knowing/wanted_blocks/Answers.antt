@@ -6,7 +6,7 @@ use Rattle.file_table.specs.Cells.{cell_view}
 use Rattle.file_table.specs.Table.{column_at}
 use Rattle.stripe_examiner.specs.declared.search.Wanted.{Wanted}
 use Rattle.stripe_examiner.specs.Facts.{wanted_by}
-use Rattle.stripe_examiner.specs.Marks.{is_marked_missing, mark_in}
+use Rattle.stripe_examiner.specs.Marks.{is_marked_missing, column_mark}
 use Rattle.stripe_examiner.proofs.KnowLemmas.{passed_one, passed_most, wanted_one, wanted_none}
 use Rattle.stripe_examiner.proofs.knowing.wanted_blocks.Goals as goal
 use Rattle.stripe_examiner.proofs.knowing.wanted_blocks.Goals.{then-is_missing+else-is_full, else-is_missing}
@@ -15,7 +15,7 @@ pub returns-then-is_full : goal.returns-then-is_full
 returns-then-is_full c =
     let table = c.args.survey.now.plan.table.now in
     let d = c.loop-d.d in
-    let p : ℕ → Bool = λ e. is_marked_missing (mark_in c.args.marks.now e) in
+    let p : ℕ → Bool = λ e. is_marked_missing (column_mark c.args.marks.now e) in
     let f : ℕ → Wanted = λ e. wanted_by table.shape e (cell_view (column_at table.columns e) c.args.stripe) in
     let missing : p d ≡ true = sym c.is_missing.ensures ∙ c.if-is_missing.true in
     let full : length c.loop-d.wanted.items ≡ 6 = eqb-true _ _ (sym c.is_full.ensures.value ∙ c.if-is_full.true) in
@@ -29,7 +29,7 @@ pub loop-d-preserved : goal.loop-d-preserved
 loop-d-preserved c =
     let table = c.args.survey.now.plan.table.now in
     let d = c.loop-d.d in
-    let p : ℕ → Bool = λ e. is_marked_missing (mark_in c.args.marks.now e) in
+    let p : ℕ → Bool = λ e. is_marked_missing (column_mark c.args.marks.now e) in
     let f : ℕ → Wanted = λ e. wanted_by table.shape e (cell_view (column_at table.columns e) c.args.stripe) in
     elim c.if-is_missing.branch [
       | then-is_missing+else-is_full w ↦

@@ -6,7 +6,7 @@ use Rattle.std.proofs.lemmas.List.{length-take-le}
 use Rattle.file_table.specs.declared.shape.Shape.{Shape}
 use Rattle.parity_writer.specs.WindowRow.{row_at}
 use Rattle.stripe_examiner.specs.declared.search.Wanted.{Wanted}
-use Rattle.stripe_examiner.specs.Marks.{is_marked_missing, mark_in, wanted_marked}
+use Rattle.stripe_examiner.specs.Marks.{is_marked_missing, column_mark, wanted_marked}
 use Rattle.stripe_examiner.specs.Restorable.{filled}
 use Rattle.repair_scope.specs.Plan.{seen_at, is_synced}
 use Rattle.stripe_examiner.specs.Surveyed.{plan_in}
@@ -30,7 +30,7 @@ put_found-requires-clause-can c =
     let plan = plan_in c.args.survey.now in
     let marks = c.args.own.now.marks.items in
     let size = c.shape-size.result.block_size in
-    let p : ℕ → Bool = λ d. is_marked_missing (mark_in marks d) in
+    let p : ℕ → Bool = λ d. is_marked_missing (column_mark marks d) in
     let missing = filter p (range_with_len 0 (length table.columns)) in
     let size_is : size ≡ table.shape.block_size = ap (λ (s : Shape). s.block_size) c.shape-size.ensures.shape in
     let wanted_are : c.deref-2.result.now ≡ wanted_marked plan c.args.stripe marks = c.deref-2.ensures.0 ∙ c.in-Some.ensures.value ∙ ap (wanted_marked plan c.args.stripe) c.deref.ensures.value in
