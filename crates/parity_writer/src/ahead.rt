@@ -3,7 +3,7 @@ ghost use Rattle.std.specs.Prelude.{◌≡◌, ◌<◌, ◌≤◌, All, IfSome, 
 ghost use Rattle.std.specs.Thread.{IsSend, IsSync};
 ghost use Rattle.disk_model.specs.Vault.{IsUntouched};
 ghost use Rattle.stripe_reader.specs.Fetched.{FetchesWindow};
-ghost use Rattle.stripe_reader.specs.Held.{CanRead};
+ghost use Rattle.stripe_reader.specs.Held.{CanRead, HoldsCells};
 ghost use Rattle.stripe_reader.specs.Starts.{StartsFit};
 ghost use Rattle.stripe_reader.specs.WindowValue.{Fits};
 
@@ -111,6 +111,7 @@ pub fn fetch_beside<R: Threads + Sync, F: Folder, A: Ahead>(
     requires room { length stripes.now ≤ window.old.room }
     ensures fits { Fits table.now window.new }
     ensures count { window.new.count ≡ length stripes.now }
+    ensures cells { HoldsCells table.now stripes.now window.new }
     ensures fetched { FetchesWindow table.now starts.now stripes.now window.old window.new
         (map F.view folders.old) (map F.view folders.new) }
 {

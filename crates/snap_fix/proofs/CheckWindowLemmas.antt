@@ -11,6 +11,7 @@ use Rattle.snap_report.specs.declared.events.Event.{Event}
 use Rattle.snap_report.specs.declared.pages.Lines.{Lines}
 use Rattle.stripe_reader.specs.Columns.{ReadsWindow}
 use Rattle.stripe_reader.specs.Fetched.{FetchesWindow, hashed_window}
+use Rattle.stripe_reader.specs.Held.{HoldsCells}
 use Rattle.stripe_reader.specs.Starts.{StartsValue}
 use Rattle.stripe_reader.specs.WindowValue.{Fits, WindowValue}
 use Rattle.snap_fix.specs.declared.beginning.Work.{Work}
@@ -63,7 +64,8 @@ next_as work far xs done next more same is more_is =
 -- ---- the first window was fetched
 
 module _ (table : TableValue) (first : Work) (near far : WindowValue) (olds news : List FolderView) (is : IsWorkFor table first) (far_fits : Fits table far) (as_large : far.room ≡ first.room.window.room)
-    (fetched : FetchesWindow table first.starts (take (min (length first.stripes.items) first.room.window.room) first.stripes.items) first.room.window near olds news) where
+    (fetched : FetchesWindow table first.starts (take (min (length first.stripes.items) first.room.window.room) first.stripes.items) first.room.window near olds news)
+    (cells : HoldsCells table (take (min (length first.stripes.items) first.room.window.room) first.stripes.items) near) where
   abbrev begun : Work
   begun = record first { room = record first.room { window = near } }
 
@@ -89,6 +91,7 @@ module _ (table : TableValue) (first : Work) (near far : WindowValue) (olds news
     held = omega (arith, near_count, fetched.read.room);
     some = λ left. omega (arith, near_count, left, is.room.some);
     unhashed = fetched.unhashed;
+    cells = subst (λ (n : ℕ). HoldsCells table (take n first.stripes.items) near) (sym near_count) cells;
   }
 
   pub checking_none : {W R : Type 0} (view : W → SinkView) (standing : R → ReportView) (stands : R → List Event → Type 0) (counts : Counts) (old new : VaultView) (spare : SpareView) (lines : Lines W) (reports : List R) → IsUntouched old new → AreCounts [] counts
@@ -110,16 +113,16 @@ module _ (table : TableValue) (first : Work) (near far : WindowValue) (olds news
 pub checking_begun : {W R : Type 0} (view : W → SinkView) (standing : R → ReportView) (stands : R → List Event → Type 0) (table : TableValue) (first work : Work) (far : WindowValue) (counts : Counts) (olds news : List FolderView) (old new : VaultView) (spare : SpareView) (lines : Lines W) (reports : List R)
     → IsUntouched old new → IsWorkFor table first → Fits table far → far.room ≡ first.room.window.room → work ≡ record first { room = record first.room { window = work.room.window } }
     → FetchesWindow table first.starts (take (min (length first.stripes.items) first.room.window.room) first.stripes.items) first.room.window work.room.window olds news
-    → AreCounts [] counts → IsChecking view standing stands table first work far 0 counts olds news (scene old spare lines reports) (scene new spare lines reports)
-checking_begun view standing stands table first work far counts olds news old new spare lines reports same is fits as_large rest fetched none =
+    → HoldsCells table (take (min (length first.stripes.items) first.room.window.room) first.stripes.items) work.room.window → AreCounts [] counts → IsChecking view standing stands table first work far 0 counts olds news (scene old spare lines reports) (scene new spare lines reports)
+checking_begun view standing stands table first work far counts olds news old new spare lines reports same is fits as_large rest fetched cells none =
     subst (λ (it : Work). IsChecking view standing stands table first it far 0 counts olds news (scene old spare lines reports) (scene new spare lines reports)) (sym rest)
-    (checking_none table first work.room.window far olds news is fits as_large fetched view standing stands counts old new spare lines reports same none)
+    (checking_none table first work.room.window far olds news is fits as_large fetched cells view standing stands counts old new spare lines reports same none)
 
 -- ---- one window was looked at, and the next one was fetched
 
 module _ (table : TableValue) (first work : Work) (far : WindowValue) (done : ℕ) (turned : Work) (next_far : WindowValue) (kept : KeepsWork table first work) (ready : IsReady table work far done)
     (uses : UsesRoom table work.room turned.room) (fits : Fits table next_far) (mids news : List FolderView)
-    (fetched : FetchesWindow table work.starts (stripes_next work far done) far next_far mids news) where
+    (fetched : FetchesWindow table work.starts (stripes_next work far done) far next_far mids news) (cells : HoldsCells table (stripes_next work far done) next_far) where
   abbrev next : ℕ
   next = done + work.room.window.count
 
@@ -148,6 +151,7 @@ module _ (table : TableValue) (first work : Work) (far : WindowValue) (done : �
     held = omega (arith, next_count, fetched.read.room);
     some = λ left. omega (arith, next_count, left, ready.as_large, ready.is_work.room.some);
     unhashed = fetched.unhashed;
+    cells = subst (λ (n : ℕ). HoldsCells table (take n (drop next work.stripes.items)) next_far) (sym next_count) cells;
   }
 
   fetched_after : ReadsWindow table after.starts (stripes_near after next) far (hashed_window table.shape next_far) mids news
@@ -168,29 +172,29 @@ module _ {W R : Type 0} (view : W → SinkView) (standing : R → ReportView) (s
   pub checking_more : (work turned swapped : Work) (far next_far last : WindowValue) (done count : ℕ) (one more both : Counts) (olds mids news : List FolderView) (old mid new : Scene W R)
       → IsChecking view standing stands table first work far done one olds mids old mid → length mids ≡ length table.columns
       → turned ≡ record work { room = turned.room } → UsesRoom table work.room turned.room → Fits table next_far
-      → FetchesWindow table work.starts (stripes_next work far done) far next_far mids news
+      → FetchesWindow table work.starts (stripes_next work far done) far next_far mids news → HoldsCells table (stripes_next work far done) next_far
       → LooksInto view standing stands (plan_for table work) (stripes_near work done) (hashed_window table.shape work.room.window) more mid new
       → ((events others : List Event) → AreCounts events one → AreCounts others more → AreCounts (events ++ others) both)
       → count ≡ work.room.window.count
       → swapped ≡ record turned { room = record turned.room { window = next_far } } → last ≡ turned.room.window
       → IsChecking view standing stands table first swapped last (done + count) both olds news old new
-  checking_more work turned swapped far next_far last done count one more both olds mids news old mid new under folders rest uses fits fetched looks and count_is swap last_is =
+  checking_more work turned swapped far next_far last done count one more both olds mids news old mid new under folders rest uses fits fetched cells looks and count_is swap last_is =
       let here = work.room.window.count in
       let ready = under.ready in
       let all = checked_more table first work under.kept view standing stands under.stripes done here under.before (hashed_window table.shape work.room.window) one more both olds under.mids mids old mid new
       (before_lanes work far done one olds mids old mid under folders) under.numbers under.read under.looks and under.fetched looks in
-      let swapped_is : swapped ≡ after table first work far done turned next_far under.kept ready uses fits mids news fetched =
+      let swapped_is : swapped ≡ after table first work far done turned next_far under.kept ready uses fits mids news fetched cells =
       swap ∙ ap (λ (it : Work). let w : Work = record it { room = record turned.room { window = next_far } } in w) rest in
       subst (λ (it : Work). IsChecking view standing stands table first it last (done + count) both olds news old new) (sym swapped_is)
-      (subst (λ (it : WindowValue). IsChecking view standing stands table first (after table first work far done turned next_far under.kept ready uses fits mids news fetched) it (done + count) both olds news old new) (sym last_is)
-      (subst (λ (n : ℕ). IsChecking view standing stands table first (after table first work far done turned next_far under.kept ready uses fits mids news fetched) turned.room.window (done + n) both olds news old new) (sym count_is) (record {
-        ready = ready_after table first work far done turned next_far under.kept ready uses fits mids news fetched;
-        kept = kept_after table first work far done turned next_far under.kept ready uses fits mids news fetched;
+      (subst (λ (it : WindowValue). IsChecking view standing stands table first (after table first work far done turned next_far under.kept ready uses fits mids news fetched cells) it (done + count) both olds news old new) (sym last_is)
+      (subst (λ (n : ℕ). IsChecking view standing stands table first (after table first work far done turned next_far under.kept ready uses fits mids news fetched cells) turned.room.window (done + n) both olds news old new) (sym count_is) (record {
+        ready = ready_after table first work far done turned next_far under.kept ready uses fits mids news fetched cells;
+        kept = kept_after table first work far done turned next_far under.kept ready uses fits mids news fetched cells;
         stripes = all.stripes;
         numbers = all.numbers;
         before = far;
         mids = mids;
-        fetched = fetched_after table first work far done turned next_far under.kept ready uses fits mids news fetched;
+        fetched = fetched_after table first work far done turned next_far under.kept ready uses fits mids news fetched cells;
         read = all.read;
         looks = all.looks;
       })))

@@ -53,6 +53,7 @@ module _ (plan : FixPlan) (starts : StartsValue) (asked : List ℕ) (before afte
     numbers_are = it.numbers_are;
     fits = it.room.window;
     count = it.count;
+    cells = it.cells;
     enough = rooms_enough;
     each = it.each;
   })

@@ -2,6 +2,7 @@
 use Rattle.std.specs.Prelude.{◌≡◌, ℕ, ◌+◌, ◌-◌, ◌<◌, ◌≤◌, min, List, length, take, drop}
 use Rattle.file_table.specs.Table.{TableValue}
 use Rattle.stripe_reader.specs.Fetched.{IsUnhashedWindow}
+use Rattle.stripe_reader.specs.Held.{HoldsCells}
 use Rattle.stripe_reader.specs.WindowValue.{Fits, WindowValue}
 use Rattle.snap_fix.specs.declared.beginning.Work.{Work}
 use Rattle.snap_fix.specs.Checking.{IsWorkFor}
@@ -22,8 +23,8 @@ stripes_next work far done =
     let next = done + work.room.window.count in
     take (min (length work.stripes.items - next) far.room) (drop next work.stripes.items)
 
--- The stripes after so many were fetched into the window, and not hashed: one of them at least, if any is left. The far window is as
--- large.
+-- The stripes after so many were fetched into the window, which keeps their cells, and not hashed: one of them at least, if any is
+-- left. The far window is as large.
 pub record IsReady (table : TableValue) (work : Work) (far : WindowValue) (done : ℕ) : Type 0 where
   pub is_work : IsWorkFor table work
   pub far_fits : Fits table far
@@ -32,3 +33,4 @@ pub record IsReady (table : TableValue) (work : Work) (far : WindowValue) (done 
   pub held : work.room.window.count ≤ work.room.window.room
   pub some : done < length work.stripes.items → 0 < work.room.window.count
   pub unhashed : IsUnhashedWindow work.room.window
+  pub cells : HoldsCells table (stripes_near work done) work.room.window

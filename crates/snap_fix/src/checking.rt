@@ -17,7 +17,7 @@ ghost use Rattle.stripe_examiner.specs.Spare.{IsSpareFor};
 ghost use Rattle.stripe_examiner.specs.Surveyed.{plan_in};
 ghost use Rattle.stripe_examiner.specs.WindowExamined.{CanExamineFetched, ExaminesFetched};
 ghost use Rattle.stripe_reader.specs.Fetched.{FetchesWindow, hashed_window};
-ghost use Rattle.stripe_reader.specs.Held.{CanRead};
+ghost use Rattle.stripe_reader.specs.Held.{CanRead, HoldsCells};
 ghost use Rattle.stripe_reader.specs.WindowValue.{Fits, WindowValue};
 
 use crate::beginning::Work;
@@ -79,6 +79,7 @@ fn turn<R: Threads + Sync, F: Folder, V: Vault, P: Spare>(
     requires levels { (V.view vault.old).levels ≡ survey.now.plan.table.now.shape.levels }
     requires spare { IsSpareFor survey.now.plan.table.now.shape (P.holding spare.old) }
     ensures far { Fits survey.now.plan.table.now far.new }
+    ensures cells { HoldsCells survey.now.plan.table.now ahead.now far.new }
     ensures fetched { FetchesWindow survey.now.plan.table.now starts.now ahead.now far.old far.new
         (map F.view folders.old) (map F.view folders.new) }
     ensures examined { ExaminesFetched (seen survey.now.plan) survey.now.stripes.now room.old room.new
@@ -122,6 +123,7 @@ fn look_at<R: Threads + Sync, F: Folder, V: Vault, P: Spare, W: Sink>(
     requires spare { IsSpareFor survey.now.plan.table.now.shape (P.holding spare.old) }
     ensures room { UsesRoom survey.now.plan.table.now room.old room.new }
     ensures far { Fits survey.now.plan.table.now far.new }
+    ensures cells { HoldsCells survey.now.plan.table.now ahead.now far.new }
     ensures fetched { FetchesWindow survey.now.plan.table.now starts.now ahead.now far.old far.new
         (map F.view folders.old) (map F.view folders.new) }
     ensures looks { LooksInto W.view standing stands (seen survey.now.plan) survey.now.stripes.now
@@ -145,6 +147,8 @@ fn fetch_first<R: Threads + Sync, F: Folder, V: Vault>(
     requires work { IsWorkFor table.now work.old }
     requires folders { length folders.old ≡ length table.now.columns }
     ensures rest { work.new ≡ record work.old { room = record work.old.room { window = work.new.room.window } } }
+    ensures cells { HoldsCells table.now (take (min (length work.old.stripes.items) work.old.room.window.room) work.old.stripes.items)
+        work.new.room.window }
     ensures fetched { FetchesWindow table.now work.old.starts (take (min (length work.old.stripes.items) work.old.room.window.room) work.old.stripes.items)
         work.old.room.window work.new.room.window (map F.view folders.old) (map F.view folders.new) }
     ensures vault { IsUntouched (V.view vault.old) (V.view vault.new) }
@@ -183,6 +187,7 @@ fn check_window<R: Threads + Sync, F: Folder, V: Vault, P: Spare, W: Sink>(
     ensures rest { work.new ≡ record work.old { room = work.new.room } }
     ensures room { UsesRoom task.now.table.now work.old.room work.new.room }
     ensures far { Fits task.now.table.now far.new }
+    ensures cells { HoldsCells task.now.table.now (stripes_next work.old far.old done) far.new }
     ensures fetched { FetchesWindow task.now.table.now work.old.starts (stripes_next work.old far.old done) far.old far.new
         (map F.view folders.old) (map F.view folders.new) }
     ensures looks { LooksInto W.view standing stands (plan_for task.now.table.now work.old) (stripes_near work.old done)

@@ -2,6 +2,7 @@
 ghost use Rattle.std.specs.Prelude.{◌≡◌, length, map};
 ghost use Rattle.disk_model.specs.Vault.{IsUntouched};
 ghost use Rattle.stripe_reader.specs.Fetched.{FetchesWindow, IsUnhashedWindow};
+ghost use Rattle.stripe_reader.specs.Held.{HoldsCells};
 ghost use Rattle.stripe_reader.specs.Starts.{recorded_starts};
 ghost use Rattle.snap_scrub.specs.Looking.{LooksOver, scene};
 ghost use Rattle.snap_scrub.specs.Room.{IsEnoughFor, IsWorkFor};
@@ -57,6 +58,7 @@ fn turn_window<R: Threads + Sync, F: Folder, V: Vault, W: Sink>(
 ) -> u64
     requires ready { IsReady table.now work.old done }
     requires unhashed { IsUnhashedWindow work.old.room.near }
+    requires cells { HoldsCells table.now (stripes_near work.old done) work.old.room.near }
     requires folders { length folders.old ≡ length table.now.columns }
     requires levels { (V.view vault.old).levels ≡ table.now.shape.levels }
     ensures work { Turns table.now work.old work.new }

@@ -1,5 +1,5 @@
 -- A turn of a sync as if the near window had had its digests before, and as if the far one had been read with them.
-use Rattle.std.proofs.Common.{◌≡◌, ℕ, List, length, map, take, All, Bool, Option, Result, refl, sym, ap, ◌∙◌, subst}
+use Rattle.std.proofs.Common.{◌≡◌, ℕ, ◌+◌, ◌≤◌, List, length, map, take, All, Bool, Option, Result, refl, sym, ap, ◌∙◌, subst, arith}
 use Rattle.disk_model.specs.Folder.{FolderView}
 use Rattle.disk_model.specs.Sink.{SinkView}
 use Rattle.disk_model.specs.declared.fault.Failed.{Failed}
@@ -9,19 +9,21 @@ use Rattle.parity_writer.specs.Summing.{HaveSize}
 use Rattle.snap_report.specs.Report.{ReportView}
 use Rattle.snap_report.specs.declared.events.Event.{Event}
 use Rattle.stripe_findings.specs.Reading.{StripeReading, is_verified}
+use Rattle.stripe_findings.proofs.ReadLemmas.{length_after}
 use Rattle.stripe_reader.specs.Columns.{ReadsWindow}
 use Rattle.stripe_reader.specs.Fetched.{FetchesWindow, IsUnhashedWindow, hashed_window}
+use Rattle.stripe_reader.specs.Held.{HoldsCells}
 use Rattle.stripe_reader.specs.Starts.{StartsValue}
 use Rattle.stripe_reader.specs.WindowValue.{WindowValue, Fits}
 use Rattle.stripe_reader.proofs.HashedLemmas.{fits_hashed, lanes_hashed}
 use Rattle.snap_sync.specs.declared.beginning.Work.{Work}
 use Rattle.snap_sync.specs.declared.judging.Counts.{Counts}
 use Rattle.snap_sync.specs.Closing.{closed}
-use Rattle.snap_sync.specs.Run.{near_hashed, readings_near, stripes_next, IsWork, IsReady, KeepsWork, Turns}
+use Rattle.snap_sync.specs.Run.{all_of, count_after, near_hashed, pending_after, readings_near, stripes_near, stripes_next, IsWork, IsReady, KeepsWork, Turns}
 use Rattle.snap_sync.specs.Window.{Scene, SyncsWindow}
-use Rattle.snap_sync.proofs.StaysLemmas.{differs-closed}
+use Rattle.snap_sync.proofs.StaysLemmas.{cells-differ, differs-closed}
 use Rattle.snap_sync.proofs.TasksLemmas.{reads_window-by_closed}
-use Rattle.snap_sync.proofs.WorkLemmas.{Judges, ReadsFar, sums_again, swapped_of}
+use Rattle.snap_sync.proofs.WorkLemmas.{Judges, ReadsFar, sums_again, swapped_of, window_within}
 
 -- ---- a window fits where it did with its digests
 
@@ -87,6 +89,11 @@ pub first_read : (start work : Work) (stripes : List ℕ) (olds news : List Fold
 first_read start work stripes olds news rest fetched =
     subst (λ (shape : Shape). ReadsWindow start.table start.room.starts stripes start.room.near (hashed_window shape work.room.near) olds news) (sym (ap (λ (it : Work). it.table.shape) rest)) fetched.read
 
+-- the first window keeps the cells of its stripes
+pub first_cells : (start work : Work) (stripes : List ℕ) (olds news : List FolderView) → work ≡ record start { room = record start.room { near = work.room.near } }
+    → FetchesWindow start.table start.room.starts stripes start.room.near work.room.near olds news → HoldsCells work.table stripes work.room.near
+first_cells start work stripes olds news rest fetched = subst (λ (table : TableValue). HoldsCells table stripes work.room.near) (sym (ap (λ (it : Work). it.table) rest)) fetched.cells
+
 -- ---- a window was judged with its digests
 
 pub syncs_hashed : {W R : Type 0} (view : W → SinkView) (standing : R → ReportView) (stands : R → List Event → Type 0) (table : TableValue) (stripes : List ℕ) (before after : WindowValue) (chosen : List Bool)
@@ -149,6 +156,19 @@ module _ (now : ℕ) (work turned : Work) (done : ℕ) (turns : Turns work turne
       ∙ chosen
       ∙ sym (ap (λ (it : Work). map (is_verified it.table) (readings_near it done)) turns.rest)
 
+  -- the near window keeps the cells that it kept
+  pub turned_cells : HoldsCells work.table (stripes_near work done) work.room.near → HoldsCells turned.table (stripes_near turned done) turned.room.near
+  turned_cells cells = subst (λ (it : Work). HoldsCells it.table (stripes_near it done) it.room.near) (sym turns.rest) cells
+
+  -- how many stripes were fetched
+  far_count : (every : Option ℕ) (olds news : List FolderView) → IsReady every work done
+      → FetchesWindow work.table work.room.starts (stripes_next every work done) work.room.far turned.room.far olds news
+      → turned.room.far.count ≡ count_after every work (done + work.room.near.count)
+  far_count every olds news ready fetched =
+      let next = done + work.room.near.count in
+      let within : next ≤ all_of work = omega (arith, ready.near, window_within every work.room.near.room (all_of work) done ready.within) in
+      fetched.read.count ∙ length_after work.pending.items next (count_after every work next) (window_within every work.room.near.room (all_of work) next within)
+
   -- they were closed
   module _ (after : Work) (after_is : after ≡ record turned { table = closed now turned.table (readings_near turned done) }) where
     closed_is : after ≡ filled
@@ -176,3 +196,20 @@ module _ (now : ℕ) (work turned : Work) (done : ℕ) (turns : Turns work turne
     next_unhashed saved swapped keeps swap unhashed =
         subst IsUnhashedWindow
         (sym (ap (λ (it : Work). it.room.near) swap ∙ ap (λ (it : Work). it.room.far) keeps.rest ∙ ap (λ (it : Work). it.room.far) after_is)) unhashed
+
+    -- what is the near window then keeps the cells of the table that was closed meanwhile
+    pub next_cells : (every : Option ℕ) (olds news : List FolderView) (saved swapped : Work) (behind : ℕ) → IsReady every work done
+        → FetchesWindow work.table work.room.starts (stripes_next every work done) work.room.far turned.room.far olds news
+        → KeepsWork after saved → swapped ≡ swapped_of saved → behind ≡ done + after.room.near.count
+        → HoldsCells swapped.table (stripes_near swapped behind) swapped.room.near
+    next_cells every olds news saved swapped behind ready fetched keeps swap behind_is =
+        let next = done + work.room.near.count in
+        let far = turned.room.far in
+        let table : TableValue = closed now work.table readings in
+        let closed_cells : HoldsCells table (stripes_next every work done) far = cells-differ work.table table (stripes_next every work done) far (differs-closed now work.table readings) fetched.cells in
+        let by_count : HoldsCells table (pending_after work next far.count) far
+        = subst (λ (n : ℕ). HoldsCells table (pending_after work next n) far) (sym (far_count every olds news ready fetched)) closed_cells in
+        let by_place : HoldsCells table (pending_after work behind far.count) far
+        = subst (λ (n : ℕ). HoldsCells table (pending_after work n far.count) far) (sym (behind_is ∙ ap (λ (it : Work). done + it.room.near.count) closed_is)) by_count in
+        subst (λ (it : Work). HoldsCells it.table (stripes_near it behind) it.room.near)
+        (sym (swap ∙ ap swapped_of keeps.rest ∙ ap (λ (it : Work). let w : Work = record it { room = record it.room { piece = saved.room.piece } } in swapped_of w) closed_is)) by_place

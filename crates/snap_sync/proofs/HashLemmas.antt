@@ -1,6 +1,6 @@
 -- The cells of a stripe with their hashes, column by column; each of its blocks then has one.
 use Rattle.std.proofs.Common.{◌≡◌, ◌≢◌, ℕ, ◌+◌, ◌<◌, ◌≤◌, suc, List, [], ◌∷◌, length, get_or, set, take, true, false, Option, None, Some, refl, sym, ap, ◌∙◌, subst, arith}
-use Rattle.std.specs.Prelude.{All, AllPairs, IsSome, is_some}
+use Rattle.std.specs.Prelude.{All, AllPairs, IfSome, IsSome, is_some}
 use Rattle.std.specs.Option.{option_map}
 use Rattle.std.specs.List.{flat_map}
 use Rattle.std.proofs.Math.ListN.{get_or-map}
@@ -13,12 +13,12 @@ use Rattle.file_table.specs.Cells.{CellView, cell_in, cell_seen, seen_with, colu
 use Rattle.file_table.specs.Closing.{HasSameFiles}
 use Rattle.file_table.specs.Table.{Record, Column, TableValue, IsAt, column_at, record_in, block_in, column_blocks, positions_of, no_block, no_record, no_column}
 use Rattle.file_table.specs.Valid.{IsHashedAt, IsColumn}
-use Rattle.file_table.proofs.CellInLemmas.{cell_in_only}
+use Rattle.file_table.proofs.CellInLemmas.{cell_in-Some, cell_in_only}
 use Rattle.file_table.proofs.ClosingLemmas.{same_files-closed, length-columns_closed, column_at-closed, column_at-ahead, columns_closed-next, columns_closed-all}
 use Rattle.file_table.proofs.ViewLemmas.{view-hashed}
 use Rattle.stripe_reader.specs.SlotValue.{SlotValue}
 use Rattle.stripe_reader.specs.WindowValue.{WindowValue, slot_at, no_slot}
-use Rattle.snap_sync.specs.Closing.{HasDigests, with_hashes}
+use Rattle.snap_sync.specs.Closing.{HasDigests, synced_now, with_closed, with_hashes}
 use Rattle.stripe_findings.specs.Reading.{StripeReading, slot_of, digests_of, reading_at}
 use Rattle.stripe_findings.proofs.SlotLemmas.{slot_of-reading_at}
 
@@ -69,6 +69,21 @@ hashed_all table reading d all = ap (with_columns table) (columns_closed-all rea
 
 pub columns_of-hashed_to : (table mid : TableValue) (reading : StripeReading) (d : ℕ) → mid ≡ hashed_to reading d table → length mid.columns ≡ length table.columns
 columns_of-hashed_to table mid reading d is = ap (λ (t : TableValue). length t.columns) is ∙ length-columns_closed reading.stripe (take d (digests_of reading)) table.columns
+
+-- the cell of a column that has no hashes yet is the one that it had
+pub cell_ahead : (table mid : TableValue) (reading : StripeReading) (d : ℕ) (found : Option Cell) → mid ≡ hashed_to reading d table
+    → found ≡ cell_in (column_at table.columns d) reading.stripe → found ≡ cell_in (column_at mid.columns d) reading.stripe
+cell_ahead table mid reading d found mid_is is =
+    is ∙ sym (ap (λ (c : Column). cell_in c reading.stripe) (ap (λ (t : TableValue). column_at t.columns d) mid_is ∙ column_at-ahead reading.stripe (digests_of reading) table.columns d))
+
+-- a cell that is there is a block of a record
+pub cell_record : (column : Column) (position : ℕ) (found : Option Cell) → found ≡ cell_in column position → IfSome found (λ (cell : Cell). cell.rec < length column.records)
+cell_record column position None is = tt
+cell_record column position (Some cell) is = (cell_in-Some column position cell (sym is)).within
+
+pub cell_block : (column : Column) (position : ℕ) (found : Option Cell) → found ≡ cell_in column position → IfSome found (λ (cell : Cell). cell.index < length (record_in column cell.rec).blocks)
+cell_block column position None is = tt
+cell_block column position (Some cell) is = (cell_in-Some column position cell (sym is)).index_within
 
 -- the digest that a window gives
 pub digest_here : (stripes : List ℕ) (window : WindowValue) (i d : ℕ) (hash : Option Digest16) → hash ≡ (slot_at window i d).digest → hash ≡ (slot_of d (reading_at stripes window i)).digest
@@ -168,3 +183,9 @@ hashed_stripe table reading once given = All-flat_map column_blocks (IsHashed re
 -- the columns of a valid table use each position once
 pub positions_once : (length_is : ℕ) (columns : List Column) → All (IsColumn length_is) columns → All IsOnce columns
 positions_once length_is columns are = λ d e within. (are d e within).once
+
+-- with its hashes and what is known of its stripe a table is closed
+pub closed_as : (now : ℕ) (reading : StripeReading) (table mid next : TableValue) → mid ≡ with_hashes reading table
+    → next ≡ record mid { infos = set mid.infos reading.stripe (synced_now now) } → next ≡ with_closed now reading table
+closed_as now reading table mid next mid_is next_is =
+    next_is ∙ ap (λ (t : TableValue). let it : TableValue = record t { infos = set t.infos reading.stripe (synced_now now) } in it) mid_is

@@ -12,6 +12,7 @@ use Rattle.file_table.specs.Table.{Column, TableValue, column_at}
 use Rattle.file_table.proofs.ClosingLemmas.{differs-none, differs_then, differs-closed_at}
 use Rattle.file_table.proofs.ViewLemmas.{stripe_view-closed}
 use Rattle.file_table.specs.declared.shape.Shape.{Shape}
+use Rattle.stripe_reader.specs.Held.{HoldsCells}
 use Rattle.stripe_reader.specs.SlotValue.{SlotValue}
 use Rattle.stripe_reader.specs.WindowValue.{WindowValue, Fits}
 use Rattle.snap_sync.specs.Closing.{HasDigests, synced_now, with_closed, closed_by, closed}
@@ -43,6 +44,11 @@ fits-differs old new window differs fits = record {
   lanes = fits.lanes ∙ sym differs.columns;
   block_size = fits.block_size ∙ sym (ap (λ (shape : Shape). shape.block_size) differs.shape);
 }
+
+-- and one that keeps the cells of the one keeps those of the other
+pub cells-differ : (old new : TableValue) (stripes : List ℕ) (window : WindowValue) → DiffersInHashesAndInfos old new → HoldsCells old stripes window → HoldsCells new stripes window
+cells-differ old new stripes window differs cells = λ d within i below.
+    cells d (omega (arith, differs.columns, within)) i below ∙ sym ((differs.files d).cell (get_or stripes i 0))
 
 -- ---- what is seen of another stripe
 

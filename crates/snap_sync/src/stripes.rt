@@ -6,7 +6,7 @@ ghost use Rattle.snap_sync.specs.Course.{outside, Breaks};
 ghost use Rattle.stripe_findings.specs.Reading.{is_verified};
 ghost use Rattle.snap_sync.specs.Run.{all_of, near_hashed, stripes_near, stripes_next, readings_near, plan_for, IsWork, IsBegun, IsReady, Turns, KeepsWork, Saves, HasSynced, saves_behind};
 ghost use Rattle.stripe_reader.specs.Fetched.{FetchesWindow, IsUnhashedWindow};
-ghost use Rattle.stripe_reader.specs.Held.{AreDisksOf};
+ghost use Rattle.stripe_reader.specs.Held.{AreDisksOf, HoldsCells};
 ghost use Rattle.snap_sync.specs.Window.{SyncsWindow, scene};
 ghost use Rattle.snap_sync.specs.Work.{more_findings};
 
@@ -74,6 +74,7 @@ fn turn_window<R: Threads + Sync, F: Folder, V: Vault, W: Sink>(
 ) -> Result<Counts, Failed>
     requires ready { IsReady pace.every work.old done }
     requires unhashed { IsUnhashedWindow work.old.room.near }
+    requires cells { HoldsCells work.old.table (stripes_near work.old done) work.old.room.near }
     requires every { IfSome pace.every (λ every. 0 < every) }
     requires disks { AreDisksOf work.old.table (length folders.old) (V.view vault.old) }
     ensures turns { Turns work.old work.new }
@@ -113,6 +114,7 @@ fn turn_window<R: Threads + Sync, F: Folder, V: Vault, W: Sink>(
 // Closes the chosen stripes of the window in the near room, which stands after so many stripes, in the table in hand.
 fn close_window(work: &mut Work, pace: Pace, done: u32)
     requires ready { IsReady pace.every work.old done }
+    requires cells { HoldsCells work.old.table (stripes_near work.old done) work.old.room.near }
     requires chosen { take work.old.room.near.count work.old.room.chosen.items ≡
         map (is_verified work.old.table) (readings_near work.old done) }
     ensures { work.new ≡ record work.old { table = closed pace.now work.old.table (readings_near work.old done) } }

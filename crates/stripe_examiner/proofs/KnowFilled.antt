@@ -40,6 +40,7 @@ stripe_more i d before mid after changes slot = record {
   block_size = slot.block_size ∙ changes.block_size;
   count = slot.count ∙ changes.count;
   lanes = slot.lanes ∙ changes.lanes;
+  cells = slot.cells ∙ changes.cells;
   others = λ k e other. slot.others k e (inl other) ∙ changes.others k e other;
 }
 

@@ -32,3 +32,4 @@ pub mod ShownLemmas
 pub mod KnowRemainders
 pub mod KnowFilled
 pub mod AskingLemmas
+pub mod KeptCellLemmas

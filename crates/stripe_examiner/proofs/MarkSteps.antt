@@ -7,8 +7,11 @@ use Rattle.std.proofs.lemmas.Bool.Decides.{eqb_tells}
 use Rattle.std.proofs.lemmas.List.{ext_get_or, get_or_default, get_or-set_other, get_or-set_same, length-map, length-take-le}
 use Rattle.std.proofs.lemmas.List.FromFn.{get_or-map-range_with_len, length-map-range_with_len}
 use Rattle.std.proofs.Math.ListN.{get_or-map as get_or-map-any}
+use Rattle.file_table.specs.Table.{TableValue}
+use Rattle.file_table.specs.declared.block.Cell.{Cell}
 use Rattle.parity_writer.specs.Parity.{Row}
 use Rattle.parity_writer.specs.WindowRow.{bytes_in, bytes_of, row_at}
+use Rattle.stripe_reader.specs.Held.{HoldsCells}
 use Rattle.stripe_reader.specs.SlotValue.{SlotValue}
 use Rattle.stripe_reader.specs.WindowValue.{WindowValue, slot_at}
 use Rattle.stripe_examiner.specs.declared.marking.SlotMark.{SlotMark}
@@ -21,7 +24,7 @@ use Rattle.stripe_examiner.specs.Judging.{TellsWrong}
 use Rattle.stripe_examiner.specs.Knowing.{KeepsOtherColumns}
 use Rattle.stripe_examiner.specs.Known.{IsKnown}
 use Rattle.stripe_examiner.specs.MarkedWindow.{AsksForMarked, HasMarks, IsAsLarge, MarksStripe, PutsStripe, number_at}
-use Rattle.stripe_examiner.specs.Marks.{ChangesStripe, IsMarked, cell_mark, facts_after, gift_by, gifts_after, is_marked_missing, column_mark, mark_of_cell, slots_at, wanted_marked, levels_read}
+use Rattle.stripe_examiner.specs.Marks.{ChangesStripe, IsMarked, KeepsCells, cell_mark, facts_after, gift_by, gifts_after, is_marked_missing, column_mark, mark_of_cell, slots_at, wanted_marked, levels_read}
 use Rattle.repair_scope.specs.Plan.{FixPlan, is_searched, seen_at}
 use Rattle.stripe_examiner.specs.Restorable.{filled}
 use Rattle.stripe_examiner.specs.Search.{found_in}
@@ -35,7 +38,7 @@ use Rattle.stripe_examiner.proofs.WindowLemmas.{slots_same}
 -- ---- windows of the same size
 
 pub as_large_start : (window : WindowValue) → IsAsLarge window window
-as_large_start window = record { room = refl; block_size = refl; count = refl; lanes = refl }
+as_large_start window = record { room = refl; block_size = refl; count = refl; lanes = refl; cells = refl }
 
 pub as_large_then : (i : ℕ) (old mid new : WindowValue) → IsAsLarge old mid → ChangesStripe i mid new → IsAsLarge old new
 as_large_then i old mid new one two = record {
@@ -43,7 +46,15 @@ as_large_then i old mid new one two = record {
   block_size = two.block_size ∙ one.block_size;
   count = two.count ∙ one.count;
   lanes = two.lanes ∙ one.lanes;
+  cells = two.cells ∙ one.cells;
 }
+
+-- such a window keeps the same cells of the table, of one stripe and of all
+pub keeps_as_large : (table : TableValue) (stripe k : ℕ) (before after : WindowValue) → IsAsLarge before after → KeepsCells table stripe k before → KeepsCells table stripe k after
+keeps_as_large table stripe k before after large keeps d below = ap (λ (cells : List (List (Option Cell))). get_or (get_or cells d []) k None) large.cells ∙ keeps d below
+
+pub holds_as_large : (table : TableValue) (numbers : List ℕ) (before after : WindowValue) → IsAsLarge before after → HoldsCells table numbers before → HoldsCells table numbers after
+holds_as_large table numbers before after large holds d below k within = keeps_as_large table (number_at numbers k) k before after large (λ e there. holds e there k within) d below
 
 -- ---- windows with the same slots at a stripe
 
@@ -175,6 +186,7 @@ module _ (plan : FixPlan) (stripe k : ℕ) (one other : WindowValue) (own : Stri
       fits = record { lanes = large.lanes ∙ can.can.fits.lanes; block_size = large.block_size ∙ can.can.fits.block_size };
       within = can.can.within;
       number = omega (arith, can.can.number, large.count);
+      cells = keeps_as_large plan.table stripe k one other large can.can.cells;
     };
     room = can.room;
     cells = can.cells;
@@ -248,7 +260,7 @@ levels_kept i rooms first own old many is same k other = elim (eqb_tells k i) [
 -- ---- what is put into one stripe
 
 pub changes_nothing : (i : ℕ) (window : WindowValue) → ChangesStripe i window window
-changes_nothing i window = record { room = refl; block_size = refl; count = refl; lanes = refl; others = λ k d other. refl }
+changes_nothing i window = record { room = refl; block_size = refl; count = refl; lanes = refl; cells = refl; others = λ k d other. refl }
 
 pub puts_nothing : (plan : FixPlan) (stripe i : ℕ) (window : WindowValue) (own : StripeRoom) → own.known ≡ false → PutsStripe plan stripe i window window own
 puts_nothing plan stripe i window own unknown = record {

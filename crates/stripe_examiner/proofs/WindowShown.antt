@@ -24,7 +24,7 @@ use Rattle.stripe_examiner.specs.Judging.{TellsWrong}
 use Rattle.stripe_examiner.specs.Known.{AreFacts, IsKnown, IsTried}
 use Rattle.stripe_examiner.specs.Looking.{LevelsAreRead, facts_at, no_facts, numbers_of}
 use Rattle.stripe_examiner.specs.MarkedWindow.{AsksForMarked, HasMarks, IsAsLarge, MarksStripe, PutsStripe, ReadsLevelsOf, number_at}
-use Rattle.stripe_examiner.specs.Marks.{facts_after, gift_by, gifts_after, is_marked_missing, levels_read, column_mark, row_if, slots_at}
+use Rattle.stripe_examiner.specs.Marks.{KeepsCells, facts_after, gift_by, gifts_after, is_marked_missing, levels_read, column_mark, row_if, slots_at}
 use Rattle.repair_scope.specs.Plan.{EntriesFit, FixPlan, is_searched}
 use Rattle.stripe_examiner.specs.Room.{IsRoomFor, IsStripeRoomFor}
 use Rattle.stripe_examiner.specs.Shown.{IsFound, ShowsStripe, found_at}
@@ -241,10 +241,10 @@ pub fits_as_large : (table : TableValue) (before after : WindowValue) → IsAsLa
 fits_as_large table before after large fits = record { lanes = large.lanes ∙ fits.lanes; block_size = large.block_size ∙ fits.block_size }
 
 pub can_judge : (plan : FixPlan) (stripe i : ℕ) (read marked : WindowValue) (first own : StripeRoom) → EntriesFit plan.table plan.entries → Fits plan.table marked
-    → stripe < length plan.table.infos → i < marked.count → IsStripeRoomFor plan.table own → MarksStripe plan stripe i read marked own → own.levels ≡ first.levels
+    → stripe < length plan.table.infos → i < marked.count → KeepsCells plan.table stripe i marked → IsStripeRoomFor plan.table own → MarksStripe plan stripe i read marked own → own.levels ≡ first.levels
     → (is_searched plan stripe ≡ true → first.levels.count ≡ plan.table.shape.levels) → CanJudge plan stripe i marked own
-can_judge plan stripe i read marked first own entries fits within number room marks same count = record {
-  can = record { entries = entries; fits = fits; within = within; number = number };
+can_judge plan stripe i read marked first own entries fits within number keeps room marks same count = record {
+  can = record { entries = entries; fits = fits; within = within; number = number; cells = keeps };
   room = room;
   cells = cells_of_marks plan stripe i read marked own.marks.items marks.cells;
   empty = empty_of_marks plan stripe i read marked own.marks.items marks.cells;

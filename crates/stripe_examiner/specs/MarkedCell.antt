@@ -33,12 +33,13 @@ pub record CanMarkCell (table : TableValue) (stripe i d : ℕ) (window : WindowV
   pub fits : Fits table window
   pub number : i < window.count
 
--- the window has the same room, and all slots but that of one column at one stripe are as they were
+-- the window has the same room, keeps the same cells of the table, and all slots but that of one column at one stripe are as they were
 pub record ChangesSlot (i d : ℕ) (before after : WindowValue) : Type 0 where
   pub room : after.room ≡ before.room
   pub block_size : after.block_size ≡ before.block_size
   pub count : after.count ≡ before.count
   pub lanes : length after.lanes ≡ length before.lanes
+  pub cells : after.cells ≡ before.cells
   pub others : (k e : ℕ) → (k ≢ i) ⊎ (e ≢ d) → slot_at after k e ≡ slot_at before k e
 
 -- the bytes have the length and the hash that were asked for

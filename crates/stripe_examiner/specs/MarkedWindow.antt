@@ -18,12 +18,13 @@ use Rattle.stripe_examiner.specs.Spare.{SpareView}
 abbrev pub number_at : List ℕ → ℕ → ℕ
 number_at numbers k = get_or numbers k 0
 
--- a window is as large as another, and has as many stripes
+-- a window is as large as another, has as many stripes, and keeps the same cells of the table
 pub record IsAsLarge (before after : WindowValue) : Type 0 where
   pub room : after.room ≡ before.room
   pub block_size : after.block_size ≡ before.block_size
   pub count : after.count ≡ before.count
   pub lanes : length after.lanes ≡ length before.lanes
+  pub cells : after.cells ≡ before.cells
 
 -- the levels of the stripes of these numbers were read into their rooms, one stripe after another
 pub record ReadsLevelsOf (plan : FixPlan) (numbers : List ℕ) (rooms : List StripeRoom) (old new : VaultView) : Type 0 where

@@ -2,13 +2,14 @@
 use Rattle.std.specs.Prelude.{◌≡◌, ◌≢◌, ℕ, ◌<◌, List, [], length, map, filter, slice_index_or, take, Bool, true, false, if◌then◌else◌, Option, None, Some}
 use Rattle.std.specs.List.{range_with_len}
 use Rattle.folder_listing.specs.Kept.{each_column}
-use Rattle.file_table.specs.Cells.{CellView}
+use Rattle.file_table.specs.Cells.{CellView, cell_in}
+use Rattle.file_table.specs.Table.{TableValue, column_at}
 use Rattle.file_table.specs.declared.shape.Shape.{Shape}
 use Rattle.parity_writer.specs.LevelsValue.{LevelValue, LevelsValue}
 use Rattle.parity_writer.specs.WindowRow.{bytes_of, row_at}
 use Rattle.stripe_reader.specs.Slot.{slot_given}
 use Rattle.stripe_reader.specs.SlotValue.{SlotValue}
-use Rattle.stripe_reader.specs.WindowValue.{WindowValue, Fits, slot_at, no_slot}
+use Rattle.stripe_reader.specs.WindowValue.{WindowValue, Fits, cell_at, slot_at, no_slot}
 use Rattle.stripe_examiner.specs.declared.marking.ColumnMark.{ColumnMark}
 use Rattle.stripe_examiner.specs.declared.marking.SlotMark.{SlotMark}
 use Rattle.stripe_examiner.specs.declared.marking.ColumnMark.TheVariants.{Right, Given, Missing}
@@ -51,12 +52,13 @@ IsMarked searched shape seen before Given after =
     (is_damaged shape.kind seen before ≡ true) × (searched ≡ true) × (cell : CellView) × (seen ≡ Some cell) × (given : List ℕ)
     × IsGift shape cell given × (after ≡ slot_given shape.block_size given before)
 
--- the window has the same room, and all but one of its stripes are as they were
+-- the window has the same room, keeps the same cells of the table, and all but one of its stripes are as they were
 pub record ChangesStripe (i : ℕ) (before after : WindowValue) : Type 0 where
   pub room : after.room ≡ before.room
   pub block_size : after.block_size ≡ before.block_size
   pub count : after.count ≡ before.count
   pub lanes : length after.lanes ≡ length before.lanes
+  pub cells : after.cells ≡ before.cells
   pub others : (k d : ℕ) → k ≢ i → slot_at after k d ≡ slot_at before k d
 
 -- each cell of a stripe has its mark, by what its slot kept
@@ -111,9 +113,14 @@ facts_after stripe i before marks levels known after = record {
 abbrev pub levels_read : Bool → LevelsValue → List LevelValue
 levels_read searched levels = if searched then take levels.count levels.levels else []
 
+-- a window keeps, at the number of a stripe in it, the cell that a table has there of each column
+abbrev pub KeepsCells : TableValue → ℕ → ℕ → WindowValue → Type 0
+KeepsCells table stripe i window = (d : ℕ) → d < length table.columns → cell_at window i d ≡ cell_in (column_at table.columns d) stripe
+
 -- a stripe of a window can be examined
 pub record CanExamine (plan : FixPlan) (stripe i : ℕ) (window : WindowValue) : Type 0 where
   pub entries : EntriesFit plan.table plan.entries
   pub fits : Fits plan.table window
   pub within : stripe < length plan.table.infos
   pub number : i < window.count
+  pub cells : KeepsCells plan.table stripe i window

@@ -1,5 +1,6 @@
 -- What stripes are examined by, and what has to hold before their cells are read and marked.
 use Rattle.std.specs.Prelude.{◌≡◌, ℕ, ◌<◌, List, length, All}
+use Rattle.stripe_reader.specs.Held.{HoldsCells}
 use Rattle.stripe_reader.specs.WindowValue.{WindowValue, Fits}
 use Rattle.stripe_examiner.specs.declared.survey.Survey.{Survey}
 use Rattle.repair_scope.specs.Plan.{FixPlan, EntriesFit, seen}
@@ -14,3 +15,4 @@ pub record CanMark (plan : FixPlan) (numbers : List ℕ) (window : WindowValue) 
   pub within : All (λ stripe. stripe < length plan.table.infos) numbers
   pub fits : Fits plan.table window
   pub number : window.count ≡ length numbers
+  pub cells : HoldsCells plan.table numbers window

@@ -4,7 +4,7 @@ use Rattle.disk_model.specs.Folder.{FolderView}
 use Rattle.disk_model.specs.Vault.{VaultView}
 use Rattle.stripe_reader.specs.Columns.{ReadsWindow}
 use Rattle.stripe_reader.specs.Fetched.{IsUnhashedWindow, hashed_window}
-use Rattle.stripe_reader.specs.Held.{CanRead}
+use Rattle.stripe_reader.specs.Held.{CanRead, HoldsCells}
 use Rattle.stripe_reader.specs.Starts.{StartsValue, StartsFit}
 use Rattle.stripe_reader.specs.WindowValue.{WindowValue, Fits}
 use Rattle.stripe_examiner.specs.declared.room.Room.{Room}
@@ -45,6 +45,7 @@ pub record ExaminesWindow (plan : FixPlan) (starts : StartsValue) (numbers : Lis
   pub room : IsRoomFor plan.table after
   pub as_large : after.window.room ≡ before.window.room
   pub count : after.window.count ≡ length numbers
+  pub cells : HoldsCells plan.table numbers after.window
 
 -- stripes of these numbers can be examined in a window, of so many folders, with a room for each of them, or more
 pub record CanExamineRooms (plan : FixPlan) (starts : StartsValue) (numbers : List ℕ) (window : WindowValue) (folders : ℕ)
@@ -72,6 +73,7 @@ pub record ExaminesRooms (plan : FixPlan) (starts : StartsValue) (numbers : List
   pub fits : Fits plan.table after
   pub as_large : after.room ≡ before.room
   pub count : after.count ≡ length numbers
+  pub cells : HoldsCells plan.table numbers after
 
 -- Stripes whose cells and levels were read were examined, each in its room, which shows its facts: these are of what was read.
 pub record ExaminesRead (plan : FixPlan) (numbers : List ℕ) (read after : WindowValue) (olds rooms : List StripeRoom)
@@ -94,6 +96,7 @@ pub record CanExamineFetched (plan : FixPlan) (numbers : List ℕ) (room : Room)
   pub within : All (λ stripe. stripe < length plan.table.infos) numbers
   pub room_is : IsRoomFor plan.table room
   pub number : room.window.count ≡ length numbers
+  pub cells : HoldsCells plan.table numbers room.window
   pub enough : length numbers ≤ room.window.room
   pub unhashed : IsUnhashedWindow room.window
 
@@ -119,6 +122,7 @@ pub record CanExamineFetchedRooms (plan : FixPlan) (numbers : List ℕ) (window 
   pub within : All (λ stripe. stripe < length plan.table.infos) numbers
   pub fits : Fits plan.table window
   pub number : window.count ≡ length numbers
+  pub cells : HoldsCells plan.table numbers window
   pub unhashed : IsUnhashedWindow window
   pub as_many : length numbers ≤ length rooms
   pub each : All (IsStripeRoomFor plan.table) rooms

@@ -5,7 +5,7 @@ ghost use Rattle.std.specs.Thread.{IsSend, IsSync};
 ghost use Rattle.disk_model.specs.Vault.{IsUntouched};
 ghost use Rattle.stripe_reader.specs.Columns.{ReadsWindow};
 ghost use Rattle.stripe_reader.specs.Fetched.{IsUnhashedWindow, hashed_window};
-ghost use Rattle.stripe_reader.specs.Held.{AreDisksOf, CanRead};
+ghost use Rattle.stripe_reader.specs.Held.{AreDisksOf, CanRead, HoldsCells};
 ghost use Rattle.stripe_reader.specs.WindowValue.{Fits};
 ghost use Rattle.parity_writer.specs.LevelReading.{ReadsLevels};
 ghost use Rattle.stripe_examiner.specs.Examining.{ReadsTried};
@@ -143,7 +143,8 @@ pub(crate) fn read_beside<R: Threads + Sync, F: Folder, V: Vault>(
     requires disks { AreDisksOf survey.now.plan.table.now (length folders.old) (V.view vault.old) }
     requires rooms { AreRoomsFor survey.now.plan.table.now (length survey.now.stripes.now) rooms.old }
     ensures window { Fits survey.now.plan.table.now window.new }
-    ensures cells { ReadsWindow survey.now.plan.table.now starts.now survey.now.stripes.now
+    ensures cells { HoldsCells survey.now.plan.table.now survey.now.stripes.now window.new }
+    ensures read { ReadsWindow survey.now.plan.table.now starts.now survey.now.stripes.now
         window.old window.new (map F.view folders.old) (map F.view folders.new) }
     ensures levels { ReadsRooms (plan_in survey.now) survey.now.stripes.now rooms.new
         (V.view vault.old) (V.view vault.new) }

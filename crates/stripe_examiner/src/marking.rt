@@ -216,7 +216,7 @@ fn mark_column<P: Spare>(
     mark_damaged(asked, table.shape(), i, d, window, spare, block)
 }
 
-// Notes what is found in the cell of a column, and marks both: it is looked up once for all.
+// Notes what is found in the cell of a column, and marks both: which it is, was looked up when the window was read.
 fn mark_slot<P: Spare>(
     survey: &Survey<'_>,
     searched: bool,
@@ -244,7 +244,7 @@ fn mark_slot<P: Spare>(
         (is_marked_given result.column) (P.holding spare.old) (P.holding spare.new) }
 {
     let table = survey.plan.table;
-    let Some(cell) = table.cell(stripe, d) else {
+    let Some(cell) = window.table_cell(i, d) else {
         *found = None;
         return SlotMark {
             column: ColumnMark::Right,

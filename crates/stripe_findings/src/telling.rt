@@ -32,7 +32,7 @@ pub fn tell_cell<W: Sink>(
         lines.old lines.new reports.old.items reports.new.items }
 {
     let stripe = stripes[i as usize];
-    let Some(cell) = table.cell(stripe, d) else {
+    let Some(cell) = window.table_cell(i, d) else {
         return None;
     };
     match finding(

@@ -14,4 +14,4 @@ pub fits_hashed : (table : TableValue) (shape : Shape) (window : WindowValue) �
 fits_hashed table shape window fits = record { lanes = lanes_hashed shape window ∙ fits.lanes; block_size = fits.block_size }
 
 pub holds_hashed : (table : TableValue) (stripes : List ℕ) (window after : WindowValue) → after ≡ hashed_window table.shape window → HoldsStripes table stripes window → HoldsStripes table stripes after
-holds_hashed table stripes window after is holds = subst (HoldsStripes table stripes) (sym is) (record { fits = fits_hashed table table.shape window holds.fits; count = holds.count; within = holds.within })
+holds_hashed table stripes window after is holds = subst (HoldsStripes table stripes) (sym is) (record { fits = fits_hashed table table.shape window holds.fits; count = holds.count; cells = holds.cells; within = holds.within })

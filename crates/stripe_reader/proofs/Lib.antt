@@ -2,6 +2,7 @@ pub mod FolderLemmas
 pub mod CellLemmas
 pub mod ColumnLemmas
 pub mod TaskLemmas
+pub mod LookedUpLemmas
 pub mod GroupLemmas
 pub mod WindowLemmas
 pub mod ReadingsLemmas

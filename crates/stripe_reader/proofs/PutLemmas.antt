@@ -28,4 +28,5 @@ module _ (window : WindowValue) (d i : ℕ) (lane other : List SlotValue) (is : 
       blocks = All-set (λ (it : SlotValue). length it.block ≡ window.block_size) lane i new
           (ap (λ (it : SlotValue). length it.block) new_is ∙ length-resized bytes (length slot.block) ∙ slot_size slot slot_is) its_lane.blocks;
     }) is.lanes;
+    cells = record { as_many = is.cells.as_many ∙ sym (length-set window.lanes d (set lane i new)); each = is.cells.each };
   }

@@ -5,6 +5,7 @@ use Rattle.file_table.specs.Table.{TableValue}
 use Rattle.file_table.specs.declared.shape.Shape.{Shape}
 use Rattle.stripe_reader.specs.Columns.{ReadsWindow}
 use Rattle.stripe_reader.specs.Hashing.{IsUnhashed, hashed}
+use Rattle.stripe_reader.specs.Held.{HoldsCells}
 use Rattle.stripe_reader.specs.SlotValue.{SlotValue}
 use Rattle.stripe_reader.specs.Starts.{StartsValue}
 use Rattle.stripe_reader.specs.WindowValue.{WindowValue}
@@ -27,8 +28,9 @@ abbrev pub IsUnhashedWindow : WindowValue → Type 0
 IsUnhashedWindow window = All (IsUnhashedFront window.block_size window.count) window.lanes
 
 -- These stripes of all columns were read into a window and not hashed: its slots have no digests, and with their
--- digests they keep what was read.
+-- digests they keep what was read. It keeps which cells of the table they have.
 pub record FetchesWindow (table : TableValue) (starts : StartsValue) (stripes : List ℕ) (before after : WindowValue)
     (olds news : List FolderView) : Type 0 where
   pub unhashed : IsUnhashedWindow after
+  pub cells : HoldsCells table stripes after
   pub read : ReadsWindow table starts stripes before (hashed_window table.shape after) olds news

@@ -1,7 +1,8 @@
 -- What a window holds of stripes, and what is asked before they are read into it.
-use Rattle.std.specs.Prelude.{◌≡◌, ℕ, ◌<◌, ◌≤◌, List, length, All}
+use Rattle.std.specs.Prelude.{◌≡◌, ℕ, ◌<◌, ◌≤◌, List, [], length, All, slice_index_or}
 use Rattle.disk_model.specs.Vault.{VaultView}
 use Rattle.file_table.specs.Table.{TableValue}
+use Rattle.stripe_reader.specs.LookedUp.{IsLookedUp}
 use Rattle.stripe_reader.specs.Starts.{StartsValue, StartsFit}
 use Rattle.stripe_reader.specs.WindowValue.{WindowValue, Fits}
 
@@ -18,8 +19,14 @@ pub record CanRead (table : TableValue) (starts : StartsValue) (stripes : List �
   pub fits : Fits table window
   pub enough : length stripes ≤ window.room
 
--- a window holds what was read of these stripes of a table
+-- a window keeps of these stripes, column by column, the cell that a table has there
+abbrev pub HoldsCells : TableValue → List ℕ → WindowValue → Type 0
+HoldsCells table stripes window = (d : ℕ) → d < length table.columns
+    → IsLookedUp table d stripes (slice_index_or window.cells d [])
+
+-- a window holds what was read of these stripes of a table, and which cells of the table they have
 pub record HoldsStripes (table : TableValue) (stripes : List ℕ) (window : WindowValue) : Type 0 where
   pub fits : Fits table window
   pub count : length stripes ≡ window.count
+  pub cells : HoldsCells table stripes window
   pub within : All (λ stripe. stripe < length table.infos) stripes

@@ -5,7 +5,7 @@ use Rattle.stripe_reader.specs.WindowValue.{WindowValue, IsWindow}
 
 -- the window
 abbrev pub window_of : Inside → WindowValue
-window_of window = record { room = window.room; block_size = window.block_size; lanes = window.lanes.items; count = window.count }
+window_of window = record { room = window.room; block_size = window.block_size; lanes = window.lanes.items; cells = window.cells.items; count = window.count }
 
 -- a window with room for so many digests: one for each slot
 pub record HasDigests (value : WindowValue) (count : ℕ) : Type 0 where

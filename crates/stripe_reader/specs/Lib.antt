@@ -7,6 +7,7 @@ pub mod Slot
 pub mod Column
 pub mod WindowValue
 pub mod Held
+pub mod LookedUp
 pub mod Hashing
 pub mod KeptWindow
 pub mod Columns

@@ -1,17 +1,19 @@
 -- What a window has.
-use Rattle.std.specs.Prelude.{◌≡◌, ℕ, ◌*◌, ◌/◌, ◌≤◌, min, max, List, [], length, All, None, slice_index_or, slice_set}
+use Rattle.std.specs.Prelude.{◌≡◌, ℕ, ◌*◌, ◌/◌, ◌≤◌, min, max, List, [], length, All, Option, None, slice_index_or, slice_set}
 use Rattle.file_table.specs.Table.{TableValue}
+use Rattle.file_table.specs.declared.block.Cell.{Cell}
 use Rattle.stripe_reader.specs.declared.slot.Found.TheVariants as found
 use Rattle.stripe_reader.specs.declared.window.TheConstants.{COLUMN_BYTES, WINDOW_BYTES, WINDOW_STRIPES}
 use Rattle.stripe_reader.specs.Slot.{slot_given, slot_without}
 use Rattle.stripe_reader.specs.SlotValue.{SlotValue}
 
--- how many stripes it has room for, the size of its blocks, a lane of slots for each column, and how many stripes
--- were read last
+-- how many stripes it has room for, the size of its blocks, a lane of slots for each column, for each column the cells of the
+-- table that were looked up, and how many stripes were read last
 pub record WindowValue : Type 0 where
   pub room : ℕ
   pub block_size : ℕ
   pub lanes : List (List SlotValue)
+  pub cells : List (List (Option Cell))
   pub count : ℕ
 
 -- how many stripes a window of a run has: sixteen or a mebibyte of each column, whichever is more, but no more than fit
@@ -28,10 +30,19 @@ pub record IsLane (block_size room : ℕ) (slots : List SlotValue) : Type 0 wher
   pub as_many : length slots ≡ room
   pub blocks : HasBlocks block_size slots
 
+-- room for the cells of a column, one for each stripe that there is room for, and for those of so many columns
+abbrev pub IsCellLane : ℕ → List (Option Cell) → Type 0
+IsCellLane room cells = length cells ≡ room
+
+pub record HasCellRoom (columns room : ℕ) (cells : List (List (Option Cell))) : Type 0 where
+  pub as_many : length cells ≡ columns
+  pub each : All (IsCellLane room) cells
+
 -- what holds of each window
 pub record IsWindow (window : WindowValue) : Type 0 where
   pub within : window.count ≤ window.room
   pub lanes : All (IsLane window.block_size window.room) window.lanes
+  pub cells : HasCellRoom (length window.lanes) window.room window.cells
 
 -- it has a lane for each column of a table, and slots for its blocks
 pub record Fits (table : TableValue) (window : WindowValue) : Type 0 where
@@ -49,6 +60,10 @@ lane_at window d = slice_index_or window.lanes d []
 
 abbrev pub slot_at : WindowValue → ℕ → ℕ → SlotValue
 slot_at window i d = slice_index_or (lane_at window d) i no_slot
+
+-- the cell of the table that was looked up of a column at the stripe of a number
+abbrev pub cell_at : WindowValue → ℕ → ℕ → Option Cell
+cell_at window i d = slice_index_or (slice_index_or window.cells d []) i None
 
 -- a window with another slot of a column at the stripe of a number
 abbrev pub with_slot : WindowValue → ℕ → ℕ → SlotValue → WindowValue

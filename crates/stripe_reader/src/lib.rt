@@ -20,6 +20,7 @@
 
 mod agreeing;
 mod batch;
+mod cells;
 mod hashers;
 mod hashing;
 pub mod laws;

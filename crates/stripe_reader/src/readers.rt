@@ -3,9 +3,12 @@ ghost use Rattle.std.specs.Prelude.{◌≡◌, ◌<◌, ◌≤◌, All, length, 
 ghost use Rattle.std.specs.Thread.{IsSend, IsSync};
 ghost use Rattle.stripe_reader.specs.Columns.{HasLanes, ReadsColumns, ReadsWindow};
 ghost use Rattle.stripe_reader.specs.Fetched.{FetchesWindow, IsUnhashedFront, hashed_front};
+ghost use Rattle.stripe_reader.specs.Held.{HoldsCells};
+ghost use Rattle.stripe_reader.specs.LookedUp.{AreLookedUp};
 ghost use Rattle.stripe_reader.specs.Starts.{StartsFit};
 ghost use Rattle.stripe_reader.specs.WindowValue.{Fits};
 
+use crate::cells::{CellLane, cells_of, look_up};
 use crate::hashers::hash_window;
 use crate::reading::read_cells;
 use crate::slot::Lane;
@@ -31,12 +34,14 @@ fn fetch_lanes<F: Folder>(
     table: &Table,
     starts: &Starts,
     stripes: &[u32],
+    cells: &[CellLane],
     room: u32,
     first: u32,
     folders: &mut [F],
     lanes: &mut [Lane],
 )
-    requires { HasLanes table.now starts.now first stripes.now room (length folders.old) lanes.old }
+    requires cells { AreLookedUp table.now stripes.now cells.now }
+    requires lanes { HasLanes table.now starts.now first stripes.now room (length folders.old) lanes.old }
     ensures lanes { HasLanes table.now starts.now first stripes.now room (length folders.new) lanes.new }
     ensures unhashed { All (IsUnhashedFront table.now.shape.block_size (length stripes.now)) lanes.new }
     ensures read { ReadsColumns table.now starts.now first stripes.now
@@ -44,13 +49,15 @@ fn fetch_lanes<F: Folder>(
         (map F.view folders.old) (map F.view folders.new) }
 {
     for k in 0..folders.len() {
+        let d = first + k as u32;
         let lane = &mut lanes[k];
         read_cells(
             &mut folders[k],
             table,
             starts,
-            first + k as u32,
+            d,
             stripes,
+            cells_of(cells, d),
             lane.slots.as_mut_slice(),
         );
     }
@@ -71,12 +78,14 @@ fn fetch_group<R: Threads + Sync, F: Folder>(
     table: &Table,
     starts: &Starts,
     stripes: &[u32],
+    cells: &[CellLane],
     room: u32,
     group: Group,
     folders: &mut [F],
     lanes: &mut [Lane],
 )
-    requires { HasLanes table.now starts.now group.first stripes.now room (length folders.old) lanes.old }
+    requires cells { AreLookedUp table.now stripes.now cells.now }
+    requires lanes { HasLanes table.now starts.now group.first stripes.now room (length folders.old) lanes.old }
     ensures lanes { HasLanes table.now starts.now group.first stripes.now room (length folders.new) lanes.new }
     ensures unhashed { All (IsUnhashedFront table.now.shape.block_size (length stripes.now)) lanes.new }
     ensures read { ReadsColumns table.now starts.now group.first stripes.now
@@ -84,7 +93,16 @@ fn fetch_group<R: Threads + Sync, F: Folder>(
         (map F.view folders.old) (map F.view folders.new) }
 {
     if group.threads < 2 {
-        fetch_lanes(table, starts, stripes, room, group.first, folders, lanes);
+        fetch_lanes(
+            table,
+            starts,
+            stripes,
+            cells,
+            room,
+            group.first,
+            folders,
+            lanes,
+        );
         return;
     }
     let count = folders.len() / group.threads as usize;
@@ -99,6 +117,7 @@ fn fetch_group<R: Threads + Sync, F: Folder>(
         table,
         starts,
         stripes,
+        cells,
         room,
         group.first,
         rest,
@@ -117,6 +136,7 @@ fn fetch_both<R: Threads + Sync, F: Folder>(
     table: &Table,
     starts: &Starts,
     stripes: &[u32],
+    cells: &[CellLane],
     room: u32,
     first: u32,
     rest: Group,
@@ -125,6 +145,7 @@ fn fetch_both<R: Threads + Sync, F: Folder>(
     far_folders: &mut [F],
     far_lanes: &mut [Lane],
 )
+    requires cells { AreLookedUp table.now stripes.now cells.now }
     requires near { HasLanes table.now starts.now first stripes.now room
         (length near_folders.old) near_lanes.old }
     requires far { HasLanes table.now starts.now rest.first stripes.now room
@@ -143,8 +164,8 @@ fn fetch_both<R: Threads + Sync, F: Folder>(
         (map F.view far_folders.old) (map F.view far_folders.new) }
 {
     let mut one = ||
-        requires { IsSend F.row × HasLanes table.now starts.now first stripes.now room
-            (length near_folders.now) near_lanes.now }
+        requires { IsSend F.row × AreLookedUp table.now stripes.now cells.now ×
+            HasLanes table.now starts.now first stripes.now room (length near_folders.now) near_lanes.now }
         ensures lanes { HasLanes table.entry.now starts.entry.now first stripes.entry.now room
             (length near_folders.exit.now) near_lanes.exit.now }
         ensures unhashed { All (IsUnhashedFront table.entry.now.shape.block_size (length stripes.entry.now))
@@ -157,6 +178,7 @@ fn fetch_both<R: Threads + Sync, F: Folder>(
             table,
             starts,
             stripes,
+            cells,
             room,
             first,
             near_folders,
@@ -164,8 +186,8 @@ fn fetch_both<R: Threads + Sync, F: Folder>(
         )
     };
     let mut other = ||
-        requires { IsSync R.row × IsSend F.row × HasLanes table.now starts.now rest.first stripes.now room
-            (length far_folders.now) far_lanes.now }
+        requires { IsSync R.row × IsSend F.row × AreLookedUp table.now stripes.now cells.now ×
+            HasLanes table.now starts.now rest.first stripes.now room (length far_folders.now) far_lanes.now }
         ensures lanes { HasLanes table.entry.now starts.entry.now rest.first stripes.entry.now room
             (length far_folders.exit.now) far_lanes.exit.now }
         ensures unhashed { All (IsUnhashedFront table.entry.now.shape.block_size (length stripes.entry.now))
@@ -179,6 +201,7 @@ fn fetch_both<R: Threads + Sync, F: Folder>(
             table,
             starts,
             stripes,
+            cells,
             room,
             rest,
             far_folders,
@@ -189,7 +212,8 @@ fn fetch_both<R: Threads + Sync, F: Folder>(
 }
 
 /// Reads these stripes of all columns into a window, side by side: a thread for each column, up to 64 of them, and none
-/// where there are no stripes. No block is hashed, and no memory is taken.
+/// where there are no stripes. Each cell is looked up once, and the window keeps which it is. No block is hashed, and no
+/// memory is taken.
 pub fn fetch_window<R: Threads + Sync, F: Folder>(
     rt: &R,
     folders: &mut [F],
@@ -214,8 +238,10 @@ pub fn fetch_window<R: Threads + Sync, F: Folder>(
     };
     let room = window.room;
     window.count = stripes.len() as u32;
+    let cells = window.cells.as_mut_slice();
+    look_up(table, stripes, room, cells);
     let lanes = window.lanes.as_mut_slice();
-    fetch_group(rt, table, starts, stripes, room, all, folders, lanes);
+    fetch_group(rt, table, starts, stripes, cells, room, all, folders, lanes);
 }
 
 /// Reads these stripes of all columns into a window, side by side, and hashes their blocks by so many threads at most.
@@ -235,6 +261,7 @@ pub fn read_window<R: Threads + Sync, F: Folder>(
     requires fits { Fits table.now window.old }
     requires room { length stripes.now ≤ window.old.room }
     ensures fits { Fits table.now window.new }
+    ensures cells { HoldsCells table.now stripes.now window.new }
     ensures read { ReadsWindow table.now starts.now stripes.now window.old window.new
         (map F.view folders.old) (map F.view folders.new) }
 {

@@ -4,7 +4,8 @@ ghost use Rattle.file_table.specs.Table.{column_at};
 ghost use Rattle.stripe_reader.specs.Came.{reading_of, HasCome};
 ghost use Rattle.stripe_reader.specs.Column.{ReadsCell, ReadsSlot, ReadsColumn};
 ghost use Rattle.stripe_reader.specs.Hashing.{IsUnhashed, hashed};
-ghost use Rattle.stripe_reader.specs.Reading.{Fetch, block_length as block_length_of, block_task, task_at, tasks_at};
+ghost use Rattle.stripe_reader.specs.LookedUp.{IsLookedUp, IsOfRecord};
+ghost use Rattle.stripe_reader.specs.Reading.{Fetch, block_length as block_length_of, block_task, cell_task, tasks_at};
 ghost use Rattle.stripe_reader.specs.Slot.{kept};
 ghost use Rattle.stripe_reader.specs.Starts.{StartsFit, starts_at};
 ghost use Rattle.stripe_reader.specs.WindowValue.{HasBlocks};
@@ -135,40 +136,43 @@ fn read_block<F: Folder>(
     read_file(folder, table.path(d, cell.rec), lost, at, size, shape, slot);
 }
 
-// Reads a cell into its slot.
+// Reads a cell, if there is one, into its slot.
 fn read_slot<F: Folder>(
     folder: &mut F,
     table: &Table,
     starts: &Starts,
     d: u32,
-    stripe: u32,
+    found: Option<Cell>,
     slot: &mut Slot,
 )
     requires column { d < length table.now.columns }
-    requires stripe { stripe < length table.now.infos }
+    requires rec { IsOfRecord table.now d found }
     requires starts { StartsFit table.now starts.now }
     requires block { length slot.old.block ≡ table.now.shape.block_size }
-    ensures read { ReadsSlot table.now.shape (task_at table.now starts.now d stripe) (hashed table.now.shape slot.new)
-        (F.view folder.old) (F.view folder.new) }
+    ensures read { ReadsSlot table.now.shape
+        (cell_task table.now.shape.block_size (column_at table.now.columns d) (starts_at starts.now.columns d) found)
+        (hashed table.now.shape slot.new) (F.view folder.old) (F.view folder.new) }
     ensures unhashed { IsUnhashed table.now.shape.block_size slot.new }
 {
-    match table.cell(stripe, d) {
+    match found {
         Some(cell) => read_block(folder, table, starts, d, cell, slot),
         None => slot.keep_none(Found::Empty, 0, None),
     }
 }
 
-/// Reads the cells of a column at these stripes, in their order, each into its slot. No block is hashed.
+/// Reads the cells of a column at these stripes, which were looked up, in their order, each into its slot. No block is hashed.
 pub(crate) fn read_cells<F: Folder>(
     folder: &mut F,
     table: &Table,
     starts: &Starts,
     d: u32,
     stripes: &[u32],
+    cells: &[Option<Cell>],
     slots: &mut [Slot],
 )
     requires column { d < length table.now.columns }
-    requires stripes { All (λ stripe. stripe < length table.now.infos) stripes.now }
+    requires room { length stripes.now ≤ length cells.now }
+    requires cells { IsLookedUp table.now d stripes.now cells.now }
     requires starts { StartsFit table.now starts.now }
     requires enough { length stripes.now ≤ length slots.old }
     requires blocks { HasBlocks table.now.shape.block_size slots.old }
@@ -178,6 +182,6 @@ pub(crate) fn read_cells<F: Folder>(
         (map (hashed table.now.shape) (take (length stripes.now) slots.new)) (F.view folder.old) (F.view folder.new) }
 {
     for i in 0..stripes.len() {
-        read_slot(folder, table, starts, d, stripes[i], &mut slots[i]);
+        read_slot(folder, table, starts, d, cells[i], &mut slots[i]);
     }
 }

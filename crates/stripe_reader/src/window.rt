@@ -1,12 +1,13 @@
 // The room that stripes are read into.
 ghost use Rattle.std.specs.Prelude.{◌≡◌, ◌<◌, ◌≤◌, ◌↔◌, length, IfOk, IsTrue};
-ghost use Rattle.stripe_reader.specs.WindowValue.{Fits, lane_at, slot_at, window_given};
+ghost use Rattle.stripe_reader.specs.WindowValue.{Fits, cell_at, lane_at, slot_at, window_given};
 ghost use Rattle.stripe_reader.specs.WindowValue.{stripe_count as stripe_count_of};
 
+use crate::cells::CellLane;
 use crate::slot::{CellRead, Lane};
 use block_hash::Digest16;
 use disk_model::NoMemory;
-use file_table::Table;
+use file_table::{Cell, Table};
 use std::alloc::Global;
 use std::marker::Model;
 
@@ -33,13 +34,14 @@ pub fn stripe_count(disks: u32, block_size: u32) -> u32
     (WINDOW_BYTES / stripe).clamp(1, u64::from(wanted)) as u32
 }
 
-/// What was read of some stripes, in buffers that are taken once: a lane for each column, and room for a digest of each
-/// slot, which are made before they are given to their slots.
+/// What was read of some stripes, in buffers that are taken once: a lane for each column, the cells of the table that were
+/// looked up, and room for a digest of each slot, which are made before they are given to their slots.
 #[derive(Drop)]
 pub struct Window {
     pub(crate) room: u32,
     block_size: u32,
     pub(crate) lanes: Vec<Lane>,
+    pub(crate) cells: Vec<CellLane>,
     pub(crate) digests: Vec<Option<Digest16>>,
     pub(crate) count: u32,
 }
@@ -70,14 +72,17 @@ impl Window {
         ensures count { IfOk result (λ window. window.count ≡ 0) }
     {
         let mut lanes = Vec::with_capacity(alloc, disks as usize)?;
+        let mut cells = Vec::with_capacity(alloc, disks as usize)?;
         for _ in 0..disks {
             lanes.push(Lane::make(alloc, stripes, block_size)?)?;
+            cells.push(CellLane::make(alloc, stripes)?)?;
         }
         let slots = disks as usize * stripes as usize;
         Ok(Window {
             room: stripes,
             block_size,
             lanes,
+            cells,
             digests: vec![in alloc; None; slots]?,
             count: 0,
         })
@@ -116,6 +121,16 @@ impl Window {
         ensures { result ≡ self.now.count }
     {
         self.count
+    }
+
+    /// The cell of the table that the stripe of this number among those that were read last has in a column, as it was looked
+    /// up when they were read.
+    pub fn table_cell(&self, i: u32, d: u32) -> Option<Cell>
+        requires stripe { i < self.now.count }
+        requires column { d < length self.now.lanes }
+        ensures { result ≡ cell_at self.now i d }
+    {
+        self.cells[d as usize].at(i as usize)
     }
 
     /// What was read of a column at the stripe of this number among those that were read last.

@@ -2,6 +2,7 @@
 mod cases;
 mod faults;
 mod gates;
+mod kept;
 mod lengths;
 mod readers;
 mod scene;

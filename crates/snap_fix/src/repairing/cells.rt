@@ -162,7 +162,7 @@ pub(super) fn mend_column<F: Folder, W: Sink>(
     if !is_damaged(mark.cell) {
         return Ok(Repaired::NONE);
     }
-    let Some(cell) = plan.table.cell(one.stripe, d) else {
+    let Some(cell) = one.window.table_cell(one.slot, d) else {
         return Ok(Repaired::NONE);
     };
     if is_lost(plan, one, d, mark) {

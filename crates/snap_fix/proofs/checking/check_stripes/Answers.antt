@@ -8,7 +8,7 @@ use Rattle.snap_fix.proofs.checking.check_stripes.Goals as goal
 pub loop-done-init : goal.loop-done-init
 loop-done-init g c = record {
   under = checking_begun _ _ _ c.args.task.now.table.now c.args.work.now c.fetch_first.new.work c.args.far.now _ _ _ _ _ _ _ _
-      c.fetch_first.ensures.vault c.requires.work c.requires.far.0 c.requires.far.1 c.fetch_first.ensures.rest c.fetch_first.ensures.fetched (record { found = refl; left = refl });
+      c.fetch_first.ensures.vault c.requires.work c.requires.far.0 c.requires.far.1 c.fetch_first.ensures.rest c.fetch_first.ensures.fetched c.fetch_first.ensures.cells (record { found = refl; left = refl });
   folders = sym (length-map c.fetch_first.new.folders g.F.Folder.view) ∙ c.fetch_first.ensures.fetched.read.folders ∙ length-map c.args.folders.now g.F.Folder.view ∙ c.requires.folders;
   levels = same_levels _ _ c.fetch_first.ensures.vault ∙ c.requires.levels;
 }
@@ -26,7 +26,7 @@ loop-done-preserved g c =
     let turn = c.check_window-more in
     let more = checking_more _ _ _ c.args.task.now.table.now c.args.work.now c.loop-done.work turn.new.work c.swap_windows.new.work c.loop-done.far turn.new.far c.swap_windows.new.far c.loop-done.done c.count-count.result
     c.loop-done.counts turn.result c.and-counts.result _ _ _ _ _ _
-    so_far.under (length-map c.loop-done.folders g.F.Folder.view ∙ so_far.folders) turn.ensures.rest turn.ensures.room turn.ensures.far turn.ensures.fetched turn.ensures.looks c.and-counts.ensures c.count-count.ensures
+    so_far.under (length-map c.loop-done.folders g.F.Folder.view ∙ so_far.folders) turn.ensures.rest turn.ensures.room turn.ensures.far turn.ensures.fetched turn.ensures.cells turn.ensures.looks c.and-counts.ensures c.count-count.ensures
     c.swap_windows.ensures.near c.swap_windows.ensures.far in
     record {
       under = more;

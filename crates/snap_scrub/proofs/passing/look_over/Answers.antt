@@ -18,6 +18,9 @@ turn_window-more-requires-clause-ready g c κs lives = c.loop-done.invariant.und
 pub turn_window-more-requires-clause-unhashed : goal.turn_window-more-requires-clause-unhashed
 turn_window-more-requires-clause-unhashed g c κs lives = c.loop-done.invariant.under.fetched.unhashed
 
+pub turn_window-more-requires-clause-cells : goal.turn_window-more-requires-clause-cells
+turn_window-more-requires-clause-cells g c κs lives = c.loop-done.invariant.under.fetched.cells
+
 pub loop-done-preserved : goal.loop-done-preserved
 loop-done-preserved g c =
     let so_far = c.loop-done.invariant in

@@ -10,7 +10,7 @@ use Rattle.snap_sync.specs.Closing.{closed}
 use Rattle.snap_sync.specs.Course.{outside}
 use Rattle.snap_sync.specs.Run.{plan_for, all_of, readings_near, saves_behind, stripes_near}
 use Rattle.snap_sync.proofs.BehindLemmas.{underway_behind, stopped_behind, calls_behind}
-use Rattle.snap_sync.proofs.FetchedLemmas.{first_hashed, first_read, judges_of, keeps_far, next_unhashed, reads_far, reads_next, ready_hashed, ready_without, swaps_far, syncs_hashed, turned_chosen, turned_ready, work_without}
+use Rattle.snap_sync.proofs.FetchedLemmas.{first_cells, first_hashed, first_read, judges_of, keeps_far, next_cells, next_unhashed, reads_far, reads_next, ready_hashed, ready_without, swaps_far, syncs_hashed, turned_cells, turned_chosen, turned_ready, work_without}
 use Rattle.snap_sync.proofs.JudgedLemmas.{was_judged, levels_now, folders_now, turned_table, turned_all, turned_done, breaks_turned, synced_more, written_judged, stopped_judged}
 use Rattle.snap_sync.proofs.RunLemmas.{setting_of, synced_start, breaks_opening, on_err}
 use Rattle.snap_sync.proofs.UnderwayLemmas.{underway_stopped_opening}
@@ -39,6 +39,7 @@ loop-progress-init g c =
       synced = synced_start _ _ _ old refl c.requires.begun.pending setting.lent (first_hashed start work first.rest) (ready_hashed c.args.pace.every work 0 first.ready) (first_read start work (stripes_near work 0) _ _ first.rest first.fetched) refl
           (c.in_ok-open.ensures.opened (plan_for c.args.work.now c.args.pace old.vault) refl piece setting.for);
       unhashed = first.fetched.unhashed;
+      cells = first_cells start work (stripes_near work 0) _ _ first.rest first.fetched;
     }
 
 pub turn_window-requires-clause-ready : goal.turn_window-requires-clause-ready
@@ -78,6 +79,10 @@ close_window-requires-clause-ready g c =
     let work = c.loop-progress.work in
     let done = c.loop-progress.progress.done in
     turned_ready c.args.pace.now work c.turn_window.new.work done c.turn_window.ensures.turns c.args.pace.every (ready_without c.args.pace.every work done c.loop-progress.invariant.synced.ready) c.turn_window.ensures.fetched.read.room
+
+pub close_window-requires-clause-cells : goal.close_window-requires-clause-cells
+close_window-requires-clause-cells g c =
+    turned_cells c.args.pace.now c.loop-progress.work c.turn_window.new.work c.loop-progress.progress.done c.turn_window.ensures.turns c.loop-progress.invariant.cells
 
 pub close_window-requires-clause-chosen : goal.close_window-requires-clause-chosen
 close_window-requires-clause-chosen g c =
@@ -152,4 +157,6 @@ loop-progress-preserved g c =
       synced = synced_more window setting read synced.counts far refl (keeps_far closed_work saved c.save_behind.ensures.rest)
           (swaps_far saved swapped c.swap_windows.ensures) done_is c.with-progress.ensures.synced c.with-progress.ensures.findings under.1;
       unhashed = next_unhashed now c.loop-progress.work turned done turns closed_work c.close_window.ensures saved swapped c.save_behind.ensures.rest c.swap_windows.ensures c.turn_window.ensures.fetched.unhashed;
+      cells = next_cells now c.loop-progress.work turned done turns closed_work c.close_window.ensures c.args.pace.every _ _ saved swapped c.with-progress.result.done
+          (ready_without c.args.pace.every c.loop-progress.work done c.loop-progress.invariant.synced.ready) c.turn_window.ensures.fetched c.save_behind.ensures.rest c.swap_windows.ensures done_is;
     }

@@ -1,7 +1,8 @@
 use Rattle.std.proofs.Common.{◌-◌, map}
 use Rattle.snap_sync.specs.Course.{outside}
 use Rattle.stripe_reader.specs.Fetched.{IsUnhashedWindow}
-use Rattle.snap_sync.specs.Run.{near_hashed, plan_for, HasSynced}
+use Rattle.stripe_reader.specs.Held.{HoldsCells}
+use Rattle.snap_sync.specs.Run.{near_hashed, plan_for, stripes_near, HasSynced}
 use Rattle.snap_sync.proofs.stripes.sync_stripes.Given as goal
 
 abbrev pub invariant-loop-progress : goal.invariant-loop-progress
@@ -11,6 +12,7 @@ invariant-loop-progress g l = record {
       (outside (map g.F.Folder.view l.fn.folders) (g.V.Vault.view l.fn.vault) l.fn.lines l.fn.reports.items)
       (outside (map g.F.Folder.view l.folders) (g.V.Vault.view l.vault) l.lines l.reports.items);
   unhashed : IsUnhashedWindow l.work.room.near;
+  cells : HoldsCells l.work.table (stripes_near l.work l.progress.done) l.work.room.near;
 }
 
 abbrev pub decreases-loop-progress : goal.decreases-loop-progress

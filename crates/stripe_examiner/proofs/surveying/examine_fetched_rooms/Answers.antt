@@ -1,6 +1,7 @@
 use Rattle.std.proofs.Common.{length, length-append, drop, sym, ap, ◌∙◌, subst, arith}
 use Rattle.std.proofs.lemmas.List.{length-drop, length-take}
 use Rattle.stripe_reader.specs.Fetched.{hashed_window}
+use Rattle.stripe_reader.specs.Held.{HoldsCells}
 use Rattle.stripe_reader.specs.WindowValue.{Fits, WindowValue}
 use Rattle.stripe_examiner.specs.Marks.{slots_at}
 use Rattle.stripe_examiner.specs.Surveyed.{plan_in}
@@ -18,6 +19,7 @@ examine_read-requires-clause-can g c κs outlive = record {
   within = c.requires.can.within;
   fits = subst (Fits c.args.survey.now.plan.table.now) (sym c.hash_beside.ensures.window) (fits_hashed c.args.survey.now.plan.table.now c.args.survey.now.plan.table.now.shape c.args.window.now c.requires.can.fits);
   number = ap (λ (it : WindowValue). it.count) c.hash_beside.ensures.window ∙ c.requires.can.number;
+  cells = subst (HoldsCells c.args.survey.now.plan.table.now c.args.survey.now.stripes.now) (sym c.hash_beside.ensures.window) c.requires.can.cells;
 }
 
 pub returns-clause-examined : goal.returns-clause-examined

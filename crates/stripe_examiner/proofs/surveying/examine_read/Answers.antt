@@ -9,6 +9,7 @@ use Rattle.repair_scope.specs.Plan.{is_searched}
 use Rattle.stripe_examiner.specs.Surveyed.{plan_in}
 use Rattle.stripe_examiner.specs.Shown.{ShowsStripe}
 use Rattle.stripe_examiner.proofs.JudgedLemmas.{can_kept}
+use Rattle.stripe_examiner.proofs.MarkSteps.{holds_as_large}
 use Rattle.stripe_examiner.proofs.WindowShown.{are_shown, asked_shown, can_judge, fact_from, facts_from, fits_as_large, long_from, numbers_from, slots_shown, stripe_shown}
 use Rattle.stripe_examiner.proofs.surveying.examine_read.Goals as goal
 
@@ -23,6 +24,7 @@ judge_stripes-requires-clause-can g c κs outlive k other below =
     can_judge plan (number_at numbers k) k read marked (get_or c.args.rooms.now k other) (get_or c.mark_stripes.new.rooms k other)
     c.requires.can.entries (fits_as_large table read marked marks.marks.large c.requires.can.fits)
     (c.requires.can.within k 0 below) (omega (arith, below, marks.marks.large.count, c.requires.can.number))
+    (λ d there. holds_as_large table numbers read marked marks.marks.large c.requires.can.cells d there k below)
     (marks.marks.rooms_are.each k other (omega (arith, below, marks.marks.rooms_are.as_many)))
     (marks.marks.marked k other below) (marks.marks.levels k other below) (c.requires.counts k other below)
 
@@ -39,6 +41,7 @@ put_stripes-requires-clause-can g c k other below =
     (can_judge plan (number_at numbers k) k read marked (get_or c.args.rooms.now k other) (get_or c.mark_stripes.new.rooms k other)
     c.requires.can.entries (fits_as_large table read marked marks.marks.large c.requires.can.fits)
     (c.requires.can.within k 0 below) (omega (arith, below, marks.marks.large.count, c.requires.can.number))
+    (λ d there. holds_as_large table numbers read marked marks.marks.large c.requires.can.cells d there k below)
     (marks.marks.rooms_are.each k other (omega (arith, below, marks.marks.rooms_are.as_many)))
     (marks.marks.marked k other below) (marks.marks.levels k other below) (c.requires.counts k other below))
     (judged.judged k other below).kept (judged.judged k other below).room
@@ -68,6 +71,7 @@ returns-clause-examined g c =
     (can_judge plan (number_at numbers k) k read marked (get_or first k other) (get_or noted k other)
     c.requires.can.entries (fits_as_large table read marked marks.marks.large c.requires.can.fits)
     (c.requires.can.within k 0 below) (omega (arith, below, marks.marks.large.count, c.requires.can.number))
+    (λ d there. holds_as_large table numbers read marked marks.marks.large c.requires.can.cells d there k below)
     (marks.marks.rooms_are.each k other (omega (arith, below, marks.marks.rooms_are.as_many)))
     (marks.marks.marked k other below) (marks.marks.levels k other below) (c.requires.counts k other below))
     (judged.judged k other below).kept (judged.judged k other below).room in
@@ -93,5 +97,6 @@ returns-clause-examined g c =
         block_size = puts.window.block_size ∙ marks.marks.large.block_size;
         count = puts.window.count ∙ marks.marks.large.count;
         lanes = puts.window.lanes ∙ marks.marks.large.lanes;
+        cells = puts.window.cells ∙ marks.marks.large.cells;
       };
     }

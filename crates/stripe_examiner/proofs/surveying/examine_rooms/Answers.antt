@@ -2,6 +2,7 @@ use Rattle.std.proofs.Common.{length, length-append, drop, ◌∙◌, arith}
 use Rattle.std.proofs.lemmas.List.{length-drop, length-take}
 use Rattle.stripe_examiner.specs.Surveyed.{plan_in}
 use Rattle.stripe_examiner.proofs.FrontLemmas.{all_rooms, levels_as_read, shown_in_front}
+use Rattle.stripe_examiner.proofs.MarkSteps.{holds_as_large}
 use Rattle.stripe_examiner.proofs.WindowShown.{fits_as_large}
 use Rattle.stripe_examiner.proofs.surveying.examine_rooms.Goals as goal
 
@@ -10,7 +11,8 @@ examine_read-requires-clause-can g c κs outlive = record {
   entries = c.requires.can.entries;
   within = c.requires.can.read.within;
   fits = c.read_beside.ensures.window;
-  number = c.read_beside.ensures.cells.count;
+  number = c.read_beside.ensures.read.count;
+  cells = c.read_beside.ensures.cells;
 }
 
 pub returns-clause-examined : goal.returns-clause-examined
@@ -25,7 +27,7 @@ returns-clause-examined g c =
       stripes = ex.stripes;
       numbers_are = ex.numbers_are;
       window = c.read_beside.new.window;
-      read = reads.cells;
+      read = reads.read;
       slots = ex.slots;
       are = ex.are;
       each = shown_in_front plan numbers _ _ _ c.examine_read.new.rooms (drop (length numbers) all) _ _ ex;
@@ -34,8 +36,9 @@ returns-clause-examined g c =
       as_many = omega (arith, ex.rooms_are.as_many, length-append c.examine_read.new.rooms (drop (length numbers) all));
       rooms_are = all_rooms table (length numbers) c.examine_read.new.rooms all ex.rooms_are c.requires.can.as_many c.requires.can.each;
       fits = fits_as_large table c.read_beside.new.window c.examine_read.new.window ex.large reads.window;
-      as_large = ex.large.room ∙ reads.cells.room;
-      count = ex.large.count ∙ reads.cells.count;
+      as_large = ex.large.room ∙ reads.read.room;
+      count = ex.large.count ∙ reads.read.count;
+      cells = holds_as_large table numbers c.read_beside.new.window c.examine_read.new.window ex.large reads.cells;
     }
 
 pub returns-clause-count : goal.returns-clause-count

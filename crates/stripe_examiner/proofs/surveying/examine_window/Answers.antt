@@ -37,4 +37,5 @@ returns g c =
           (ap (λ (xs : List ℕ). length xs) block_is ∙ c.examine_rooms.ensures.block ∙ ap (λ (xs : List ℕ). length xs) c.deref_mut.ensures.value);
       as_large = ex.as_large;
       count = ex.count;
+      cells = ex.cells;
     }

@@ -20,6 +20,7 @@ invariant_of-window g c =
         within = c.window.invariant.window.within;
         lanes = front_lanes c.args.shape count block_size room c.as_mut_slice-lanes.result.now lanes c.hash_lanes.ensures
             (subst (All (IsLane block_size room)) (sym c.as_mut_slice-lanes.ensures.value) c.window.invariant.window.lanes);
+        cells = record { as_many = c.window.invariant.window.cells.as_many ∙ sym as_many; each = c.window.invariant.window.cells.each };
       };
       digests = c.hash_lanes.auto.buffer ∙ ap length c.as_mut_slice-buffer.ensures.value ∙ c.window.invariant.digests ∙ ap (λ n. n * room) (sym as_many);
     })

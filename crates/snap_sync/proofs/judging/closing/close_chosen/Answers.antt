@@ -3,7 +3,7 @@ use Rattle.std.proofs.lemmas.List.{length-map}
 use Rattle.std.proofs.lemmas.List.FromFn.{length-map-range_with_len}
 use Rattle.stripe_findings.specs.Reading.{is_verified, reading_at, readings_in}
 use Rattle.snap_sync.proofs.CloseLemmas.{in_hand, digests_in_hand, chosen_at, closed-chosen, closed-passed}
-use Rattle.snap_sync.proofs.StaysLemmas.{fits-differs}
+use Rattle.snap_sync.proofs.StaysLemmas.{cells-differ, fits-differs}
 use Rattle.snap_sync.proofs.judging.closing.close_chosen.Goals as goal
 use Rattle.snap_sync.proofs.judging.closing.close_chosen.Goals.{then-chosen-i, else-chosen-i}
 
@@ -24,6 +24,7 @@ close_stripe-requires-clause-holds c =
     record {
       fits = fits-differs c.args.table.now c.loop-i.table window differs holds.fits;
       count = holds.count;
+      cells = cells-differ c.args.table.now c.loop-i.table c.args.stripes.now window differs holds.cells;
       within = λ k d within. omega (arith, differs.stripes, holds.within k d within);
     }
 
